@@ -40,7 +40,7 @@ from ._numbers import (
     Status,
     WireFault,
 )
-from .errors import BadConfig, BadPayload, Closed, Full, Held, LagError, NoMemory
+from .errors import BadConfig, BadPayload, Closed, Full, Held, LagError, NoMemory, NotResumed
 from .frames import HeldFrames, Released
 from .moves import next_move
 from .payloads import Lacpdu, Marker, Pdu, control_frame, decode, encode
@@ -59,6 +59,7 @@ from .values import (
     PortConfig,
     PortId,
     Received,
+    SavedPort,
     Sent,
     SystemId,
     View,
@@ -100,6 +101,7 @@ __all__ = [
     "Move",
     "MuxState",
     "NoMemory",
+    "NotResumed",
     "Party",
     "Pdu",
     "PortConfig",
@@ -110,6 +112,7 @@ __all__ = [
     "Received",
     "ReceivedKind",
     "Released",
+    "SavedPort",
     "Sent",
     "SentKind",
     "State",

@@ -9,7 +9,7 @@ import ctypes
 from enum import IntEnum, IntFlag
 from typing import Any, Callable, Final
 
-VERSION: Final = 8
+VERSION: Final = 9
 VERSION_TEXT: Final = "0.1.0"
 FRAME: Final = 124
 PAYLOAD_LENGTH: Final = 110
@@ -49,6 +49,7 @@ class Status(IntEnum):
     HAS_QUEUE = 20
     CONVERSATION_FULL = 21
     ALL_FULL = 22
+    STALE = 23
 
 
 class Reason(IntEnum):
@@ -238,6 +239,19 @@ class NiwPort(ctypes.Structure):
         ("aggregatable", ctypes.c_bool),
         ("active", ctypes.c_bool),
         ("short_timeout", ctypes.c_bool),
+    ]
+
+
+class NiwSaved(ctypes.Structure):
+    """struct niw_saved."""
+
+    port: int
+    age: int
+    frame: ctypes.Array[ctypes.c_uint8]
+    _fields_ = [
+        ("port", ctypes.c_uint16),
+        ("age", ctypes.c_uint32),
+        ("frame", ctypes.c_uint8 * 124),
     ]
 
 
@@ -730,6 +744,9 @@ class Functions:
         self.distributing: Callable[..., NiwNumber] = _bound(
             library, "lagffi_distributing", NiwNumber, [ctypes.POINTER(NiwSystem), ctypes.c_uint16, ctypes.POINTER(ctypes.c_uint16), ctypes.c_size_t]
         )
+        self.resume: Callable[..., NiwMade] = _bound(
+            library, "lagffi_resume", NiwMade, [ctypes.POINTER(NiwSystem), ctypes.POINTER(NiwConfig), ctypes.POINTER(ctypes.c_uint16), ctypes.c_size_t, ctypes.POINTER(NiwPort), ctypes.c_size_t, ctypes.POINTER(NiwSaved), ctypes.c_size_t]
+        )
         self.active_aggregator: Callable[..., NiwNumber] = _bound(
             library, "lagffi_active_aggregator", NiwNumber, [ctypes.POINTER(NiwSystem), ctypes.c_uint16]
         )
@@ -813,6 +830,7 @@ STATUS_TEXTS: Final = (
     "the handle holds queues already",
     "as many frames of the conversation wait as may",
     "as many frames wait as may in all",
+    "the LACPDU that was saved of a port is older than the port's timeout",
 )
 REASON_TEXTS: Final = (
     "unknown",

@@ -30,6 +30,15 @@ class BadConfig(LagError):
         super().__init__(Status.BAD_CONFIG, text)
 
 
+class NotResumed(LagError):
+    """A warm start is refused: `port` is the number of the port, and `status` STALE or NOT_DISTRIBUTING."""
+
+    def __init__(self, status: Status, port: int) -> None:
+        self.port = port
+        why = STATUS_TEXTS[status] if status is Status.STALE else "a saved port does not come to distribute as its LACPDU says"
+        super().__init__(status, f"{why} (port {port})")
+
+
 class BadPayload(LagError):
     """A payload is refused: `fault` says why, `at` is the offset of the octet that is wrong, and `found` what stands there. Of SHORT `at`
     is the length of the payload, and `found` 0."""

@@ -8,8 +8,8 @@ from typing import Any, Callable, Iterable, Iterator, Optional, Union
 from . import _numbers as c
 from ._handle import Handle
 from ._numbers import Answers, ConversationState, MuxState, PortStatus, Reason, ReceivedKind, ReceiveState, SentKind, State, Status, WireFault
-from .errors import BadConfig, check
-from .values import Assignment, Config, End, Group, Info, Mac, Party, PortId, Received, Sent, SystemId, View, within
+from .errors import BadConfig, NotResumed, check
+from .values import Assignment, Config, End, Group, Info, Mac, Party, PortId, Received, SavedPort, Sent, SystemId, View, within
 
 Octets = Union[bytes, bytearray, memoryview]
 # The most ticks that one call makes up: an hour and 49 minutes, in some milliseconds.
@@ -54,6 +54,24 @@ class System(Handle):
     def __init__(self, config: Config) -> None:
         """Makes a system of a configuration; raises `BadConfig` where it is refused, and `NoMemory`."""
         super().__init__(c.NiwSystem())
+        self._make(config, self._c.new)
+
+    @classmethod
+    def resume(cls, config: Config, saved: Iterable[SavedPort]) -> System:
+        """A warm start: a system whose saved ports distribute, and tell their peers nothing new. The first marker of the configuration is
+        `next_marker` of the system before it, or higher. Raises `NotResumed` of the port whose LACPDU is as old as the port's timeout, STALE,
+        or that does not come to distribute as its LACPDU says, NOT_DISTRIBUTING; `BadConfig`, `NoMemory`."""
+        rows = list(saved)
+        given = (c.NiwSaved * len(rows))()
+        for at, it in zip(given, rows):
+            at.port, at.age, at.frame[:] = it.port, it.age, it.frame[: c.FRAME]
+        system = cls.__new__(cls)
+        Handle.__init__(system, c.NiwSystem())
+        system._make(config, system._c.resume, given, len(rows))
+        return system
+
+    def _make(self, config: Config, call: Callable[..., c.NiwMade], *more: Any) -> None:
+        """Puts a system of a configuration into the handle, by a call of the library that takes this and more."""
         self._config = config
         ports = (c.NiwPort * len(config.ports))()
         for at, port in zip(ports, config.ports):
@@ -61,9 +79,11 @@ class System(Handle):
             at.mac[:] = [*port.mac]
             at.aggregatable, at.active, at.short_timeout = port.aggregatable, port.active, port.short_timeout
         keys = (ctypes.c_uint16 * len(config.aggregators))(*config.aggregators)
-        made = self._c.new(ctypes.byref(self._handle), ctypes.byref(_config(config)), keys, len(keys), ports, len(ports))
+        made = call(ctypes.byref(self._handle), ctypes.byref(_config(config)), keys, len(keys), ports, len(ports), *more)
         if made.status == Status.BAD_CONFIG:
             raise BadConfig(Reason(made.reason), made.place or None)
+        if made.status in (Status.STALE, Status.NOT_DISTRIBUTING):
+            raise NotResumed(Status(made.status), made.place)
         check(made.status)
 
     @property

@@ -11,6 +11,7 @@ from dataclasses import dataclass
 from typing import Optional, Union
 
 from ._numbers import (
+    FRAME,
     PORT_STATUS_TEXTS,
     Algorithm,
     ConversationState,
@@ -213,6 +214,22 @@ class Assignment:
     preferred: Optional[int] = None
     marker: Optional[int] = None
     age: Optional[int] = None
+
+
+@dataclass(frozen=True)
+class SavedPort:
+    """What a host saves of a port that distributes, for `System.resume`: its number, the frame of the last LACPDU that came on it, of 124
+    octets or more, and how many ticks ago that came, 0 to 4294967295."""
+
+    port: int
+    age: int
+    frame: bytes
+
+    def __post_init__(self) -> None:
+        within("the number of the port", self.port, 0xFFFF)
+        within("the age of an LACPDU", self.age, 0xFFFFFFFF)
+        if len(self.frame) < FRAME:
+            raise ValueError(f"the frame of an LACPDU has {len(self.frame)} octets, and not {FRAME} or more")
 
 
 @dataclass(frozen=True)

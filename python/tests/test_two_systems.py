@@ -5,7 +5,20 @@ from __future__ import annotations
 from typing import Iterator
 
 import pytest
-from niwhopera import Answers, Assignment, ConversationState, Held, LagError, PortStatus, ReceivedKind, SentKind, Status
+from niwhopera import (
+    Answers,
+    Assignment,
+    ConversationState,
+    Held,
+    LagError,
+    NotResumed,
+    PortStatus,
+    ReceivedKind,
+    SavedPort,
+    SentKind,
+    Status,
+    System,
+)
 from two_systems import TwoSystems, config
 
 # A data frame of conversation 48, which is octet 5 exclusive-or octet 11.
@@ -159,6 +172,30 @@ def test_a_marker_asks_whether_the_peer_answers(world: TwoSystems) -> None:
     assert (world.systems[1].answers(1), world.systems[1].answers(2)) == (Answers.ANSWERED, Answers.NEVER_ASKED)
     world.systems[1].set_link(1, False)
     assert world.systems[1].probe(1) is None and world.systems[1].answers(1) is Answers.NEVER_ASKED
+
+
+def test_a_warm_start_tells_its_peer_nothing_new(world: TwoSystems) -> None:
+    peer = world.systems[2]
+    peer.tick(300)
+    saved = [SavedPort(port, 899, sent.frame) for port, sent in peer.transmissions()]
+    before = peer.views()
+    with System.resume(config(1), saved) as warm:
+        assert (warm.distributing(1), warm.next_marker(), warm.load(1)) == ((1, 2), 1, 0)
+        for port, sent in warm.transmissions():
+            assert peer.receive(port, sent.frame).kind is ReceivedKind.TOOK_LACPDU
+        assert peer.views() == before and warm.due() == ()
+
+
+def test_a_warm_start_is_refused(world: TwoSystems) -> None:
+    peer = world.systems[2]
+    peer.tick(300)
+    [one, two] = [SavedPort(port, 0, sent.frame) for port, sent in peer.transmissions()]
+    for second, why in (SavedPort(2, 900, two.frame), Status.STALE), (SavedPort(2, 0, one.frame), Status.NOT_DISTRIBUTING):
+        with pytest.raises(NotResumed) as told:
+            System.resume(config(1), [one, second])
+        assert (told.value.status, told.value.port) == (why, 2)
+    with pytest.raises(ValueError):
+        SavedPort(1, 0, one.frame[:100])
 
 
 @pytest.mark.parametrize(

@@ -46,7 +46,7 @@ struct niw_queue {
 #define NIW_EMPTY {false, NULL}
 
 /* The version of this header: it is to go up with each change of what stands here. */
-#define NIW_VERSION 8
+#define NIW_VERSION 9
 /* The version of the release that the header is of. */
 #define NIW_VERSION_TEXT "0.1.0"
 /* The octets of a frame that the library answers. */
@@ -82,16 +82,17 @@ enum {
                                    than frames can take through the network, niw_force_port. niw_offer_in_active_aggregator and
                                    niw_offer_conversation_in_active_aggregator: the same, or it is on a port or held in another aggregator */
     NIW_NONE_DISTRIBUTING = 6,  /* the conversation is free, and no port distributes in the aggregator */
-    NIW_NOT_DISTRIBUTING = 7,   /* the port to move to does not distribute in the aggregator */
+    NIW_NOT_DISTRIBUTING = 7,   /* the port to move to does not distribute in the aggregator; niw_resume: a saved port does not come to
+                                   distribute as its LACPDU says */
     NIW_SAME_PORT = 8,          /* the port to move to is the one that the conversation is on */
     NIW_NOT_ASSIGNED = 9,       /* the conversation is free, or there is no such conversation or aggregator, or a list of
                                    conversations has more than 65536 */
     NIW_MARKERS_SPENT = 10,     /* no marker identifier is left */
     NIW_BAD_CONFIG = 11,        /* the configuration is refused */
-    NIW_NO_MEMORY = 12,         /* memory was refused; only niw_new, of a configuration that is not refused, and niw_queue_new
-                                   answer it */
+    NIW_NO_MEMORY = 12,         /* memory was refused; only niw_new and niw_resume, of a configuration that is not refused, and
+                                   niw_queue_new answer it */
     NIW_NO_SYSTEM = 13,         /* the handle holds no system */
-    NIW_HAS_SYSTEM = 14,        /* niw_new: the handle holds a system already */
+    NIW_HAS_SYSTEM = 14,        /* niw_new, niw_resume: the handle holds a system already */
     NIW_BUFFER = 15,            /* a buffer has less room than the function asks */
     NIW_NULL = 16,              /* a pointer is null */
     NIW_BAD_PAYLOAD = 17,       /* niw_decode: the payload is refused */
@@ -99,7 +100,8 @@ enum {
     NIW_NO_QUEUE = 19,          /* the handle holds no queues */
     NIW_HAS_QUEUE = 20,         /* niw_queue_new: the handle holds queues already */
     NIW_CONVERSATION_FULL = 21, /* niw_queue_put: as many frames of the conversation wait as may */
-    NIW_ALL_FULL = 22           /* niw_queue_put: as many frames wait as may in all */
+    NIW_ALL_FULL = 22,          /* niw_queue_put: as many frames wait as may in all */
+    NIW_STALE = 23              /* niw_resume: the LACPDU that was saved of a port is as old as the port's timeout, or older */
 };
 
 /* Of NIW_BAD_CONFIG: the reason. */
@@ -161,6 +163,13 @@ struct niw_port {
     bool short_timeout; /* LACP_Timeout: whether the port asks for short timeouts */
 };
 
+/* What a host saves of a port that distributes, for niw_resume. */
+struct niw_saved {
+    uint16_t port;
+    uint32_t age;       /* the ticks since the LACPDU came */
+    uint8_t frame[124]; /* NIW_FRAME: the first octets of the frame of the last LACPDU that came on the port */
+};
+
 /* What niw_configure gives a port. */
 struct niw_change {
     uint16_t key;
@@ -174,7 +183,7 @@ struct niw_change {
 struct niw_made {
     uint32_t status;
     uint32_t reason; /* of NIW_BAD_CONFIG: NIW_REASON_.. */
-    size_t place;    /* of NIW_REASON_PORT_NUMBER: the place of the port, from 1 */
+    size_t place;    /* of NIW_REASON_PORT_NUMBER: the place of the port, from 1; of NIW_STALE and NIW_NOT_DISTRIBUTING: the port */
 };
 
 struct niw_truth {
@@ -432,6 +441,8 @@ struct niw_number lagffi_current_while(struct niw_system *handle, uint16_t port)
 struct niw_number lagffi_wait_while(struct niw_system *handle, uint16_t port);
 struct niw_truth lagffi_ntt(struct niw_system *handle, uint16_t port);
 struct niw_number lagffi_distributing(struct niw_system *handle, uint16_t agg, uint16_t *numbers, size_t room);
+struct niw_made lagffi_resume(struct niw_system *handle, const struct niw_config *config, const uint16_t *keys,
+    size_t key_count, const struct niw_port *ports, size_t port_count, const struct niw_saved *saved, size_t saved_count);
 struct niw_number lagffi_active_aggregator(struct niw_system *handle, uint16_t now);
 struct niw_number lagffi_conversation(struct niw_system *handle, const uint8_t *frame, size_t length);
 struct niw_assignment lagffi_conversation_state(struct niw_system *handle, uint16_t agg, uint16_t conv);
@@ -742,6 +753,18 @@ static inline struct niw_number niw_distributing(struct niw_system *handle, uint
     return (handle && numbers) ? lagffi_distributing(handle, agg, numbers, room) : niw_null_number();
 }
 
+/* A warm start: puts a system into an empty handle whose saved ports distribute, and tell their peers nothing new. `first_marker` is
+ * niw_next_marker of the system before it, or higher. No frame is to be sent before; every conversation is free. It wants one LACPDU of
+ * each port that distributed. `place` has the port that is refused. */
+static inline struct niw_made niw_resume(struct niw_system *handle, const struct niw_config *config, const uint16_t *keys,
+    size_t key_count, const struct niw_port *ports, size_t port_count, const struct niw_saved *saved, size_t saved_count) {
+    struct niw_made refused;
+    if (handle && config && keys && ports && saved) return lagffi_resume(handle, config, keys, key_count, ports, port_count, saved, saved_count);
+    memset(&refused, 0, sizeof refused);
+    refused.status = NIW_NULL;
+    return refused;
+}
+
 /* The aggregator that carries the frames of the client, or 0 if no port distributes. `now` is the one that carried them before, or 0 for
  * none. An aggregator with a partner is before one that runs on defaults, and of those the one with the most ports. `now` stays unless
  * another has strictly more; of several others it is the one with the least LAG ID, then the lowest number. To be asked after each call
@@ -924,7 +947,8 @@ static inline const char *niw_status_text(uint32_t status) {
         "the handle holds no queues",
         "the handle holds queues already",
         "as many frames of the conversation wait as may",
-        "as many frames wait as may in all"};
+        "as many frames wait as may in all",
+        "the LACPDU that was saved of a port is older than the port's timeout"};
     return status < sizeof texts / sizeof *texts ? texts[status] : "unknown";
 }
 

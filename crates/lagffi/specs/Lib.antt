@@ -13,5 +13,6 @@ pub mod Owned
 pub mod PortViews
 pub mod Queues
 pub mod ReaderValues
+pub mod Resuming
 pub mod Tables
 pub mod Ticking

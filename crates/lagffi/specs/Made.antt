@@ -1,6 +1,7 @@
 -- What lag_new makes of a configuration, and what it tells.
 use Rattle.std.specs.Prelude.{◌≡◌, ℕ, ◌==◌, if◌then◌else◌, List, Option, None, Some, map}
 use Rattle.lagtypes.specs.declared.identifiers.Key.{Key}
+use Rattle.lagsystem.specs.declared.config.Config.{Config}
 use Rattle.lagsystem.specs.declared.config.PortConfig.{PortConfig}
 use Rattle.lagsystem.specs.declared.fault.BadConfig.{BadConfig}
 use Rattle.lagsystem.specs.declared.fault.BadConfig.TheVariants.{Ports, Aggregators, PortNumber, MaxLinks, Conversations}
@@ -45,6 +46,17 @@ lag_limit n = if n == 0 then None else Some n
 -- the first reason to refuse this configuration
 abbrev pub refusal_of : LagConfig → List ℕ → List LagPort → Option BadConfig
 refusal_of config keys ports = refusal (map lag_key keys) (map lag_port_config ports) (lag_limit config.max_links) config.conversations
+
+-- the configuration as the system takes it
+pub record IsConfigOf (config : LagConfig) (of_keys : List ℕ) (of_ports : List LagPort) (taken : Config) : Type 0 where
+  pub priority : taken.system.priority ≡ config.priority
+  pub mac : taken.system.mac ≡ config.mac
+  pub max_delay : taken.max_delay ≡ config.max_delay
+  pub first_marker : taken.first_marker ≡ config.first_marker
+  pub conversations : taken.conversations ≡ config.conversations
+  pub keys : taken.aggregators.items ≡ map lag_key of_keys
+  pub max_links : taken.max_links ≡ lag_limit config.max_links
+  pub ports : taken.ports.items ≡ map lag_port_config of_ports
 
 -- The first state of a system with this configuration, which is accepted: its ports agree, and its view is the first
 -- view of the two-system theorem (lagmodel).

@@ -22,6 +22,7 @@ mod queues;
 mod reader_values;
 mod readers;
 mod refusal;
+mod resuming;
 mod stored;
 mod values;
 mod views;

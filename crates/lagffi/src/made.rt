@@ -2,7 +2,7 @@ ghost use Rattle.std.specs.Prelude.{◌≡◌, IfErr, IfOk, IsTrue, MatchOption,
 ghost use Rattle.lagsystem.specs.declared.fault.SystemFault.{SystemFault};
 ghost use Rattle.lagffi.specs.Holding.{held_value};
 ghost use Rattle.lagffi.specs.Numbers.{no_system};
-ghost use Rattle.lagffi.specs.Made.{IsMadeOfLagConfig, holds_system_already, lag_key, made_refused, made_with_status, lag_port_config};
+ghost use Rattle.lagffi.specs.Made.{IsConfigOf, IsMadeOfLagConfig, holds_system_already, lag_key, made_refused, made_with_status, lag_port_config};
 ghost use Rattle.lagffi.specs.Algorithms.{is_algorithm};
 ghost use Rattle.dataplane.specs.Notes.{nobody_asked};
 ghost use Rattle.lagffi.specs.Made.{lag_limit, no_algorithm, refusal_of, why_refused};
@@ -16,7 +16,7 @@ use lagsystem::{BadConfig, Config, Key, NoMemory, PortConfig, System, SystemFaul
 use std::alloc::Global;
 
 /// The last of the distribution algorithms, which are numbered from 0.
-const LAST_ALGORITHM: u16 = 2;
+pub(crate) const LAST_ALGORITHM: u16 = 2;
 /// The configuration is refused, for a reason.
 const BAD_CONFIGURATION: u32 = 11;
 /// The reason: a port number is 0 or not above the one before it.
@@ -24,7 +24,7 @@ const BAD_PORT_NUMBER: u32 = 3;
 /// The reason: there is no algorithm of this number.
 const BAD_ALGORITHM: u32 = 6;
 /// The handle holds a system already.
-const HOLDS_SYSTEM_ALREADY: u32 = 14;
+pub(crate) const HOLDS_SYSTEM_ALREADY: u32 = 14;
 
 /// What a program in C gives of a configuration, beside its keys and ports.
 #[repr(C)]
@@ -91,13 +91,13 @@ pub struct LagMade {
     pub status: u32,
     /// Of a configuration that is refused, the number of the reason, 1 to 6; else 0.
     pub reason: u32,
-    /// Of a port number that is refused, its place from 1; else 0.
+    /// Of a port number that is refused, its place from 1; of a warm start that is refused, the number of the port; else 0.
     pub place: usize,
 }
 
 impl LagMade {
     /// A status alone, without a reason.
-    fn with_status(status: u32) -> LagMade
+    pub(crate) fn with_status(status: u32) -> LagMade
         ensures { result ≡ made_with_status status }
     {
         LagMade {
@@ -108,7 +108,7 @@ impl LagMade {
     }
 
     /// Refused, since there is no algorithm of this number.
-    fn no_algorithm() -> LagMade
+    pub(crate) fn no_algorithm() -> LagMade
         ensures { result ≡ no_algorithm }
     {
         LagMade {
@@ -119,7 +119,7 @@ impl LagMade {
     }
 
     /// Refused, with the reason if the configuration is refused.
-    fn refused(fault: &SystemFault) -> LagMade
+    pub(crate) fn refused(fault: &SystemFault) -> LagMade
         ensures { result ≡ made_refused fault.now }
     {
         let status = u32::from(fault.number());
@@ -171,6 +171,29 @@ fn limit(max_links: u16) -> Option<u16>
     Some(max_links)
 }
 
+/// The configuration, as the system takes it.
+pub(crate) fn config_of(
+    alloc: Global,
+    config: &LagConfig,
+    keys: &[u16],
+    ports: &[LagPort],
+) -> Result<Config, NoMemory>
+    ensures { IfOk result (IsConfigOf config.now keys.now ports.now) }
+{
+    Ok(Config {
+        system: SystemId {
+            priority: config.priority,
+            mac: config.mac,
+        },
+        max_delay: config.max_delay,
+        first_marker: config.first_marker,
+        conversations: config.conversations,
+        aggregators: keys_of(alloc, keys)?,
+        max_links: limit(config.max_links),
+        ports: ports_of(alloc, ports)?,
+    })
+}
+
 /// Makes the system of this configuration, which is accepted, with no algorithm; refused if memory is.
 fn system_of(
     alloc: Global,
@@ -182,18 +205,7 @@ fn system_of(
     ensures made { IfOk result (λ system. IsMadeOfLagConfig config.now keys.now ports.now system.state) }
     ensures refused { IfErr result (λ fault. fault ≡ SystemFault.NoMemory) }
 {
-    let config = Config {
-        system: SystemId {
-            priority: config.priority,
-            mac: config.mac,
-        },
-        max_delay: config.max_delay,
-        first_marker: config.first_marker,
-        conversations: config.conversations,
-        aggregators: keys_of(alloc, keys)?,
-        max_links: limit(config.max_links),
-        ports: ports_of(alloc, ports)?,
-    };
+    let config = config_of(alloc, config, keys, ports)?;
     let system = System::new(alloc, config, by_number)?;
     Ok(system.with_algorithm(()))
 }

@@ -38,6 +38,9 @@ void check_next_move(void);
 /* Frames that wait, by niw_queue_new and the calls of its handle. */
 void check_queue(void);
 
+/* A warm start, by niw_resume. */
+void check_resume(void);
+
 /* The aggregator that carries, by niw_active_aggregator, and offers in it. */
 void check_active_aggregator(void);
 
