@@ -1,7 +1,7 @@
 -- The names that proofs of this crate import, passed on from one place. Declares nothing; tools/maintain/proof-imports writes it.
 pub use mathlib.Core.List.{List, [], ◌++◌, ◌∷◌}
 pub use mathlib.Core.Path.{ap, refl, subst, sym, ◌∙◌}
-pub use Rattle.std.proofs.Common.{Bool, Err, IfErr, IfOk, IsTrue, None, Ok, Option, Result, Some, arith, drop, false, get_or, is_some, length}
+pub use Rattle.std.proofs.Common.{Bool, Err, IfErr, IfOk, IsTrue, None, Ok, Option, Result, Some, arith, drop, false, get_or, inr, is_some, length}
 pub use Rattle.std.proofs.Common.{length-drop, map, option_map, rules, suc, take, true, vec_capacity, vec_len, zero, ℕ, ◌+◌, ◌<◌, ◌^◌, ◌≡◌, ◌≤◌}
 pub use Rattle.std.proofs.alloc.Calls.{Goes-blank, handle_tells, token, α}
 pub use Rattle.std.specs.List.Sorted.{IsStrictlyIncreasing}

@@ -33,6 +33,8 @@ pub record IsResumedOf (config : LagConfig) (of_keys : List ℕ) (of_ports : Lis
 
 -- there is no warm start of an accepted configuration, and this is the answer
 pub record IsNotResumed (config : LagConfig) (of_keys : List ℕ) (of_ports : List LagPort) (saved : List SavedPort) (answer : LagMade) : Type 0 where
+  pub accepted : refusal_of config of_keys of_ports ≡ None
+  pub algorithm : is_algorithm config.algorithm ≡ true
   pub taken : Config
   pub same : IsConfigOf config of_keys of_ports taken
   pub fault : ResumeFault
