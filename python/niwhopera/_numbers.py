@@ -830,7 +830,7 @@ STATUS_TEXTS: Final = (
     "the handle holds queues already",
     "as many frames of the conversation wait as may",
     "as many frames wait as may in all",
-    "the LACPDU that was saved of a port is older than the port's timeout",
+    "the LACPDU that was saved of a port is as old as its timeout",
 )
 REASON_TEXTS: Final = (
     "unknown",

@@ -948,7 +948,7 @@ static inline const char *niw_status_text(uint32_t status) {
         "the handle holds queues already",
         "as many frames of the conversation wait as may",
         "as many frames wait as may in all",
-        "the LACPDU that was saved of a port is older than the port's timeout"};
+        "the LACPDU that was saved of a port is as old as its timeout"};
     return status < sizeof texts / sizeof *texts ? texts[status] : "unknown";
 }
 

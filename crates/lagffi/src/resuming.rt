@@ -61,7 +61,7 @@ fn resumed(
 }
 
 // promise: `lagffi_resume` puts the system of a warm start into an empty handle; else the handle stays as it was, with 14 if it holds one,
-//    what `lagffi_new` refuses, or the port whose LACPDU is stale or that is not back
+//    what `lagffi_new` refuses, or the port that `resume` refuses
 // contract: `lagffi_resume` (`resumed`: `IsResumedOf`, `MayNotResume`; `live`)
 /// A warm start: puts a system into an empty handle whose saved ports distribute, and tell their peers nothing new. `first_marker` is
 /// niw_next_marker of the system before it, or higher. No frame is to be sent before; every conversation is free. It wants one LACPDU of

@@ -35,7 +35,7 @@ OWN_TEXTS = {
     "NIW_HAS_QUEUE": "the handle holds queues already",
     "NIW_CONVERSATION_FULL": "as many frames of the conversation wait as may",
     "NIW_ALL_FULL": "as many frames wait as may in all",
-    "NIW_STALE": "the LACPDU that was saved of a port is older than the port's timeout",
+    "NIW_STALE": "the LACPDU that was saved of a port is as old as its timeout",
     "NIW_REASON_PORT_NUMBER": "a port has the number 0 or one that is not above the number before it",
     "NIW_REASON_MAX_LINKS": "the limit of links of an aggregator is above 64",
     "NIW_REASON_ALGORITHM": "the distribution algorithm is not 0 to 2",

@@ -13,10 +13,11 @@ static const struct niw_port ports[PORTS] = {
 /* What was saved of a port: an LACPDU of a peer that knows it and is in this state. */
 static struct niw_saved saved(const struct niw_port *port, uint32_t age, uint8_t state) {
     static const uint8_t header[14] = {0x01, 0x80, 0xc2, 0, 0, 2, 2, 0, 0, 0, 2, 9, 0x88, 0x09};
+    const uint8_t known = port->short_timeout ? 0x3f : 0x3d; /* the state in which the peer knows it */
     struct niw_pdu pdu = {.subtype = NIW_SUBTYPE_LACPDU};
     struct niw_saved it = {.port = port->number, .age = age};
     pdu.actor = (struct niw_participant){0x1002, {2, 0, 0, 0, 0, 2}, 9, 0x3000, (uint16_t)(port->number + 20), state};
-    pdu.partner = (struct niw_participant){config.priority, {2, 0, 0, 0, 0, 1}, 7, port->priority, port->number, 0x3f};
+    pdu.partner = (struct niw_participant){config.priority, {2, 0, 0, 0, 0, 1}, 7, port->priority, port->number, known};
     memcpy(it.frame, header, sizeof header);
     CHECK(niw_encode(&pdu, it.frame + sizeof header, NIW_PAYLOAD_LENGTH) == NIW_OK);
     return it;
