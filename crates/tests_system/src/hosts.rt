@@ -7,5 +7,4 @@ mod leaving;
 mod offering;
 mod playing;
 mod probing;
-mod resuming;
 mod telling;
