@@ -175,6 +175,7 @@ def test_a_marker_asks_whether_the_peer_answers(world: TwoSystems) -> None:
 
 
 def test_a_warm_start_tells_its_peer_nothing_new(world: TwoSystems) -> None:
+    play(world, "emit 1 1 -> lacpdu 3d sent; emit 1 2 -> lacpdu 3d sent; deliver 1 2 -> took; deliver 2 2 -> took")
     peer = world.systems[2]
     peer.tick(300)
     saved = [SavedPort(port, 899, sent.frame) for port, sent in peer.transmissions()]

@@ -582,7 +582,7 @@ static void check_texts(void) {
     char text[NIW_STATE_TEXT_ROOM + 1];
     for (uint32_t i = 0; i <= NIW_ALL_FULL; i++)
         for (uint32_t j = 0; j < i; j++) CHECK(strcmp(niw_status_text(i), niw_status_text(j)) != 0);
-    CHECK(strcmp(niw_status_text(NIW_ALL_FULL + 1), "unknown") == 0 && strcmp(niw_status_text(UINT32_MAX), "unknown") == 0);
+    CHECK(strcmp(niw_status_text(NIW_STALE + 1), "unknown") == 0 && strcmp(niw_status_text(UINT32_MAX), "unknown") == 0);
     CHECK(strcmp(niw_status_text(NIW_NO_MEMORY), "out of memory") == 0 && strcmp(niw_reason_text(0), "unknown") == 0);
     CHECK(strstr(niw_reason_text(NIW_REASON_PORT_NUMBER), "number") && strcmp(niw_reason_text(77), "unknown") == 0);
     CHECK(strcmp(niw_port_status_text(NIW_PORT_STATUS_LINK_DOWN), "the link is down") == 0);
