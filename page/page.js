@@ -143,8 +143,9 @@ function listen(lagtool) {
     const take = async (file) => {
         const { kind, text } = await kindOf(file);
         if (kind === "capture") return show(lagtool, file.name, file);
+        const loaded = (kind === "script" ? playing : payload).load(text);
         byId(kind === "script" ? "scripts" : "payloads").scrollIntoView();
-        return (kind === "script" ? playing : payload).load(text);
+        return loaded;
     };
     const isOver = (over) => (event) => { event.preventDefault(); drop.classList.toggle("over", over); };
     addEventListener("dragover", isOver(true));
