@@ -98,6 +98,13 @@ class World:
             else:
                 yield self.chance.choice((False, True) if kind is ctypes.c_bool else (0, 1, 5) if kind is ctypes.c_uint32 else self.usual if usual else NUMBERS)
 
+    def resuming(self) -> Iterator[Any]:
+        """Arguments of a warm start of one port, whose frame is no LACPDU."""
+        pick = self.chance.choice
+        config = lag.NiwConfig(1, (ctypes.c_uint8 * 6)(), 0, 0, pick((256, 255)))
+        yield from (pick((self.empty, self.ends[0])), config, (ctypes.c_uint16 * 1)(), 1, (lag.NiwPort * 1)(lag.NiwPort(1)), 1)
+        yield from ((lag.NiwSaved * 1)(lag.NiwSaved(1, pick((0, 900)))), 1)
+
 
 def status_of(answer: Any) -> str:
     return lag.Status(answer if isinstance(answer, int) else answer.status).name
@@ -113,7 +120,8 @@ def test_functions_refuse_what_the_page_says_and_nothing_else() -> None:
     rest = [name for name in calls if name not in ENDS]
     for count in range(CALLS):
         name = chance.choice(sorted(ENDS) if count % 40 == 39 else rest if count % 4 == 0 else often)
-        found[name].add(status_of(calls[name](*world.arguments(calls[name].argtypes))))  # type: ignore[attr-defined]
+        arguments = world.resuming() if name == "resume" else world.arguments(calls[name].argtypes)  # type: ignore[attr-defined]
+        found[name].add(status_of(calls[name](*arguments)))
         if name in ENDS:
             world = World(chance)
         elif count % 10 == 9:
