@@ -7,4 +7,5 @@ mod leaving;
 mod offering;
 mod playing;
 mod probing;
+mod resuming;
 mod telling;

@@ -75,7 +75,7 @@ fn end(system: u8, port: u16, state: u8) -> Info {
 }
 
 /// The LACPDU of port `port` of system 0x42, which names the port of the same number of system 0x21.
-fn heard(port: u16) -> [u8; 124] {
+pub(crate) fn heard(port: u16) -> [u8; 124] {
     let payload = Lacpdu {
         actor: end(0x42, port, 0x0d),
         partner: end(0x21, port, 0x05),
