@@ -36,12 +36,12 @@ struct place {
     bool is_known, is_router; /* whether the kernel told what its IPv6 is, and that it is a router */
 };
 
-static int sender = -1;         /* while it is announced */
+static int sender = -1;    /* while it is announced */
 static struct place places[1 + MOST_ABOVE];
 static unsigned place_count;
-static unsigned announced;      /* how many frames this announcement has so far */
-static unsigned times;           /* how often it is still announced */
-static unsigned wait_ticks;      /* until it is announced next */
+static unsigned announced;  /* how many frames this announcement has so far */
+static unsigned times;      /* how often it is still announced */
+static unsigned wait_ticks; /* until it is announced next */
 
 /* Sends a frame by an interface, as the host does: it comes from the device with the others. One that is not taken is lost, as on a wire. */
 static void send_from(const struct place *place, const uint8_t *frame, size_t length) {

@@ -55,11 +55,11 @@ static int keep_program(const char *kind, int program, bool egress) {
     return opened;
 }
 
-/* A table that the programs share with the daemon: that of the last daemon, where that left one, or a new one. */
+/* A table that the programs share with the daemon: that of the last daemon, where that left one for this device, or a new one. */
 static void *open_map(int number, uint32_t size, uint32_t count, int *map) {
     void *at;
-    *map = left.tap != 0 && left.tap == tap_at ? take_stored("map", number) : -1;
-    at = *map >= 0 ? take_map(size, count, *map) : NULL;
+    *map = take_stored("map", number);
+    at = *map >= 0 && left.tap != 0 && left.tap == tap_at ? take_map(size, count, *map) : NULL;
     if (at) return at;
     if (*map >= 0) close_stored("map", number, *map);
     at = make_map(size, count, map);

@@ -67,7 +67,7 @@ static void note_stranger(struct link *link, const struct system_id *system, con
 static void note_actor(struct link *link, const struct system_id *actor, const uint8_t *frame) {
     const uint8_t *source = frame + ETH_ALEN;
     memcpy(link->lacpdu, frame, sizeof link->lacpdu);
-    link->lacpdu_at = milliseconds();
+    link->lacpdu_at = boottime();
     if (link->heard && !is_same_system(&link->actor, actor)) {
         link->counts[PARTNER_CHANGES]++;
         note_stranger(link, &link->actor, link->source);

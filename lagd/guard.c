@@ -241,18 +241,27 @@ void open_guard(struct link *link, struct guard *guard) {
         (void)say(LOG_WARNING | ABOUT_DATA, "port %u %s: it has several queues, and markers may overtake data", port, link->name);
 }
 
-/* The interface is no member any more. */
+/* Sets back which processors take what an interface receives; answers whether these do now. */
+static bool steer_back(int index, const char *mask) {
+    char path[128], now[PROCESSORS_ROOM];
+    if (!path_of_processors(index, path, sizeof path)) return false;
+    return write_processors(path, mask) || (read_processors(path, now, sizeof now) && strcmp(now, mask) == 0);
+}
+
+/* The interface is no member any more. What cannot be set back stays kept, as without CAP_NET_ADMIN. */
 void close_guard(const struct link *link, struct guard *guard) {
     struct kept *before = &guard->before;
-    char path[128];
+    char name[IF_NAMESIZE];
+    bool done = true;
     stop_programs(link, guard);
     if (before->joins != 0) set_joins(link->index, before->joins);
+    if (before->joins != 0) done = (before->joins & ~read_joins(link->index).wanted) == 0;
     before->queues.cmd = ETHTOOL_SCHANNELS;
     if (before->queues.combined_count + before->queues.rx_count + before->queues.tx_count > 0)
-        (void)ask_driver(link->index, &before->queues);
+        done = ask_driver(link->index, &before->queues) && done;
     take_fifo(link->index); /* with all its queues the kernel gives each of them what it chooses */
-    if (before->steered[0] && path_of_processors(link->index, path, sizeof path)) (void)write_processors(path, before->steered);
-    forget_settings(link);
+    if (before->steered[0]) done = steer_back(link->index, before->steered) && done;
+    if (done || !if_indextoname((unsigned)link->index, name)) forget_settings(link);
 }
 
 /* An interface was a member of the last daemon, and is none of this one: it gets what it had, unless somebody else has it by now. */

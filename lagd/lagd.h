@@ -116,9 +116,9 @@ struct link {
     unsigned twin_seconds; /* for how many seconds there is one */
     bool to_tell;             /* whether its peer has to be told of the end */
     uint64_t sent_before_end; /* LACPDUs, up to then */
-    uint64_t lacpdus_at[MOST_LACPDUS]; /* the milliseconds at which the last ones went, the oldest first */
+    uint64_t lacpdus_at[MOST_LACPDUS]; /* the milliseconds of CLOCK_BOOTTIME at which the last ones went, the oldest first */
     uint8_t lacpdu[NIW_FRAME];         /* the last one that was taken, */
-    uint64_t lacpdu_at;                /* and the milliseconds at which it came, or 0 */
+    uint64_t lacpdu_at;                /* and the milliseconds of CLOCK_BOOTTIME at which it came, or 0 */
     uint64_t counts[COUNTS];
     struct niw_view view; /* as the library last told it */
     bool changed;         /* whether there may be something to print */
@@ -352,7 +352,7 @@ extern bool has_left; /* whether the next daemon goes on from here */
 void begin_resuming(void);
 unsigned resume(void);
 void resume_data(unsigned count);
-void release_left(void);
+void end_resuming(void);
 bool leave_state(void);
 
 /* status.c */

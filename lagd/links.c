@@ -24,7 +24,7 @@
 static int open_socket(int index) {
     struct sockaddr_ll address = {.sll_family = AF_PACKET, .sll_protocol = htons(ETH_P_SLOW), .sll_ifindex = index};
     struct packet_mreq member = {index, PACKET_MR_MULTICAST, 6, {0x01, 0x80, 0xc2, 0x00, 0x00, 0x02}};
-    int opened = packet_socket("lacp", index, index, SOCK_RAW), fault;
+    int opened = packet_socket("lacp", index, index, SOCK_RAW);
     if (opened < 0) return -1;
     (void)setsockopt(opened, SOL_SOCKET, SO_PRIORITY, &(int){TC_PRIO_CONTROL}, sizeof(int)); /* before data */
     (void)setsockopt(opened, SOL_PACKET, PACKET_IGNORE_OUTGOING, &(int){1}, sizeof(int));
@@ -32,9 +32,7 @@ static int open_socket(int index) {
         && bind(opened, (struct sockaddr *)&address, sizeof address) == 0
         && setsockopt(opened, SOL_PACKET, PACKET_ADD_MEMBERSHIP, &member, sizeof member) == 0)
         return opened;
-    fault = errno;
-    close(opened);
-    errno = fault;
+    close_stored("lacp", index, opened);
     return -1;
 }
 
@@ -148,13 +146,13 @@ bool is_bound(const struct link *link) {
 
 /* Whether a second has room for one more LACPDU. The library counts ticks, of which two may come at once where one was late. */
 static bool has_room(const struct link *link) {
-    return link->lacpdus_at[0] == 0 || milliseconds() - link->lacpdus_at[0] > 1000;
+    return link->lacpdus_at[0] == 0 || boottime() - link->lacpdus_at[0] > 1000;
 }
 
 /* The kernel took an LACPDU. */
 static void note_lacpdu(struct link *link) {
     memmove(link->lacpdus_at, link->lacpdus_at + 1, sizeof link->lacpdus_at - sizeof *link->lacpdus_at);
-    link->lacpdus_at[MOST_LACPDUS - 1] = milliseconds();
+    link->lacpdus_at[MOST_LACPDUS - 1] = boottime();
     link->unsent = false;
 }
 

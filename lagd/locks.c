@@ -50,7 +50,7 @@ static bool find_lock(int index, int but, struct lock *found) {
  * other one, since each is bound before it looks. It looks twice: of a list that changes the kernel may leave one out. */
 int lock_interface(int index) {
     struct sockaddr_ll address = {.sll_family = AF_PACKET, .sll_protocol = htons(PROTOCOL), .sll_ifindex = index};
-    int opened = packet_socket("lock", index, index, SOCK_DGRAM), fault;
+    int opened = packet_socket("lock", index, index, SOCK_DGRAM);
     struct lock other;
     if (opened < 0) return -1;
     if (bind(opened, (struct sockaddr *)&address, sizeof address) == 0 && find_lock(index, opened, &other)
@@ -58,9 +58,7 @@ int lock_interface(int index) {
         if (other.inode == 0) return opened;
         errno = EADDRINUSE;
     }
-    fault = errno;
-    close(opened);
-    errno = fault;
+    close_stored("lock", index, opened);
     return -1;
 }
 

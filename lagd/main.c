@@ -199,7 +199,7 @@ static int run_daemon(const struct options *options) {
     resumed = resume();
     has_started = true;
     resume_data(resumed);
-    release_left();
+    end_resuming();
     tell_changes();
     settle_carry();
     notify_ready();

@@ -83,12 +83,6 @@ static void enlarge(int fd, int forced, int plain) {
         (void)setsockopt(fd, SOL_SOCKET, plain, &(int){SOCKET_ROOM}, sizeof(int));
 }
 
-static void close_keeping_errno(int fd) {
-    int fault = errno;
-    close(fd);
-    errno = fault;
-}
-
 /* Has what is sent go round a queueing discipline that does not keep the order: fq_codel has a queue for each flow, and a marker would
  * overtake the data before it. */
 static bool set_bypass(int fd, bool in_order) {
@@ -115,7 +109,7 @@ static int open_data(int index, const struct guard *guard) {
         && bind(fd, (struct sockaddr *)&address, sizeof address) == 0
         && setsockopt(fd, SOL_PACKET, PACKET_ADD_MEMBERSHIP, &all, sizeof all) == 0)
         return fd;
-    close_keeping_errno(fd);
+    close_stored("data", index, fd);
     return -1;
 }
 
@@ -123,12 +117,13 @@ static int open_data(int index, const struct guard *guard) {
  * to a member while no data goes up; or -1, and errno. */
 static int open_markers(const struct link *link, int index, uint16_t port) {
     struct sockaddr_ll address = {.sll_family = AF_PACKET, .sll_protocol = htons(ETH_P_SLOW), .sll_ifindex = index};
-    int fd = packet_socket(port > 0 ? "markers" : "direct", link->index, index, SOCK_RAW);
+    const char *kind = port > 0 ? "markers" : "direct";
+    int fd = packet_socket(kind, link->index, index, SOCK_RAW);
     if (fd < 0) return -1;
     if ((port > 0 ? filter_marked(fd, port) : filter(fd, true)) && setsockopt(fd, SOL_PACKET, PACKET_AUXDATA, &(int){1}, sizeof(int)) == 0
         && bind(fd, (struct sockaddr *)&address, sizeof address) == 0)
         return fd;
-    close_keeping_errno(fd);
+    close_stored(kind, link->index, fd);
     return -1;
 }
 

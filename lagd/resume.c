@@ -54,14 +54,18 @@ static void hear_again(struct link *link) {
     memcpy(counts, link->counts, sizeof counts);
     take_frame(link, &arrival);
     memcpy(link->counts, counts, sizeof counts);
-    link->lacpdu_at = milliseconds() - (began - was->heard);
+    link->lacpdu_at = was->heard;
+    link->lacpdus_at[MOST_LACPDUS - 1] = was->spoken;
 }
 
 /* What is due is not sent. */
 static void throw_due(void) {
     uint8_t frame[NIW_FRAME];
     for (uint16_t i = 0; i < link_count; i++)
-        for (struct niw_sent due = {.is = true}; due.is;) due = niw_transmit(&own_system, (uint16_t)(i + 1), frame, sizeof frame);
+        for (struct niw_sent due = {.is = true}; due.is;) {
+            due = niw_transmit(&own_system, (uint16_t)(i + 1), frame, sizeof frame);
+            if (!is_done(due.status, "niw_transmit")) return;
+        }
 }
 
 static bool distributes(uint16_t port) {
@@ -93,10 +97,21 @@ static void set_links(const bool *chosen, bool go_on) {
         if (links[i].up && chosen[i] == go_on && !is_done(niw_set_link(&own_system, (uint16_t)(i + 1), true), "niw_set_link")) return;
 }
 
-/* Before the interfaces are taken up: whether there is something to go on with. */
+/* What were members, and are no more, get what they had. */
+static void release_left(void) {
+    for (unsigned i = 0; i < left.link_count; i++) {
+        bool stays = false;
+        for (uint16_t port = 0; port < link_count; port++)
+            stays = stays || (links[port].socket >= 0 && links[port].index == left.links[i].index);
+        if (!stays) put_back(left.links[i].index, left.links[i].mac);
+    }
+}
+
+/* Before the interfaces are taken up: whether there is something to go on with. Where no data is carried any more, nothing is a member. */
 void begin_resuming(void) {
     began = boottime();
     for (unsigned i = 0; i < left.link_count; i++) resuming = resuming || left.links[i].carried;
+    if (left.others && !settings.carry[0]) release_left();
 }
 
 /* Tells what became of the links of the last daemon, if some are there. */
@@ -169,14 +184,9 @@ void resume_data(unsigned count) {
     resume_fast();
 }
 
-/* What were members, and are no more, get what they had. */
-void release_left(void) {
-    for (unsigned i = 0; i < left.link_count; i++) {
-        bool stays = !carries_data();
-        for (uint16_t port = 0; port < link_count; port++)
-            stays = stays || (links[port].socket >= 0 && links[port].index == left.links[i].index);
-        if (!stays) put_back(left.links[i].index, left.links[i].mac);
-    }
+/* All that goes on was taken over: what is left of the last daemon goes. */
+void end_resuming(void) {
+    if (carries_data()) release_left();
     drop_left();
 }
 

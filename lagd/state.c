@@ -44,7 +44,7 @@ static const char *way(void) {
     return text;
 }
 
-static void write_link(FILE *file, const struct link *link, uint64_t since) {
+static void write_link(FILE *file, const struct link *link) {
     bool carried = link->view.port_status == NIW_PORT_STATUS_DISTRIBUTING && !link->view.defaulted && link->lacpdu_at != 0;
     char mac[32], hex[HEX_ROOM] = "";
     for (size_t i = 0; i < NIW_FRAME; i++) {
@@ -52,7 +52,7 @@ static void write_link(FILE *file, const struct link *link, uint64_t since) {
         hex[2 * i + 1] = "0123456789abcdef"[link->lacpdu[i] & 15];
     }
     fprintf(file, "link %d %s %" PRIu32 " %d %" PRIu64 " %" PRIu64 " %s\n", link->index, mac_text(link->mac, mac), link->kernel_losses,
-        carried, link->lacpdu_at + since, link->lacpdus_at[MOST_LACPDUS - 1] + since, hex);
+        carried, link->lacpdu_at, link->lacpdus_at[MOST_LACPDUS - 1], hex);
 }
 
 /* Writes the interface of each conversation: the one that it leaves, while it is held. */
@@ -67,7 +67,6 @@ static void write_conversations(FILE *file) {
 
 static void write_state(FILE *file) {
     struct niw_marker marker = niw_next_marker(&own_system);
-    uint64_t since = boottime() - milliseconds();
     fprintf(file, "lagd %u\nboot %s\nway %s\n", FORM_VERSION, boot_id(), way());
     fprintf(file, "written %" PRIu64 "\n", boottime());
     fprintf(file, "marker %" PRIu32 "\n", is_done(marker.status, "niw_next_marker") && marker.left ? marker.id : 0);
@@ -75,7 +74,7 @@ static void write_state(FILE *file) {
     if (carries_data())
         fprintf(file, "tap %d %d %" PRIu32 " %u\n", tap_index(), tap_persists(), mtu_of_administrator(), peer_answering());
     for (uint16_t i = 0; i < link_count; i++)
-        if (links[i].socket >= 0) write_link(file, &links[i], since);
+        if (links[i].socket >= 0) write_link(file, &links[i]);
     if (carries_data()) write_conversations(file);
     fputs("end\n", file);
 }

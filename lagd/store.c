@@ -1,5 +1,5 @@
 /* The store of the manager of services: files that it keeps open while no daemon runs, so that the next one goes on with them. Each has the
- * name of its kind and a number, mostly that of an interface. */
+ * name of its kind, of its network namespace, and a number, mostly that of an interface. */
 #define _GNU_SOURCE
 #ifdef HAVE_SYSTEMD
 #include <systemd/sd-daemon.h>
@@ -16,7 +16,7 @@
 #include "carry.h"
 
 #ifdef HAVE_SYSTEMD
-#define NAME_OF_FILE 48
+#define NAME_OF_FILE 64
 /* What the unit lets it keep. */
 #define MOST_FILES 512
 
@@ -28,16 +28,21 @@ static struct stored {
 static size_t count;
 static bool stays; /* whether the next daemon gets what is there */
 
+static void name_stored(const char *kind, int number, char room[static NAME_OF_FILE]) {
+    snprintf(room, NAME_OF_FILE, "%s-%lu-%d", kind, network_namespace(), number);
+}
+
 static void tell_store(const char *what, const char *kind, int number, int fd) {
-    char text[128];
-    snprintf(text, sizeof text, "%s=1\n%sFDNAME=%s-%d", what, fd < 0 ? "" : "FDPOLL=0\n", kind, number);
+    char name[NAME_OF_FILE], text[128];
+    name_stored(kind, number, name);
+    snprintf(text, sizeof text, "%s=1\n%sFDNAME=%s", what, fd < 0 ? "" : "FDPOLL=0\n", name);
     (void)sd_pid_notify_with_fds(0, 0, text, &fd, fd < 0 ? 0 : 1);
 }
 
-/* Whether there is a manager that may keep files. */
+/* Whether there is a manager that keeps files: systemd says so from 254 on, and the unit does. */
 bool has_store(void) {
-    const char *manager = getenv("NOTIFY_SOCKET");
-    return manager && manager[0];
+    const char *manager = getenv("NOTIFY_SOCKET"), *most = getenv("FDSTORE");
+    return manager && manager[0] && most && atoi(most) > 0;
 }
 
 /* The manager keeps a file, too, until drop_stored. */
@@ -53,7 +58,7 @@ void drop_stored(const char *kind, int number) {
 /* Takes a file that the last daemon left; or -1. */
 int take_stored(const char *kind, int number) {
     char name[NAME_OF_FILE];
-    snprintf(name, sizeof name, "%s-%d", kind, number);
+    name_stored(kind, number, name);
     for (size_t i = 0; i < count; i++) {
         int fd = stored[i].fd;
         if (fd < 0 || strcmp(stored[i].name, name) != 0) continue;
@@ -134,10 +139,12 @@ void open_store(void) {
 }
 #endif
 
-/* Closes a file that the manager keeps, too. */
+/* Closes a file that the manager keeps, too, and leaves errno as it is. */
 void close_stored(const char *kind, int number, int fd) {
+    int fault = errno;
     drop_stored(kind, number);
     close(fd);
+    errno = fault;
 }
 
 /* Whether a packet socket still has its interface. */

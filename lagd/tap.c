@@ -255,6 +255,8 @@ static void make_tap(const char *name, const uint8_t *mac) {
     if (ioctl(tap, TUNSETIFF, &device) < 0) stop(REFUSED, name, strerror(errno));
     number = index_of(device.ifr_name);
     if (number == 0) stop(REFUSED, name, strerror(errno));
+    carrier = true; /* which older kernels set here */
+    set_carrier(false);
     if (left.tap == number)
         go_on_with_tap();
     else
