@@ -59,7 +59,7 @@ static int keep_program(const char *kind, int program, bool egress) {
 static void *open_map(int number, uint32_t size, uint32_t count, int *map) {
     void *at;
     *map = take_stored("map", number);
-    at = *map >= 0 && left.tap != 0 && left.tap == tap_at ? take_map(size, count, *map) : NULL;
+    at = *map >= 0 && inherited.tap != 0 && inherited.tap == tap_at ? take_map(size, count, *map) : NULL;
     if (at) return at;
     if (*map >= 0) close_stored("map", number, *map);
     at = make_map(size, count, map);

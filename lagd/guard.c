@@ -274,5 +274,5 @@ void put_back(int index, const uint8_t *mac) {
     memcpy(link.mac, mac, sizeof link.mac);
     recall_settings(&link, &guard.before);
     close_guard(&link, &guard);
-    close_stored("lock", index, lock);
+    return_stored("lock", index, lock);
 }

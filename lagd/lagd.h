@@ -332,9 +332,10 @@ void open_store(void);
 bool has_store(void);
 void put_stored(const char *kind, int number, int fd);
 int take_stored(const char *kind, int number);
+void return_stored(const char *kind, int number, int fd);
 void drop_stored(const char *kind, int number);
 void close_stored(const char *kind, int number, int fd);
-void drop_left(void);
+void drop_unclaimed(void);
 void leave_store(void);
 int packet_socket(const char *kind, int of, int index, int type);
 

@@ -19,9 +19,9 @@ bool has_left;
 static uint64_t began; /* when it was begun, in milliseconds of CLOCK_BOOTTIME */
 
 /* What the last daemon left of a link. An interface that was made anew is another one. */
-static const struct left_link *left_of(const struct link *link) {
-    for (unsigned i = 0; i < left.link_count; i++)
-        if (left.links[i].index == link->index && memcmp(left.links[i].mac, link->mac, sizeof link->mac) == 0) return &left.links[i];
+static const struct inherited_link *inherited_of(const struct link *link) {
+    for (unsigned i = 0; i < inherited.link_count; i++)
+        if (inherited.links[i].index == link->index && memcmp(inherited.links[i].mac, link->mac, sizeof link->mac) == 0) return &inherited.links[i];
     return NULL;
 }
 
@@ -36,19 +36,19 @@ static bool is_within(uint64_t then, uint64_t most) {
 
 /* Whether a port goes on: its carrier did not go, and neither end has given the other one up. */
 static bool goes_on(const struct link *link) {
-    const struct left_link *was = link->up ? left_of(link) : NULL;
+    const struct inherited_link *was = link->up ? inherited_of(link) : NULL;
     return was && was->carried && was->losses == link->kernel_losses && is_within(was->heard, timeout_of(link->settings.short_timeout))
         && is_within(was->spoken, timeout_of((was->lacpdu[ACTOR_STATE] & NIW_STATE_TIMEOUT) != 0));
 }
 
 /* How old the LACPDU of a link is, in ticks. */
 static unsigned age_of(const struct link *link) {
-    return (unsigned)((began - left_of(link)->heard) / NIW_TICK_MILLISECONDS);
+    return (unsigned)((began - inherited_of(link)->heard) / NIW_TICK_MILLISECONDS);
 }
 
 /* The last LACPDU of a link comes again, which is counted by the daemon that it came to. */
 static void hear_again(struct link *link) {
-    const struct left_link *was = left_of(link);
+    const struct inherited_link *was = inherited_of(link);
     struct arrival arrival = {was->lacpdu, NIW_FRAME, PACKET_MULTICAST, link->index, false};
     uint64_t counts[COUNTS];
     memcpy(counts, link->counts, sizeof counts);
@@ -98,27 +98,27 @@ static void set_links(const bool *chosen, bool go_on) {
 }
 
 /* What were members, and are no more, get what they had. */
-static void release_left(void) {
-    for (unsigned i = 0; i < left.link_count; i++) {
+static void release_former_members(void) {
+    for (unsigned i = 0; i < inherited.link_count; i++) {
         bool stays = false;
         for (uint16_t port = 0; port < link_count; port++)
-            stays = stays || (links[port].socket >= 0 && links[port].index == left.links[i].index);
-        if (!stays) put_back(left.links[i].index, left.links[i].mac);
+            stays = stays || (links[port].socket >= 0 && links[port].index == inherited.links[i].index);
+        if (!stays) put_back(inherited.links[i].index, inherited.links[i].mac);
     }
 }
 
 /* Before the interfaces are taken up: whether there is something to go on with. Where no data is carried any more, nothing is a member. */
 void begin_resuming(void) {
     began = boottime();
-    for (unsigned i = 0; i < left.link_count; i++) resuming = resuming || left.links[i].carried;
-    if (left.others && !settings.carry[0]) release_left();
+    for (unsigned i = 0; i < inherited.link_count; i++) resuming = resuming || inherited.links[i].carried;
+    if (inherited.others && !settings.carry[0]) release_former_members();
 }
 
 /* Tells what became of the links of the last daemon, if some are there. */
 static void tell_links(unsigned count) {
     unsigned known = 0;
-    for (uint16_t i = 0; i < link_count; i++) known += links[i].socket >= 0 && left_of(&links[i]) != NULL;
-    if (known > 0 && left.others)
+    for (uint16_t i = 0; i < link_count; i++) known += links[i].socket >= 0 && inherited_of(&links[i]) != NULL;
+    if (known > 0 && inherited.others)
         (void)say(LOG_WARNING | ABOUT_HANDOVER, "the state that the last daemon left is not used: it belongs to other settings");
     else if (known > 0)
         (void)say(LOG_NOTICE | ABOUT_HANDOVER, "%u of %u links go on where the last daemon left them", count, link_count);
@@ -168,17 +168,17 @@ static uint16_t port_on(int index) {
 
 /* After the ports: the bundle and its data go on as they were. What the kernel passes on knows best where it goes. */
 void resume_data(unsigned count) {
-    if (left.bundle.aggregator > aggregator_count) count = 0;
+    if (inherited.bundle.aggregator > aggregator_count) count = 0;
     take_views();
-    if (count > 0) go_on_as(&left.bundle);
+    if (count > 0) go_on_as(&inherited.bundle);
     if (!carries_data()) return;
     if (count > 0) {
-        go_on_in(left.bundle.aggregator);
-        go_on_answering((enum answering)left.answering);
+        go_on_in(inherited.bundle.aggregator);
+        go_on_answering((enum answering)inherited.answering);
     }
     for (uint16_t number = 0; count > 0 && number < CONVERSATIONS; number++) {
         int member = fast_member_of(number);
-        uint16_t port = port_on(member != 0 ? member : left.members[number]);
+        uint16_t port = port_on(member != 0 ? member : inherited.members[number]);
         if (port != 0) stay(number, port);
     }
     resume_fast();
@@ -186,8 +186,8 @@ void resume_data(unsigned count) {
 
 /* All that goes on was taken over: what is left of the last daemon goes. */
 void end_resuming(void) {
-    if (carries_data()) release_left();
-    drop_left();
+    if (carries_data()) release_former_members();
+    drop_unclaimed();
 }
 
 /* The next daemon is to go on: answers whether it can. */

@@ -21,7 +21,7 @@
 /* For how long frames may have waited, in milliseconds: with the second in which a state is written. */
 #define MOST_AWAY 3000
 
-struct left left;
+struct inherited inherited;
 
 static bool over; /* whether the peers are told of the end */
 static bool failed; /* whether the last writing did, which has a line */
@@ -125,18 +125,18 @@ static bool read_hex(const char *text, uint8_t *octets) {
 }
 
 static bool read_link(FILE *file) {
-    struct left_link *link = &left.links[left.link_count];
+    struct inherited_link *link = &inherited.links[inherited.link_count];
     char mac[32], own[32], hex[HEX_ROOM];
     unsigned octets[6];
     int carried;
-    if (left.link_count == NIW_MOST_PORTS) return false;
+    if (inherited.link_count == NIW_MOST_PORTS) return false;
     if (fscanf(file, "%d %31s %" SCNu32 " %d %" SCNu64 " %" SCNu64 " %" HEX_LENGTH "s", &link->index, mac, &link->losses, &carried,
             &link->heard, &link->spoken, hex) != 7 || strlen(hex) != HEX_ROOM - 1 || !read_hex(hex, link->lacpdu))
         return false;
     if (sscanf(mac, "%2x:%2x:%2x:%2x:%2x:%2x", octets, octets + 1, octets + 2, octets + 3, octets + 4, octets + 5) != 6) return false;
     for (size_t i = 0; i < sizeof link->mac; i++) link->mac[i] = (uint8_t)octets[i];
     link->carried = carried == 1;
-    left.link_count++;
+    inherited.link_count++;
     return strcmp(mac, mac_text(link->mac, own)) == 0;
 }
 
@@ -144,7 +144,7 @@ static bool read_conversation(FILE *file) {
     unsigned number;
     int index;
     if (fscanf(file, "%u %d", &number, &index) != 2 || number >= CONVERSATIONS || index <= 0) return false;
-    left.members[number] = index;
+    inherited.members[number] = index;
     return true;
 }
 
@@ -152,7 +152,7 @@ static bool read_bundle(FILE *file) {
     unsigned state, aggregator;
     long long changed;
     if (fscanf(file, "%u %u %lld", &state, &aggregator, &changed) != 3 || state >= BUNDLE_STATES || aggregator > NIW_MOST_PORTS) return false;
-    left.bundle = (struct bundle){.state = (enum bundle_state)state, .aggregator = (uint16_t)aggregator, .changed_at = (time_t)changed};
+    inherited.bundle = (struct bundle){.state = (enum bundle_state)state, .aggregator = (uint16_t)aggregator, .changed_at = (time_t)changed};
     return true;
 }
 
@@ -162,11 +162,12 @@ static bool read_rest(FILE *file) {
     while (fscanf(file, "%15s", word) == 1) {
         bool read = false;
         if (strcmp(word, "end") == 0) return true;
-        if (strcmp(word, "written") == 0) read = fscanf(file, "%" SCNu64, &left.written) == 1;
-        if (strcmp(word, "marker") == 0) read = fscanf(file, "%" SCNu32, &left.marker) == 1;
+        if (strcmp(word, "written") == 0) read = fscanf(file, "%" SCNu64, &inherited.written) == 1;
+        if (strcmp(word, "marker") == 0) read = fscanf(file, "%" SCNu32, &inherited.marker) == 1;
         if (strcmp(word, "bundle") == 0) read = read_bundle(file);
         if (strcmp(word, "tap") == 0)
-            read = fscanf(file, "%d %d %" SCNu32 " %u", &left.tap, &left.persists, &left.mtu, &left.answering) == 4 && left.answering <= MUTE;
+            read = fscanf(file, "%d %d %" SCNu32 " %u", &inherited.tap, &inherited.persists, &inherited.mtu, &inherited.answering) == 4
+                && inherited.answering <= MUTE;
         if (strcmp(word, "link") == 0) read = read_link(file);
         if (strcmp(word, "on") == 0) read = read_conversation(file);
         if (!read) return false;
@@ -177,14 +178,14 @@ static bool read_rest(FILE *file) {
 /* By other settings nothing goes on: what stays to be done is to put back what the last daemon changed. It has a line once these interfaces
  * are found. */
 static void keep_interfaces(void) {
-    left.others = true;
-    if (left.persists) end_tap(left.tap);
-    for (unsigned i = 0; i < left.link_count; i++) left.links[i].carried = false;
-    memset(left.members, 0, sizeof left.members);
-    left.bundle = (struct bundle){0};
-    left.answering = NOT_ASKED;
-    left.tap = left.persists = 0;
-    left.mtu = 0;
+    inherited.others = true;
+    if (inherited.persists) end_tap(inherited.tap);
+    for (unsigned i = 0; i < inherited.link_count; i++) inherited.links[i].carried = false;
+    memset(inherited.members, 0, sizeof inherited.members);
+    inherited.bundle = (struct bundle){0};
+    inherited.answering = NOT_ASKED;
+    inherited.tap = inherited.persists = 0;
+    inherited.mtu = 0;
 }
 
 /* Reads a state; answers NULL, or why it counts for nothing. */
@@ -223,17 +224,17 @@ void recall_state(void) {
     fault = read_state(file);
     fclose(file);
     if (!fault) return;
-    left = (struct left){0};
+    inherited = (struct inherited){0};
     (void)say(LOG_WARNING | ABOUT_HANDOVER, "the state that the last daemon left is not used: %s", fault);
 }
 
 /* Whether there was no daemon for a moment only: what waits in sockets and in the TAP device is still of use. */
 bool was_away_briefly(void) {
     uint64_t now = boottime();
-    return left.written != 0 && left.written <= now && now - left.written < MOST_AWAY;
+    return inherited.written != 0 && inherited.written <= now && now - inherited.written < MOST_AWAY;
 }
 
 /* The identifier of the first marker: none that the last daemon sent, or 0 where that is not known. */
 uint32_t first_marker_left(void) {
-    return left.marker == 0 || left.marker > UINT32_MAX / 2 ? 0 : left.marker + UNWRITTEN_MARKERS;
+    return inherited.marker == 0 || inherited.marker > UINT32_MAX / 2 ? 0 : inherited.marker + UNWRITTEN_MARKERS;
 }

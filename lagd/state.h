@@ -5,7 +5,7 @@
 #include "carry.h"
 
 /* Of a link. Times are milliseconds of CLOCK_BOOTTIME. */
-struct left_link {
+struct inherited_link {
     int index;       /* of the interface */
     uint8_t mac[6];  /* of the interface */
     uint32_t losses; /* how often its carrier had gone */
@@ -15,10 +15,10 @@ struct left_link {
     uint8_t lacpdu[NIW_FRAME];
 };
 
-struct left {
+struct inherited {
     bool others; /* whether it is of other settings, so that only the interfaces are told */
     unsigned link_count;
-    struct left_link links[NIW_MOST_PORTS];
+    struct inherited_link links[NIW_MOST_PORTS];
     uint64_t written;             /* when it was written, in milliseconds of CLOCK_BOOTTIME */
     uint32_t marker;              /* the identifier of the next one */
     struct bundle bundle;         /* its state, aggregator and time of the last change */
@@ -29,6 +29,6 @@ struct left {
     int members[CONVERSATIONS];   /* of each conversation the interface that it was on, or 0 */
 };
 
-extern struct left left; /* what the last daemon left; all 0 where there is nothing */
+extern struct inherited inherited; /* what the last daemon left; all 0 where there is nothing */
 
 #endif

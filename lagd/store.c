@@ -68,6 +68,18 @@ int take_stored(const char *kind, int number) {
     return -1;
 }
 
+/* Gives back what was taken, for who takes it next. The manager closes what it is to keep no more a moment later, and a lock is held until then. */
+void return_stored(const char *kind, int number, int fd) {
+    char name[NAME_OF_FILE];
+    name_stored(kind, number, name);
+    for (size_t i = 0; i < count; i++) {
+        if (stored[i].fd >= 0 || strcmp(stored[i].name, name) != 0) continue;
+        stored[i].fd = fd;
+        return;
+    }
+    close(fd);
+}
+
 static void drop_at(size_t place) {
     if (stored[place].fd < 0) return;
     (void)sd_notifyf(0, "FDSTOREREMOVE=1\nFDNAME=%s", stored[place].name);
@@ -77,7 +89,7 @@ static void drop_at(size_t place) {
 }
 
 /* What nobody took is kept no more. */
-void drop_left(void) {
+void drop_unclaimed(void) {
     for (size_t i = 0; i < count; i++) drop_at(i);
 }
 
@@ -129,7 +141,13 @@ int take_stored(const char *kind, int number) {
     return -1;
 }
 
-void drop_left(void) {
+void return_stored(const char *kind, int number, int fd) {
+    (void)kind;
+    (void)number;
+    close(fd);
+}
+
+void drop_unclaimed(void) {
 }
 
 void leave_store(void) {

@@ -194,8 +194,8 @@ static int index_of(const char *name) {
 /* The device is the one of the last daemon: it has all that was set of it, and outlives this one no more. */
 static void go_on_with_tap(void) {
     struct ifreq now = {0};
-    if (left.persists) (void)ioctl(tap, TUNSETPERSIST, 0);
-    less_mtu = left.mtu;
+    if (inherited.persists) (void)ioctl(tap, TUNSETPERSIST, 0);
+    less_mtu = inherited.mtu;
     if (ask_tap(SIOCGIFMTU, &now)) set_mtu = most_mtu = (uint32_t)now.ifr_mtu;
     choose_segments();
 }
@@ -224,11 +224,11 @@ static void lose_waiting(void) {
 
 /* Takes the device that the last daemon left with the manager of services, whatever an administrator named it since, and the frames that
  * wait there unless they are old; answers whether there is one. Its carrier goes where nothing goes on. */
-static bool take_left(const char *name, const uint8_t *mac) {
+static bool take_inherited(const char *name, const uint8_t *mac) {
     struct ifreq device = {0};
     int fd = take_stored("tap", 0);
     if (fd < 0) return false;
-    if (!is_here(fd, &device) || (left.tap == 0 ? strcmp(device.ifr_name, name) != 0 : index_of(device.ifr_name) != left.tap)) {
+    if (!is_here(fd, &device) || (inherited.tap == 0 ? strcmp(device.ifr_name, name) != 0 : index_of(device.ifr_name) != inherited.tap)) {
         close_stored("tap", 0, fd);
         return false;
     }
@@ -237,7 +237,7 @@ static bool take_left(const char *name, const uint8_t *mac) {
     carrier = true;
     if (!resuming) set_carrier(false);
     if (!was_away_briefly()) lose_waiting();
-    if (left.tap == number)
+    if (inherited.tap == number)
         go_on_with_tap();
     else
         set_up(mac);
@@ -248,7 +248,7 @@ static bool take_left(const char *name, const uint8_t *mac) {
  * now. One that was made is gone when the daemon ends, unless the next one goes on. */
 static void make_tap(const char *name, const uint8_t *mac) {
     char room[IF_NAMESIZE];
-    struct ifreq device = request_of(left.persists && if_indextoname((unsigned)left.tap, room) ? room : name);
+    struct ifreq device = request_of(inherited.persists && if_indextoname((unsigned)inherited.tap, room) ? room : name);
     tap = open("/dev/net/tun", O_RDWR | O_NONBLOCK | O_CLOEXEC);
     if (tap < 0) stop(REFUSED, "no TAP device", strerror(errno));
     device.ifr_flags = IFF_TAP | IFF_NO_PI | IFF_VNET_HDR | NO_CARRIER;
@@ -257,7 +257,7 @@ static void make_tap(const char *name, const uint8_t *mac) {
     if (number == 0) stop(REFUSED, name, strerror(errno));
     carrier = true; /* which older kernels set here */
     set_carrier(false);
-    if (left.tap == number)
+    if (inherited.tap == number)
         go_on_with_tap();
     else
         set_up(mac);
@@ -267,7 +267,7 @@ static void make_tap(const char *name, const uint8_t *mac) {
 int open_tap(const char *name, const uint8_t *mac) {
     asker = socket(AF_UNIX, SOCK_DGRAM | SOCK_CLOEXEC, 0);
     if (asker < 0) stop(REFUSED, "no TAP device", strerror(errno));
-    if (!take_left(name, mac)) make_tap(name, mac);
+    if (!take_inherited(name, mac)) make_tap(name, mac);
     put_stored("tap", 0, tap);
     return tap;
 }

@@ -16,7 +16,7 @@ const LEADING = [26, 28], FOLLOWING = [12, 13, 17, 22, 23, 27];
 const rankOf = (rule) => FOLLOWING.includes(rule) - LEADING.includes(rule);
 export const counted = (number, word) => `${number} ${word}${number === 1 ? "" : "s"}`;
 const upper = (text) => text[0].toUpperCase() + text.slice(1);
-export const frameRow = (packet) => `packet-${packet}`;
+const frameRow = (packet) => `packet-${packet}`;
 
 /* A part that opens, and is made once it is opened. */
 function opening(summary, make, isOpen) {
@@ -150,7 +150,7 @@ export function showRecords(records, blob, findingsAt, linksAt) {
     return { pairs, kinds: rules.length };
 }
 
-export const recordsIn = (text) => {
+const recordsIn = (text) => {
     const records = new Records();
     records.addLines(text);
     return records;

@@ -11,7 +11,7 @@ const ROWS = [
     ["sync", bitIn("synchronized")], ["coll", bitIn("collecting")], ["dist", bitIn("distributing")],
 ];
 const END_HEIGHT = NAME + ROWS.length * ROW;
-export const LINK_HEIGHT = 2 * END_HEIGHT + ARROWS + BETWEEN;
+const LINK_HEIGHT = 2 * END_HEIGHT + ARROWS + BETWEEN;
 const NEAREST = 3; // pixels between two arrows that are drawn
 
 /* The stretches of time in which an end showed one value, by its state octets: from one LACPDU to the next that shows another. */
@@ -140,7 +140,7 @@ export class Drawing {
 }
 
 /* What a frame says, for who cannot see it. */
-export function labelOf(frame, findings) {
+function labelOf(frame, findings) {
     const found = findings.map((it) => `; finding: ${it.name} (${it.clause})`).join("");
     return `packet ${frame.packet}, ${secondsOf(frame.seconds)} s, from ${frame.end.name}: ${saidBy(frame)}${found}`;
 }

@@ -48,7 +48,7 @@ class Programs:
     folder: str
     daemon: str
     forcing: str  # a daemon that frees each conversation as soon as it is to move
-    without_tcx: str  # one whose kernel has no TCX
+    old_kernel: str  # one whose kernel has no TCX, and gives a device a carrier as it is opened
     without_wait: str  # one whose kernel waits for no program once it has started
     flows: str
     cables: str
@@ -61,7 +61,8 @@ def build_programs(folder: str, libraries: list[str], words: Sequence[str] = ())
     """Builds the daemon, one that sends no markers before its moves, and the programs of the cables and flows."""
     here = f"{MAINTAIN}/carry.d"
     forcing = build_daemon(folder, libraries, "lagd-forcing", [f"{here}/forcing.c"], ["-Wl,--wrap=lagffi_move_conversation"])
-    without_tcx = build_daemon(folder, libraries, "lagd-without-tcx", [f"{here}/without_tcx.c"], ["-Wl,--wrap=attach_program"])
+    wraps = ["-Wl,--wrap=attach_program", "-Wl,--wrap=ioctl"]
+    old_kernel = build_daemon(folder, libraries, "lagd-old-kernel", [f"{here}/old_kernel.c"], wraps)
     without_wait = build_daemon(folder, libraries, "lagd-without-wait", [f"{here}/without_wait.c"], ["-Wl,--wrap=syscall"])
     own = {name: build(f"{folder}/{name}", [f"{here}/{name}.c"], [], "-std=c11", *WARNINGS) for name in ("flows", "cables")}
     sources = [f"{here}/conversations.c", f"{DAEMON}/hash.c"]
@@ -69,7 +70,7 @@ def build_programs(folder: str, libraries: list[str], words: Sequence[str] = ())
     sources = [f"{here}/kernel_hash.c", *(f"{DAEMON}/{name}.c" for name in ("hash", "bpf", "fast_programs", "settings"))]
     kernel, short = (build(f"{folder}/kernel_{name}", sources, libraries, *STRICT, "-fsanitize=address,undefined", f"-I{DAEMON}", *more)
                      for name, more in (("hash", ()), ("short", ("-DMOST_STEPS=100",))))
-    return Programs(folder, build_daemon(folder, libraries, words=words), forcing, without_tcx, without_wait, conversations=hashing,
+    return Programs(folder, build_daemon(folder, libraries, words=words), forcing, old_kernel, without_wait, conversations=hashing,
                     kernel_hash=kernel, kernel_short=short, **own)
 
 

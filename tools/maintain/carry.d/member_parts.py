@@ -61,7 +61,7 @@ def stacks(programs: Programs) -> None:
     with cables(programs, ()):
         if inside(OURS, "tc", "qdisc", "add", "dev", "a1", "clsact").returncode:
             raise Skipped("tc sets no clsact")
-        start = functools.partial(End, programs, OURS, program=programs.without_tcx)
+        start = functools.partial(End, programs, OURS, program=programs.old_kernel)
         ours, theirs = start(), End(programs, THEIRS)
         try:
             wait_for_links(ours, theirs)

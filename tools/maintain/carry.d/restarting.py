@@ -10,8 +10,9 @@ import signal
 import socket
 import time
 from array import array
+from dataclasses import replace
 from functools import partial
-from threading import Thread, Timer
+from threading import Event, Thread, Timer
 from typing import Callable, Iterator, Sequence
 
 from beside import print_rows, switch_ends
@@ -19,7 +20,7 @@ from booted import BOOTS, Machine
 from bonds import (COMES_BACK, COMES_UP, DEVICE, DIRECT, FLIGHT, FLOWS, MIDDLE, RATE, End, Outcome, Programs, ask_gro, cables, check_order, lay_direct,
                    move_all, run_flows)
 from checking import Failed, Skipped, check, found, within
-from daemon import ENDS, SYSTEM, Part
+from daemon import ENDS, SYSTEM, Daemon, Part
 from openvswitch import OpenVSwitch
 from spaces import OURS, THEIRS, inside, ip
 
@@ -36,6 +37,11 @@ IN_HAND = 4 * 64
 SLOW_RATE = 4000
 # Above the files that a program begins with.
 HIGH = 200
+# A manager of services that keeps nothing, and what a daemon has that carries no data.
+FORGETFUL = ("env", "NOTIFY_SOCKET=@nobody")
+UNPRIVILEGED = ("setpriv", "--bounding-set", "-all,+net_raw", "--inh-caps", "-all", "--")
+# How many tables the programs of the kernel share with the daemon.
+TABLES = 3
 WAYS: dict[str, tuple[str, ...]] = {"plain": (), "offload": ("--offload",), "fast": ("--fast",)}
 
 
@@ -45,6 +51,7 @@ class Manager:
     def __init__(self, folder: str) -> None:
         self.path = os.path.join(folder, "manager")
         self.files: dict[str, int] = {}
+        self.settled = Event()
         self.socket = socket.socket(socket.AF_UNIX, socket.SOCK_DGRAM)
         self.socket.bind(self.path)
         self.reader = Thread(target=self.read, daemon=True)
@@ -56,20 +63,29 @@ class Manager:
             text, more, _, _ = self.socket.recvmsg(4096, socket.CMSG_SPACE(8 * files.itemsize))
             if text == b"END":
                 return
+            if text == b"SETTLED":
+                self.settled.set()
+                continue
             files = array("i", b"".join(octets for _, kind, octets in more if kind == socket.SCM_RIGHTS))
             told = dict(line.partition("=")[::2] for line in text.decode().splitlines())
             name = told.get("FDNAME", "")
-            if "FDSTOREREMOVE" in told and name in self.files:
+            if name in self.files and (files or "FDSTOREREMOVE" in told):
                 os.close(self.files.pop(name))
             if "FDSTORE" in told and files:
                 self.files[name] = fcntl.fcntl(files[0], fcntl.F_DUPFD, HIGH)
             for it in files:
                 os.close(it)
 
+    def settle(self) -> None:
+        """Does all that it was told so far."""
+        self.settled.clear()
+        self.socket.sendto(b"SETTLED", self.path)
+        self.settled.wait(ENDS)
+
     def before(self) -> list[str]:
         """What stands before the words of a daemon, so that it gets what is kept."""
         names = ":".join(self.files)
-        text = f"export NOTIFY_SOCKET={self.path}; "
+        text = f"export NOTIFY_SOCKET={self.path} FDSTORE={HIGH}; "
         if self.files:
             text += f"export LISTEN_PID=$$ LISTEN_FDS={len(self.files)} LISTEN_FDNAMES={names}; "
         moved = " ".join(f"{3 + place}<&{file}-" for place, file in enumerate(self.files.values()))
@@ -94,10 +110,22 @@ class Kept(End):
         self.members: Sequence[str] = ()
         self.launch()
 
+    def given(self) -> tuple[Sequence[str], list[int]]:
+        """What stands before the words of the next daemon, and the files that it gets."""
+        if self.manager:
+            self.manager.settle()
+        return (self.manager.before(), list(self.manager.files.values())) if self.manager else (FORGETFUL, [])
+
     def launch(self) -> None:
-        before = self.manager.before() if self.manager else []
-        files = list(self.manager.files.values()) if self.manager else []
+        before, files = self.given()
         super().__init__(self.programs, self.at, options=self.options, before=before, files=files, names=self.members)
+
+    def without_carry(self, rights: Sequence[str] = ()) -> Daemon:
+        """Its daemon hands over to one that carries no data."""
+        self.process.send_signal(signal.SIGUSR1)
+        self.process.wait(ENDS)
+        before, files = self.given()
+        return Daemon(self.programs.daemon, self.programs.folder, self.at, SYSTEM, "23", "a0", "a1", before=[*before, *rights], files=files)
 
     def again(self, by: signal.Signals, after: float = 0.0, between: Callable[[], object] = lambda: None) -> None:
         """Its daemon ends by a signal, and is started again."""
@@ -176,6 +204,17 @@ def stay(programs: Programs) -> None:
         check(carry["moves"] == carry["forced"] == carry["markers_sent"] == 0, "with no marker and no move", kept.text())
 
 
+def another_hash(programs: Programs) -> None:
+    """Another hash has other tables, with which the next daemon goes on."""
+    with managed(programs, WAYS["fast"]) as (kept, peer):
+        kept.options = [*WAYS["fast"], "--hash", "layer3+4"]
+        kept.again(signal.SIGUSR1)
+        check_flows(programs, kept, peer, "fast, another hash")
+        check(sum(name.startswith("map-") for name in kept.manager.files) == TABLES if kept.manager else False, f"{TABLES} tables are kept", kept.manager)
+        outcome = flows_through(programs, partial(kept.again, signal.SIGUSR1))
+        check(outcome.sent == outcome.received, f"fast, another hash: {outcome.sent - outcome.received} frames are lost by a handover", outcome, kept.text())
+
+
 def hand_over(programs: Programs, name: str) -> None:
     """The daemon of one way hands over under a manager, and is killed: the sending end, twice, and the receiving one."""
     for space, end, events in (OURS, "sends", ("handed over", "handed over again", "killed")), (THEIRS, "receives", ("handed over", "killed")):
@@ -200,6 +239,7 @@ def handover_offload(programs: Programs) -> None:
 
 def handover_fast(programs: Programs) -> None:
     stay(programs)
+    another_hash(programs)
     hand_over(programs, "fast")
 
 
@@ -268,6 +308,77 @@ def change_between(programs: Programs, words: Sequence[str]) -> None:
 def handover_changes(programs: Programs) -> None:
     change_between(programs, WAYS["plain"])
     change_between(programs, WAYS["fast"])
+
+
+def member_files(kept: Kept) -> list[str]:
+    """Where what members had is kept."""
+    return glob.glob(f"{kept.folder}/*.member")
+
+
+def has_clsact(name: str) -> bool:
+    return "clsact" in inside(OURS, "tc", "qdisc", "show", "dev", name).stdout
+
+
+def released(programs: Programs, name: str) -> None:
+    """Where carry is taken out, what was a member gets what it had; else a later daemon sets it back."""
+    with managed(programs, ()) as (kept, _):
+        kept.again(signal.SIGUSR1, 0, remake)
+        check(within(COMES_BACK, lambda: kept.links() == DIRECT) and not ask_gro(OURS, "a1"), f"{name}: a member has no GRO", kept.text())
+        plain = kept.without_carry()
+        check(within(ENDS, lambda: ask_gro(OURS, "a1") and not member_files(kept)), f"{name}, without carry: it has GRO again", plain.printed())
+        check(within(ENDS, lambda: not device_number()) and not has_clsact("a0"), f"{name}, without carry: device and filters are gone", plain.printed())
+        plain.ends("it")
+        kept.launch()
+        kept.links()
+        plain = kept.without_carry(UNPRIVILEGED)
+        within(ENDS, lambda: "other settings" in plain.printed())
+        check(not ask_gro(OURS, "a1") and bool(member_files(kept)), f"{name}, without the right: it is known what a member had", plain.printed())
+        plain.ends("it")
+        kept.launch()
+        kept.links()
+        kept.ends("the next daemon")
+        check(ask_gro(OURS, "a1") and not member_files(kept) and not has_clsact("a0"), f"{name}: one with the right sets it back", kept.printed())
+
+
+def handover_released(programs: Programs) -> None:
+    released(programs, "TCX")
+    released(replace(programs, daemon=programs.old_kernel), "clsact")
+
+
+def lay_elsewhere(number: int) -> None:
+    """A pair whose one end has, in another namespace, the name and the number that an interface has in theirs."""
+    index = inside(THEIRS, "cat", f"/sys/class/net/b{number}/ifindex").stdout.strip()
+    ip(OURS, "link", "set", f"a{number}", "down", "name", f"old{number}")
+    ip(MIDDLE, "link", "add", f"b{number}", "index", index, "type", "veth", "peer", "name", f"a{number}", "netns", OURS)
+    for space, name in (MIDDLE, f"b{number}"), (OURS, f"a{number}"):
+        ip(space, "link", "set", name, "up")
+
+
+def handover_elsewhere(programs: Programs) -> None:
+    """The next daemon has another network namespace, with interfaces of the same numbers, and takes nothing of the old one."""
+    for name, words in WAYS.items():
+        with managed(programs, words, space=THEIRS) as (kept, peer):
+            kept.at = MIDDLE
+            kept.again(signal.SIGUSR1, 0, lambda: [lay_elsewhere(number) for number in range(DIRECT)])
+            ip(MIDDLE, "address", "add", ADDRESS, "dev", DEVICE)
+            ip(OURS, "address", "add", "192.0.2.2/24", "dev", DEVICE)
+            both = lambda: kept.links() == peer.links() == DIRECT
+            check(within(COMES_UP, both), f"{name}, another namespace: both links carry", kept.text(), kept.printed()[-2000:])
+            pinged = lambda: inside(MIDDLE, "ping", "-c", "3", "-W", "1", "192.0.2.2").returncode == 0
+            check(within(ENDS, pinged), f"{name}, another namespace: data comes and goes", kept.text(), peer.text(), kept.printed()[-2000:])
+
+
+def handover_old_kernel(programs: Programs) -> None:
+    """A kernel that gives the device a carrier as it is opened: it has none while nothing flows."""
+    with managed(replace(programs, daemon=programs.old_kernel), (), has_manager=False) as (kept, peer):
+        kept.process.send_signal(signal.SIGUSR1)
+        kept.process.wait(ENDS)
+        peer.process.kill()
+        time.sleep(4)
+        kept.launch()
+        kept.links()
+        carrier = inside(OURS, "cat", f"/sys/class/net/{DEVICE}/carrier").stdout.strip()
+        check(carrier == "0", "an old kernel: there is no carrier where the peer is gone", carrier, kept.text())
 
 
 BUNDLE = f"[Bundle]\nkey=23\nsystem=32768,{SYSTEM}\ncarry={DEVICE}\nflight={FLIGHT}\n%s[Port a0]\n[Port a1]\n"
@@ -357,4 +468,5 @@ def print_restarts(programs: Programs) -> None:
     check(all(cells[2] == "0" for cells in rows if "handed over" in cells[0]), "a daemon that hands over loses no frame")
 
 
-PARTS = {it.__name__: it for it in (handover_plain, handover_offload, handover_fast, handover_alone, handover_changes, handover_unit)}
+PARTS = {it.__name__: it for it in (handover_plain, handover_offload, handover_fast, handover_alone, handover_changes, handover_released,
+                                   handover_elsewhere, handover_old_kernel, handover_unit)}

@@ -56,6 +56,9 @@ def goes_on(part: Part) -> None:
         check(WENT_ON in ours.printed() and ours.distributes("a0", "a1"), f"after {by.name} the next daemon distributes at once", ours.printed(), ours.text())
         time.sleep(2 * TIMEOUT)
         check(theirs.printed() == lines and ours.distributes("a0", "a1"), "and its peer has seen nothing, for twice its timeout", theirs.printed(), ours.printed())
+    for turn in range(5):
+        ours = hand_over(part, ours)
+        check(WENT_ON in ours.printed() and theirs.printed() == lines, f"{turn + 1} times at once, too", ours.printed(), theirs.printed())
     partner = ours.port("a0")["partner"]
     check(not partner["defaulted"] and partner["port"] == 1, "it knows its partner", partner)
     path = state_file(ours)
