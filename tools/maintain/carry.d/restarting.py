@@ -210,9 +210,11 @@ def another_hash(programs: Programs) -> None:
         kept.options = [*WAYS["fast"], "--hash", "layer3+4"]
         kept.again(signal.SIGUSR1)
         check_flows(programs, kept, peer, "fast, another hash")
-        check(sum(name.startswith("map-") for name in kept.manager.files) == TABLES if kept.manager else False, f"{TABLES} tables are kept", kept.manager)
+        tables = [name for name in kept.manager.files if name.startswith("map-")] if kept.manager else []
+        check(len(tables) == TABLES, f"fast, another hash: {len(tables)} tables are kept", kept.text())
         outcome = flows_through(programs, partial(kept.again, signal.SIGUSR1))
-        check(outcome.sent == outcome.received, f"fast, another hash: {outcome.sent - outcome.received} frames are lost by a handover", outcome, kept.text())
+        lost = outcome.sent - outcome.received
+        check(lost == 0, f"fast, another hash: {lost} frames are lost by a handover", outcome, kept.text())
 
 
 def hand_over(programs: Programs, name: str) -> None:
@@ -345,13 +347,14 @@ def handover_released(programs: Programs) -> None:
     released(replace(programs, daemon=programs.old_kernel), "clsact")
 
 
-def lay_elsewhere(number: int) -> None:
-    """A pair whose one end has, in another namespace, the name and the number that an interface has in theirs."""
-    index = inside(THEIRS, "cat", f"/sys/class/net/b{number}/ifindex").stdout.strip()
-    ip(OURS, "link", "set", f"a{number}", "down", "name", f"old{number}")
-    ip(MIDDLE, "link", "add", f"b{number}", "index", index, "type", "veth", "peer", "name", f"a{number}", "netns", OURS)
-    for space, name in (MIDDLE, f"b{number}"), (OURS, f"a{number}"):
-        ip(space, "link", "set", name, "up")
+def lay_elsewhere() -> None:
+    """Pairs whose one end has, in another namespace, the name and the number that an interface has in theirs."""
+    for number in range(DIRECT):
+        index = inside(THEIRS, "cat", f"/sys/class/net/b{number}/ifindex").stdout.strip()
+        ip(OURS, "link", "set", f"a{number}", "down", "name", f"old{number}")
+        ip(MIDDLE, "link", "add", f"b{number}", "index", index, "type", "veth", "peer", "name", f"a{number}", "netns", OURS)
+        ip(MIDDLE, "link", "set", f"b{number}", "up")
+        ip(OURS, "link", "set", f"a{number}", "up")
 
 
 def handover_elsewhere(programs: Programs) -> None:
@@ -359,7 +362,7 @@ def handover_elsewhere(programs: Programs) -> None:
     for name, words in WAYS.items():
         with managed(programs, words, space=THEIRS) as (kept, peer):
             kept.at = MIDDLE
-            kept.again(signal.SIGUSR1, 0, lambda: [lay_elsewhere(number) for number in range(DIRECT)])
+            kept.again(signal.SIGUSR1, 0, lay_elsewhere)
             ip(MIDDLE, "address", "add", ADDRESS, "dev", DEVICE)
             ip(OURS, "address", "add", "192.0.2.2/24", "dev", DEVICE)
             both = lambda: kept.links() == peer.links() == DIRECT
