@@ -312,9 +312,10 @@ def handover_changes(programs: Programs) -> None:
     change_between(programs, WAYS["fast"])
 
 
-def member_files(kept: Kept) -> list[str]:
-    """Where what members had is kept."""
-    return glob.glob(f"{kept.folder}/*.member")
+def is_known(kept: Kept) -> bool:
+    """Whether it is kept what a1 had."""
+    index = inside(OURS, "cat", "/sys/class/net/a1/ifindex").stdout.strip()
+    return os.path.exists(f"{kept.folder}/{os.stat(f'/run/netns/{OURS}').st_ino}.{index}.member")
 
 
 def has_clsact(name: str) -> bool:
@@ -327,19 +328,19 @@ def released(programs: Programs, name: str) -> None:
         kept.again(signal.SIGUSR1, 0, remake)
         check(within(COMES_BACK, lambda: kept.links() == DIRECT) and not ask_gro(OURS, "a1"), f"{name}: a member has no GRO", kept.text())
         plain = kept.without_carry()
-        check(within(ENDS, lambda: ask_gro(OURS, "a1") and not member_files(kept)), f"{name}, without carry: it has GRO again", plain.printed())
+        check(within(ENDS, lambda: ask_gro(OURS, "a1") and not is_known(kept)), f"{name}, without carry: it has GRO again", plain.printed())
         check(within(ENDS, lambda: not device_number()) and not has_clsact("a0"), f"{name}, without carry: device and filters are gone", plain.printed())
         plain.ends("it")
         kept.launch()
         kept.links()
         plain = kept.without_carry(UNPRIVILEGED)
         within(ENDS, lambda: "other settings" in plain.printed())
-        check(not ask_gro(OURS, "a1") and bool(member_files(kept)), f"{name}, without the right: it is known what a member had", plain.printed())
+        check(not ask_gro(OURS, "a1") and is_known(kept), f"{name}, without the right: it is known what a member had", plain.printed())
         plain.ends("it")
         kept.launch()
         kept.links()
         kept.ends("the next daemon")
-        check(ask_gro(OURS, "a1") and not member_files(kept) and not has_clsact("a0"), f"{name}: one with the right sets it back", kept.printed())
+        check(ask_gro(OURS, "a1") and not is_known(kept) and not has_clsact("a0"), f"{name}: one with the right sets it back", kept.printed())
 
 
 def handover_released(programs: Programs) -> None:
