@@ -56,15 +56,23 @@ def goes_on(part: Part) -> None:
         check(WENT_ON in ours.printed() and ours.distributes("a0", "a1"), f"after {by.name} the next daemon distributes at once", ours.printed(), ours.text())
         time.sleep(2 * TIMEOUT)
         check(theirs.printed() == lines and ours.distributes("a0", "a1"), "and its peer has seen nothing, for twice its timeout", theirs.printed(), ours.printed())
-    for turn in range(5):
-        ours = hand_over(part, ours)
-        check(WENT_ON in ours.printed() and theirs.printed() == lines, f"{turn + 1} times at once, too", ours.printed(), theirs.printed())
     partner = ours.port("a0")["partner"]
     check(not partner["defaulted"] and partner["port"] == 1, "it knows its partner", partner)
     path = state_file(ours)
     ours.ends("the daemon")
     check(not os.path.exists(path), "a stop leaves no state")
     check(within(GOES_DOWN, lambda: not (theirs.distributes("b0") or theirs.distributes("b1"))), "and tells the peer", theirs.text())
+
+
+def in_a_row(part: Part) -> None:
+    """A daemon that hands over before it has sent an LACPDU, of which the peer wants one each 30 s."""
+    ours, theirs = part.ours(), part.theirs(options=["--timeout", "long"])
+    both_up(ours, theirs, "two daemons: both links come to distribute")
+    time.sleep(1.5)
+    lines = theirs.printed()
+    for turn in range(3):
+        ours = hand_over(part, ours)
+        check(WENT_ON in ours.printed() and theirs.printed() == lines, f"handover {turn + 1}: the peer sees nothing", ours.printed(), theirs.printed())
 
 
 def keeps_limit(part: Part) -> None:
@@ -169,5 +177,5 @@ def things_change(part: Part) -> None:
         check(within(GOES_DOWN, lambda: not (theirs.distributes("b0") or theirs.distributes("b1"))), "as at a stop, which the peer is told of", theirs.text())
 
 
-PARTS = {"the next daemon goes on": goes_on, "a limit of links through a restart": keeps_limit, "a state of no use": begins_anew,
-         "what changes between two daemons": things_change}
+PARTS = {"the next daemon goes on": goes_on, "restarts in a row": in_a_row, "a limit of links through a restart": keeps_limit,
+         "a state of no use": begins_anew, "what changes between two daemons": things_change}
