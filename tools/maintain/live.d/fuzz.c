@@ -144,7 +144,7 @@ static void fuzz_state(const uint8_t *octets, size_t length) {
     fprintf(file, "lagd 1\nboot %s\n", boot_id());
     (void)fwrite(octets, 1, length, file);
     fclose(file);
-    left = (struct left){0};
+    inherited = (struct inherited){0};
     recall_state();
     (void)unlink(name);
     begin_resuming();
