@@ -49,7 +49,7 @@ def last_link(programs: Programs, tell: Callable[[str, int], None], ours: End, t
     """One link waits for long while the other one goes, comes back, and is deleted meanwhile."""
     seen: list[tuple[list[str], int]] = []
     events: list[Event] = [(1, lambda: tell("cut", 1)), (2, lambda: tell("join", 1)), (3.5, look(ours, seen)), (4, lambda: tell("cut", 0)),
-                           (5, lambda: tell("join", 0))]
+                           (7, lambda: tell("join", 0))]
     outcome = run_flows(programs, 12, events)
     check(seen[0][0][1] == WAITING, "a link waits", seen, ours.printed())
     check(outcome.gap_ms < GAP_MS, f"the other one goes: the link that waits is used at once, and flows rest for {outcome.gap_ms} ms", ours.printed())
