@@ -95,7 +95,7 @@ pub extern "C" fn lagpage_open(
 // contract: each export (`Answers`, `Advances`)
 // not said: that memory is refused only if there is none; the host's part, in `lib.rt`
 // promise: of a capture that comes in pieces, what is told in all is the lines of what was fed, and at the end the report on all of it, the
-//    status and, where it is not read on, why; each text is told until it is written, and once
+//    status and, where it is not read on, why; printed text is told until it is written, and once
 // contract: `lagpage_open`, `lagpage_feed`, `lagpage_end` (`Advances`, `Continues`)
 /// Explains a piece more of an open capture. It writes what is printed of all that was fed, and was not written by an earlier call, at the
 /// front of `out`; where that has no room, a later call writes it, as one with an empty piece. It answers 2 where no capture is open.

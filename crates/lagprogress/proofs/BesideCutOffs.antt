@@ -15,7 +15,7 @@ use Rattle.lagprogress.proofs.Freeing.{freed_by, freed_of}
 use Rattle.lagprogress.proofs.Hearing.{EnabledKeep, no, not_down, times_keep}
 use Rattle.lagprogress.proofs.OnePort.{AtPort, at_number, mux_leaves, periodic_leaves, settling_leaves}
 use Rattle.lagprogress.proofs.Selecting.{finds_aggregator}
-use Rattle.lagprogress.proofs.SharedLemmas.{enough_finds}
+use Rattle.lagprogress.proofs.SharedLemmas.{enough_finds, none_held}
 use Rattle.lagprogress.proofs.Timers.{runs_keep}
 use Rattle.lagprogress.proofs.HostRound.{left}
 use Rattle.lagprogress.proofs.Lasting.{as_before, ends_at, old_port, still_aggregators, still_links}
@@ -123,7 +123,7 @@ module _ (gives : Algorithms) (s : Side) (k : ℕ) (x : SystemPort) (mid top : W
             known = inr defaulted;
             apart = λ e. no (sym other ∙ (ap (λ z. same_system z x.port.party.system) e ∙ system-itself x.port.party.system));
           } in
-          elim (finds_aggregator st k x (steady s).0 there wants (aggregators k x there up)) [
+          elim (finds_aggregator st k x (steady s).0 there wants (none_held st k x (steady s).2 there) (aggregators k x there up)) [
             | inl h ↦ h
             | inr h ↦ absurd (never_stands st k x h.0 (steady s).0 links there h.1)
           ]

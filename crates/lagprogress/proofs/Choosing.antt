@@ -5,6 +5,7 @@ use Rattle.lagprogress.proofs.Common.{system-itself, Lacpdu, party_of, ReceiveSt
 use Rattle.lagprogress.proofs.Common.{RunsPeriodic, lacpdu_rows, receive_rows, same_receive_state, AtRest, RunsToRest, count_down, is_eligible}
 use Rattle.lagprogress.proofs.Common.{SystemPort, ProcessesLacpdu, can_receive, can_receive_in, ChoosesIn, PortsChangeBy, Settling, ready_of, IsSound}
 use Rattle.lagprogress.proofs.Common.{SystemState, aggregators_value, selection_view, views, last_slots, HasRecorded, WantsAggregator}
+use Rattle.lagprogress.proofs.Common.{and_parts, may_choose}
 use Rattle.lagprogress.proofs.Knowing.{recorded, rests_still}
 use Rattle.lagprogress.proofs.Lasting.{all_by_place}
 use Rattle.lagprogress.proofs.Climbing.{keeps_selected}
@@ -27,26 +28,29 @@ as_read x = (refl, refl, refl, refl, refl)
 -- so it is with each port of a list
 abbrev pub AllAsRead : List SystemPort → List SystemPort → Type 0
 AllAsRead [] [] = Unit {0}
-AllAsRead (x ∷ xs) (y ∷ ys) = ((y.number ≡ x.number) × AsRead x.port y.port) × AllAsRead xs ys
+AllAsRead (x ∷ xs) (y ∷ ys) = ((y.number ≡ x.number) × (y.held ≡ x.held) × AsRead x.port y.port) × AllAsRead xs ys
 AllAsRead [] (y ∷ ys) = ⊥
 AllAsRead (x ∷ xs) [] = ⊥
 
 pub all_as_read : (xs : List SystemPort) → AllAsRead xs xs
 all_as_read [] = tt
-all_as_read (x ∷ xs) = ((refl, as_read x.port), all_as_read xs)
+all_as_read (x ∷ xs) = ((refl, refl, as_read x.port), all_as_read xs)
 
 pub one_as_read : (xs : List SystemPort) (i : ℕ) (x : SystemPort) (p : Machines) → slice_get xs i ≡ Some x → AsRead x.port p
     → AllAsRead xs (slice_set xs i (record x { port = p }))
 one_as_read [] i x p e h = absurd (none-some x e)
 one_as_read (y ∷ ys) zero x p e h = grind (arith, nat_tests, all_as_read)
-one_as_read (y ∷ ys) (suc i) x p e h = ((refl, as_read y.port), one_as_read ys i x p e h)
+one_as_read (y ∷ ys) (suc i) x p e h = ((refl, refl, as_read y.port), one_as_read ys i x p e h)
 
 pub zip_as_read : (R : Machines → Machines → Type 0) (xs ys : List SystemPort)
     → AllByRecursion (λ (x : SystemPort). (q : Machines) → R x.port q → AsRead x.port q) xs → PortsChangeBy R xs ys → AllAsRead xs ys
 zip_as_read R [] [] k h = tt
 zip_as_read R [] (y ∷ ys) k h = absurd h
 zip_as_read R (x ∷ xs) [] k h = absurd h
-zip_as_read R (x ∷ xs) (y ∷ ys) k h = ((ap (λ (z : SystemPort). z.number) h.0.0, k.0 y.port h.0.1), zip_as_read R xs ys k.1 h.1)
+zip_as_read R (x ∷ xs) (y ∷ ys) k h = (
+  (ap (λ (z : SystemPort). z.number) h.0.0, ap (λ (z : SystemPort). z.held) h.0.0, k.0 y.port h.0.1),
+  zip_as_read R xs ys k.1 h.1,
+)
 
 -- a port at rest that wants an aggregator and is UNSELECTED is eligible
 abbrev Able : SystemPort → Type 0
@@ -62,6 +66,14 @@ eligible_before : (x z : SystemPort) → Able x → AsRead x.port z.port → is_
     → is_eligible (selection_view x) ≡ true
 eligible_before x z able a h = grind (arith, nat_tests, five_parts, known_state, no, system-itself)
 
+both_so : (a b : Bool) → a ≡ true → b ≡ true → (a && b) ≡ true
+both_so a b e f = rw (e, f) refl
+
+may_before : (x z : SystemPort) → Able x → AsRead x.port z.port → z.held ≡ x.held → may_choose z ≡ true → may_choose x ≡ true
+may_before x z able a held h =
+    let both = and_parts (is_eligible (selection_view z)) (not z.held) h in
+    both_so (is_eligible (selection_view x)) (not x.held) (eligible_before x z able a both.0) (ap not (sym held) ∙ both.1)
+
 -- step 1 of a settling
 one_seen : (xs ys zs : List SystemPort) → AllByRecursion Able xs → AllAsRead xs ys → PortsChangeBy (RunsToRest (mux_rows false)) ys zs
     → SameSeen xs zs
@@ -71,13 +83,13 @@ one_seen [] (y ∷ ys) zs k a h = absurd a
 one_seen (x ∷ xs) [] zs k a h = absurd a
 one_seen (x ∷ xs) (y ∷ ys) [] k a h = absurd h
 one_seen (x ∷ xs) (y ∷ ys) (z ∷ zs) k a h =
-    let b = mux_leaves (AsRead x.port) false y.port z.port h.0.1 a.0.1 in (
+    let b = mux_leaves (AsRead x.port) false y.port z.port h.0.1 a.0.2 in (
       record {
         number = ap (λ (q : SystemPort). q.number) h.0.0 ∙ a.0.0;
         party = b.0;
         partner = b.1;
         choice = b.2;
-        eligible = eligible_before x z k.0 b;
+        may = may_before x z k.0 b (ap (λ (q : SystemPort). q.held) h.0.0 ∙ a.0.1);
       },
       one_seen xs ys zs k.1 a.1 h.1,
     )

@@ -93,10 +93,10 @@ pub use Rattle.lagsystem.specs.Readers.{selected_aggregator}
 pub use Rattle.lagsystem.specs.Sending.{IsLacpduOf, SendsLacpdu, SendsMarkerOf, TransmitsAt, TransmitsIf, own_marker}
 pub use Rattle.lagsystem.specs.Settling.{ChoosesIn, PortsChangeBy, PromotesNext, Settling, aggregator_for, choice_for, choice_if, choice_in}
 pub use Rattle.lagsystem.specs.Settling.{held_unless_on, ready_of, with_choice}
-pub use Rattle.lagsystem.specs.Sound.{CallPromise, HasPorts, IsSound, PortsAgree}
+pub use Rattle.lagsystem.specs.Sound.{CallPromise, HasPorts, IsSound, NoneHeld, PortsAgree}
 pub use Rattle.lagsystem.specs.State.{SystemState, aggregators_value, machines_of, port_index, port_numbers, system_port_at, with_system_ports}
 pub use Rattle.lagsystem.specs.State.{with_table}
-pub use Rattle.lagsystem.specs.Views.{selection_view, stage_of, views}
+pub use Rattle.lagsystem.specs.Views.{may_choose, selection_view, stage_of, views}
 pub use Rattle.lagsystem.specs.Windows.{reply_has_lacpdu, subtype}
 pub use Rattle.lagsystem.proofs.Effects.{named}
 pub use Rattle.lagsystem.proofs.FirstView.{first_unselected}

@@ -13,6 +13,7 @@ use Rattle.lagprogress.proofs.Common.{port_numbers, selection_view, views, first
 use Rattle.lagprogress.proofs.Common.{numbers_set, promoted_numbers, settling_in, settling_keeps, zip_numbers, next_stands, takes_is}
 use Rattle.lagprogress.proofs.Common.{Step-preserves_ports, choices_keep, promotions_keep, Rises, all-get, ports_rise, RunsReady, set_same}
 use Rattle.lagprogress.proofs.Common.{GroupsAreWhole}
+use Rattle.lagprogress.proofs.Common.{may_choose}
 use Rattle.std.specs.Prelude.{◌||◌}
 use Rattle.lagmodel.proofs.Ports.{group_sym, individual_along}
 use Rattle.selection.specs.Joining.{IsOccupant, MayJoin, ends}
@@ -156,9 +157,10 @@ is_one_of : (o : Option AggId) → (o ≡ None) ⊎ ((c : AggId) × (o ≡ Some 
 is_one_of None = inl refl
 is_one_of (Some c) = inr (c, refl)
 
-when_some : (b : Bool) (o : Option AggId) (agg : AggId) → (if b then (if b then o else None) else None) ≡ Some agg → o ≡ Some agg
-when_some true o agg h = h
-when_some false o agg h = absurd (none-some agg h)
+when_some : (b c : Bool) (o : Option AggId) (agg : AggId) → (if b then (if c then o else None) else None) ≡ Some agg → o ≡ Some agg
+when_some true true o agg h = h
+when_some true false o agg h = absurd (none-some agg h)
+when_some false c o agg h = absurd (none-some agg h)
 
 not_shared : (a b c : Bool) → a ≡ false → b ≡ true → c ≡ true → ((not a && b) && c) ≡ false → ⊥
 not_shared a b c e f g h = grind (arith, nat_tests)
@@ -172,7 +174,7 @@ occupant_in agg c h = grind (arith, nat_tests)
 module _ (keys : List Key) (l : List SystemPort) (i : ℕ) (s : SystemPort) (agg : AggId) (rise : Rises 0 (port_numbers l))
     (there : slice_get l i ≡ Some s) (takes : aggregator_for keys l s ≡ Some agg) (agree : OccupantsAgree keys l) (whole : InOne l) where
   chooses : chosen_if_eligible keys (views l) (selection_view s) ≡ Some agg
-  chooses = when_some (is_eligible (selection_view s)) (chosen_if_eligible keys (views l) (selection_view s)) agg
+  chooses = when_some (may_choose s) (is_eligible (selection_view s)) (chosen_if_eligible keys (views l) (selection_view s)) agg
       (sym (takes_is keys l i s rise there) ∙ takes)
 
   joins : MayJoin keys (views l) agg (selection_view s)

@@ -10,6 +10,7 @@ use Rattle.lagprogress.proofs.Common.{is_below, is_detached, is_eligible, occupi
 use Rattle.lagprogress.proofs.Common.{MuxIsSettled, OccupantsAgree, WithinLimit, occupied, IsSound, SystemState, aggregators_value, selection_view}
 use Rattle.lagprogress.proofs.Common.{stage_of, views, takes_is, all-get, ports_rise, IsFull, StandsByFull, WantsAggregator, aggregators_with}
 use Rattle.lagprogress.proofs.Common.{ports_with, SharesGroup}
+use Rattle.lagprogress.proofs.Common.{may_choose}
 use Rattle.lagprogress.proofs.Counting.{count, counted, count_less_of, count_more_of}
 
 -- the number of the aggregator that a port occupies; aggregators are numbered from 1
@@ -142,9 +143,11 @@ eligible s i x h e w u =
 
 -- what it finds
 
-pub when_is : (b : Bool) (o : Option AggId) → b ≡ true → (if b then (if b then o else None) else None) ≡ None → o ≡ None
-when_is true o e h = h
-when_is false o e h = absurd cc
+pub when_is : (b c : Bool) (o : Option AggId) → b ≡ true → c ≡ true → (if b then (if c then o else None) else None) ≡ None → o ≡ None
+when_is b c o e f h = grind (arith, nat_tests)
+
+free_may : (b h : Bool) → b ≡ true → h ≡ false → (b && not h) ≡ true
+free_may b h e f = rw (e, f) refl
 
 first_none : (a b : Option AggId) → or_else a b ≡ None → a ≡ None
 first_none a b h = grind (arith, nat_tests)
@@ -170,23 +173,24 @@ crowded m n a b = omega (arith, a, b)
 from_first : (keys : List Key) (j : ℕ) (key : Key) → slice_get keys j ≡ Some key → key_of keys (1 + j) ≡ Some key
 from_first keys j key g = grind (arith, nat_tests)
 
--- an UNSELECTED port that wants an aggregator finds none, since the system has settled
+-- an UNSELECTED port that wants an aggregator, and is not held, finds none, since the system has settled
 finds_none : (s : SystemState) (i : ℕ) (x : SystemPort) → IsSound s → slice_get s.system_ports i ≡ Some x → WantsAggregator x.port
-    → is_unselected x.port.choice ≡ true → chosen_if_eligible s.keys (views s.system_ports) (selection_view x) ≡ None
-finds_none s i x h e w u =
+    → x.held ≡ false → is_unselected x.port.choice ≡ true → chosen_if_eligible s.keys (views s.system_ports) (selection_view x) ≡ None
+finds_none s i x h e w free u =
     let v = selection_view x in
     let settled = all-get (MuxIsSettled s.keys s.system_ports) s.system_ports i x e h.quiet.0 in
-    when_is (is_eligible v) (chosen_if_eligible s.keys (views s.system_ports) v) (eligible s i x h e w u)
+    let able = eligible s i x h e w u in
+    when_is (may_choose x) (is_eligible v) (chosen_if_eligible s.keys (views s.system_ports) v) (free_may (is_eligible v) x.held able free) able
     (sym (takes_is s.keys s.system_ports i x (ports_rise s h.ports) e) ∙ settled.apart)
 
 never_unselected : (s : SystemState) (i : ℕ) (x : SystemPort) → IsSound s → slice_get s.system_ports i ≡ Some x
-    → WantsAggregator x.port
+    → WantsAggregator x.port → x.held ≡ false
     → ports_with x.port.party.key s ≤ aggregators_with x.port.party.key s → is_unselected x.port.choice ≡ true → ⊥
-never_unselected s i x h e w many u =
+never_unselected s i x h e w free many u =
     let k = x.port.party.key.0 in
     let v = selection_view x in
     let seen = views s.system_ports in
-    let none = finds_none s i x h e w u in
+    let none = finds_none s i x h e w free u in
     let without : find (λ (row : ℕ × Key). (row.1.0 == k) && has_no_occupant seen (aggregator_of_entry row)) (enumerate_from 1
     s.keys) ≡ None =
     no_entry _ (second_none (lowest s.keys x.port.party.key (occupants_share_group seen v)) _ none) in
@@ -297,12 +301,12 @@ not_unselected : (agg : AggId) (c : Choice) → occupies agg c ≡ true → c �
 not_unselected agg c h e = grind (arith, nat_tests)
 
 always_shares : (s : SystemState) (i : ℕ) (x : SystemPort) → IsSound s → slice_get s.system_ports i ≡ Some x → WantsAggregator x.port
-    → 1 ≤ aggregators_with x.port.party.key s → SharesGroup s x → is_unselected x.port.choice ≡ true → ⊥
-always_shares s i x h e w one shares u =
+    → x.held ≡ false → 1 ≤ aggregators_with x.port.party.key s → SharesGroup s x → is_unselected x.port.choice ≡ true → ⊥
+always_shares s i x h e w free one shares u =
     let k = x.port.party.key.0 in
     let v = selection_view x in
     let seen = views s.system_ports in
-    let none = finds_none s i x h e w u in
+    let none = finds_none s i x h e w free u in
     let first = no_entry _ (first_none (lowest s.keys x.port.party.key (occupants_share_group seen v)) _ none) in
     let second = no_entry _ (second_none (lowest s.keys x.port.party.key (occupants_share_group seen v)) _ none) in
     let some = existing k s.keys (omega (arith, one, counted (λ (y : Key). y.0 == k) s.keys)) in
@@ -323,13 +327,13 @@ always_shares s i x h e w one shares u =
     same_key a b t = ap (λ n. record { 0 = n }) (eqb-true a.0 b.0 t)
 
 pub shares_aggregator : (s : SystemState) (i : ℕ) (x : SystemPort) → IsSound s → slice_get s.system_ports i ≡ Some x
-    → WantsAggregator x.port
+    → WantsAggregator x.port → x.held ≡ false
     → 1 ≤ aggregators_with x.port.party.key s → SharesGroup s x → (is_selected x.port.choice ≡ true) ⊎ StandsByFull s x.port
-shares_aggregator s i x h e w one shares =
-    selected_or_stands s i x x.port.choice refl h e (always_shares s i x h e w one shares)
+shares_aggregator s i x h e w free one shares =
+    selected_or_stands s i x x.port.choice refl h e (always_shares s i x h e w free one shares)
 
 pub finds_aggregator : (s : SystemState) (i : ℕ) (x : SystemPort) → IsSound s → slice_get s.system_ports i ≡ Some x
-    → WantsAggregator x.port
+    → WantsAggregator x.port → x.held ≡ false
     → ports_with x.port.party.key s ≤ aggregators_with x.port.party.key s
     → (is_selected x.port.choice ≡ true) ⊎ StandsByFull s x.port
-finds_aggregator s i x h e w many = selected_or_stands s i x x.port.choice refl h e (never_unselected s i x h e w many)
+finds_aggregator s i x h e w free many = selected_or_stands s i x x.port.choice refl h e (never_unselected s i x h e w free many)

@@ -7,6 +7,7 @@ use Rattle.lagprogress.proofs.Common.{none_enabled, rests, all-get, found_place,
 use Rattle.lagprogress.proofs.Common.{AllHeard, EnoughAggregators, Clearing, HostRounds, NoneIsLeft, PlayedRounds, EndKnows, Knows, AtEnd}
 use Rattle.lagprogress.proofs.Common.{IsHealthyAt, OfPort, StandsByFull, WantsAggregator, AreOneGroup, DownWereLinkedTo, HasAggregators, LeadToKey}
 use Rattle.lagprogress.proofs.Common.{SharesGroup, IsSteady}
+use Rattle.lagprogress.proofs.Common.{NoneHeld, List, SystemState}
 use Rattle.lagprogress.proofs.Choosing.{down_as_read}
 use Rattle.lagprogress.proofs.EachRound.{EachAt, RoundKeeps, host_each, played_keep, played_on, played_steady}
 use Rattle.lagprogress.proofs.Hearing.{EnabledKeep, no, times_keep}
@@ -17,6 +18,10 @@ use Rattle.lagprogress.proofs.Starting.{end_of}
 use Rattle.lagprogress.proofs.Selecting.{finds_aggregator, shares_aggregator}
 use Rattle.lagprogress.proofs.Linked.{machines_there}
 
+-- where no port is held, this one is not
+pub none_held : (s : SystemState) (i : ℕ) (x : SystemPort) → NoneHeld s → slice_get s.system_ports i ≡ Some x → x.held ≡ false
+none_held s i x h e = all-get (λ (y : SystemPort). y.held ≡ false) s.system_ports i x e h
+
 -- each port of system s that wants an aggregator is SELECTED, or STANDBY with a full one
 abbrev pub Finds : Side → WorldState → Type 0
 Finds s j = (k : ℕ) (x : SystemPort) → slice_get (half s j).state.system_ports k ≡ Some x → WantsAggregator x.port
@@ -24,7 +29,7 @@ Finds s j = (k : ℕ) (x : SystemPort) → slice_get (half s j).state.system_por
 
 pub enough_finds : (s : Side) (j : WorldState) → IsSteady j → EnoughAggregators (half s j).state → Finds s j
 enough_finds s j steady enough k x there wants =
-    finds_aggregator (half s j).state k x (steady s).0 there wants (enough k x there wants.up)
+    finds_aggregator (half s j).state k x (steady s).0 there wants (none_held (half s j).state k x (steady s).2 there) (enough k x there wants.up)
 
 -- one group
 
@@ -263,8 +268,9 @@ module _ (old new : WorldState) (steady : IsSteady old) (last : Lasted old new) 
       let z = old_port (half s old).state.system_ports st.system_ports k x like.numbers there in
       let alike = like.alike k z.0 x z.1 there in
       let key : x.port.party.key ≡ z.0.port.party.key = ap (λ (y : Party). y.key) alike.0 in
+      let free = none_held st k x (now s).2 there in
       elim (has s k z.0 z.1 (sym alike.1 ∙ wants.up)) [
-        | inl many ↦ finds_aggregator st k x (now s).0 there wants (still_enough s old new like x.port.party.key z.0.port.party.key key many)
-        | inr g ↦ shares_aggregator st k x (now s).0 there wants (still_one s old new like x.port.party.key z.0.port.party.key key g.aggregator)
+        | inl many ↦ finds_aggregator st k x (now s).0 there wants free (still_enough s old new like x.port.party.key z.0.port.party.key key many)
+        | inr g ↦ shares_aggregator st k x (now s).0 there wants free (still_one s old new like x.port.party.key z.0.port.party.key key g.aggregator)
             (one_group s z.0.port.party.key g k x there wants.up key)
       ]

@@ -6,16 +6,17 @@ use Rattle.lagprogress.proofs.Common.{is_aggregator, lowest, occupants, occupant
 use Rattle.lagprogress.proofs.Common.{stands_by, is_next, none_is_next, SystemPort, MuxIsSettled, ChoosesIn, PromotesNext, choice_for, choice_in}
 use Rattle.lagprogress.proofs.Common.{with_choice, IsSound, SystemState, aggregators_value, port_numbers, selection_view, views, next_stands}
 use Rattle.lagprogress.proofs.Common.{takes_is, choices_keep, promotions_keep, Rises, all-get, ports_rise, set_same}
+use Rattle.lagprogress.proofs.Common.{and_parts, may_choose}
 use Rattle.lagprogress.proofs.Hearing.{no}
 use Rattle.lagprogress.proofs.Selecting.{clash, seen_stands, stands, when_is}
 
--- the second is read as the first, and is eligible only if that is
+-- the second is read as the first, and may choose only if that may
 pub record SameView (x y : SystemPort) : Type 0 where
   pub number : y.number ≡ x.number
   pub party : y.port.party ≡ x.port.party
   pub partner : party_of y.port.partner ≡ party_of x.port.partner
   pub choice : y.port.choice ≡ x.port.choice
-  pub eligible : is_eligible (selection_view y) ≡ true → is_eligible (selection_view x) ≡ true
+  pub may : may_choose y ≡ true → may_choose x ≡ true
 
 abbrev pub SameSeen : List SystemPort → List SystemPort → Type 0
 SameSeen [] [] = Unit {0}
@@ -68,23 +69,25 @@ same_chosen keys v u xs ys p q h =
 none_chooses : (s : SystemState) (ys : List SystemPort) (k : ℕ) (y : SystemPort) → IsSound s → SameSeen s.system_ports ys
     → slice_get ys k ≡ Some y → choice_for (aggregators_value s) ys y ≡ None
 none_chooses s ys k y h same e =
-    ap (option_map (choice_in (aggregators_value s) (views ys))) (takes_is s.keys ys k y rises e ∙ by_test (is_eligible (selection_view y)) refl)
+    ap (option_map (choice_in (aggregators_value s) (views ys))) (takes_is s.keys ys k y rises e ∙ by_test (may_choose y) (is_eligible (selection_view y)) refl)
   where
     rises : Rises 0 (port_numbers ys)
     rises = subst (Rises 0) (sym (same_numbers s.system_ports ys same)) (ports_rise s h.ports)
 
-    none : is_eligible (selection_view y) ≡ true → chosen_if_eligible s.keys (views ys) (selection_view y) ≡ None
+    none : may_choose y ≡ true → chosen_if_eligible s.keys (views ys) (selection_view y) ≡ None
     none able =
         let x = same_at s.system_ports ys k y same e in
         let settled = all-get (MuxIsSettled s.keys s.system_ports) s.system_ports k x.0 x.1 h.quiet.0 in
         same_chosen s.keys (selection_view x.0) (selection_view y) s.system_ports ys x.2.party x.2.partner same
-        ∙ when_is (is_eligible (selection_view x.0)) (chosen_if_eligible s.keys (views s.system_ports) (selection_view x.0)) (x.2.eligible able)
+        ∙ when_is (may_choose x.0) (is_eligible (selection_view x.0)) (chosen_if_eligible s.keys (views s.system_ports) (selection_view x.0))
+        (x.2.may able) (and_parts (is_eligible (selection_view x.0)) (not x.0.held) (x.2.may able)).0
         (sym (takes_is s.keys s.system_ports k x.0 (ports_rise s h.ports) x.1) ∙ settled.apart)
 
-    by_test : (b : Bool) → is_eligible (selection_view y) ≡ b
-        → (if b then (if b then chosen_if_eligible s.keys (views ys) (selection_view y) else None) else None) ≡ None
-    by_test true able = none able
-    by_test false able = refl
+    by_test : (b c : Bool) → may_choose y ≡ b
+        → (if b then (if c then chosen_if_eligible s.keys (views ys) (selection_view y) else None) else None) ≡ None
+    by_test true true able = none able
+    by_test true false able = refl
+    by_test false c able = refl
 
 -- and none is promoted
 none_promoted : (s : SystemState) (agg : AggId) (l m : List SystemPort) → IsSound s → SameSeen s.system_ports l

@@ -63,9 +63,9 @@ abbrev pub EnoughLinks : SystemState → Type 0
 EnoughLinks s = (k most : ℕ) (x : SystemPort) → slice_get s.system_ports k ≡ Some x → s.max_links ≡ Some most
     → ports_with x.port.party.key s ≤ most
 
--- Both systems are sound, and their timers within their bounds; they differ, and each has aggregators and enough links; no
--- port has two cables, and each port whose link is up ends a healthy cable, of which this holds. Other cables may be cut,
--- have a limit, or end at ports whose links are down.
+-- The world is steady; its two systems differ, and each has aggregators and enough links; no port has two cables, and each port
+-- whose link is up ends a healthy cable, of which this holds. Other cables may be cut, have a limit, or end at ports whose links
+-- are down.
 pub record IsBundle (Holds : LinkState → WorldState → Type 0) (j : WorldState) : Type 0 where
   pub steady : IsSteady j
   pub cabling : IsCabling (world_setup j).cables

@@ -86,7 +86,7 @@ AsksInVainAfterTick s p (e ∷ es) (r ∷ rs) = (IsTickOf s e × AsksInVain s p 
 
 -- And the loop of hosts is one: each system ticks once, each end of a healthy cable is asked after that until it sends nothing, and nothing
 -- is on any cable in the end, whatever else is asked, delivered, offered or moved, and in what order. The conversation is not moved,
--- and the timers of both systems are within their bounds.
+-- and the world is steady.
 abbrev pub AskingInVainIsDraining : Algorithms → Type 0
 AskingInVainIsDraining gives = (t : Side) (g k : ℕ) (events : List Event) (replies : List Reply) (old new : WorldState) → IsSteady old
     → TickOnce One true true events → AllByRecursion (IsNoMoveOf t g k) events → WorldRuns gives old events replies new

@@ -93,8 +93,7 @@ AsksAfterTick s p [] = ⊥
 AsksAfterTick s p (e ∷ es) = (IsTickOf s e × AsksIn s p es) ⊎ AsksAfterTick s p es
 
 -- These events are a healthy round of hosts if each end of a healthy cable is asked after its system's tick, once at least, and
--- nothing is on any cable in the end: whatever else is asked, delivered, offered or moved, and in what order. The timers of both
--- systems are within their bounds.
+-- nothing is on any cable in the end: whatever else is asked, delivered, offered or moved, and in what order. The world is steady.
 abbrev pub AskingIsHostRound : Algorithms → Type 0
 AskingIsHostRound gives = (events : List Event) (replies : List Reply) (old new : WorldState) → IsSteady old → TickOnce One true true events
     → WorldRuns gives old events replies new

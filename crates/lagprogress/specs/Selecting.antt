@@ -1,5 +1,5 @@
 -- Which ports are SELECTED where there is an aggregator for each (6.4.14).
-use Rattle.std.specs.Prelude.{◌≡◌, ◌≢◌, ◌≤◌, ◌==◌, ◌⊎◌, ℕ, true, length, filter, Some, slice_get}
+use Rattle.std.specs.Prelude.{◌≡◌, ◌≢◌, ◌≤◌, ◌==◌, ◌⊎◌, ℕ, true, false, length, filter, Some, slice_get}
 use Rattle.lagtypes.specs.declared.identifiers.AggId.{AggId}
 use Rattle.lagtypes.specs.declared.identifiers.Key.{Key}
 use Rattle.lagtypes.specs.declared.party.Choice.TheVariants.{Standby}
@@ -34,11 +34,11 @@ IsFull s agg = (most : ℕ) × (s.max_links ≡ Some most) × (length (ports_tha
 abbrev pub StandsByFull : SystemState → Machines → Type 0
 StandsByFull s p = (agg : AggId) × (p.choice ≡ Standby agg) × IsFull s agg
 
--- in a sound system, each port that wants an aggregator is SELECTED, or STANDBY with a full one, if there are at least as
--- many aggregators of its key as ports of its key
+-- in a sound system, each port that wants an aggregator, and that the host does not hold, is SELECTED, or STANDBY with a full one,
+-- if there are at least as many aggregators of its key as ports of its key
 abbrev pub FindsAggregator : Type 0
 FindsAggregator = (s : SystemState) (i : ℕ) (x : SystemPort) → IsSound s → slice_get s.system_ports i ≡ Some x
-    → WantsAggregator x.port
+    → WantsAggregator x.port → x.held ≡ false
     → ports_with x.port.party.key s ≤ aggregators_with x.port.party.key s → (selected x.port ≡ true) ⊎ StandsByFull s x.port
 
 -- in a sound system, each port that is STANDBY with an aggregator is so with a full one

@@ -24,11 +24,11 @@ pub record SharesGroup (s : SystemState) (x : SystemPort) : Type 0 where
   pub group : (k : ℕ) (y : SystemPort) → slice_get s.system_ports k ≡ Some y → y.port.party.key ≡ x.port.party.key
       → y.port.choice ≢ Unselected → has_group_of (selection_view x) (selection_view y) ≡ true
 
--- in a sound system, each port that wants an aggregator is SELECTED, or STANDBY with a full one, if there is an aggregator of
--- its key, and the ports of that key share one group
+-- in a sound system, each port that wants an aggregator, and that the host does not hold, is SELECTED, or STANDBY with a full one,
+-- if there is an aggregator of its key, and the ports of that key share one group
 abbrev pub SharesAggregator : Type 0
 SharesAggregator = (s : SystemState) (i : ℕ) (x : SystemPort) → IsSound s → slice_get s.system_ports i ≡ Some x
-    → WantsAggregator x.port → 1 ≤ aggregators_with x.port.party.key s → SharesGroup s x
+    → WantsAggregator x.port → x.held ≡ false → 1 ≤ aggregators_with x.port.party.key s → SharesGroup s x
     → (selected x.port ≡ true) ⊎ StandsByFull s x.port
 
 -- the port is aggregatable, and has recorded as its partner a port of the system with this identifier, with the key `far`, that is

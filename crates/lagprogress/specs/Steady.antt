@@ -4,7 +4,7 @@ use Rattle.lagmodel.specs.World.{Side}
 use Rattle.lagsystem.specs.declared.config.Config.{Config}
 use Rattle.lagsystem.specs.declared.drive.Reply.{Reply as Answer}
 use Rattle.lagsystem.specs.Calls.{Call, TableRun}
-use Rattle.lagsystem.specs.Sound.{IsSound}
+use Rattle.lagsystem.specs.Sound.{IsSound, NoneHeld}
 use Rattle.lagsystem.specs.State.{SystemState}
 use Rattle.lagscript.specs.declared.event.Event.{Event}
 use Rattle.lagworld.specs.declared.reply.Reply.{Reply}
@@ -14,9 +14,9 @@ use Rattle.lagworld.specs.Sound.{IsSound as IsSoundWorld, IsStart}
 use Rattle.lagworld.specs.State.{WorldState, half}
 use Rattle.lagprogress.specs.Timers.{PortsAreTimed}
 
--- the system is sound, and no timer of its ports is above its bound
+-- the system is sound, no timer of its ports is above its bound, and the host holds no port
 abbrev pub IsSteadySystem : SystemState → Type 0
-IsSteadySystem s = IsSound s × PortsAreTimed s
+IsSteadySystem s = IsSound s × PortsAreTimed s × NoneHeld s
 
 -- both systems of the world are so
 abbrev pub IsSteady : WorldState → Type 0

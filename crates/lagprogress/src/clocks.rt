@@ -9,7 +9,7 @@ ghost use Rattle.lagprogress.specs.LateRounds.{AskingIsLateRound, HostRoundIsLat
 // premises: steady; the events acted; no port has two cables
 /// Which events are a late round: each system ticks once, and every other event is Emit, Deliver, Offer or Move, in any order; each end
 /// of a healthy cable is asked at least once after the tick of its system; and what was on each healthy cable before has arrived, while
-/// frames may be on it in the end. The timers of both systems are within their bounds (6.4.16; profile).
+/// frames may be on it in the end. The timers of both systems are within their bounds, and no port is held (6.4.16; profile).
 pub fn clocks_play_rounds<F: Fn(u16, usize) -> usize>()
     ensures asking { (one two : F) → AskingIsLateRound (both_algorithms (F.post one) (F.post two)) }
     ensures host { (one two : F) → HostRoundIsLateRound (both_algorithms (F.post one) (F.post two)) }

@@ -9,8 +9,8 @@ ghost use Rattle.lagprogress.specs.Rounds.{Rounds};
 // contract: `cut_off_ports_are_defaulted` (`CutOff`)
 // premises: steady; no bundle is needed
 /// A port whose link is up, and each cable of which is cut or ends at a port whose link is down, is DEFAULTED after 931 healthy
-/// rounds (93.1 s) or more, whatever was before them, and whatever the other ports and cables are. Both systems are sound, and
-/// their timers within their bounds (6.4.12).
+/// rounds (93.1 s) or more, whatever was before them, and whatever the other ports and cables are. Both systems are sound, their
+/// timers within their bounds, and no port held (6.4.12).
 pub fn cut_off_ports_are_defaulted<F: Fn(u16, usize) -> usize>()
     ensures { (one two : F) → CutOffIsDefaulted Rounds (both_algorithms (F.post one) (F.post two)) }
 {}

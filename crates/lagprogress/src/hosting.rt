@@ -16,7 +16,7 @@ ghost use Rattle.lagprogress.specs.HostRounds.{AskingIsHostRound, LoopIsHostRoun
 /// Which events are a healthy round of hosts: each system ticks once, and every other event is Emit, Deliver, Offer or Move, in
 /// any order; each end of a healthy cable is asked at least once after the tick of its system; and nothing is on any cable in
 /// the end. So are the rounds that `play_round` plays, and those of a host that asks each port after each of its calls until
-/// nothing is due. The timers of both systems are within their bounds (6.4.16; profile).
+/// nothing is due. The timers of both systems are within their bounds, and no port is held (6.4.16; profile).
 pub fn hosts_play_rounds<F: Fn(u16, usize) -> usize>()
     ensures asking { (one two : F) → AskingIsHostRound (both_algorithms (F.post one) (F.post two)) }
     ensures host_loop { (one two : F) → LoopIsHostRound (both_algorithms (F.post one) (F.post two)) }

@@ -54,10 +54,10 @@ ghost use Rattle.lagprogress.specs.Selecting.{FindsAggregator, WaitsForRoom};
 // promise: a port is SELECTED, or STANDBY with a full aggregator, if its link is up, it is CURRENT or DEFAULTED, and its partner is not its
 //    own system
 // contract: `ports_find_aggregators` (`FindsAggregator`)
-// premises: sound; as many aggregators of its key as ports of that key, whether their links are up or not
-/// A port of a sound system whose link is up, that is CURRENT or DEFAULTED and whose partner is not its own system is
-/// SELECTED, or STANDBY in an aggregator that has no room, if its system has at least as many aggregators of its key as
-/// ports of that key (6.4.14; profile).
+// premises: sound; not held; as many aggregators of its key as ports of that key, up or down
+/// A port of a sound system whose link is up, that is CURRENT or DEFAULTED, that the host does not hold, and whose partner is
+/// not its own system, is SELECTED, or STANDBY in an aggregator that has no room, if its system has at least as many
+/// aggregators of its key as ports of that key (6.4.14; profile).
 pub fn ports_find_aggregators()
     ensures { FindsAggregator }
 {}
@@ -73,8 +73,8 @@ pub fn standby_ports_wait_for_room()
 
 ghost use Rattle.lagprogress.specs.Timers.{EachCallKeepsTimed, EachHostCallKeepsTimed, FirstIsTimed};
 
-// promise: at first and after each call no timer has more ticks than it can start with, no age of a window is above 10, and a wait for a
-//    response is below 30 ticks
+// promise: at first and after each call no timer has more ticks than it can start with, no window an age above 10, and a wait for a response
+//    is below 30 ticks
 // contract: `timers_are_bounded`, `waits_are_short` (`first`, `kept`, `hosts`)
 /// No timer of a port has more ticks than it can start with: current_while at most Short_Timeout_Time (30 ticks) if the
 /// port has Short Timeout or is in EXPIRED, else Long_Timeout_Time (900); periodic_timer at most Fast_Periodic_Time (10)
@@ -160,13 +160,13 @@ pub fn each_event_is_calls<F: Fn(u16, usize) -> usize>()
     ensures { (one two : F) → EachEventIsCalls (both_algorithms (F.post one) (F.post two)) }
 {}
 
-// promise: a world is steady at first, and after any events; one that events lead to is sound, too
+// promise: a world is steady at first, and after any events, and then it is sound, too
 // contract: `each_world_is_steady` (`start`, `kept`, `run`, `reached`)
 // premises: `World::new` made the first; for `reached` at most 2^63 events
-/// Both systems of a world are sound, and their timers within their bounds: at the start, after each event and after any
-/// events, whatever the distribution algorithms return. So each world that at most 2^63 events lead to from a start is
-/// sound, and both its systems are sound with their timers within their bounds, as `links_come_up` and `links_agree` want it
-/// (6.4.4; profile).
+/// Both systems of a world are sound, their timers within their bounds, and no port held: at the start, after each event and
+/// after any events, whatever the distribution algorithms return. So each world that at most 2^63 events lead to from a start
+/// is sound, and both its systems are sound, with their timers within their bounds and no port held, as `links_come_up` and
+/// `links_agree` want it (6.4.4; profile).
 pub fn each_world_is_steady<F: Fn(u16, usize) -> usize>()
     ensures start { StartIsSteady }
     ensures kept { (one two : F) → EachEventKeepsSteady (both_algorithms (F.post one) (F.post two)) }
@@ -195,8 +195,8 @@ ghost use Rattle.lagprogress.specs.Progress.{ActiveEndsComeToKnow};
 // premises: steady; the one cable is healthy
 /// The ends of a cable come to know each other: in a world with one cable that is whole and has no limit, with the links
 /// of both of its ports up and both ports active, each of the two has recorded the other as it is, from 321 healthy
-/// rounds (32.1 s) on, whatever was before them. Both systems are sound, and their timers within their bounds, as in each
-/// world that events lead to (6.4.12, 6.4.13).
+/// rounds (32.1 s) on, whatever was before them. Both systems are sound, their timers within their bounds, and no port held,
+/// as in each world that events lead to (6.4.12, 6.4.13).
 pub fn active_ends_come_to_know<F: Fn(u16, usize) -> usize>()
     ensures { (one two : F) → ActiveEndsComeToKnow (both_algorithms (F.post one) (F.post two)) }
 {}
@@ -217,7 +217,7 @@ ghost use Rattle.lagprogress.specs.ComingUp.{ActiveLinkComesUp, LinkComesUp};
 /// Links come up: in a world with one cable that is whole and has no limit, with the links of both of its ports up, both
 /// ports are SELECTED and distribute from 352 healthy rounds (35.2 s) on if both are active, from 652 (65.2 s) on if one is,
 /// whatever was before them. Each system has one port, and an aggregator with its key; the two systems differ; both are
-/// sound, and their timers within their bounds, as in each world that events lead to (6.4.12 to 6.4.16).
+/// sound, their timers within their bounds, and no port held, as in each world that events lead to (6.4.12 to 6.4.16).
 pub fn links_come_up<F: Fn(u16, usize) -> usize>()
     ensures both { (one two : F) → ActiveLinkComesUp (both_algorithms (F.post one) (F.post two)) }
     ensures one { (one two : F) → LinkComesUp (both_algorithms (F.post one) (F.post two)) }
@@ -241,7 +241,8 @@ ghost use Rattle.lagprogress.specs.Rounds.{Rounds, known_if_both_active, known_i
 /// Of any number of cables, the ends of each healthy one come to know each other: from 321 healthy rounds (32.1 s) on if both
 /// are active, from 621 (62.1 s) on if one is, whatever was before them, whatever the other cables are, and whatever other
 /// ports and aggregators the systems have. A cable is healthy that is whole and has no limit, with the links of both of its
-/// ports up; no port has two cables; both systems are sound, and their timers within their bounds (6.4.12, 6.4.13).
+/// ports up; no port has two cables; both systems are sound, their timers within their bounds, and no port held (6.4.12,
+/// 6.4.13).
 pub fn ends_of_each_cable_come_to_know<F: Fn(u16, usize) -> usize>()
     ensures both { (one two : F) → EndsOfEachKnow Rounds BothAreActive known_if_both_active (both_algorithms (F.post one) (F.post two)) }
     ensures one { (one two : F) → EndsOfEachKnow Rounds OneIsActive known_if_one_is (both_algorithms (F.post one) (F.post two)) }
@@ -273,8 +274,8 @@ ghost use Rattle.lagprogress.specs.Rounds.{up_if_both_active, up_if_one_is};
 /// link is up ends a healthy cable; each system has as many aggregators of a port's key as ports of that key, or at least one,
 /// where the ports of that key lead to aggregatable ports of one key at the other system, and are aggregatable themselves, and
 /// those whose links are down are UNSELECTED or led there; a limit of links, if it has one, is no less than the ports of one key;
-/// the two systems differ, both are sound, and their timers are within their bounds. Other cables may be cut, or end at ports
-/// whose links are down (6.3.6, 6.4.12 to 6.4.16).
+/// the two systems differ, both are sound, their timers are within their bounds, and no port is held. Other cables may be cut,
+/// or end at ports whose links are down (6.3.6, 6.4.12 to 6.4.16).
 pub fn each_link_comes_up<F: Fn(u16, usize) -> usize>()
     ensures both { (one two : F) → EachLinkComesUp Rounds BothAreActive up_if_both_active (both_algorithms (F.post one) (F.post two)) }
     ensures one { (one two : F) → EachLinkComesUp Rounds OneIsActive up_if_one_is (both_algorithms (F.post one) (F.post two)) }
@@ -297,8 +298,8 @@ ghost use Rattle.lagprogress.specs.Bundle.{SelectedPairsAgree, SelectedPairsCome
 // premises: steady; no port has two cables; `AllHeard`; for the agreement the world is sound. That they are SELECTED no clause says
 /// However few aggregators and links the systems have: if each port whose link is up ends a healthy cable, and both ends of one
 /// are SELECTED after 352 healthy rounds or more if both ends of each are active, after 652 if one is, then both distribute, and in
-/// a sound world the agreement of that cable is `Same`, whatever was before the rounds. Both systems are sound and their timers within
-/// their ranges, as in each world that events lead to from a start (6.3.6, 6.4.12 to 6.4.16; profile).
+/// a sound world the agreement of that cable is `Same`, whatever was before the rounds. Both systems are sound, their timers within
+/// their bounds, and no port held, as in each world that events lead to from a start (6.3.6, 6.4.12 to 6.4.16; profile).
 pub fn selected_pairs_agree<F: Fn(u16, usize) -> usize>()
     ensures up_both { (one two : F) → SelectedPairsComeUp Rounds BothAreActive up_if_both_active (both_algorithms (F.post one) (F.post two)) }
     ensures up_one { (one two : F) → SelectedPairsComeUp Rounds OneIsActive up_if_one_is (both_algorithms (F.post one) (F.post two)) }

@@ -23,8 +23,8 @@ ghost use Rattle.lagprogress.specs.Rounds.{Rounds, up_if_both_active, up_if_one_
 /// is `Same`, or its end at that system is STANDBY in an aggregator that has as many members as the limit, and each of these
 /// ends a cable whose agreement is `Same`. The world is sound; each port whose link is up ends a healthy cable; each system has
 /// aggregators as `each_link_comes_up` wants them; the limit of the other system, if it has one, is no less than the ports of one
-/// key; the two systems differ; their timers are within their bounds; and no port of the limited system whose link is down is
-/// SELECTED or STANDBY (6.3.6, 6.4.12 to 6.4.16; profile).
+/// key; the two systems differ; their timers are within their bounds; no port is held; and no port of the limited system whose
+/// link is down is SELECTED or STANDBY (6.3.6, 6.4.12 to 6.4.16; profile).
 pub fn each_limited_link_agrees<F: Fn(u16, usize) -> usize>()
     ensures both { (one two : F) → EachLimitedLinkAgrees Rounds BothAreActive up_if_both_active (both_algorithms (F.post one) (F.post two)) }
     ensures one { (one two : F) → EachLimitedLinkAgrees Rounds OneIsActive up_if_one_is (both_algorithms (F.post one) (F.post two)) }
