@@ -8,6 +8,7 @@ use Rattle.lagprogress.proofs.Common.{LinkState, WorldState, emptied, half, port
 use Rattle.lagprogress.proofs.OnePort.{calls_each}
 use Rattle.cables.specs.declared.item.Stamp.TheVariants as stamp
 use Rattle.lagsystem.specs.declared.drive.Reply.TheVariants as answer
+use Rattle.lagsystem.proofs.HeldPorts.{Step-free, first_free}
 use Rattle.lagsystem.specs.declared.received.Received.TheVariants as received
 use Rattle.lagworld.proofs.Effects.{DoesEffect, Effect, HalfAsked, Recording, answer_to_force, asks, changes_counted, delivers, does_effect, emits}
 use Rattle.lagworld.proofs.Effects.{if_forced, offers, receives, recorded, restarts, nothing, shrinks, ticks}
@@ -150,7 +151,11 @@ each_is_calls gives e r old new x s =
 pub call_steady : (gives : ℕ → ℕ → ℕ → Type 0) (old new : SystemState) (call : Call) (a : Answer) → Step gives old call a new → IsSteadySystem old
     → IsSteadySystem new
 call_steady gives old new call a h k =
-    (Step-sound gives old call a new h k.0, Step-each TimedAt timed_settles gives old call a new (timed_kept call a) h k.1)
+    (
+      Step-sound gives old call a new h k.0,
+      Step-each TimedAt timed_settles gives old call a new (timed_kept call a) h k.1,
+      Step-free gives old call a new h k.2,
+    )
 
 pub keeps_steady : (gives : Algorithms) (e : Event) (r : Reply) (old new : WorldState) → WorldSteps gives old e r new → IsSteady old
     → IsSteady new
@@ -168,4 +173,5 @@ start_steady configs j i h s =
     let first = both_first configs j h s in (
       first_sound (half s j).state (i.kept s).agrees.ports first,
       first_each TimedAt timed_settles timed_starts (half s j).state first,
+      first_free (half s j).state first,
     )
