@@ -112,7 +112,7 @@ fn each_reply_to_other_events(rt: HostRuntime) -> Result<(), Fail> {
 }
 
 /// Refusals, and their texts.
-const REFUSALS: [(SystemFault, &str); 12] = [
+const REFUSALS: [(SystemFault, &str); 13] = [
     (SystemFault::NoPort, "refused 1 no-port"),
     (SystemFault::NoAggregator, "refused 2 no-aggregator"),
     (SystemFault::FrameLength, "refused 3 frame-length"),
@@ -128,6 +128,7 @@ const REFUSALS: [(SystemFault, &str); 12] = [
         "refused 11 bad-config",
     ),
     (SystemFault::NoMemory, "refused 12 no-memory"),
+    (SystemFault::OverLimit, "refused 24 over-limit"),
 ];
 
 #[test]
