@@ -141,12 +141,12 @@ pub use Rattle.lagsystem.specs.Sending.{TransmitsIf, own_marker}
 pub use Rattle.lagsystem.specs.Settling.{ChoosesIn, HoldsConversations, PortChangesBy, PortsChangeBy, PromotesAll, PromotesFirst, PromotesNext}
 pub use Rattle.lagsystem.specs.Settling.{PromotesTimes, SettlesPorts, Settling, after_choice_at, after_choices, aggregator_for, choice_for, choice_if}
 pub use Rattle.lagsystem.specs.Settling.{choice_in, held_unless_on, is_restless, ready_of, with_choice}
-pub use Rattle.lagsystem.specs.Sound.{CallPromise, DistributeAsMuxDoes, HasPorts, IsSound, OnlyOnDistributing, PortsAgree}
+pub use Rattle.lagsystem.specs.Sound.{CallPromise, DistributeAsMuxDoes, HasPorts, HeldUnselected, IsSound, NoneHeld, OnlyOnDistributing, PortsAgree, held_apart}
 pub use Rattle.lagsystem.specs.State.{SystemState, SystemValue, aggregators_value, machines_of, port_index, port_numbers, system_port_at}
 pub use Rattle.lagsystem.specs.State.{with_system_ports, with_table}
 pub use Rattle.lagsystem.specs.StatusMeaning.{FindsNoAggregator, FindsNoRoom, HearsPartner, IsDistributing, Says, Waits, WaitsForMember}
 pub use Rattle.lagsystem.specs.StatusMeaning.{WaitsForPartner, WaitsIn, meaning}
-pub use Rattle.lagsystem.specs.Views.{selection_view as seen_at, selection_view, stage_of, views}
+pub use Rattle.lagsystem.specs.Views.{may_choose, selection_view as seen_at, selection_view, stage_of, views}
 pub use Rattle.lagsystem.specs.Waiting.{soonest, ticks_in_window, ticks_until_due, ticks_until_due_on, ticks_until_expired, ticks_until_frame}
 pub use Rattle.lagsystem.specs.Waiting.{ticks_until_room}
 pub use Rattle.lagsystem.specs.Windows.{AgesSince, AtMostThreeAges, EachAtMostThreeAges, KeepsTransmitLimit, StartsWithoutAges, StaysWindowed}

@@ -9,7 +9,7 @@ use Rattle.lagsystem.proofs.Common.{FiresTimes, Row, RunsToRest, Starts, before_
 use Rattle.lagsystem.proofs.Common.{model_distributor, first_flows, PortConfig, SystemPort, HasJustStarted, IsFirst, configured_number, setup_of}
 use Rattle.lagsystem.proofs.Common.{configured_party, model_port, model_port_of, model_setup, model_view, number_of_port, ChoosesIn, PortChangesBy}
 use Rattle.lagsystem.proofs.Common.{PortsChangeBy, PromotesFirst, PromotesNext, after_choice_at, after_choices, ready_of, SystemState}
-use Rattle.lagsystem.proofs.Common.{aggregators_value, with_system_ports, with_table, seen_at, views}
+use Rattle.lagsystem.proofs.Common.{aggregators_value, with_system_ports, with_table, may_choose, selection_view, views}
 use Rattle.lagsystem.proofs.Effects.{named, zero_named}
 use Rattle.lagsystem.proofs.Rest.{zip_all}
 use Rattle.lagsystem.proofs.Keeps.{settling_in}
@@ -151,14 +151,14 @@ idle_slots system R k (c ∷ cs) (x ∷ xs) (y ∷ ys) a h =
     let rest = idle_slots system R k cs xs ys a.1 h.1 in
     λ i. here i ∷ rest i
 
--- no port is eligible while its link is down
-not_eligible : (s : SystemPort) → s.port.enabled ≡ false → is_eligible (seen_at s) ≡ false
-not_eligible s e = ap (λ b. is_eligible (record (seen_at s) { enabled = b })) e
+-- no port may choose while its link is down
+chooses_none : (s : SystemPort) → s.port.enabled ≡ false → may_choose s ≡ false
+chooses_none s e = ap (λ b. is_eligible (record (selection_view s) { enabled = b }) && not s.held) e
 
 choose_idle : (aggs : AggregatorsValue) (system_ports : List SystemPort) (i : ℕ) (o : Option SystemPort) → slice_get system_ports i ≡ o
     → AllByRecursion (λ s. s.port.enabled ≡ false) system_ports → after_choice_at aggs system_ports i o ≡ system_ports
 choose_idle aggs system_ports i None e down = refl
-choose_idle aggs system_ports i (Some s) e down = grind (arith, nat_tests, none_for, not_eligible, all-get, set_same)
+choose_idle aggs system_ports i (Some s) e down = grind (arith, nat_tests, none_for, chooses_none, all-get, set_same)
 
 chosen_idle : (aggs : AggregatorsValue) (n : ℕ) (system_ports : List SystemPort) → AllByRecursion (λ s. s.port.enabled ≡ false) system_ports
     → after_choices aggs n system_ports ≡ system_ports
