@@ -194,9 +194,9 @@ impl<F: Fn(u16, usize) -> usize + Drop> Inner<F> {
 }
 
 impl<F: Fn(u16, usize) -> usize + Drop> System<F> {
-    // promise: `hold_port` holds a port, which is UNSELECTED until it is let go, or lets it go; then one settling. It changes nothing
-    //    if that is so already, and refuses `NoPort`
-    // contract: `hold_port` (`promise`: `SettingStep`); the invariant of `System` (`HeldUnselected`)
+    // promise: a port that the host holds is UNSELECTED until it is let go; `hold_port`, `set_mode`, `set_max_delay` and `set_max_links`
+    //    change what they name, settle, and keep what a call keeps; no call holds a port
+    // contract: `promise` (`SettingPromise`); `HeldUnselected` of `IsSound`; `CallPromise` (`held`)
     /// Holds a port, or lets it go. A port that is held is UNSELECTED and chooses no aggregator: it leaves its aggregator, what is
     /// On it becomes Wanted there, and its LACPDUs say that it is not in sync, so that the peer's port leaves too. It goes on
     /// sending and processing LACPDUs, and answers markers. Once it is let go, it may choose again. One settling follows.
@@ -219,9 +219,6 @@ impl<F: Fn(u16, usize) -> usize + Drop> System<F> {
         }
     }
 
-    // promise: `set_mode` gives a port LACP_Activity and LACP_Timeout and sets NTT; then one settling. It changes nothing if the port
-    //    has them, and refuses `NoPort`
-    // contract: `set_mode` (`promise`: `SettingStep`)
     /// Sets LACP_Activity, false for a passive port, and LACP_Timeout, true for Short Timeout, of a port. NTT is set, and one
     /// settling follows. current_while goes on: it starts with the new time at the next LACPDU. Nothing changes if the port has
     /// these values already. A `restart` goes back to the configured ones. `NoPort` if there is no such port (6.4.2.3, 6.4.7;
@@ -233,8 +230,6 @@ impl<F: Fn(u16, usize) -> usize + Drop> System<F> {
         self.inner.set_mode(port, active, short)
     }
 
-    // promise: `set_max_delay` sets CollectorMaxDelay, and changes nothing else
-    // contract: `set_max_delay` (`promise`: `SettingStep`)
     /// Sets CollectorMaxDelay, in tens of microseconds, of the LACPDUs from now on. Nothing else changes: none is sent for it.
     /// After a `restart` it stays as it was set (6.2.3.1.1; profile).
     pub fn set_max_delay(&mut self, max_delay: u16)
@@ -244,9 +239,6 @@ impl<F: Fn(u16, usize) -> usize + Drop> System<F> {
         self.inner.max_delay = max_delay;
     }
 
-    // promise: `set_max_links` sets the limit of links; then one settling, in which STANDBY ports come up. It refuses a limit that is not
-    //    1 to 64, and one that some aggregator is above, and changes nothing then
-    // contract: `set_max_links` (`promise`: `SettingStep`, `limit_refusal`)
     /// Sets the limit of links of each aggregator, 1 to 64, or None for any number. With a limit, a port whose link is down is
     /// UNSELECTED, as `set_link` leaves it. One settling follows: STANDBY ports become SELECTED where there is room now. After a
     /// `restart` the limit stays as it was set. Refused in this order, and nothing changes: `BadConfig(MaxLinks)` if the limit
