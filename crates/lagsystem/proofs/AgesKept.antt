@@ -27,7 +27,7 @@ pub ages_set : (system_ports : List SystemPort) (i : ℕ) (s t : SystemPort) →
 ages_set [] i s t e n = refl
 ages_set (x ∷ xs) zero s t e n = let same : x ≡ s = cc in
     let here : x.port.ages ≡ s.port.ages = ap (λ (y : SystemPort). y.port.ages) same in cc
-ages_set (x ∷ xs) (suc i) s t e n = ap (λ as. x.port.ages ∷ as) (ages_set xs i s t e n)
+ages_set (x ∷ xs) (suc i) s t e n = ap (λ more. x.port.ages ∷ more) (ages_set xs i s t e n)
 
 given_ages : (s : SystemPort) (o : Option Choice) → (with_choice s o).port.ages ≡ s.port.ages
 given_ages s o = grind (arith, nat_tests)
