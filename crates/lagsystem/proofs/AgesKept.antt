@@ -1,5 +1,5 @@
 -- A settling leaves the ages of the LACPDUs that each port sent.
-use Rattle.lagsystem.proofs.Common.{Bool, List, None, Option, Some, [], ap, arith, cond, find, map, option_map, refl, slice_get, slice_set, subst, suc}
+use Rattle.lagsystem.proofs.Common.{Bool, List, None, Option, Some, [], ap, arith, cond, find, map, option_map, refl, slice_get, slice_set, subst, suc, false}
 use Rattle.lagsystem.proofs.Common.{sym, zero, ℕ, ◌==◌, ◌∙◌, ◌∷◌, ◌≡◌, nat_tests, Choice, Machines, mux_rows, RunsPeriodic, periodic_rows, RunsToRest}
 use Rattle.lagsystem.proofs.Common.{Reaches-keeps, AggregatorsValue, SystemPort, ChoosesIn, PortsChangeBy, Settling, ready_of, with_choice, SystemState}
 use Rattle.lagsystem.proofs.Common.{aggregators_value, machines_of, port_numbers, views, AtMostThreeAges}

@@ -1,5 +1,5 @@
 -- The first state of a system has the model's first view.
-use Rattle.lagsystem.proofs.Common.{Bool, List, None, Option, Some, [], ap, arith, cond, eqb, eqb-true, false, inl, inr, length, option_map, refl, not}
+use Rattle.lagsystem.proofs.Common.{Bool, List, None, Option, Some, [], ap, arith, cond, eqb, eqb-true, false, if◌then◌else◌, inl, inr, length, option_map, refl, not, slice_set, with_choice, chosen_aggregator}
 use Rattle.lagsystem.proofs.Common.{slice_get, subst, suc, sym, true, zero, ℕ, ◌&&◌, ◌∙◌, ◌∷◌, ◌≡◌, ◌⊎◌, and_left, and_parts, and_right, nat_tests}
 use Rattle.lagsystem.proofs.Common.{none-some, same_Some, AllByRecursion, AllZip, AggId, SystemId, Standby, Unselected, Party, is_selected, bits_of}
 use Rattle.lagsystem.proofs.Common.{with_synchronization, encode_then_decode, find_number, ports_of, IsSystemSetup, PortFacts, first_port, first_view}

@@ -1,5 +1,5 @@
 -- Every setting keeps the invariant of a system, and is a list of lawful moves.
-use Rattle.lagsystem.proofs.Common.{Bool, Err, List, None, Ok, Option, Result, Some, [], ap, arith, false, if◌then◌else◌, inl, inr, length, refl}
+use Rattle.lagsystem.proofs.Common.{Bool, Err, List, None, Ok, Option, Result, Some, [], ap, arith, false, if◌then◌else◌, inl, inr, length, refl, ◌∷◌}
 use Rattle.lagsystem.proofs.Common.{slice_get, slice_set, subst, sym, true, ℕ, ◌&&◌, ◌∙◌, ◌≡◌, ◌⊎◌, nat_tests, AllByRecursion, Choice, Unselected}
 use Rattle.lagsystem.proofs.Common.{is_unselected, LawfulMoves, PortMove, ModelCall, View, moves_joined, Machines, partner_synchronized, receive_rows}
 use Rattle.lagsystem.proofs.Common.{Table, model_distributor, SystemFault, SystemPort, ReceivesAtRest, key_of, model_port, model_port_of, model_setup}
@@ -251,12 +251,13 @@ some_crowds : (agg : AggId) (most : ℕ) (all xs : List SystemPort) → list_any
 some_crowds agg most all [] h k = absurd (false≢true h)
 some_crowds agg most all (x ∷ xs) h k =
     let both = or_parts (is_crowded most all x.port.choice) (list_any (λ y. is_crowded most all y.port.choice) xs) k in
-    by_first (is_member_up agg x) refl both
+    by_first (is_member_up agg x) refl both.0 (λ e. some_crowds agg most all xs e both.1)
   where
-    by_first : (b : Bool) → is_member_up agg x ≡ b → (is_crowded most all x.port.choice ≡ false)
-        × (list_any (λ y. is_crowded most all y.port.choice) xs ≡ false) → nat_lt most (length (members_up agg all)) ≡ false
-    by_first true e both = sym (chosen_crowds agg most all x.port.enabled x.port.choice e) ∙ both.0
-    by_first false e both = some_crowds agg most all xs (sym (ap (λ b. b || list_any (is_member_up agg) xs) e) ∙ h) both.1
+    by_first : (b : Bool) → is_member_up agg x ≡ b → is_crowded most all x.port.choice ≡ false
+        → (list_any (is_member_up agg) xs ≡ true → nat_lt most (length (members_up agg all)) ≡ false)
+        → nat_lt most (length (members_up agg all)) ≡ false
+    by_first true e here later = sym (chosen_crowds agg most all x.port.enabled x.port.choice e) ∙ here
+    by_first false e here later = later (sym (ap (λ b. b || list_any (is_member_up agg) xs) e) ∙ h)
 
 not_below : (n m : ℕ) → nat_lt n m ≡ false → m ≤ n
 not_below n m h = grind (arith, nat_tests)
