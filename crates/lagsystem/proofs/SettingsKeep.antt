@@ -188,7 +188,7 @@ limit_leaves max_links p = by_link max_links p.enabled
     by_link (Some most) false = inl refl
 
 -- with this limit, as `set_link` leaves a port
-abbrev Relinks : Option ℕ → Machines → Machines → Type 0
+abbrev pub Relinks : Option ℕ → Machines → Machines → Type 0
 Relinks max_links p q = q ≡ record p { choice = choice_with_link max_links p.enabled p.choice }
 
 relinks_leaves : (max_links : Option ℕ) (p q : Machines) → Relinks max_links p q → LeavesOrStays p q

@@ -1,5 +1,6 @@
 ghost use Rattle.std.specs.Prelude.{◌≡◌, ◌<◌, ◌&&◌, Ok, filter, if◌then◌else◌, length};
 ghost use Rattle.std.specs.Bool.{OnFalse, OnTrue};
+ghost use Rattle.std.specs.List.{list_any};
 ghost use Rattle.lagtypes.specs.declared.party.Choice.{Choice};
 ghost use Rattle.selection.specs.Views.{has_chosen};
 ghost use Rattle.lagsystem.specs.Calls.{choice_with_link};
@@ -18,6 +19,7 @@ use crate::start::is_limit;
 use crate::system_ports::SystemPort;
 use arrayvec::ArrayVec;
 use lagtypes::{AggId, Choice};
+use portmachines::Port;
 
 /// Selected of a port that is held or let go: UNSELECTED if it is held; else it stays.
 fn choice_if_held(held: bool, choice: Choice) -> Choice
@@ -102,16 +104,19 @@ fn is_crowded(system_ports: &[SystemPort], most: u16, choice: Choice) -> bool
     }
 }
 
+/// Whether some aggregator has more members whose links are up than this many.
+fn any_crowded(system_ports: &[SystemPort], most: u16) -> bool
+    ensures { result ≡ list_any (λ x. is_crowded most system_ports.now x.port.choice) system_ports.now }
+{
+    system_ports.iter().any(|system_port| is_crowded(system_ports, most, system_port.port.choice()))
+}
+
 /// Whether some aggregator has more members whose links are up than the limit.
 fn is_over(system_ports: &[SystemPort], max_links: Option<u16>) -> bool
     ensures { result ≡ is_over max_links system_ports.now }
 {
     match max_links {
-        Some(most) => system_ports.iter().any(|system_port| is_crowded(
-            system_ports,
-            most,
-            system_port.port.choice(),
-        )),
+        Some(most) => any_crowded(system_ports, most),
         None => false,
     }
 }
@@ -129,15 +134,21 @@ fn limit_refusal(system_ports: &[SystemPort], max_links: Option<u16>) -> Option<
     None
 }
 
+/// With a limit, makes a port UNSELECTED if its link is down.
+fn unselect_if_down(port: &mut Port, max_links: Option<u16>)
+    ensures { port.new ≡ record port.old { choice = choice_with_link max_links port.old.enabled port.old.choice } }
+{
+    let choice = choice_with_link(max_links, port.is_enabled(), port.choice());
+    port.select(choice);
+}
+
 /// With a limit, makes each port whose link is down UNSELECTED.
 fn unselect_down(system_ports: &mut [SystemPort], max_links: Option<u16>)
     ensures { PortsChangeBy (λ p q. q ≡ record p { choice = choice_with_link max_links p.enabled p.choice })
         system_ports.old system_ports.new }
 {
     for system_port in system_ports.iter_mut() {
-        let port = &mut system_port.port;
-        let choice = choice_with_link(max_links, port.is_enabled(), port.choice());
-        port.select(choice);
+        unselect_if_down(&mut system_port.port, max_links);
     }
 }
 
