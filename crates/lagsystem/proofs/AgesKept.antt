@@ -1,5 +1,5 @@
 -- A settling leaves the ages of the LACPDUs that each port sent.
-use Rattle.lagsystem.proofs.Common.{Bool, List, None, Option, Some, [], ap, arith, cond, find, map, option_map, refl, slice_get, slice_set, subst, suc}
+use Rattle.lagsystem.proofs.Common.{Bool, List, None, Option, Some, [], ap, arith, cond, find, map, option_map, refl, slice_get, slice_set, subst, suc, false}
 use Rattle.lagsystem.proofs.Common.{sym, zero, ℕ, ◌==◌, ◌∙◌, ◌∷◌, ◌≡◌, nat_tests, Choice, Machines, mux_rows, RunsPeriodic, periodic_rows, RunsToRest}
 use Rattle.lagsystem.proofs.Common.{Reaches-keeps, AggregatorsValue, SystemPort, ChoosesIn, PortsChangeBy, Settling, ready_of, with_choice, SystemState}
 use Rattle.lagsystem.proofs.Common.{aggregators_value, machines_of, port_numbers, views, AtMostThreeAges}
@@ -27,7 +27,7 @@ pub ages_set : (system_ports : List SystemPort) (i : ℕ) (s t : SystemPort) →
 ages_set [] i s t e n = refl
 ages_set (x ∷ xs) zero s t e n = let same : x ≡ s = cc in
     let here : x.port.ages ≡ s.port.ages = ap (λ (y : SystemPort). y.port.ages) same in cc
-ages_set (x ∷ xs) (suc i) s t e n = ap (λ as. x.port.ages ∷ as) (ages_set xs i s t e n)
+ages_set (x ∷ xs) (suc i) s t e n = ap (λ more. x.port.ages ∷ more) (ages_set xs i s t e n)
 
 given_ages : (s : SystemPort) (o : Option Choice) → (with_choice s o).port.ages ≡ s.port.ages
 given_ages s o = grind (arith, nat_tests)

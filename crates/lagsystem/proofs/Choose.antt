@@ -1,6 +1,6 @@
 -- Choosing an aggregator is the model's move of joining it.
 use Rattle.lagsystem.proofs.Common.{Bool, List, None, Option, Some, [], ap, arith, false, inl, inr, length, not, option_map, refl, slice_get}
-use Rattle.lagsystem.proofs.Common.{slice_set, subst, sym, true, ℕ, ◌&&◌, ◌∙◌, ◌∷◌, ◌≡◌, ◌≢◌, and_left, cases_eq, false≢true, nat_tests, none-some, same_Some}
+use Rattle.lagsystem.proofs.Common.{slice_set, subst, sym, true, ℕ, ◌&&◌, ◌∙◌, ◌∷◌, ◌≡◌, ◌≢◌, and_parts, cases_eq, false≢true, nat_tests, none-some, same_Some}
 use Rattle.lagsystem.proofs.Common.{AllByRecursion, AggId, Key, Choice, Selected, Standby, Unselected, is_selected, is_standby, is_unselected}
 use Rattle.lagsystem.proofs.Common.{SamePair, individual, same_system, party_of, ports_of, LawfulMoves, PortAllowed, PortMove, pair_at, port_after}
 use Rattle.lagsystem.proofs.Common.{DistributorFacts, ModelCall, PortFacts, SystemSetup, mapped_some, moves_at, moves_joined, MuxState}
@@ -107,7 +107,7 @@ pub taken_joins : (keys : List Key) (system_ports : List SystemPort) (i : ℕ) (
     → (is_eligible (selection_view s) ≡ true) × MayJoin keys (views system_ports) agg (selection_view s)
 taken_joins keys system_ports i s agg r h k =
     let x = if-some (may_choose s) (chosen_aggregator keys (views system_ports) s.number) agg k in (
-      and_left (is_eligible (selection_view s)) (not s.held) x.0,
+      (and_parts (is_eligible (selection_view s)) (not s.held) x.0).0,
       choice-joins keys (views system_ports) (selection_view s) agg
           (sym (ap (chosen_for_view keys (views system_ports)) (find_here 0 system_ports i s r h)) ∙ x.1),
     )

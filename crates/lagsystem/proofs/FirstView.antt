@@ -1,5 +1,5 @@
 -- The first state of a system has the model's first view.
-use Rattle.lagsystem.proofs.Common.{Bool, List, None, Option, Some, [], ap, arith, cond, eqb, eqb-true, false, inl, inr, length, option_map, refl}
+use Rattle.lagsystem.proofs.Common.{Bool, List, None, Option, Some, [], ap, arith, cond, eqb, eqb-true, false, if◌then◌else◌, inl, inr, length, option_map, refl, not, slice_set, with_choice, chosen_aggregator}
 use Rattle.lagsystem.proofs.Common.{slice_get, subst, suc, sym, true, zero, ℕ, ◌&&◌, ◌∙◌, ◌∷◌, ◌≡◌, ◌⊎◌, and_left, and_parts, and_right, nat_tests}
 use Rattle.lagsystem.proofs.Common.{none-some, same_Some, AllByRecursion, AllZip, AggId, SystemId, Standby, Unselected, Party, is_selected, bits_of}
 use Rattle.lagsystem.proofs.Common.{with_synchronization, encode_then_decode, find_number, ports_of, IsSystemSetup, PortFacts, first_port, first_view}
@@ -158,7 +158,11 @@ chooses_none s e = ap (λ b. is_eligible (record (selection_view s) { enabled = 
 choose_idle : (aggs : AggregatorsValue) (system_ports : List SystemPort) (i : ℕ) (o : Option SystemPort) → slice_get system_ports i ≡ o
     → AllByRecursion (λ s. s.port.enabled ≡ false) system_ports → after_choice_at aggs system_ports i o ≡ system_ports
 choose_idle aggs system_ports i None e down = refl
-choose_idle aggs system_ports i (Some s) e down = grind (arith, nat_tests, none_for, chooses_none, all-get, set_same)
+choose_idle aggs system_ports i (Some s) e down =
+    let none = chooses_none s (all-get (λ s. s.port.enabled ≡ false) system_ports i s e down) in
+    ap (λ o. slice_set system_ports i (with_choice s o))
+    (none_for aggs system_ports s (ap (λ b. if b then chosen_aggregator aggs.keys (views system_ports) s.number else None) none))
+    ∙ set_same system_ports i s e
 
 chosen_idle : (aggs : AggregatorsValue) (n : ℕ) (system_ports : List SystemPort) → AllByRecursion (λ s. s.port.enabled ≡ false) system_ports
     → after_choices aggs n system_ports ≡ system_ports

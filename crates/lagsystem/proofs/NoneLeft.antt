@@ -158,7 +158,10 @@ when_again b d x h = grind (arith, nat_tests)
 pub taken_none : (keys : List Key) (system_ports : List SystemPort) → Rises 0 (port_numbers system_ports)
     → AllByRecursion (λ t. TakesNone keys (views system_ports) (selection_view t) t.held) system_ports
     → (j : ℕ) (t : SystemPort) → slice_get system_ports j ≡ Some t → aggregator_for keys system_ports t ≡ None
-taken_none keys system_ports r all j t e = grind (arith, nat_tests, takes_is, when_again, all-get)
+taken_none keys system_ports r all j t e =
+    takes_is keys system_ports j t r e
+    ∙ when_again (is_eligible (selection_view t)) (not t.held) (chosen_if_eligible keys (views system_ports) (selection_view t))
+    (all-get (λ t. TakesNone keys (views system_ports) (selection_view t) t.held) system_ports j t e all)
 
 -- each port, when all have chosen
 pub none_takes : (aggs : AggregatorsValue) (system_ports : List SystemPort) → Rises 0 (port_numbers system_ports)

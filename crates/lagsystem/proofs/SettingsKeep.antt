@@ -1,5 +1,5 @@
 -- Every setting keeps the invariant of a system, and is a list of lawful moves.
-use Rattle.lagsystem.proofs.Common.{Bool, Err, List, None, Ok, Option, Result, Some, [], ap, arith, false, if◌then◌else◌, inl, inr, length, refl}
+use Rattle.lagsystem.proofs.Common.{Bool, Err, List, None, Ok, Option, Result, Some, [], ap, arith, false, if◌then◌else◌, inl, inr, length, refl, ◌∷◌}
 use Rattle.lagsystem.proofs.Common.{slice_get, slice_set, subst, sym, true, ℕ, ◌&&◌, ◌∙◌, ◌≡◌, ◌⊎◌, nat_tests, AllByRecursion, Choice, Unselected}
 use Rattle.lagsystem.proofs.Common.{is_unselected, LawfulMoves, PortMove, ModelCall, View, moves_joined, Machines, partner_synchronized, receive_rows}
 use Rattle.lagsystem.proofs.Common.{Table, model_distributor, SystemFault, SystemPort, ReceivesAtRest, key_of, model_port, model_port_of, model_setup}
@@ -188,7 +188,7 @@ limit_leaves max_links p = by_link max_links p.enabled
     by_link (Some most) false = inl refl
 
 -- with this limit, as `set_link` leaves a port
-abbrev Relinks : Option ℕ → Machines → Machines → Type 0
+abbrev pub Relinks : Option ℕ → Machines → Machines → Type 0
 Relinks max_links p q = q ≡ record p { choice = choice_with_link max_links p.enabled p.choice }
 
 relinks_leaves : (max_links : Option ℕ) (p q : Machines) → Relinks max_links p q → LeavesOrStays p q
@@ -251,12 +251,13 @@ some_crowds : (agg : AggId) (most : ℕ) (all xs : List SystemPort) → list_any
 some_crowds agg most all [] h k = absurd (false≢true h)
 some_crowds agg most all (x ∷ xs) h k =
     let both = or_parts (is_crowded most all x.port.choice) (list_any (λ y. is_crowded most all y.port.choice) xs) k in
-    by_first (is_member_up agg x) refl both
+    by_first (is_member_up agg x) refl both.0 (λ e. some_crowds agg most all xs e both.1)
   where
-    by_first : (b : Bool) → is_member_up agg x ≡ b → (is_crowded most all x.port.choice ≡ false)
-        × (list_any (λ y. is_crowded most all y.port.choice) xs ≡ false) → nat_lt most (length (members_up agg all)) ≡ false
-    by_first true e both = sym (chosen_crowds agg most all x.port.enabled x.port.choice e) ∙ both.0
-    by_first false e both = some_crowds agg most all xs (sym (ap (λ b. b || list_any (is_member_up agg) xs) e) ∙ h) both.1
+    by_first : (b : Bool) → is_member_up agg x ≡ b → is_crowded most all x.port.choice ≡ false
+        → (list_any (is_member_up agg) xs ≡ true → nat_lt most (length (members_up agg all)) ≡ false)
+        → nat_lt most (length (members_up agg all)) ≡ false
+    by_first true e here later = sym (chosen_crowds agg most all x.port.enabled x.port.choice e) ∙ here
+    by_first false e here later = later (sym (ap (λ b. b || list_any (is_member_up agg) xs) e) ∙ h)
 
 not_below : (n m : ℕ) → nat_lt n m ≡ false → m ≤ n
 not_below n m h = grind (arith, nat_tests)
@@ -309,13 +310,13 @@ limit_readies old mid max_links s free h =
 -- the settings
 
 -- what a setting leaves: the invariant, and what it promises
-record Keeps_setting (old : SystemState) (setting : Setting) (answer : Result Unit SystemFault) (new : SystemState) : Type 0 where
+record KeepsSetting (old : SystemState) (setting : Setting) (answer : Result Unit SystemFault) (new : SystemState) : Type 0 where
   sound : IsSound new
   promise : SettingPromise old setting answer new
 
 same_setting : (old : SystemState) (setting : Setting) (answer : Result Unit SystemFault) (new : SystemState)
     → max_delay_after setting old.max_delay ≡ old.max_delay → max_links_after setting answer old.max_links ≡ old.max_links
-    → SettingStep old setting answer new → IsSound old → new ≡ old → Keeps_setting old setting answer new
+    → SettingStep old setting answer new → IsSound old → new ≡ old → KeepsSetting old setting answer new
 same_setting old setting answer new d l step s e =
     let sound : IsSound new = subst IsSound (sym e) s in record {
       sound = sound;
@@ -334,7 +335,7 @@ same_setting old setting answer new d l step s e =
 
 settled_setting : (old mid : SystemState) (setting : Setting) (answer : Result Unit SystemFault) (new : SystemState)
     → max_delay_after setting old.max_delay ≡ old.max_delay → max_links_after setting answer old.max_links ≡ mid.max_links
-    → SettingStep old setting answer new → IsSound old → Readies old mid → Settling mid new → Keeps_setting old setting answer new
+    → SettingStep old setting answer new → IsSound old → Readies old mid → Settling mid new → KeepsSetting old setting answer new
 settled_setting old mid setting answer new d l step s r h =
     let k = settles_sound old mid new s r h in record {
       sound = k.sound;
@@ -353,16 +354,16 @@ settled_setting old mid setting answer new d l step s r h =
 
 -- a port that changes, or is so already
 port_set : (o : Option ℕ) (already : SystemPort → Bool) (change : SystemPort → SystemPort) (old : SystemState) (setting : Setting)
-    (new : SystemState) → max_delay_after setting old.max_delay ≡ old.max_delay
-    → max_links_after setting (Ok tt) old.max_links ≡ old.max_links → ((x : SystemPort) → Mild old x (change x))
-    → SettingStep old setting (Ok tt) new → IsSound old → SetsPort already change o old new → Keeps_setting old setting (Ok tt) new
-port_set None already change old setting new d l mild step s h = absurd h
-port_set (Some i) already change old setting new d l mild step s h = elim h [
-  | inl same ↦ same_setting old setting (Ok tt) new d l step s same.1
-  | inr then ↦
-      let r = place_readies old then.0 i already change mild s then.1 in
-      settled_setting old then.0 setting (Ok tt) new d
-      (l ∙ sym (ap (λ (x : SystemState). x.max_links) then.1.1)) step s r then.2
+    (done : Unit) (new : SystemState) → max_delay_after setting old.max_delay ≡ old.max_delay
+    → max_links_after setting (Ok done) old.max_links ≡ old.max_links → ((x : SystemPort) → Mild old x (change x))
+    → SettingStep old setting (Ok done) new → IsSound old → SetsPort already change o old new → KeepsSetting old setting (Ok done) new
+port_set None already change old setting done new d l mild step s h = absurd h
+port_set (Some i) already change old setting done new d l mild step s h = elim h [
+  | inl same ↦ same_setting old setting (Ok done) new d l step s same.1
+  | inr settled ↦
+      let r = place_readies old settled.0 i already change mild s settled.1 in
+      settled_setting old settled.0 setting (Ok done) new d
+      (l ∙ sym (ap (λ (x : SystemState). x.max_links) settled.1.1)) step s r settled.2
 ]
 
 delay_sound : (old : SystemState) (max_delay : ℕ) → IsSound old → IsSound (record old { max_delay = max_delay })
@@ -382,14 +383,14 @@ delay_sound old max_delay s = record {
 }
 
 setting_keeps : (old : SystemState) (setting : Setting) (answer : Result Unit SystemFault) (new : SystemState)
-    → SettingStep old setting answer new → IsSound old → Keeps_setting old setting answer new
+    → SettingStep old setting answer new → IsSound old → KeepsSetting old setting answer new
 setting_keeps old (Setting.Hold_port n held) (Ok done) new h s =
-    port_set (port_index n old.system_ports) (is_held_so held) (with_held held) old (Setting.Hold_port n held) new refl refl
+    port_set (port_index n old.system_ports) (is_held_so held) (with_held held) old (Setting.Hold_port n held) done new refl refl
     (holding_mild old held) h s h
 setting_keeps old (Setting.Hold_port n held) (Err fault) new h s =
     same_setting old (Setting.Hold_port n held) (Err fault) new refl refl h s h.same
 setting_keeps old (Setting.Set_mode n active short) (Ok done) new h s =
-    port_set (port_index n old.system_ports) (is_in_mode active short) (in_mode active short) old (Setting.Set_mode n active short) new refl
+    port_set (port_index n old.system_ports) (is_in_mode active short) (in_mode active short) old (Setting.Set_mode n active short) done new refl
     refl (mode_mild old active short) h s h
 setting_keeps old (Setting.Set_mode n active short) (Err fault) new h s =
     same_setting old (Setting.Set_mode n active short) (Err fault) new refl refl h s h.same

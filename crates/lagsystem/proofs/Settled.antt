@@ -3,7 +3,7 @@ use Rattle.lagsystem.proofs.Common.{Bool, List, Option, arith, ℕ, ◌≡◌, n
 use Rattle.lagsystem.proofs.Common.{On, ChangesAssignments, after_tick, Table, assignment_of, SystemPort, FreesIfDown, OnlyPortChangesBy}
 use Rattle.lagsystem.proofs.Common.{PortAtChangesBy, SetsLink, SetsPortEnabled, Ticks, WereInUse, aggregators_in_use, PortsChangeBy, IsSound}
 use Rattle.lagsystem.proofs.Common.{SystemState, port_index, with_system_ports, with_table}
-use Rattle.lagsystem.proofs.Common.{Some, Settling, ap, choice_with_link, inl, inr, port_numbers, refl, subst, sym, ◌∙◌}
+use Rattle.lagsystem.proofs.Common.{AggregatorsValue, Some, Settling, aggregators_value, ap, choice_with_link, inl, inr, port_numbers, refl, subst, sym, ◌∙◌}
 use Rattle.lagsystem.specs.Settings.{IsAlready, LimitsLinks, OnlyPortBecomes, PortBecomes, SetsPort}
 use Rattle.lagsystem.proofs.Keeps.{Keeps, keeps_link, keeps_place, keeps_slots, keeps_tick, numbers_set, zip_numbers}
 
@@ -87,10 +87,15 @@ is_so_already already change o i old new olds e v a same =
     subst (λ o. SetsPort already change o old new) (sym e) (inl (subst (IsAlready already i) v a, same))
 
 -- a limit of links
-pub limits_made : (max_links : Option ℕ) (old : SystemState) (olds ws news : List SystemPort) → olds ≡ old.system_ports → news ≡ ws
+pub limits_made : (max_links : Option ℕ) (old : SystemState) (aggs : AggregatorsValue) (olds ws news : List SystemPort)
+    → aggs ≡ record (aggregators_value old) { max_links = max_links } → olds ≡ old.system_ports → news ≡ ws
     → PortsChangeBy (λ p q. q ≡ record p { choice = choice_with_link max_links p.enabled p.choice }) olds ws
-    → LimitsLinks max_links old (record old { max_links = max_links; system_ports = news })
-limits_made max_links old olds ws news e w h = grind (arith, nat_tests)
+    → LimitsLinks max_links old (record old { keys = aggs.keys; max_links = aggs.max_links; system_ports = news })
+limits_made max_links old aggs olds ws news a e w h =
+    let R : Machines → Machines → Type 0 = λ p q. q ≡ record p { choice = choice_with_link max_links p.enabled p.choice } in (
+      subst (PortsChangeBy R old.system_ports) (sym w) (subst (λ l. PortsChangeBy R l ws) e h),
+      λ i. record old { keys = (a i).keys; max_links = (a i).max_links; system_ports = news },
+    )
 
 pub limits_carried : (max_links : Option ℕ) (old mid : SystemState) (were : List (Option AggId)) → IsSound old
     → LimitsLinks max_links old mid → were ≡ aggregators_in_use old.system_ports → WereInUse were mid

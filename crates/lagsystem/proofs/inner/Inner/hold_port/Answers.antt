@@ -1,4 +1,4 @@
-use Rattle.lagsystem.proofs.Common.{ap, arith, ◌∙◌, OnTrue_at, OnFalse_at, with_items, with_items_is, aggregators_in_use, inner_state, port_index, refl}
+use Rattle.lagsystem.proofs.Common.{ap, arith, ◌∙◌, ◌≡◌, OnTrue_at, OnFalse_at, with_items, with_items_is, aggregators_in_use, inner_state, port_index, refl}
 use Rattle.lagsystem.proofs.Common.{with_system_ports}
 use Rattle.lagsystem.specs.Settings.{PortBecomes, is_held_so, with_held}
 use Rattle.lagsystem.proofs.Settled.{becomes_carried, becomes_made, becomes_settled, is_so_already}
