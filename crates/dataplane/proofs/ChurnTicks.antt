@@ -1,13 +1,11 @@
 -- What ticks make of a churn detection machine.
-use Rattle.std.proofs.Common.{Bool, List, [], ap, arith, false, if◌then◌else◌, inl, inr, min, nat_lt, not, refl, sym, true, ℕ, ◌&&◌, ◌+◌, ◌-◌, ◌<◌, ◌==◌, ◌^◌, ◌∙◌, ◌∷◌, ◌≡◌, ◌≤◌, ◌⊎◌}
-use Rattle.std.proofs.lemmas.Bool.{cases_Bool}
-use Rattle.std.proofs.lemmas.Bool.Decides.{eqb_tells, nat_tests}
+use Rattle.dataplane.proofs.Common.{Bool, List, [], arith, false, if◌then◌else◌, inl, inr, nat_lt, not, refl, sym, true, ℕ, ◌&&◌, ◌+◌, ◌<◌, ◌==◌, ◌∙◌}
+use Rattle.dataplane.proofs.Common.{◌∷◌, ◌≡◌, ◌≤◌, ◌⊎◌, cases_Bool, eqb_tells, nat_tests, counted}
 use Rattle.dataplane.specs.declared.churn.ChurnMachine.{ChurnMachine}
 use Rattle.dataplane.specs.declared.churn.ChurnState.{ChurnState}
 use Rattle.dataplane.specs.declared.churn.ChurnState.TheVariants.{Monitor, NoChurn, Churn}
 use Rattle.dataplane.specs.Churn.{churn_row, monitoring}
 use Rattle.dataplane.specs.ChurnHistories.{Found, is_in_sync, machine_after, state_told, ticks_out_of_sync, times_churned}
-use Rattle.dataplane.specs.Holding.{counted}
 use Rattle.dataplane.proofs.QueueViews.{counted_is}
 
 -- the state and the timer are those of an end that was out of sync for so many ticks, or that is in sync
@@ -29,9 +27,9 @@ FitsMachine m n b = Fits m.state m.waited n b
 -- whether a number is less, as test and as fact
 less_tells : (a b : ℕ) → ((nat_lt a b ≡ true) × (a < b)) ⊎ ((nat_lt a b ≡ false) × (b ≤ a))
 less_tells a b = elim (cases_Bool (nat_lt a b)) [
-      | inl e ↦ inl (e, grind (arith, nat_tests))
-      | inr e ↦ inr (e, grind (arith, nat_tests))
-    ]
+  | inl e ↦ inl (e, grind (arith, nat_tests))
+  | inr e ↦ inr (e, grind (arith, nat_tests))
+]
 
 -- the timer goes on from a machine that is not in CHURN
 goes_on : (s : ChurnState) (w c y k : ℕ) → 0 < k → k ≤ 600 → FitsMachine (monitoring k (machine s w c y)) k false

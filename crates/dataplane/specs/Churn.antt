@@ -1,5 +1,5 @@
 -- Churn detection (6.4.17): the machines of Actor and Partner are alike, and here is one of them.
-use Rattle.std.specs.Prelude.{ℕ, ◌+◌, Bool, true, false, not, nat_lt, nat_eq, List, [], ◌∷◌, if◌then◌else◌, ◌&&◌}
+use Rattle.std.specs.Prelude.{ℕ, ◌+◌, Bool, not, nat_lt, if◌then◌else◌}
 use Rattle.dataplane.specs.Holding.{counted}
 use Rattle.dataplane.specs.declared.churn.ChurnMachine.{ChurnMachine}
 use Rattle.dataplane.specs.declared.churn.ChurnState.{ChurnState}

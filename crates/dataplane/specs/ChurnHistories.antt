@@ -1,5 +1,5 @@
 -- What a churn detection machine is after ticks (6.4.17). A list of ticks has the latest first.
-use Rattle.std.specs.Prelude.{ℕ, ◌+◌, Bool, true, false, not, nat_lt, ◌==◌, ◌&&◌, List, [], ◌∷◌, if◌then◌else◌}
+use Rattle.std.specs.Prelude.{ℕ, ◌+◌, Bool, false, not, nat_lt, ◌==◌, ◌&&◌, List, [], ◌∷◌, if◌then◌else◌}
 use Rattle.dataplane.specs.Churn.{at_begin, churn_row}
 use Rattle.dataplane.specs.declared.churn.ChurnMachine.{ChurnMachine}
 use Rattle.dataplane.specs.declared.churn.ChurnState.{ChurnState}

@@ -112,10 +112,9 @@ impl ChurnMachine {
     }
 }
 
-// promise: a machine is in CHURN exactly if the port was up and its end out of sync at each of the last 600 ticks, or longer; in NO_CHURN
-//    exactly if the last tick found the end in sync; each time that the 600th such tick comes is counted, up to 2^64 - 1
-// contract: `Churn::tick` (`actor`, `partner`: `churn_row`); `every_run_of_ticks`
-// not said: what happens between two ticks
+// promise: a machine is in CHURN exactly if each of the last 600 ticks or more found the port up and the end out of sync, in NO_CHURN
+//    exactly if the last one found it up and in sync; churns are counted
+// contract: `Churn::tick` (`churn_row`), `every_history_of_ticks`
 /// Churn detection of a port: the machine of the Actor and that of the Partner (6.4.17). It is the caller's own value beside a system.
 #[derive(Clone, Copy, Debug, PartialEq, Eq)]
 pub struct Churn {

@@ -37,9 +37,9 @@ pub struct Counters {
     pub marker_responses_sent: u64,
 }
 
-// promise: what `receive` answered counts a frame once: valid LACPDUs, markers and responses; unknown and illegal ones as 7.3.3 tells them
-//    apart; nothing on a link that is down, and no data. A sent LACPDU, marker or response counts once
-// contract: `Counters::none`, `count_received` (`counts_after_receive`), `count_sent` (`counts_after_send`)
+// promise: a received frame is counted once, as 7.3.3 names its kind; data, and what comes on a link that is down, is not; a sent control
+//    frame is counted once
+// contract: `count_received` (`counts_after_receive`), `count_sent` (`counts_after_send`)
 impl Counters {
     /// Nothing was counted.
     pub fn none() -> Counters

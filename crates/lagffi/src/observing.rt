@@ -82,9 +82,6 @@ pub struct LagChurn {
     pub partner: LagChurnMachine,
 }
 
-// promise: `lagffi_churn_tick` is a tick of both machines by the Synchronization bits of two state octets; `lagffi_count_received`,
-//    `lagffi_count_sent` count as the crate's `Counters`
-// contract: `lagffi_churn_tick` (`actor`, `partner`: `churn_row`), `lagffi_count_received`, `lagffi_count_sent`
 /// A tick of 100 ms for churn detection of a port (6.4.17), after niw_tick. `up`: whether its link is up. `actor_state` is its state
 /// octet, `partner_state` that of its recorded partner, as in niw_view. `churn` is the program's own: zeros at first and after
 /// niw_restart. At the 600th tick in a row that finds the link up and the Synchronization bit of an end 0, the state of this end becomes

@@ -21,7 +21,7 @@ fn machine(state: ChurnState, waited: u16, churns: u64, synchronizations: u64) -
     }
 }
 
-fn row(
+fn after(
     ticks: u16,
     enabled: bool,
     actor: bool,
@@ -41,56 +41,56 @@ fn row(
 fn churning() -> [Row; 8] {
     let (monitor, calm, churn) = (ChurnState::Monitor, ChurnState::NoChurn, ChurnState::Churn);
     [
-        row(
+        after(
             700,
             false,
             true,
             false,
             (machine(monitor, 0, 0, 0), machine(monitor, 0, 0, 0)),
         ),
-        row(
+        after(
             599,
             true,
             true,
             false,
             (machine(calm, 0, 0, 1), machine(monitor, 599, 0, 0)),
         ),
-        row(
+        after(
             1,
             true,
             true,
             false,
             (machine(calm, 0, 0, 1), machine(churn, 0, 1, 0)),
         ),
-        row(
+        after(
             600,
             true,
             true,
             false,
             (machine(calm, 0, 0, 1), machine(churn, 0, 1, 0)),
         ),
-        row(
+        after(
             599,
             true,
             false,
             true,
             (machine(monitor, 599, 0, 1), machine(calm, 0, 1, 1)),
         ),
-        row(
+        after(
             1,
             false,
             false,
             true,
             (machine(monitor, 0, 0, 1), machine(monitor, 0, 1, 1)),
         ),
-        row(
+        after(
             600,
             true,
             false,
             false,
             (machine(churn, 0, 1, 1), machine(churn, 0, 2, 1)),
         ),
-        row(
+        after(
             1,
             true,
             true,

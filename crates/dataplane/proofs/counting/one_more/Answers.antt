@@ -1,4 +1,4 @@
-use Rattle.std.proofs.Common.{sym, ◌∙◌}
+use Rattle.dataplane.proofs.Common.{sym, ◌∙◌}
 use Rattle.dataplane.proofs.QueueViews.{counted_is}
 use Rattle.dataplane.proofs.counting.one_more.Goals as goal
 
