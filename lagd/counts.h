@@ -2,19 +2,28 @@
 #ifndef LAGD_COUNTS_H
 #define LAGD_COUNTS_H
 
-/* Of a port. */
+/* Of a port, by the library: a field of struct link, in place of the count (IEEE 802.1AX-2014, 7.3.3 and 7.3.4). */
+#define EACH_LIBRARY_COUNT(COUNT) \
+    COUNT(counters.lacpdus_received, "lacpdus_received", "LACPDUs that were taken") \
+    COUNT(counters.markers_received, "markers_received", "markers that were taken") \
+    COUNT(counters.marker_responses_received, "marker_responses_received", "marker responses that were taken") \
+    COUNT(counters.unknown_received, "unknown_received", "frames of the slow protocols of subtype 3 to 10") \
+    COUNT(counters.illegal_received, "illegal_received", "badly formed PDUs, and frames of the slow protocols of an illegal subtype") \
+    COUNT(counters.lacpdus_sent, "lacpdus_sent", "LACPDUs that the kernel took") \
+    COUNT(counters.markers_sent, "markers_sent", "markers that the kernel took") \
+    COUNT(counters.marker_responses_sent, "marker_responses_sent", "marker responses that the kernel took") \
+    COUNT(churn.actor.churns, "actor_churns", "times that the link was up for 60 s, and the own side not synchronized") \
+    COUNT(churn.partner.churns, "partner_churns", "times that the link was up for 60 s, and the partner not synchronized") \
+    COUNT(churn.actor.synchronizations, "actor_synchronized", "times that the own side came to be synchronized") \
+    COUNT(churn.partner.synchronizations, "partner_synchronized", "times that the partner came to be synchronized")
+
+/* Of a port, beside these. */
 #define EACH_PORT_COUNT(COUNT) \
-    COUNT(LACPDUS_RECEIVED, "lacpdus_received", "LACPDUs that were taken") \
-    COUNT(MARKERS_RECEIVED, "markers_received", "markers that were taken") \
-    COUNT(RESPONSES_RECEIVED, "marker_responses_received", "marker responses that were taken") \
-    COUNT(REFUSED_RECEIVED, "refused_received", "frames of the slow protocols that are neither LACPDU nor Marker PDU") \
     COUNT(ELSEWHERE_RECEIVED, "elsewhere_received", "frames to another address than 01-80-C2-00-00-02") \
     COUNT(TAGGED_RECEIVED, "tagged_received", "frames with a VLAN tag") \
     COUNT(FOREIGN_RECEIVED, "foreign_received", "LACPDUs of a system that is not the partner") \
     COUNT(FOREIGN_RESPONSES, "foreign_responses", "marker responses that are not the partner's, or not to a marker of the port") \
     COUNT(DISABLED_RECEIVED, "disabled_received", "frames that came while the link was down") \
-    COUNT(LACPDUS_SENT, "lacpdus_sent", "LACPDUs that the kernel took") \
-    COUNT(RESPONSES_SENT, "marker_responses_sent", "marker responses that the kernel took") \
     COUNT(RESPONSES_UNSENT, "marker_responses_unsent", "markers without a response, above marker-responses in a second") \
     COUNT(FAILED_SENT, "failed_sent", "frames that the kernel did not take") \
     COUNT(LOSSES, "link_losses", "losses of the link") \
@@ -62,7 +71,10 @@
 
 #define COUNT_ITSELF(count, name, help) count,
 #define COUNT_TEXT(count, name, help) {name, help},
+#define COUNT_ONE(count, name, help) +1
 
+/* How many the library counts of a port. */
+enum { LIBRARY_COUNTS = EACH_LIBRARY_COUNT(COUNT_ONE) };
 enum count { EACH_PORT_COUNT(COUNT_ITSELF) COUNTS };
 enum carry_count { EACH_CARRY_COUNT(COUNT_ITSELF) CARRY_COUNTS };
 enum member_count { EACH_MEMBER_COUNT(COUNT_ITSELF) MEMBER_COUNTS };

@@ -18,17 +18,6 @@
 
 static const uint8_t GROUP[6] = {0x01, 0x80, 0xc2, 0x00, 0x00, 0x02};
 
-/* What a frame counts as. */
-static enum count kind_of(const struct niw_received *received) {
-    switch (received->what) {
-    case NIW_RECEIVED_DISABLED: return DISABLED_RECEIVED;
-    case NIW_RECEIVED_TOOK_LACPDU: return LACPDUS_RECEIVED;
-    case NIW_RECEIVED_RESPOND: return MARKERS_RECEIVED;
-    case NIW_RECEIVED_RELEASED: return RESPONSES_RECEIVED;
-    default: return REFUSED_RECEIVED;
-    }
-}
-
 static bool is_same_system(const struct system_id *one, const struct system_id *other) {
     return one->priority == other->priority && memcmp(one->mac, other->mac, sizeof one->mac) == 0;
 }
@@ -86,11 +75,12 @@ static void hand_over(struct link *link, const struct arrival *arrival, const st
     struct niw_received received = niw_receive(&own_system, link->settings.number, arrival->frame, arrival->length, response,
         sizeof response);
     if (!is_done(received.status, "niw_receive")) return;
-    link->counts[kind_of(&received)]++;
+    if (received.what == NIW_RECEIVED_DISABLED) link->counts[DISABLED_RECEIVED]++;
+    if (!is_done(niw_count_received(&link->counters, arrival->frame, arrival->length, received.what), "niw_count_received")) return;
     if (received.what == NIW_RECEIVED_TOOK_LACPDU && actor) note_actor(link, actor, arrival->frame);
     if (received.what != NIW_RECEIVED_RESPOND) return;
     if (may_answer(link, arrival))
-        send_frame(link, RESPONSES_SENT, response);
+        send_frame(link, response);
     else
         note_odd_marker(link, arrival, RESPONSES_UNSENT);
 }

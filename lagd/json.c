@@ -67,7 +67,7 @@ static void add_strangers(const struct link *link) {
 
 static void add_counts(const struct link *link) {
     add(",\"counters\":{");
-    for (unsigned i = 0; i < COUNTS; i++) add("%s\"%s\":%" PRIu64, i ? "," : "", count_name(i), link->counts[i]);
+    for (unsigned i = 0; i < ALL_COUNTS; i++) add("%s\"%s\":%" PRIu64, i ? "," : "", count_name(i), count_at(link, i));
     add("}");
 }
 
@@ -86,6 +86,8 @@ static void add_member(const struct link *link) {
     add(",\"current_while\":%" PRIu64 ",\"wait_while\":%" PRIu64, view.current_while, view.wait_while);
     add(link->has_speed ? ",\"speed\":\"%s\"" : ",\"speed\":null", speed_text(&link->speed, speed));
     add_time(link->changed_at);
+    add(",\"actor_churn\":\"%s\",\"partner_churn\":\"%s\"", niw_churn_state_text(link->churn.actor.state),
+        niw_churn_state_text(link->churn.partner.state));
     add_ends(&view);
     add_strangers(link);
     add_counts(link);

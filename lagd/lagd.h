@@ -119,6 +119,8 @@ struct link {
     uint64_t lacpdus_at[MOST_LACPDUS]; /* the milliseconds of CLOCK_BOOTTIME at which the last ones went, the oldest first */
     uint8_t lacpdu[NIW_FRAME];         /* the last one that was taken, */
     uint64_t lacpdu_at;                /* and the milliseconds of CLOCK_BOOTTIME at which it came, or 0 */
+    struct niw_counters counters;
+    struct niw_churn churn;
     uint64_t counts[COUNTS];
     struct niw_view view; /* as the library last told it */
     bool changed;         /* whether there may be something to print */
@@ -163,8 +165,11 @@ extern bool broken;  /* whether the program cannot go on, as where the library r
 
 /* names.c */
 const char *status_text(unsigned status);
-const char *count_name(enum count count);
-const char *count_help(enum count count);
+/* All counts of a port, by their places. */
+#define ALL_COUNTS ((unsigned)LIBRARY_COUNTS + COUNTS)
+const char *count_name(unsigned place);
+const char *count_help(unsigned place);
+uint64_t count_at(const struct link *link, unsigned place);
 const char *bit_name(unsigned bit);
 const char *link_name(const struct link *link);
 const char *bundle_state_text(enum bundle_state state);
@@ -221,7 +226,7 @@ bool open_link(struct link *link, int index);
 void close_link(struct link *link);
 bool is_bound(const struct link *link);
 bool has_new_carrier(struct link *link);
-void send_frame(struct link *link, enum count kind, const uint8_t *frame);
+void send_frame(struct link *link, const uint8_t *frame);
 
 /* frames.c */
 /* Where a frame of the slow protocols has its subtype, and those of LACP and of the Marker protocol (IEEE 802.1AX-2014, 6.4.2.3 and

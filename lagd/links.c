@@ -164,19 +164,20 @@ static void keep_lacpdu(struct link *link, const uint8_t *frame) {
 
 /* Sends a frame, with the address that the interface has now. An LACPDU that the kernel does not take is sent again at each tick,
  * until a newer one is due; a response is lost, as on a wire. A response tells of what came before its marker, and may pass what goes. */
-void send_frame(struct link *link, enum count kind, const uint8_t *frame) {
+void send_frame(struct link *link, const uint8_t *frame) {
+    bool is_lacpdu = frame[SUBTYPE_AT] == SUBTYPE_LACP;
     uint8_t sent[NIW_FRAME];
     if (link->socket < 0) return;
-    if (kind == LACPDUS_SENT && !has_room(link)) {
+    if (is_lacpdu && !has_room(link)) {
         keep_lacpdu(link, frame);
         return;
     }
     memcpy(sent, frame, sizeof sent);
     memcpy(sent + 6, link->mac, 6);
-    if (kind == LACPDUS_SENT) link->tried = true;
+    if (is_lacpdu) link->tried = true;
     if (give_past_data(link, sent)) {
-        link->counts[kind]++;
-        if (kind == LACPDUS_SENT) note_lacpdu(link);
+        if (is_lacpdu) note_lacpdu(link);
+        (void)is_done(niw_count_sent(&link->counters, sent, sizeof sent), "niw_count_sent");
         return;
     }
     link->counts[FAILED_SENT]++;
@@ -186,5 +187,5 @@ void send_frame(struct link *link, enum count kind, const uint8_t *frame) {
         link->trouble_ticks = TROUBLE_TICKS;
         link->changed = true;
     }
-    if (kind == LACPDUS_SENT) keep_lacpdu(link, frame);
+    if (is_lacpdu) keep_lacpdu(link, frame);
 }

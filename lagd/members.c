@@ -327,7 +327,8 @@ static bool send_marker(struct link *link, const uint8_t *marker) {
     withdraw();
     memcpy(sent + head_octets(), marker, NIW_FRAME);
     memcpy(sent + head_octets() + ETH_ALEN, link->mac, ETH_ALEN);
-    return member->socket >= 0 && send(member->socket, sent, length, 0) == (ssize_t)length;
+    if (member->socket < 0 || send(member->socket, sent, length, 0) != (ssize_t)length) return false;
+    return is_done(niw_count_sent(&link->counters, marker, NIW_FRAME), "niw_count_sent");
 }
 
 /* A marker is due on a port. */

@@ -78,6 +78,14 @@ static uint64_t change_time(const struct link *link) {
     return (uint64_t)link->changed_at;
 }
 
+static uint64_t actor_churns(const struct link *link) {
+    return link->churn.actor.state == NIW_CHURN_CHURN;
+}
+
+static uint64_t partner_churns(const struct link *link) {
+    return link->churn.partner.state == NIW_CHURN_CHURN;
+}
+
 static const struct {
     const char *name, *help;
     uint64_t (*value)(const struct link *link);
@@ -87,6 +95,8 @@ static const struct {
     {"port_has_partner", "whether the port has a partner, and does not run on defaults", has_partner},
     {"port_status", "why the port does not distribute: 0 where it does", status_number},
     {"port_aggregator", "the aggregator of the port, or 0", aggregator_number},
+    {"port_actor_churn", "whether the link has been up for 60 s, and the own side not synchronized", actor_churns},
+    {"port_partner_churn", "whether the link has been up for 60 s, and the partner not synchronized", partner_churns},
     {"port_last_change_timestamp_seconds", "when the port changed last", change_time},
 };
 
@@ -102,11 +112,11 @@ void write_metrics(void) {
         add_head(GAUGES[gauge].name, "gauge", GAUGES[gauge].help);
         for (uint16_t i = 0; i < link_count; i++) add_port_value(GAUGES[gauge].name, &links[i], GAUGES[gauge].value(&links[i]));
     }
-    for (unsigned count = 0; count < COUNTS; count++) {
+    for (unsigned count = 0; count < ALL_COUNTS; count++) {
         char name[64];
         snprintf(name, sizeof name, "port_%s_total", count_name(count));
         add_head(name, "counter", count_help(count));
-        for (uint16_t i = 0; i < link_count; i++) add_port_value(name, &links[i], links[i].counts[count]);
+        for (uint16_t i = 0; i < link_count; i++) add_port_value(name, &links[i], count_at(&links[i], count));
     }
     write_carry_metrics();
 }

@@ -1,10 +1,16 @@
 /* The texts of what is counted and told. The texts of the library's statuses and states are those of lag.h. */
 #define _GNU_SOURCE
+#include <stddef.h>
 #include <stdio.h>
+#include <string.h>
 
 #include "lagd.h"
 
-static const struct count_text TEXTS_OF_COUNTS[] = {EACH_PORT_COUNT(COUNT_TEXT)};
+/* The counts of a port: those of the library, and behind them those of `enum count`. */
+static const struct count_text TEXTS_OF_COUNTS[] = {EACH_LIBRARY_COUNT(COUNT_TEXT) EACH_PORT_COUNT(COUNT_TEXT)};
+
+#define COUNT_PLACE(field, name, help) offsetof(struct link, field),
+static const size_t PLACES_OF_COUNTS[] = {EACH_LIBRARY_COUNT(COUNT_PLACE)};
 
 static const char *const BIT_NAMES[8] = {"activity", "timeout", "aggregation", "synchronization", "collecting", "distributing",
     "defaulted", "expired"};
@@ -16,12 +22,19 @@ const char *status_text(unsigned status) {
     return status >= MISSING ? OWN_STATUSES[status - MISSING] : niw_port_status_text(status);
 }
 
-const char *count_name(enum count count) {
-    return TEXTS_OF_COUNTS[count].name;
+const char *count_name(unsigned place) {
+    return TEXTS_OF_COUNTS[place].name;
 }
 
-const char *count_help(enum count count) {
-    return TEXTS_OF_COUNTS[count].help;
+const char *count_help(unsigned place) {
+    return TEXTS_OF_COUNTS[place].help;
+}
+
+uint64_t count_at(const struct link *link, unsigned place) {
+    uint64_t count;
+    if (place >= LIBRARY_COUNTS) return link->counts[place - LIBRARY_COUNTS];
+    memcpy(&count, (const char *)link + PLACES_OF_COUNTS[place], sizeof count);
+    return count;
 }
 
 /* The name of a bit of a state octet, from 0 to 7. */

@@ -50,9 +50,11 @@ static unsigned age_of(const struct link *link) {
 static void hear_again(struct link *link) {
     const struct inherited_link *was = inherited_of(link);
     struct arrival arrival = {was->lacpdu, NIW_FRAME, PACKET_MULTICAST, link->index, false};
+    struct niw_counters counters = link->counters;
     uint64_t counts[COUNTS];
     memcpy(counts, link->counts, sizeof counts);
     take_frame(link, &arrival);
+    link->counters = counters;
     memcpy(link->counts, counts, sizeof counts);
     link->lacpdu_at = was->heard;
     link->lacpdus_at[MOST_LACPDUS - 1] = was->spoken;

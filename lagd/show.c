@@ -50,9 +50,9 @@ static void add_strangers(const struct link *link) {
 
 static void add_counts(const struct link *link) {
     add("\n");
-    for (unsigned i = 0; i < COUNTS; i++) {
-        bool last = i % 4 == 3 || i == COUNTS - 1;
-        add("%s %s %" PRIu64 "%s", i % 4 == 0 ? " " : "", count_name(i), link->counts[i], last ? "\n" : "");
+    for (unsigned i = 0; i < ALL_COUNTS; i++) {
+        bool last = i % 4 == 3 || i == ALL_COUNTS - 1;
+        add("%s %s %" PRIu64 "%s", i % 4 == 0 ? " " : "", count_name(i), count_at(link, i), last ? "\n" : "");
     }
 }
 
@@ -69,6 +69,7 @@ static void add_member(const struct link *link) {
     add("  port_id: %u\n  port_priority: %u\n", own->port, own->port_priority);
     add("  aggregator: %u\n", view.facts.aggregator);
     add("  current_while: %" PRIu64 "\n  wait_while: %" PRIu64 "\n", view.current_while, view.wait_while);
+    add("  actor_churn: %s\n  partner_churn: %s\n", niw_churn_state_text(link->churn.actor.state), niw_churn_state_text(link->churn.partner.state));
     if (link->has_speed) add("  speed: %s\n", speed_text(&link->speed, speed));
     add_time("last change", link->changed_at);
     add_strangers(link);

@@ -77,7 +77,7 @@ static void send_due_of(uint16_t port) {
         if (due.what == NIW_SENT_MARKER)
             take_marker(&links[port - 1], frame);
         else
-            send_frame(&links[port - 1], LACPDUS_SENT, frame);
+            send_frame(&links[port - 1], frame);
     }
 }
 
@@ -93,7 +93,7 @@ void send_due(void) {
 /* Sends again what did not go before this tick, if nothing newer was due since. */
 void send_again(void) {
     for (uint16_t i = 0; i < link_count; i++)
-        if (links[i].unsent && !links[i].tried) send_frame(&links[i], LACPDUS_SENT, links[i].frame);
+        if (links[i].unsent && !links[i].tried) send_frame(&links[i], links[i].frame);
 }
 
 /* The link of a port is up or down now. */
@@ -144,9 +144,19 @@ static void pass_second(void) {
     notify_alive();
 }
 
+/* 100 ms passed for churn detection: by what the library tells of the ports after its own tick. */
+static void watch_churn(void) {
+    take_views();
+    for (uint16_t i = 0; i < link_count; i++) {
+        const struct niw_view *view = &links[i].view;
+        if (!is_done(niw_churn_tick(&links[i].churn, view->up, view->state, view->partner_state), "niw_churn_tick")) return;
+    }
+}
+
 /* 100 ms passed. */
 void pass_tick(void) {
     if (!is_done(niw_tick(&own_system), "niw_tick")) return;
+    watch_churn();
     for (uint16_t i = 0; i < link_count; i++) pass_tick_of(&links[i]);
     pass_carry_tick();
     if (++ticks % SECOND == 0) pass_second();
@@ -158,7 +168,7 @@ void tell_end(void) {
     for (uint16_t port = 1; port <= link_count; port++) {
         struct link *link = &links[port - 1];
         bool has_partner = link->up && link->view.mux_state >= NIW_MUX_ATTACHED;
-        link->sent_before_end = link->counts[LACPDUS_SENT];
+        link->sent_before_end = link->counters.lacpdus_sent;
         leave.priority = link->settings.priority;
         leave.aggregatable = link->settings.aggregatable;
         link->to_tell = is_done(niw_configure(&own_system, port, &leave).status, "niw_configure") && has_partner;
@@ -169,7 +179,7 @@ void tell_end(void) {
 /* Whether each peer was told. Where three LACPDUs were sent within a second, the next one waits. */
 bool end_is_told(void) {
     for (uint16_t i = 0; i < link_count; i++)
-        if (links[i].to_tell && links[i].up && links[i].counts[LACPDUS_SENT] == links[i].sent_before_end) return false;
+        if (links[i].to_tell && links[i].up && links[i].counters.lacpdus_sent == links[i].sent_before_end) return false;
     return true;
 }
 

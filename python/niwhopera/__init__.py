@@ -28,6 +28,7 @@ from ._numbers import (
     VERSION_TEXT,
     Algorithm,
     Answers,
+    ChurnState,
     ConversationState,
     MarkerKind,
     MuxState,
@@ -43,6 +44,7 @@ from ._numbers import (
 from .errors import BadConfig, BadPayload, Closed, Full, Held, LagError, NoMemory, NotResumed
 from .frames import HeldFrames, Released
 from .moves import next_move
+from .observers import Churn, ChurnMachine, Counters, PortCounts
 from .payloads import Lacpdu, Marker, Pdu, control_frame, decode, encode
 from .system import System
 from .values import (
@@ -83,9 +85,13 @@ __all__ = [
     "BadConfig",
     "BadPayload",
     "Carried",
+    "Churn",
+    "ChurnMachine",
+    "ChurnState",
     "Closed",
     "Config",
     "ConversationState",
+    "Counters",
     "End",
     "FrameCounts",
     "Full",
@@ -105,6 +111,7 @@ __all__ = [
     "Party",
     "Pdu",
     "PortConfig",
+    "PortCounts",
     "PortId",
     "PortStatus",
     "Reason",

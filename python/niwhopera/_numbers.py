@@ -9,7 +9,7 @@ import ctypes
 from enum import IntEnum, IntFlag
 from typing import Any, Callable, Final
 
-VERSION: Final = 9
+VERSION: Final = 10
 VERSION_TEXT: Final = "0.1.0"
 FRAME: Final = 124
 PAYLOAD_LENGTH: Final = 110
@@ -176,6 +176,14 @@ class MarkerKind(IntEnum):
 
     INFORMATION = 1
     RESPONSE = 2
+
+
+class ChurnState(IntEnum):
+    """The states of a churn detection machine (6.4.17)."""
+
+    MONITOR = 0
+    NO_CHURN = 1
+    CHURN = 2
 
 
 class NiwSystem(ctypes.Structure):
@@ -604,6 +612,55 @@ class NiwCounts(ctypes.Structure):
     ]
 
 
+class NiwChurnMachine(ctypes.Structure):
+    """struct niw_churn_machine."""
+
+    state: int
+    waited: int
+    churns: int
+    synchronizations: int
+    _fields_ = [
+        ("state", ctypes.c_uint32),
+        ("waited", ctypes.c_uint16),
+        ("churns", ctypes.c_uint64),
+        ("synchronizations", ctypes.c_uint64),
+    ]
+
+
+class NiwChurn(ctypes.Structure):
+    """struct niw_churn."""
+
+    actor: NiwChurnMachine
+    partner: NiwChurnMachine
+    _fields_ = [
+        ("actor", NiwChurnMachine),
+        ("partner", NiwChurnMachine),
+    ]
+
+
+class NiwCounters(ctypes.Structure):
+    """struct niw_counters."""
+
+    lacpdus_received: int
+    markers_received: int
+    marker_responses_received: int
+    unknown_received: int
+    illegal_received: int
+    lacpdus_sent: int
+    markers_sent: int
+    marker_responses_sent: int
+    _fields_ = [
+        ("lacpdus_received", ctypes.c_uint64),
+        ("markers_received", ctypes.c_uint64),
+        ("marker_responses_received", ctypes.c_uint64),
+        ("unknown_received", ctypes.c_uint64),
+        ("illegal_received", ctypes.c_uint64),
+        ("lacpdus_sent", ctypes.c_uint64),
+        ("markers_sent", ctypes.c_uint64),
+        ("marker_responses_sent", ctypes.c_uint64),
+    ]
+
+
 def _bound(library: ctypes.CDLL, name: str, answer: Any, given: list[Any]) -> Callable[..., Any]:
     """A function of the library; AttributeError where it has none of this name."""
     function = getattr(library, name)
@@ -777,6 +834,15 @@ class Functions:
         self.next_move: Callable[..., NiwMove] = _bound(
             library, "lagffi_next_move", NiwMove, [ctypes.POINTER(ctypes.c_uint16), ctypes.c_size_t, ctypes.POINTER(NiwCarried), ctypes.c_size_t]
         )
+        self.churn_tick: Callable[..., int] = _bound(
+            library, "lagffi_churn_tick", ctypes.c_uint32, [ctypes.POINTER(NiwChurn), ctypes.c_bool, ctypes.c_uint8, ctypes.c_uint8]
+        )
+        self.count_received: Callable[..., int] = _bound(
+            library, "lagffi_count_received", ctypes.c_uint32, [ctypes.POINTER(NiwCounters), ctypes.c_char_p, ctypes.c_size_t, ctypes.c_uint32]
+        )
+        self.count_sent: Callable[..., int] = _bound(
+            library, "lagffi_count_sent", ctypes.c_uint32, [ctypes.POINTER(NiwCounters), ctypes.c_char_p, ctypes.c_size_t]
+        )
         self.queue_new: Callable[..., int] = _bound(
             library, "lagffi_queue_new", ctypes.c_uint32, [ctypes.POINTER(NiwQueue), ctypes.c_uint16, ctypes.c_size_t, ctypes.c_size_t]
         )
@@ -865,6 +931,11 @@ MUX_STATE_TEXTS: Final = (
     "WAITING",
     "ATTACHED",
     "COLLECTING_DISTRIBUTING",
+)
+CHURN_STATE_TEXTS: Final = (
+    "CHURN_MONITOR",
+    "NO_CHURN",
+    "CHURN",
 )
 STATE_NAMES: Final = (
     "ACTIVITY",

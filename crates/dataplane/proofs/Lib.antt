@@ -2,6 +2,7 @@ mod Common
 pub mod Arriving
 pub mod Best
 pub mod Chosen
+pub mod ChurnTicks
 pub mod Extremes
 pub mod Kept
 pub mod LoadedPorts

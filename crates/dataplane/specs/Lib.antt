@@ -1,5 +1,8 @@
 pub mod Arrivals
 pub mod Choice
+pub mod Churn
+pub mod ChurnHistories
+pub mod Counting
 pub mod Ends
 pub mod Holding
 pub mod Moves

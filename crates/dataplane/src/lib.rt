@@ -7,7 +7,9 @@
 mod active;
 mod answering;
 mod balance;
+mod churn;
 mod client_order;
+mod counting;
 mod holding;
 mod resuming;
 
@@ -19,6 +21,8 @@ pub use active::{
 };
 pub use answering::{Answering, MarkerNote};
 pub use balance::{Carried, Move, every_run_of_moves, next_move};
+pub use churn::{Churn, ChurnMachine, ChurnState, every_history_of_ticks};
 pub use client_order::{from_client_to_client, one_aggregator_at_a_time};
+pub use counting::Counters;
 pub use holding::{Holding, Refusal, Released, every_list_of_calls};
 pub use resuming::{ResumeFault, SavedPort, resume};

@@ -46,7 +46,7 @@ struct niw_queue {
 #define NIW_EMPTY {false, NULL}
 
 /* The version of this header: it is to go up with each change of what stands here. */
-#define NIW_VERSION 9
+#define NIW_VERSION 10
 /* The version of the release that the header is of. */
 #define NIW_VERSION_TEXT "0.1.0"
 /* The octets of a frame that the library answers. */
@@ -393,6 +393,35 @@ struct niw_counts {
     uint64_t refused; /* those that niw_queue_put refused, up to UINT64_MAX */
 };
 
+/* The states of a churn detection machine (6.4.17). NIW_CHURN_CHURN: the link is up, and for 60 s the end has not been synchronized. */
+enum { NIW_CHURN_MONITOR, NIW_CHURN_NO_CHURN, NIW_CHURN_CHURN };
+
+/* A churn detection machine; its counts stay at UINT64_MAX. */
+struct niw_churn_machine {
+    uint32_t state;            /* NIW_CHURN_..; another number is as NIW_CHURN_MONITOR */
+    uint16_t waited;           /* for how many ticks its timer has run, 0 to 599 */
+    uint64_t churns;           /* how often the state became NIW_CHURN_CHURN */
+    uint64_t synchronizations; /* how often it became NIW_CHURN_NO_CHURN */
+};
+
+/* Churn detection of a port: the program's own value, zeros at first. */
+struct niw_churn {
+    struct niw_churn_machine actor;
+    struct niw_churn_machine partner;
+};
+
+/* The frames of the slow protocols on a port, by kind (7.3.3): the program's own value, zeros at first. Each stays at UINT64_MAX. */
+struct niw_counters {
+    uint64_t lacpdus_received; /* of these three, those that were taken */
+    uint64_t markers_received;
+    uint64_t marker_responses_received;
+    uint64_t unknown_received; /* of subtype 3 to 10; or to 01-80-C2-00-00-02, and of another EtherType */
+    uint64_t illegal_received; /* a badly formed PDU, or subtype 0 or 11 to 255 */
+    uint64_t lacpdus_sent;
+    uint64_t markers_sent;
+    uint64_t marker_responses_sent;
+};
+
 /* The library itself. No pointer given to these is null. */
 struct niw_made lagffi_new(struct niw_system *handle, const struct niw_config *config, const uint16_t *keys,
     size_t key_count, const struct niw_port *ports, size_t port_count);
@@ -456,6 +485,9 @@ struct niw_decoded lagffi_decode(const uint8_t *payload, size_t length, struct n
 uint32_t lagffi_encode(const struct niw_pdu *pdu, uint8_t *payload, size_t room);
 struct niw_move lagffi_next_move(const uint16_t *ports, size_t port_count, const struct niw_carried *carried,
     size_t carried_count);
+uint32_t lagffi_churn_tick(struct niw_churn *churn, bool up, uint8_t actor_state, uint8_t partner_state);
+uint32_t lagffi_count_received(struct niw_counters *counters, const uint8_t *frame, size_t length, uint32_t what);
+uint32_t lagffi_count_sent(struct niw_counters *counters, const uint8_t *frame, size_t length);
 uint32_t lagffi_queue_new(struct niw_queue *handle, uint16_t conversations, size_t in_all, size_t each);
 uint32_t lagffi_queue_free(struct niw_queue *handle);
 uint32_t lagffi_queue_put(struct niw_queue *handle, uint16_t conv, uint64_t frame);
@@ -857,6 +889,27 @@ static inline struct niw_move niw_next_move(const uint16_t *ports, size_t port_c
     return refused;
 }
 
+/* Churn detection and the counters of a port, for which no handle is wanted. */
+
+/* A tick of 100 ms for churn detection of a port (6.4.17), after niw_tick. `up`: whether its link is up. `actor_state` is its state
+ * octet, `partner_state` that of its recorded partner, as in niw_view. `churn` is the program's own: zeros at first and after
+ * niw_restart. At the 600th tick in a row that finds the link up and the Synchronization bit of an end 0, the state of this end becomes
+ * NIW_CHURN_CHURN. */
+static inline uint32_t niw_churn_tick(struct niw_churn *churn, bool up, uint8_t actor_state, uint8_t partner_state) {
+    return churn ? lagffi_churn_tick(churn, up, actor_state, partner_state) : niw_null_status();
+}
+
+/* Counts a frame that came on a port (7.3.3) by `what` niw_receive answered, NIW_RECEIVED_..; its first 15 octets will do. `counters`
+ * is the program's own: zeros at first. Adds one to one count, or to none: none for data, and for a link that is down. */
+static inline uint32_t niw_count_received(struct niw_counters *counters, const uint8_t *frame, size_t length, uint32_t what) {
+    return (counters && frame) ? lagffi_count_received(counters, frame, length, what) : niw_null_status();
+}
+
+/* Counts a frame that was sent on a port (7.3.3): one of niw_transmit or niw_probe, or a response of niw_receive. Any other adds nothing. */
+static inline uint32_t niw_count_sent(struct niw_counters *counters, const uint8_t *frame, size_t length) {
+    return (counters && frame) ? lagffi_count_sent(counters, frame, length) : niw_null_status();
+}
+
 /* Frames that wait, as where their conversation is held. The program keeps the frames: the queues have a number of its own for each. */
 
 static inline struct niw_queued niw_null_queued(void) {
@@ -991,6 +1044,12 @@ static inline const char *niw_receive_state_text(uint64_t receive_state) {
 static inline const char *niw_mux_state_text(uint64_t mux_state) {
     static const char *const texts[] = {"DETACHED", "WAITING", "ATTACHED", "COLLECTING_DISTRIBUTING"};
     return mux_state <= NIW_MUX_COLLECTING_DISTRIBUTING ? texts[mux_state] : "unknown";
+}
+
+/* The name of a state of a churn detection machine. */
+static inline const char *niw_churn_state_text(uint64_t churn_state) {
+    static const char *const texts[] = {"CHURN_MONITOR", "NO_CHURN", "CHURN"};
+    return churn_state <= NIW_CHURN_CHURN ? texts[churn_state] : "unknown";
 }
 
 /* The name of a bit of a state octet, from 0 for the least significant on. */

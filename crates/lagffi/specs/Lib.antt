@@ -9,6 +9,7 @@ pub mod Lists
 pub mod Made
 pub mod Masks
 pub mod Numbers
+pub mod Observing
 pub mod Owned
 pub mod PortViews
 pub mod Queues

@@ -16,6 +16,7 @@ mod conversations;
 mod handle;
 mod made;
 mod masks;
+mod observing;
 mod probing;
 mod queued;
 mod queues;

@@ -4,6 +4,7 @@ mod balance;
 mod carrying;
 mod holding;
 mod leaving;
+mod observing;
 mod offering;
 mod playing;
 mod probing;

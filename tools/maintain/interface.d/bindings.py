@@ -24,6 +24,7 @@ ENUMS = {
     "NIW_SUBTYPE_LACPDU": ("Subtype", "NIW_SUBTYPE_", "The subtypes of PDUs (6.4.2.3, 6.5.3.3)."),
     "NIW_MARKER_INFORMATION": ("MarkerKind", "NIW_MARKER_", "The kinds of Marker PDU, by their TLV type (6.5.3.3)."),
     "NIW_ANSWERS_NEVER_ASKED": ("Answers", "NIW_ANSWERS_", "Whether the peer of a port answers markers."),
+    "NIW_CHURN_MONITOR": ("ChurnState", "NIW_CHURN_", "The states of a churn detection machine (6.4.17)."),
     "NIW_CONVERSATION_FREE": ("ConversationState", "NIW_CONVERSATION_", "What a conversation is doing."),
 }
 FLAGS = {"State"}

@@ -28,7 +28,7 @@ def refusals(exports: list[Export]) -> str:
     """The rows of what functions refuse, those with the same refusals in one row."""
     rows: dict[str, list[str]] = {}
     for it in exports:
-        rows.setdefault(", ".join(f"`{name}`" for name in it.refuses), []).append(f"`niw_{it.name}`")
+        rows.setdefault(", ".join(f"`{name}`" for name in it.refuses) or "nothing", []).append(f"`niw_{it.name}`")
     return "".join(f"|{', '.join(names)}|{told}|\n" for told, names in rows.items())
 
 

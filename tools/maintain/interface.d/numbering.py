@@ -12,7 +12,8 @@ from repository import Missing
 ENUMS: dict[str, str | None] = {"SystemFault": "NIW_", "BadConfig": "NIW_REASON_", "PortStatus": "NIW_PORT_STATUS_", "WireFault": "NIW_FAULT_",
                                 "DistFault": None}
 # The enums whose variants get their numbers where they are told, and what stands before a variant's name.
-TOLD = {"Received": "RECEIVED_", "ReceiveState": "RECEIVE_", "MuxState": "MUX_", "Assignment": "CONVERSATION_", "MarkerNote": "ANSWERS_"}
+TOLD = {"Received": "RECEIVED_", "ReceiveState": "RECEIVE_", "MuxState": "MUX_", "Assignment": "CONVERSATION_", "MarkerNote": "ANSWERS_",
+        "ChurnState": "CHURN_"}
 # The numbers of the header alone: what it refuses itself, the subtypes of PDUs, and what the sources say in words.
 OWN = {"NIW_NULL": 16, "NIW_SENT_NOTHING": 0, "NIW_SENT_LACPDU": 1, "NIW_SENT_MARKER": 2, "NIW_SHORTEST_FRAME": 14,
        "NIW_TICK_MILLISECONDS": 100, "NIW_FEW_CONVERSATIONS": 256, "NIW_MANY_CONVERSATIONS": 4096, "NIW_BY_NUMBER": 0, "NIW_BY_SUM": 1,

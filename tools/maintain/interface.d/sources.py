@@ -20,9 +20,9 @@ TYPES = {"u8": "uint8_t", "u16": "uint16_t", "u32": "uint32_t", "u64": "uint64_t
 SIZES = {"uint8_t": 1, "uint16_t": 2, "uint32_t": 4, "uint64_t": 8, "size_t": 8, "bool": 1, "void *": 8}
 # What has a name of its own in C: a handle, its block, and a buffer for port numbers.
 NAMES = {"lag": "handle", "held": "at", "buffer": "numbers"}
-# Structs that have another name in C: the handle, three that would have the name of a function, and two of another crate.
+# Structs that have another name in C: the handle, three that would have the name of a function, and three of another crate.
 STRUCTS = {"Lag": "niw_system", "LagParty": "niw_actor", "LagGroup": "niw_group_id", "LagQueueCounts": "niw_counts", "Carried": "niw_carried",
-           "SavedPort": "niw_saved"}
+           "SavedPort": "niw_saved", "Counters": "niw_counters"}
 # A slice is a pointer and a length, which has no name in the sources.
 LENGTHS = {"keys": "key_count", "ports": "port_count", "response": "room", "numbers": "room", "views": "room",
            "changed": "changed_count", "busy": "busy_count", "freed": "freed_count", "carried": "carried_count", "saved": "saved_count"}
@@ -171,7 +171,7 @@ class Structs:
 
 
 def known_structs() -> Structs:
-    return Structs(plain(text_of_lagffi() + owner(r"^pub struct Carried \{") + owner(r"^pub struct SavedPort \{")))
+    return Structs(plain(text_of_lagffi() + "".join(owner(rf"^pub struct {it} \{{") for it in ("Carried", "SavedPort", "Counters"))))
 
 
 def read_export(found: re.Match[str], known: Structs) -> Export:

@@ -23,9 +23,9 @@ static const struct {
     EXPORT(partner), EXPORT(group), EXPORT(defaulted), EXPORT(distributes), EXPORT(choice), EXPORT(is_standby), EXPORT(mux_state),
     EXPORT(port_status), EXPORT(current_while), EXPORT(wait_while), EXPORT(ntt), EXPORT(distributing), EXPORT(resume),
     EXPORT(active_aggregator), EXPORT(conversation), EXPORT(conversation_state), EXPORT(conversation_ports), EXPORT(released),
-    EXPORT(next_marker), EXPORT(ticks_until_due), EXPORT(decode), EXPORT(encode), EXPORT(next_move), EXPORT(queue_new),
-    EXPORT(queue_free), EXPORT(queue_put), EXPORT(queue_next), EXPORT(queue_drop), EXPORT(queue_oldest),
-    EXPORT(queue_next_released), EXPORT(queue_waiting), EXPORT(queue_counts),
+    EXPORT(next_marker), EXPORT(ticks_until_due), EXPORT(decode), EXPORT(encode), EXPORT(next_move), EXPORT(churn_tick),
+    EXPORT(count_received), EXPORT(count_sent), EXPORT(queue_new), EXPORT(queue_free), EXPORT(queue_put), EXPORT(queue_next),
+    EXPORT(queue_drop), EXPORT(queue_oldest), EXPORT(queue_next_released), EXPORT(queue_waiting), EXPORT(queue_counts),
 };
 
 const char *const program = "calls";
@@ -734,6 +734,7 @@ int main(void) {
     check_queue();
     check_resume();
     check_active_aggregator();
+    check_observing();
     check_ticks();
     check_waits();
     check_masks();

@@ -41,6 +41,9 @@ void check_queue(void);
 /* A warm start, by niw_resume. */
 void check_resume(void);
 
+/* Churn detection and counters, by niw_churn_tick, niw_count_received and niw_count_sent. */
+void check_observing(void);
+
 /* The aggregator that carries, by niw_active_aggregator, and offers in it. */
 void check_active_aggregator(void);
 

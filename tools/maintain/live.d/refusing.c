@@ -76,6 +76,10 @@ REFUSING(struct niw_sent, probe, (SYSTEM, uint16_t port, uint8_t *frame, size_t 
 REFUSING(struct niw_decoded, decode, (const uint8_t *payload, size_t length, struct niw_pdu *pdu), (payload, length, pdu))
 REFUSING(struct niw_move, next_move, (const uint16_t *ports, size_t port_count, const struct niw_carried *carried, size_t carried_count),
     (ports, port_count, carried, carried_count))
+REFUSING(uint32_t, churn_tick, (struct niw_churn *churn, bool up, uint8_t actor_state, uint8_t partner_state), (churn, up, actor_state, partner_state))
+REFUSING(uint32_t, count_received, (struct niw_counters *counters, const uint8_t *frame, size_t length, uint32_t what),
+    (counters, frame, length, what))
+REFUSING(uint32_t, count_sent, (struct niw_counters *counters, const uint8_t *frame, size_t length), (counters, frame, length))
 REFUSING(uint32_t, queue_new, (QUEUE, uint16_t conversations, size_t in_all, size_t each), (handle, conversations, in_all, each))
 REFUSING(uint32_t, queue_free, (QUEUE), (handle))
 REFUSING(uint32_t, queue_put, (QUEUE, uint16_t conv, uint64_t frame), (handle, conv, frame))

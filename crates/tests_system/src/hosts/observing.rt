@@ -1,0 +1,212 @@
+use crate::comparing::same_in_row;
+use dataplane::{Churn, ChurnMachine, ChurnState, Counters};
+use lagsystem::{AggId, Received, WireFault};
+
+/// Ticks that find the same, and what the machines are then.
+#[derive(Clone, Copy)]
+struct Row {
+    ticks: u16,
+    enabled: bool,
+    actor: bool,
+    partner: bool,
+    then: (ChurnMachine, ChurnMachine),
+}
+
+fn machine(state: ChurnState, waited: u16, churns: u64, synchronizations: u64) -> ChurnMachine {
+    ChurnMachine {
+        state,
+        waited,
+        churns,
+        synchronizations,
+    }
+}
+
+fn after(
+    ticks: u16,
+    enabled: bool,
+    actor: bool,
+    partner: bool,
+    then: (ChurnMachine, ChurnMachine),
+) -> Row {
+    Row {
+        ticks,
+        enabled,
+        actor,
+        partner,
+        then,
+    }
+}
+
+/// A partner that is out of sync for 60 s, then in sync while the actor is not; and a link that goes down.
+fn churning() -> [Row; 8] {
+    let (monitor, calm, churn) = (ChurnState::Monitor, ChurnState::NoChurn, ChurnState::Churn);
+    [
+        after(
+            700,
+            false,
+            true,
+            false,
+            (machine(monitor, 0, 0, 0), machine(monitor, 0, 0, 0)),
+        ),
+        after(
+            599,
+            true,
+            true,
+            false,
+            (machine(calm, 0, 0, 1), machine(monitor, 599, 0, 0)),
+        ),
+        after(
+            1,
+            true,
+            true,
+            false,
+            (machine(calm, 0, 0, 1), machine(churn, 0, 1, 0)),
+        ),
+        after(
+            600,
+            true,
+            true,
+            false,
+            (machine(calm, 0, 0, 1), machine(churn, 0, 1, 0)),
+        ),
+        after(
+            599,
+            true,
+            false,
+            true,
+            (machine(monitor, 599, 0, 1), machine(calm, 0, 1, 1)),
+        ),
+        after(
+            1,
+            false,
+            false,
+            true,
+            (machine(monitor, 0, 0, 1), machine(monitor, 0, 1, 1)),
+        ),
+        after(
+            600,
+            true,
+            false,
+            false,
+            (machine(churn, 0, 1, 1), machine(churn, 0, 2, 1)),
+        ),
+        after(
+            1,
+            true,
+            true,
+            true,
+            (machine(calm, 0, 1, 2), machine(calm, 0, 2, 2)),
+        ),
+    ]
+}
+
+#[test]
+fn an_end_that_is_out_of_sync_for_60_s_churns(rt: HostRuntime) {
+    let mut churn = Churn::at_begin();
+    for (at, row) in churning().iter().enumerate() {
+        for _ in 0..row.ticks {
+            churn.tick(row.enabled, row.actor, row.partner);
+        }
+        same_in_row(&rt, at, &(churn.actor, churn.partner), &row.then);
+    }
+}
+
+/// A frame to 01-80-C2-00-00-02 of this EtherType, subtype and TLV type.
+fn frame(ether_type: [u8; 2], subtype: u8, tlv_type: u8) -> [u8; 17] {
+    [
+        0x01,
+        0x80,
+        0xc2,
+        0x00,
+        0x00,
+        0x02,
+        2,
+        0,
+        0,
+        0,
+        0,
+        9,
+        ether_type[0],
+        ether_type[1],
+        subtype,
+        1,
+        tlv_type,
+    ]
+}
+
+/// What came, and what became of it. The last two do not count.
+fn arrivals() -> [([u8; 17], Received); 16] {
+    let (slow, other) = ([0x88, 0x09], [0x08, 0x00]);
+    let short = Received::Ignored(WireFault::Short { have: 3 });
+    let mut elsewhere = frame(other, 3, 0);
+    elsewhere[5] = 0x03;
+    [
+        (frame(slow, 1, 1), Received::TookLacpdu),
+        (frame(slow, 2, 1), Received::Respond([0; 124])),
+        (frame(slow, 2, 1), Received::Respond([0; 124])),
+        (frame(slow, 2, 2), Received::Released(0)),
+        (frame(slow, 2, 2), Received::Released(7)),
+        (frame(slow, 2, 2), Received::Released(7)),
+        (frame(slow, 3, 0), short),
+        (
+            frame(slow, 10, 0),
+            Received::Ignored(WireFault::OtherSubtype(10)),
+        ),
+        (frame(other, 1, 0), Received::Up(AggId(1))),
+        (frame(other, 1, 0), Received::Dropped),
+        (frame(slow, 1, 1), short),
+        (
+            frame(slow, 2, 3),
+            Received::Ignored(WireFault::MarkerTlv(3)),
+        ),
+        (frame(slow, 0, 0), short),
+        (
+            frame(slow, 11, 0),
+            Received::Ignored(WireFault::OtherSubtype(11)),
+        ),
+        (frame(slow, 1, 1), Received::Disabled),
+        (elsewhere, Received::Up(AggId(1))),
+    ]
+}
+
+#[test]
+fn each_frame_counts_once(rt: HostRuntime) {
+    let slow = [0x88, 0x09];
+    let mut counters = Counters::none();
+    for (octets, answer) in &arrivals() {
+        counters.count_received(octets, answer);
+    }
+    counters.count_received(&[0x01, 0x80, 0xc2, 0x00, 0x00, 0x02], &Received::Dropped);
+    counters.count_received(
+        &[0x01, 0x80, 0xc2, 0, 0, 2, 2, 0, 0, 0, 0, 9, 0x88, 0x09],
+        &Received::Ignored(WireFault::Short { have: 0 }),
+    );
+    for octets in &[
+        frame(slow, 1, 1),
+        frame(slow, 1, 2),
+        frame(slow, 2, 1),
+        frame(slow, 2, 2),
+        frame(slow, 2, 2),
+        frame(slow, 2, 2),
+    ] {
+        counters.count_sent(octets);
+    }
+    for octets in &[
+        frame(slow, 2, 3),
+        frame(slow, 3, 1),
+        frame([0x08, 0x00], 1, 1),
+    ] {
+        counters.count_sent(octets);
+    }
+    let wanted = Counters {
+        lacpdus_received: 1,
+        markers_received: 2,
+        marker_responses_received: 3,
+        unknown_received: 4,
+        illegal_received: 5,
+        lacpdus_sent: 2,
+        markers_sent: 1,
+        marker_responses_sent: 3,
+    };
+    same_in_row(&rt, 0, &counters, &wanted);
+}
