@@ -136,9 +136,12 @@ pub enum Received {
     Other,
 }
 
-/// One end. It holds a pointer, so it is neither `Send` nor `Sync`: the thread that makes it makes every call. A move leaves no second
-/// handle behind, so it is not the copy that lag.h forbids.
+/// One end. Each call takes `&mut self`, so one runs at a time, as lag.h wants it. A move leaves no second handle behind, so it is not the
+/// copy that lag.h forbids.
 pub struct System(raw::System);
+
+// SAFETY: any thread may call, one at a time; the library has no data of its own.
+unsafe impl Send for System {}
 
 impl System {
     pub fn new(config: &Config, keys: &[u16], ports: &[Port]) -> Result<System, Refusal> {
