@@ -1,11 +1,12 @@
-/* Two ends without a C library and without a heap: the six functions that liblag.a imports stand here, over a buffer of the program's.
+/* Two ends without a C library and without a heap: the six functions that liblag.a imports stand here, over a buffer of the program's, which is as
+ * large as NIW_MEMORY says for two systems.
  *
  * cc -ffreestanding -nostdlib -static -o no_libc examples/c/no_libc.c -l:liblag.a && ./no_libc
  *
  * Only niw_new asks for memory, and what it got goes back by niw_free alone: so nothing is kept of a block but its length. */
 #include "lag.h"
 
-#define ROOM 32768
+#define ROOM (2 * NIW_MEMORY(1, 1, NIW_FEW_CONVERSATIONS))
 
 static _Alignas(16) uint8_t room[ROOM];
 static size_t taken;

@@ -15,6 +15,8 @@ from lagconform.sockets import Command
 from lagconform.wires import Answer
 
 WANTED = not os.geteuid() and shutil.which("ip") and shutil.which("unshare")
+# Names the emulator that runs Python, where one does.
+EMULATED = "EMULATED_BY" in os.environ
 MAKES = "ip link add one type veth peer name two && ip link set one up && ip link set two up && "
 PROGRAM = """
 import os, socket, subprocess, time
@@ -93,6 +95,7 @@ print("well")
 """
 
 
+@pytest.mark.skipif(EMULATED, reason="qemu's user mode refuses options of packet sockets")
 @pytest.mark.skipif(not WANTED, reason="wants root, ip and unshare")
 def test_frames_pass_a_pair() -> None:
     words = ["unshare", "--net", "--mount", "sh", "-c", MAKES + 'mount -t sysfs sys /sys && exec "$0" -B -W error -c "$1"', sys.executable, PROGRAM]

@@ -76,12 +76,14 @@ def try_python_tests(count: Count, library: str, folder: str) -> None:
     if not by:
         return
     given = {"NIWHOPERA_LIBRARY": library, "PYTHONPATH": f"{TREE}/usr/lib/python3/dist-packages:{TOP}/python", "PYTHONDONTWRITEBYTECODE": "1"}
-    words = [*by, "-W", "error", "-c", PYTEST, wrapper(folder, by), "-q", "-p", "no:cacheprovider", "tests"]
+    given["EMULATED_BY"] = by[0]
+    words = [*by, "-W", "error", "-c", PYTEST, wrapper(folder, by), "-q", "-rs", "-p", "no:cacheprovider", "tests"]
     ended = subprocess.run(words, cwd=os.path.join(TOP, "python"), env={**clean(), **given}, capture_output=True, text=True)
     told = ended.stdout.strip().splitlines()
     counts = {word: int(number) for number, word in re.findall(r"(\d+) (passed|failed|error)", told[-1] if told else "")}
     failed = counts.get("failed", 0) + counts.get("error", 0) or int(ended.returncode != 0)
-    print("the tests of the Python module:", *(told[-40:] if failed else told[-1:]), ended.stderr[-400:], sep="\n", flush=True)
+    shown = told[-40:] if failed else [it for it in told if it.startswith("SKIPPED ")] + told[-1:]
+    print("the tests of the Python module:", *shown, ended.stderr[-400:], sep="\n", flush=True)
     count.passed, count.failed = count.passed + counts.get("passed", 0), count.failed + failed
 
 

@@ -65,6 +65,10 @@ struct niw_queue {
 #define NIW_MOST_CONVERSATIONS 65536
 /* The milliseconds of a tick. */
 #define NIW_TICK_MILLISECONDS 100
+/* The most octets that niw_new and niw_resume ask malloc for, with 32 more of each block for a malloc of the program's own: for so many ports
+ * and aggregators, and conversations of each aggregator. A test compares it with what they ask for. */
+#define NIW_MEMORY(ports, aggregators, conversations) \
+    ((size_t)4096 + (size_t)128 * (ports) + ((size_t)24 * (conversations) + 8) * (aggregators))
 
 /* The names and numbers of the next three enums, and the texts of niw_status_text and niw_reason_text, are written by
  * tools/maintain/interface from the enums of the sources. The comments behind the names are by hand. */

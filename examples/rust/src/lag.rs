@@ -1,100 +1,13 @@
-//! One end of link aggregation, by liblag: what `main.rs` needs of `lag.h`, in idiomatic Rust. Declare further functions the same way.
+//! One end of link aggregation, by liblag: what `main.rs` needs of `lag.h`, in idiomatic Rust. `raw.rs` declares all of it.
 
+use crate::raw;
 use std::fmt;
 use std::ptr;
 
-/// The octets of a frame that the library makes: `NIW_FRAME`.
-pub const FRAME: usize = 124;
+pub use crate::raw::{Config, Port};
 
-/// The functions and structs of `lag.h`. The library exports each `niw_X` as `lagffi_X`, which does not check for null pointers.
-mod raw {
-    use std::ffi::c_void;
-
-    #[repr(C)]
-    pub struct System {
-        pub live: bool,
-        pub at: *mut c_void,
-    }
-
-    #[repr(C)]
-    pub struct Made {
-        pub status: u32,
-        pub reason: u32,
-        pub place: usize,
-    }
-
-    #[repr(C)]
-    pub struct Truth {
-        pub status: u32,
-        pub is: bool,
-    }
-
-    #[repr(C)]
-    pub struct Received {
-        pub status: u32,
-        pub what: u32,
-        pub number: u32,
-    }
-
-    #[repr(C)]
-    pub struct Sent {
-        pub status: u32,
-        pub is: bool,
-        pub what: u8,
-        pub octets: u32,
-    }
-
-    extern "C" {
-        pub fn lagffi_new(
-            handle: *mut System,
-            config: *const super::Config,
-            keys: *const u16,
-            key_count: usize,
-            ports: *const super::Port,
-            port_count: usize,
-        ) -> Made;
-        pub fn lagffi_free(handle: *mut System) -> u32;
-        pub fn lagffi_set_link(handle: *mut System, port: u16, up: bool) -> u32;
-        pub fn lagffi_tick(handle: *mut System) -> u32;
-        pub fn lagffi_receive(
-            handle: *mut System,
-            port: u16,
-            frame: *const u8,
-            length: usize,
-            response: *mut u8,
-            room: usize,
-        ) -> Received;
-        pub fn lagffi_transmit(handle: *mut System, port: u16, frame: *mut u8, room: usize)
-            -> Sent;
-        pub fn lagffi_distributes(handle: *mut System, port: u16) -> Truth;
-    }
-}
-
-/// `struct niw_config`.
-#[repr(C)]
-#[derive(Clone, Copy, Default)]
-pub struct Config {
-    pub priority: u16,
-    pub mac: [u8; 6],
-    pub max_delay: u16,
-    pub first_marker: u32,
-    pub conversations: u16,
-    pub max_links: u16,
-    pub algorithm: u16,
-}
-
-/// `struct niw_port`.
-#[repr(C)]
-#[derive(Clone, Copy, Default)]
-pub struct Port {
-    pub number: u16,
-    pub priority: u16,
-    pub mac: [u8; 6],
-    pub key: u16,
-    pub aggregatable: bool,
-    pub active: bool,
-    pub short_timeout: bool,
-}
+/// The octets of a frame that the library makes.
+pub const FRAME: usize = raw::NIW_FRAME as usize;
 
 /// Why a call was refused: its status, `NIW_NO_PORT` and so on, and with `NIW_BAD_CONFIG` the reason and the place of
 /// `struct niw_made`. Nothing changed.
@@ -119,7 +32,7 @@ impl std::error::Error for Refusal {}
 
 fn accepted(status: u32) -> Result<(), Refusal> {
     match status {
-        0 => Ok(()),
+        raw::NIW_OK => Ok(()),
         _ => Err(Refusal {
             status,
             reason: 0,
@@ -136,9 +49,12 @@ pub enum Received {
     Other,
 }
 
-/// One end. It holds a pointer, so it is neither `Send` nor `Sync`: the thread that makes it makes every call. A move leaves no second
-/// handle behind, so it is not the copy that lag.h forbids.
+/// One end. Each call takes `&mut self`, so one runs at a time, as lag.h wants it. A move leaves no second handle behind, so it is not the
+/// copy that lag.h forbids.
 pub struct System(raw::System);
+
+// SAFETY: any thread may call, one at a time; the library has no data of its own.
+unsafe impl Send for System {}
 
 impl System {
     pub fn new(config: &Config, keys: &[u16], ports: &[Port]) -> Result<System, Refusal> {
@@ -158,7 +74,7 @@ impl System {
             )
         };
         match made.status {
-            0 => Ok(system),
+            raw::NIW_OK => Ok(system),
             status => Err(Refusal {
                 status,
                 reason: made.reason,
@@ -194,9 +110,8 @@ impl System {
             )
         };
         accepted(received.status)?;
-        const RESPOND: u32 = 4; // NIW_RECEIVED_RESPOND
         Ok(match received.what {
-            RESPOND => Received::Respond(response),
+            raw::NIW_RECEIVED_RESPOND => Received::Respond(response),
             _ => Received::Other,
         })
     }

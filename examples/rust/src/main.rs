@@ -1,6 +1,7 @@
 //! Two ends that are joined by a cable, until both distribute: `examples/c/two_ends.c` in Rust.
 
 mod lag;
+mod raw;
 
 use lag::{Config, Port, Received, Refusal, System};
 

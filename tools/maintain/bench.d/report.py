@@ -68,11 +68,9 @@ class Table:
 
     def section(self, head: list[str], rows: list[tuple[list[str], bool]]) -> None:
         """Prints a section; each row is its cells, and whether its answers were right."""
-        cells = [head] + [row for row, _ in rows]
-        widths = [max(len(row[n]) for row in cells) for n in range(len(head))]
-        shown = lambda row: "| " + " | ".join(it.ljust(w) if n == 0 else it.rjust(w) for n, (it, w) in enumerate(zip(row, widths))) + " |"
+        shown = lambda row: f"|{'|'.join(row)}|"
         print("\n" + shown(head))
-        print("|" + "|".join("-" * (w + 1) + ("-" if n == 0 else ":") for n, w in enumerate(widths)) + "|")
+        print(shown(["---"] + ["---:"] * (len(head) - 1)))
         for row, is_right in rows:
             print(shown(row) + ("" if is_right else " WRONG"))
             self.rows += 1

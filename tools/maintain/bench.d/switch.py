@@ -1,4 +1,4 @@
-"""Open vSwitch: its source package is fetched from Debian and its library built, in the cache folder."""
+"""Open vSwitch: its source package is fetched from Debian, and configured and its library built in the cache folder."""
 
 from __future__ import annotations
 
@@ -15,12 +15,15 @@ KEYS = "/usr/share/keyrings/debian-archive-keyring.gpg"
 # A mirror may lack the sources of an older suite.
 SUITES = ["bookworm", "trixie", "sid"]
 BUILT = "lib/.libs/libopenvswitch.a"
+# Stands once the headers are made that lib/lacp.c wants.
+CONFIGURED = "lib/configured"
 # What is not timed is left out, since the harness is not linked with the libraries that it wants. Two of them are taken where
 # they are found, and have no option: their tests are answered.
 WITHOUT = ["--disable-ssl", "--disable-libcapng", "--disable-afxdp"]
 WITHOUT += ["ac_cv_lib_unbound_ub_ctx_create=no", "ac_cv_lib_unwind_unw_backtrace=no"]
 # Else make wants automake, since an unpacked file may be older than what it was made from.
 AS_IT_IS = ["AUTOMAKE=:", "ACLOCAL=:", "AUTOCONF=:", "AUTOHEADER=:"]
+JOBS = f"-j{os.cpu_count() or 1}"
 
 
 def fetch(cache: str, folder: str) -> str:
@@ -51,36 +54,46 @@ def unpack(archive: str, folder: str) -> str:
     return next(f"{folder}/{it}" for it in os.listdir(folder) if os.path.isfile(f"{folder}/{it}/lib/lacp.c"))
 
 
-def make(cache: str, sources: str) -> None:
-    """Makes the library, after all sources that are made."""
+def configure(cache: str, sources: str) -> None:
+    """Makes all sources that are made, headers too."""
     with open(f"{sources}/made-first.mk", "w") as it:
         it.write("include Makefile\nmade-first: $(BUILT_SOURCES)\n")
-    jobs = f"-j{os.cpu_count() or 1}"
-    environment = {**os.environ, "CFLAGS": "-O2"}
-    log_run(cache, "openvswitch", ["./configure", *WITHOUT], cwd=sources, env=environment)
-    log_run(cache, "openvswitch", ["make", jobs, *AS_IT_IS, "-f", "made-first.mk", "made-first"], cwd=sources)
-    log_run(cache, "openvswitch", ["make", jobs, *AS_IT_IS, "lib/libopenvswitch.la"], cwd=sources)
+    log_run(cache, "openvswitch", ["./configure", *WITHOUT], cwd=sources, env={**os.environ, "CFLAGS": "-O2"})
+    log_run(cache, "openvswitch", ["make", JOBS, *AS_IT_IS, "-f", "made-first.mk", "made-first"], cwd=sources)
+    open(f"{sources}/{CONFIGURED}", "w").close()
 
 
 def version(sources: str) -> str:
     return re.sub("^openvswitch-", "", os.path.basename(sources))
 
 
-def built(cache: str) -> tuple[str | None, str]:
-    """The folder of the built sources, and its version; else None, and why it is not here."""
+def configured(cache: str) -> tuple[str | None, str]:
+    """The folder of the sources with all headers, and its version; else None, and why it is not here."""
     folder = f"{cache}/openvswitch"
     standing = [f"{folder}/{it}" for it in (os.listdir(folder) if os.path.isdir(folder) else [])]
-    standing = [it for it in standing if os.path.isfile(f"{it}/{BUILT}")]
+    standing = [it for it in standing if os.path.isfile(f"{it}/{CONFIGURED}")]
     if standing:
         return standing[0], version(standing[0])
     if not shutil.which("apt-get") or not shutil.which("make"):
         return None, "apt-get or make is not in PATH"
-    say("fetching Open vSwitch and building its library, some two minutes")
+    say("fetching and configuring Open vSwitch, a minute")
     shutil.rmtree(folder, ignore_errors=True)
     os.makedirs(folder)
     try:
         sources = unpack(fetch(cache, folder), folder)
-        make(cache, sources)
+        configure(cache, sources)
     except (Missing, OSError, StopIteration, tarfile.TarError) as why:
         return None, str(why) or "its package has no lib/lacp.c"
     return sources, version(sources)
+
+
+def built(cache: str) -> tuple[str | None, str]:
+    """The same, with its library."""
+    sources, told = configured(cache)
+    if sources and not os.path.isfile(f"{sources}/{BUILT}"):
+        say("building its library, some two minutes")
+        try:
+            log_run(cache, "openvswitch", ["make", JOBS, *AS_IT_IS, "lib/libopenvswitch.la"], cwd=sources)
+        except Missing as why:
+            return None, str(why)
+    return sources, told

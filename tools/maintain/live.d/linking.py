@@ -102,6 +102,12 @@ def build_markers(folder: str, libraries: Sequence[str]) -> str:
     return build(os.path.join(folder, "markers"), sources, libraries, *STRICT, f"-I{DAEMON}", *SANITIZED, "-Wl,--wrap=lagffi_probe")
 
 
+def build_memory(folder: str, libraries: Sequence[str]) -> str:
+    """Builds what counts the memory that the library asks for; answers the path of the program."""
+    sources = [f"{MAINTAIN}/live.d/{name}.c" for name in ("memory", "checks")]
+    return build(os.path.join(folder, "memory"), sources, libraries, *STRICT, *COUNTED)
+
+
 def build_threads(folder: str, libraries: Sequence[str]) -> str:
     """Builds the threads that call handles; answers the path of the program."""
     return build(os.path.join(folder, "threads"), [f"{MAINTAIN}/live.d/threads.c"], libraries, *STRICT, "-g", "-pthread")

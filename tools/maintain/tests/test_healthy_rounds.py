@@ -76,6 +76,9 @@ def test_each_bound_is_that_of_the_kind(
     class Fake:
         def __init__(self, chance: random.Random) -> None: ...
 
+        def fits(self) -> bool:
+            return True
+
         def kind(self) -> str:
             return str(name)
 

@@ -13,6 +13,7 @@ numbering = loading.module("interface.d", "numbering")
 lag_h = loading.module("interface.d", "lag_h")
 bindings = loading.module("interface.d", "bindings")
 elsewhere = loading.module("interface.d", "elsewhere")
+rust = loading.module("interface.d", "rust")
 tool = loading.program("interface")
 
 SOURCE = """
@@ -295,3 +296,21 @@ def test_parameters_have_the_types_of_ctypes() -> None:
 def test_only_numbers_and_texts_are_written() -> None:
     text = '#define NIW_FRAME 124\n#define NIW_NAME "lag"\n#define NIW_EMPTY {0}\n#define OTHER 5\n'
     assert bindings.defines(text) == ["FRAME: Final = 124", 'NAME: Final = "lag"']
+
+
+def test_rust_gets_numbers_structs_and_functions() -> None:
+    text = "#define NIW_ROOM 24\n#define NIW_EMPTY {false, NULL}\nenum {\n    NIW_OK = 0,\n    NIW_NO_PORT\n};\n"
+    text += "struct niw_system {\n    bool live;\n    void *at;\n};\n"
+    text += "struct niw_group_id {\n    uint8_t mac[6];\n    uint16_t where;\n    struct niw_end lower;\n};\n"
+    export = sources.Export("new", [], [], "struct niw_made", [
+        sources.Field("struct niw_system *", "handle"), sources.Field("const uint16_t *", "keys"), sources.Field("size_t", "type")])
+    told = rust.module(text, [export])
+    assert "pub const NIW_ROOM: u32 = 24;\npub const NIW_OK: u32 = 0;\npub const NIW_NO_PORT: u32 = 1;\n" in told and "EMPTY" not in told
+    assert "#[repr(C)]\npub struct System {\n    pub live: bool,\n    pub at: *mut c_void,\n}\n" in told
+    assert "Default)]\npub struct GroupId {\n    pub mac: [u8; 6],\n    pub r#where: u16,\n    pub lower: End,\n}\n" in told
+    assert "    pub fn lagffi_new(handle: *mut System, keys: *const u16, r#type: usize) -> Made;\n}\n" in told
+
+
+def test_a_type_that_rust_has_not_is_refused() -> None:
+    with pytest.raises(rust.Missing):
+        rust.in_rust("float")

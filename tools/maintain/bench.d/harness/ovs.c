@@ -12,11 +12,16 @@
 
 enum kind { SAME, SYNC_FLIPS, RUN, FLIPS_AND_RUN };
 
+struct heard {
+    struct dp_packet packet;
+    uint8_t frame[124];
+};
+
 struct bond {
     struct lacp *lacp;
     int ports;
     /* The partner is in Sync; is out of it and tells an old state of the port; is in Sync and tells an old state. */
-    struct dp_packet *heard[3][MOST];
+    struct heard heard[3][MOST];
     int members[MOST];
 };
 
@@ -36,20 +41,22 @@ static void put_end(uint8_t *p, uint8_t of, int port, uint8_t state)
     memcpy(p, end, sizeof end);
 }
 
-static struct dp_packet *packet(int port, uint8_t state, uint8_t told)
+/* A packet in memory of its own, by what dp-packet.h has alone. */
+static void make_packet(struct heard *made, int port, uint8_t state, uint8_t told)
 {
-    uint8_t frame[124] = {0x01, 0x80, 0xc2, 0, 0, 2, 2, 0, 0, 0, 0, 9, 0x88, 0x09, 1, 1, 1, 20};
-    put_end(frame + 18, 9, port, state);
-    frame[36] = 2;
-    frame[37] = 20;
-    put_end(frame + 38, 1, port, told);
-    frame[56] = 3;
-    frame[57] = 16;
-    struct dp_packet *made = dp_packet_new(sizeof frame);
-    dp_packet_put(made, frame, sizeof frame);
-    dp_packet_reset_offsets(made);
-    dp_packet_set_l3(made, (uint8_t *) dp_packet_data(made) + 14);
-    return made;
+    const uint8_t head[] = {0x01, 0x80, 0xc2, 0, 0, 2, 2, 0, 0, 0, 0, 9, 0x88, 0x09, 1, 1, 1, 20};
+    memcpy(made->frame, head, sizeof head);
+    put_end(made->frame + 18, 9, port, state);
+    made->frame[36] = 2;
+    made->frame[37] = 20;
+    put_end(made->frame + 38, 1, port, told);
+    made->frame[56] = 3;
+    made->frame[57] = 16;
+    dp_packet_set_base(&made->packet, made->frame);
+    dp_packet_set_data(&made->packet, made->frame);
+    dp_packet_set_size(&made->packet, sizeof made->frame);
+    dp_packet_reset_offsets(&made->packet);
+    dp_packet_set_l3(&made->packet, made->frame + 14);
 }
 
 static void add_port(struct bond *bond, int port)
@@ -60,10 +67,10 @@ static void add_port(struct bond *bond, int port)
     int *member = &bond->members[port - 1];
     lacp_member_register(bond->lacp, member, &settings);
     lacp_member_carrier_changed(bond->lacp, member, true);
-    bond->heard[0][port - 1] = packet(port, 0x3d, 0x3d);
-    bond->heard[1][port - 1] = packet(port, 0x35, 0x3c);
-    bond->heard[2][port - 1] = packet(port, 0x3d, 0x3c);
-    lacp_process_packet(bond->lacp, member, bond->heard[0][port - 1]);
+    make_packet(&bond->heard[0][port - 1], port, 0x3d, 0x3d);
+    make_packet(&bond->heard[1][port - 1], port, 0x35, 0x3c);
+    make_packet(&bond->heard[2][port - 1], port, 0x3d, 0x3c);
+    lacp_process_packet(bond->lacp, member, &bond->heard[0][port - 1].packet);
 }
 
 /* Makes a bond whose ports have heard their partner and answered; how many of them may be enabled then. */
@@ -79,7 +86,7 @@ int ovs_setup(int which, int ports)
     lacp_run(bond->lacp, count_sent);
     int enabled = 0;
     for (int port = 0; port < ports; port++)
-        enabled += lacp_process_packet(bond->lacp, &bond->members[port], bond->heard[0][port]);
+        enabled += lacp_process_packet(bond->lacp, &bond->members[port], &bond->heard[0][port].packet);
     lacp_run(bond->lacp, count_sent);
     return enabled;
 }
@@ -89,7 +96,7 @@ static long hear(struct bond *bond, int kind)
 {
     long enabled = 0;
     for (int port = 0; port < bond->ports; port++)
-        enabled += lacp_process_packet(bond->lacp, &bond->members[port], bond->heard[kind][port]);
+        enabled += lacp_process_packet(bond->lacp, &bond->members[port], &bond->heard[kind][port].packet);
     return enabled;
 }
 

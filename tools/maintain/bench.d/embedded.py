@@ -1,0 +1,95 @@
+"""liblag.a beside Open vSwitch's lib/lacp.c, each compiled for a program that has one LAG and nothing else: code, memory and times."""
+
+from __future__ import annotations
+
+import os
+import subprocess
+import tempfile
+
+import library
+import switch
+from building import BENCH, log_run, say
+from report import machine
+from repository import Missing, want
+
+RUNS = 5
+PORTS = (2, 8, 64)
+# What of Open vSwitch LACP needs, beside stand-ins for its threads, clock and log.
+PARTS = ("lacp", "hmap")
+# Each function by itself: the linker drops what nobody calls.
+SMALL = ["-O2", "-ffunction-sections", "-fdata-sections"]
+WRAPS = [f"-Wl,--wrap={name}" for name in ("malloc", "realloc", "free")]
+
+
+def text(file: str) -> int:
+    """The octets of code and constants of an object or a library."""
+    ended = subprocess.run(["size", "-t", file], capture_output=True, text=True)
+    if ended.returncode:
+        raise Missing(f"size {file}: {ended.stderr.strip()[-200:]}")
+    return int(ended.stdout.splitlines()[-1].split()[0])
+
+
+def compiled(cache: str, folder: str, sources: str) -> list[str]:
+    """The objects of Open vSwitch's side."""
+    files = [*(f"{sources}/lib/{name}.c" for name in PARTS), f"{BENCH}/harness/ovs.c", f"{BENCH}/embedded/standing.c"]
+    made = []
+    for file in files:
+        made.append(f"{folder}/{os.path.basename(file)}.o")
+        words = ["-D_GNU_SOURCE", "-DHAVE_CONFIG_H", f"-I{sources}/include", f"-I{sources}/lib", f"-I{sources}"]
+        log_run(cache, "embedded", ["gcc", *SMALL, *words, "-c", file, "-o", made[-1]])
+    return made
+
+
+def linked(cache: str, folder: str, objects: list[str], lag: str) -> str:
+    """The program that measures both."""
+    made, own = f"{folder}/beside", [f"{BENCH}/embedded/{name}.c" for name in ("beside", "heap")]
+    words = ["gcc", *SMALL, "-std=c11", f"-I{os.path.dirname(library.HEADER)}", "-Wl,--gc-sections", *WRAPS]
+    log_run(cache, "embedded", [*words, "-o", made, *own, *objects, lag])
+    return made
+
+
+def ran(program: str) -> dict[tuple[str, int], tuple[float, float]]:
+    """What one run measures, by its name and the ports: ours and theirs."""
+    ended = subprocess.run([program], capture_output=True, text=True)
+    if ended.returncode:
+        raise Missing(f"{os.path.basename(program)} ended with {ended.returncode}: {ended.stderr.strip()[-200:]}")
+    found = {}
+    for line in ended.stdout.splitlines():
+        name, ports, ours, theirs = line.split("\t")
+        found[name, int(ports)] = (float(ours), float(theirs))
+    return found
+
+
+def row(name: str, runs: list[dict[tuple[str, int], tuple[float, float]]]) -> str:
+    """A row of the table: of each size ours, theirs and the ratio, from the lowest to the highest of the runs."""
+    cells = []
+    for ports in PORTS:
+        pairs = [it[name, ports] for it in runs]
+        told = [[a for a, _ in pairs], [b for _, b in pairs], [a / b for a, b in pairs]]
+        shown = [[f"{it:,.0f}" for it in sorted(told[0])], [f"{it:,.0f}" for it in sorted(told[1])], [f"{it:.2f}" for it in sorted(told[2])]]
+        cells += [it[0] if it[0] == it[-1] else f"{it[0]}-{it[-1]}" for it in shown]
+    return f"|{name}|{'|'.join(cells)}|"
+
+
+def measure(cache: str) -> int:
+    """Builds both, runs the program, and prints two tables."""
+    want("gcc", "size", "ld", "objcopy", "ar")
+    sources, version = switch.configured(cache)
+    if not sources:
+        raise Missing(f"without Open vSwitch: {version}")
+    with tempfile.TemporaryDirectory() as folder:
+        lag = library.archive(folder, library.one_object(folder, library.proved(folder)))
+        objects = compiled(cache, folder, sources)
+        program = linked(cache, folder, objects, lag)
+        say(f"{RUNS} runs")
+        runs = [ran(program) for _ in range(RUNS)]
+        sizes = {"liblag.a": text(lag), "lib/lacp.c": text(objects[0]), "lib/hmap.c": text(objects[1])}
+    print(f"{machine()}. Open vSwitch {version}; {RUNS} runs, of each the lowest and the highest figure.\n")
+    print("|code and constants, octets||\n|---|---:|")
+    print("".join(f"|{name}|{octets:,}|\n" for name, octets in sizes.items()))
+    print("|" + "|".join(["", *(it for ports in PORTS for it in (f"ours, {ports} ports", "theirs", "ratio"))]) + "|")
+    print("|---|" + "---:|" * 3 * len(PORTS))
+    names = dict.fromkeys(name for name, _ in runs[0])
+    print("".join(f"{row(name, runs)}\n" for name in names), end="")
+    print(f"\n{len(names)} rows, 0 wrong")
+    return 0
