@@ -2,6 +2,7 @@
  * bucket goes to another port when it was still for a flight, or at once where its port carries no more. */
 #define _GNU_SOURCE
 #include <errno.h>
+#include <net/if.h>
 #include <string.h>
 
 #include "team.h"
@@ -126,7 +127,11 @@ static void leave_previous(void) {
 
 /* The interface of a port does not do what the driver is told: it is taken up anew. */
 static void lose_port(uint16_t port) {
-    (void)say(LOG_WARNING | ABOUT_DATA, "port %u %s: the team driver refuses it: %s", port, links[port - 1].name, strerror(errno));
+    int fault = errno;
+    char name[IF_NAMESIZE];
+    if (if_indextoname((unsigned)links[port - 1].index, name)) /* of one that is gone the kernel tells, too */
+        (void)say(LOG_WARNING | ABOUT_DATA, "port %u %s: the team driver refuses it: %s", port, links[port - 1].name,
+            strerror(fault));
     lose_link(&links[port - 1]);
     look_again();
 }

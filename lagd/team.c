@@ -71,7 +71,7 @@ static bool has_own_ports(const struct team_now *now) {
 }
 
 /* Takes a device that is there: that of the last daemon, or one that is of no use to others. */
-static void take_device(const struct device *device) {
+static void take_device(const struct device *device, const uint8_t *mac) {
     struct team_now now;
     bool known = device->index == inherited.tap;
     if (strcmp(device->kind, TEAM_KIND) != 0) stop(REFUSED, settings.carry, "an interface of this name is there, and is no team device");
@@ -79,6 +79,7 @@ static void take_device(const struct device *device) {
     if (strcmp(now.mode, MODE) != 0 && strcmp(now.mode, NO_MODE) != 0) stop(REFUSED, settings.carry, "a team device of another mode is there");
     if (!has_own_ports(&now) && !known) stop(REFUSED, settings.carry, "a team device with ports of others is there");
     made = known && inherited.persists;
+    need(known || set_address(device->index, mac), settings.carry);
     use_team_device(device->index);
 }
 
@@ -109,16 +110,16 @@ static void set_options(const char *mode_now) {
 void open_team(const char *name, const uint8_t *mac) {
     struct device device;
     struct team_now now;
-    need(find_team_driver(), "plane=team: the team driver of the kernel");
+    need(find_team_driver(), "plane=team: this kernel has no team driver");
+    if (atexit(end_team) != 0) stop(REFUSED, "no memory", "for the team device");
+    opened = true;
     if (find_device(name, &device)) {
-        take_device(&device);
+        take_device(&device, mac);
     } else {
         need(make_team_device(name, mac, least_mtu()) && read_device(0, name, &device), name);
         made = true;
         use_team_device(device.index);
     }
-    opened = true;
-    if (atexit(end_team) != 0) stop(REFUSED, "no memory", "for the team device");
     need(read_team(tap_index(), &now), "team");
     set_options(now.mode);
     start_buckets();
@@ -139,11 +140,13 @@ void give_team_addresses(void) {
         if (taken[i] && memcmp(links[i].mac, mac, sizeof mac) != 0) (void)give_address(links[i].index, mac);
 }
 
-/* Takes an interface out of the device, which takes it down. */
+/* Takes an interface out of the device, by which it goes down: also where the device is gone, or somebody else took it out. */
 void leave_team_port(int index) {
     struct device port;
-    if (!opened || !read_device(index, NULL, &port) || port.master == 0 || port.master != tap_index()) return;
-    if (set_master(index, 0) && (port.flags & IFF_UP)) (void)set_interface_up(index, true);
+    bool up;
+    if (!opened || !read_device(index, NULL, &port) || (port.master != 0 && port.master != tap_index())) return;
+    up = port.master == 0 || (port.flags & IFF_UP);
+    if ((port.master == 0 || set_master(index, 0)) && up) (void)set_interface_up(index, true);
 }
 
 /* Makes an interface a port of the device, which takes it while it is down; answers whether it is one, and else errno tells why not. One that

@@ -154,14 +154,10 @@ static void read_family(struct attributes told, void *into) {
         if (attribute.type == CTRL_ATTR_FAMILY_ID) copy(&attribute, into, sizeof family);
 }
 
-/* Finds the driver, which the kernel loads then; answers whether this kernel has one, and else errno tells why not. */
-bool find_team_driver(void) {
-    struct message question;
+/* Asks for the number of the driver; answers whether it is there. */
+static bool find_family(void) {
     struct genlmsghdr about = {.cmd = CTRL_CMD_GETFAMILY, .version = 1};
-    if (route < 0) route = open_netlink(NETLINK_ROUTE);
-    if (generic < 0) generic = open_netlink(NETLINK_GENERIC);
-    if (route < 0 || generic < 0) return false;
-    question = message_of(GENL_ID_CTRL, NLM_F_ACK, &about, sizeof about);
+    struct message question = message_of(GENL_ID_CTRL, NLM_F_ACK, &about, sizeof about);
     (void)put(&question, CTRL_ATTR_FAMILY_NAME, TEAM_GENL_NAME, sizeof TEAM_GENL_NAME);
     return ask(generic, &question, sizeof about, read_family, &family) && family != 0;
 }
@@ -201,6 +197,16 @@ bool read_device(int index, const char *name, struct device *device) {
     if (index == 0) (void)put(&question, IFLA_IFNAME, name, strlen(name) + 1);
     *device = (struct device){0};
     return ask(route, &question, sizeof(struct ifinfomsg), read_device_message, device) && device->index != 0;
+}
+
+/* Finds the driver; answers whether this kernel has one, and else errno tells why not. The kernel loads it for who may ask for a device: with
+ * an address that none may have there is none. */
+bool find_team_driver(void) {
+    static const uint8_t no_address[ETH_ALEN];
+    if (route < 0) route = open_netlink(NETLINK_ROUTE);
+    if (generic < 0) generic = open_netlink(NETLINK_GENERIC);
+    if (route < 0 || generic < 0) return false;
+    return find_family() || (!make_team_device("team", no_address, ETH_DATA_LEN) && errno == EADDRNOTAVAIL && find_family());
 }
 
 /* Makes a device of the driver; answers whether it did. */
