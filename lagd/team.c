@@ -63,7 +63,7 @@ static bool has_own_ports(const struct team_now *now) {
         for (uint16_t i = 0; i < settings.port_count && !own; i++) {
             struct device member;
             own = read_device(0, settings.ports[i].name, &member) && member.index == now->ports[at];
-            if (own) need(is_unlocked(member.index), settings.ports[i].name);
+            if (own && !is_unlocked(member.index)) stop(REFUSED, "another lagd has the interface", settings.ports[i].name);
         }
         if (!own) return false;
     }
@@ -208,7 +208,7 @@ void end_team(void) {
 }
 
 /* Whether this kernel has what carries the data of a file: answers how the program ends. */
-int check_plane(const struct options *options) {
+int check_kernel(const struct options *options) {
     if (options->settings.plane != PLANE_TEAM || find_team_driver()) return DONE;
     complain("%s:%u: plane=team: this kernel has no team driver: %s", options->file, line_of(&options->settings, "plane"), strerror(errno));
     return REFUSED;
