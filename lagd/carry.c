@@ -5,7 +5,7 @@
 #include <string.h>
 #include <unistd.h>
 
-#include "carry.h"
+#include "team.h"
 
 /* For how long frames of the peer tell that it has the same aggregator, in milliseconds. */
 #define HEARD 3000
@@ -20,7 +20,7 @@ static uint64_t heard_at;     /* the time at which frames came in the active agg
 static uint64_t heard_before; /* how many had come in an active one then */
 
 bool carries_data(void) {
-    return tap >= 0;
+    return tap >= 0 || carries_by_team();
 }
 
 /* Something was called that may let conversations go or come. */
@@ -141,7 +141,7 @@ void lose_tap(void) {
     end_fast();
     forget_tap();
     drop_stored("tap", 0);
-    await_no_more(tap);
+    if (tap >= 0) await_no_more(tap);
     (void)say(LOG_ERR | ABOUT_CARRIER, "carry %s: the device was deleted, or moved to another namespace; the peers are told, and the "
         "daemon ends", settings.carry);
 }
@@ -172,6 +172,7 @@ static void take_host(void) {
 
 /* How many frames of the peer came in an aggregator that was active. */
 static uint64_t heard(void) {
+    if (carries_by_team()) return team_frames_received();
     return carry.counts[HANDED_UP] + carry.counts[HOST_UNTAKEN];
 }
 
@@ -265,6 +266,7 @@ static void choose_active(void) {
         (void)say(LOG_NOTICE | ABOUT_CARRIER, "carry %s: carrier %s", settings.carry, carry.active ? "on" : "off");
     if (before != carry.active) forget_heard();
     if (before != carry.active && carry.active != 0) announce_soon();
+    if (carries_by_team()) return; /* the driver tells its speed, and the carrier comes once it passes data */
     set_speed(sum_speeds());
     set_carrier(carry.active != 0);
 }
@@ -290,12 +292,8 @@ static void note_heard(void) {
     heard_before = heard();
 }
 
-/* After calls that may have changed something: the active aggregator, what goes on, and the next moves. */
-void settle_carry(void) {
-    if (!carries_data() || broken || !carry.changed) return;
-    carry.changed = false;
-    take_views();
-    choose_active();
+/* The active aggregator is chosen: what goes on by the TAP device, and the next moves. */
+static void settle_tap(void) {
     withdraw();
     leave_previous();
     set_collecting();
@@ -306,16 +304,34 @@ void settle_carry(void) {
     to_balance = false;
 }
 
+/* After calls that may have changed something: the active aggregator, and what goes on in it. */
+void settle_carry(void) {
+    if (!carries_data() || broken || !carry.changed) return;
+    carry.changed = false;
+    take_views();
+    choose_active();
+    if (carries_by_team())
+        settle_buckets();
+    else
+        settle_tap();
+}
+
 /* 100 ms passed. */
 void pass_carry_tick(void) {
     if (!carries_data() || broken) return;
     carry.time = milliseconds();
     pass_tap_tick();
     pass_announcing_tick();
-    pass_fast_tick();
+    if (carries_by_team())
+        pass_bucket_tick();
+    else
+        pass_fast_tick();
     note_heard();
-    pass_flight_tick();
-    count_losses();
+    if (!carries_by_team()) {
+        pass_flight_tick();
+        count_losses();
+    }
+    wake_ports();
     carry.changed = to_balance = true;
 }
 
@@ -340,6 +356,10 @@ void open_carry(void) {
     if (!settings.carry[0]) return;
     start_held();
     start_members();
+    if (settings.plane == PLANE_TEAM) {
+        open_team(settings.carry, settings.config.mac);
+        return;
+    }
     packets = make_rooms();
     load_guard();
     if (atexit(put_back_members) != 0) stop(REFUSED, "no memory", "for what members had");
@@ -353,10 +373,11 @@ void open_carry(void) {
  * with the program. */
 void end_carry(void) {
     if (!carries_data()) return;
-    await_no_more(tap);
+    if (tap >= 0) await_no_more(tap);
     set_carrier(false);
     for (uint16_t i = 0; i < link_count; i++)
         if (links[i].socket >= 0) close_member(&links[i]);
+    end_team();
     end_fast();
     end_held();
 }

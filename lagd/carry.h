@@ -106,6 +106,7 @@ uint8_t *put_tag(uint8_t *packet, uint16_t type, uint16_t tag);
 
 /* tap.c */
 int open_tap(const char *name, const uint8_t *mac);
+void use_team_device(int index);
 void set_carrier(bool on);
 bool has_carrier(void);
 void set_speed(uint32_t megabits);
@@ -268,6 +269,7 @@ void suspect_partner(void);
 
 /* flight.c */
 void note_sent(uint16_t port);
+void wake_ports(void);
 void pass_flight_tick(void);
 
 #endif

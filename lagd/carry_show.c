@@ -3,7 +3,7 @@
 #include <inttypes.h>
 #include <stdio.h>
 
-#include "carry.h"
+#include "team.h"
 
 static const struct count_text CARRY_COUNTERS[] = {EACH_CARRY_COUNT(COUNT_TEXT)};
 static const struct count_text MEMBER_COUNTERS[] = {EACH_MEMBER_COUNT(COUNT_TEXT)};
@@ -27,27 +27,37 @@ static unsigned count_fast(void) {
     return fast;
 }
 
-/* By whom data goes. */
-static const char *way_text(void) {
-    return settings.fast ? "fast" : settings.offload ? "offload" : "plain";
+/* Whether a count is one of the way by which data goes: the team driver has frames that the daemon does not see. */
+static bool counts_here(unsigned count) {
+    return !carries_by_team() || (count >= MOVES && count <= WOKEN);
+}
+
+/* How many counts of a member there are. */
+static unsigned member_counts(void) {
+    return carries_by_team() ? 0 : MEMBER_COUNTS;
 }
 
 void write_carry_text(void) {
+    unsigned told = 0;
     uint64_t waiting;
     if (!carries_data() || !count_all_held(&waiting)) return;
     take_fast_counts();
-    add("  carry: %s, carrier %s, hash %s, flight %u ms, markers %s, %s\n", settings.carry, has_carrier() ? "on" : "off",
-        hash_text(settings.hash), settings.flight, answering_text(), way_text());
+    add("  carry: %s, carrier %s, hash %s, flight %u ms, ", settings.carry, has_carrier() ? "on" : "off", hash_text(settings.hash),
+        settings.flight);
+    if (!carries_by_team()) add("markers %s, ", answering_text());
+    add("%s", way_text(&settings));
     for (unsigned i = 0; i < CARRY_COUNTS; i++)
-        add("%s %s %" PRIu64 "%s", i % 5 == 0 ? "  data:" : "", CARRY_COUNTERS[i].name, carry.counts[i],
-            i % 5 == 4 || i == CARRY_COUNTS - 1 ? "\n" : "");
-    add("  waiting: %" PRIu64 ", conversations of the kernel: %u\n", waiting, count_fast());
+        if (counts_here(i)) add("%s %s %" PRIu64, told++ % 5 == 0 ? "\n  data:" : "", CARRY_COUNTERS[i].name, carry.counts[i]);
+    if (carries_by_team())
+        add("\n  waiting: %u conversations, until they are still\n", count_waiting_buckets());
+    else
+        add("\n  waiting: %" PRIu64 ", conversations of the kernel: %u\n", waiting, count_fast());
 }
 
 void write_member_text(const struct link *link) {
     if (!carries_data()) return;
     add("  data: busy_conversations %u", count_busy(link->settings.number));
-    for (unsigned i = 0; i < MEMBER_COUNTS; i++) add(" %s %" PRIu64, MEMBER_COUNTERS[i].name, member_count(link->settings.number, i));
+    for (unsigned i = 0; i < member_counts(); i++) add(" %s %" PRIu64, MEMBER_COUNTERS[i].name, member_count(link->settings.number, i));
     add("\n");
 }
 
@@ -58,16 +68,20 @@ void write_carry_json(void) {
     add("\"carry\":{\"device\":");
     add_string(settings.carry);
     add(",\"carrier\":%s,\"aggregator\":%u,\"hash\":\"%s\",", has_carrier() ? "true" : "false", carry.active, hash_text(settings.hash));
-    add("\"flight\":%u,\"markers\":\"%s\",\"way\":\"%s\",", settings.flight, answering_text(), way_text());
-    add("\"waiting\":%" PRIu64 ",\"fast_conversations\":%u", waiting, count_fast());
-    for (unsigned i = 0; i < CARRY_COUNTS; i++) add(",\"%s\":%" PRIu64, CARRY_COUNTERS[i].name, carry.counts[i]);
+    add("\"flight\":%u,\"way\":\"%s\",", settings.flight, way_text(&settings));
+    if (carries_by_team())
+        add("\"waiting_conversations\":%u", count_waiting_buckets());
+    else
+        add("\"markers\":\"%s\",\"waiting\":%" PRIu64 ",\"fast_conversations\":%u", answering_text(), waiting, count_fast());
+    for (unsigned i = 0; i < CARRY_COUNTS; i++)
+        if (counts_here(i)) add(",\"%s\":%" PRIu64, CARRY_COUNTERS[i].name, carry.counts[i]);
     add("},");
 }
 
 void write_member_json(const struct link *link) {
     if (!carries_data()) return;
     add(",\"data\":{\"busy_conversations\":%u", count_busy(link->settings.number));
-    for (unsigned i = 0; i < MEMBER_COUNTS; i++)
+    for (unsigned i = 0; i < member_counts(); i++)
         add(",\"%s\":%" PRIu64, MEMBER_COUNTERS[i].name, member_count(link->settings.number, i));
     add("}");
 }
@@ -77,15 +91,20 @@ void write_carry_metrics(void) {
     uint64_t waiting;
     if (!carries_data() || !count_all_held(&waiting)) return;
     take_fast_counts();
-    add_bundle_value("carry_carrier", "gauge", "whether the TAP device has a carrier", has_carrier());
-    add_bundle_value("carry_waiting", "gauge", "how many frames wait", waiting);
-    add_bundle_value("carry_fast_conversations", "gauge", "how many conversations the kernel passes on", count_fast());
+    add_bundle_value("carry_carrier", "gauge", "whether the device has a carrier", has_carrier());
+    if (carries_by_team()) {
+        add_bundle_value("carry_waiting_conversations", "gauge", "how many conversations wait until they are still", count_waiting_buckets());
+    } else {
+        add_bundle_value("carry_waiting", "gauge", "how many frames wait", waiting);
+        add_bundle_value("carry_fast_conversations", "gauge", "how many conversations the kernel passes on", count_fast());
+    }
     for (unsigned i = 0; i < CARRY_COUNTS; i++) {
         bool most = i == LONGEST_QUEUE;
+        if (!counts_here(i)) continue;
         snprintf(name, sizeof name, "carry_%s%s", CARRY_COUNTERS[i].name, most ? "" : "_total");
         add_bundle_value(name, most ? "gauge" : "counter", CARRY_COUNTERS[i].help, carry.counts[i]);
     }
-    for (unsigned i = 0; i < MEMBER_COUNTS; i++) {
+    for (unsigned i = 0; i < member_counts(); i++) {
         snprintf(name, sizeof name, "port_%s_total", MEMBER_COUNTERS[i].name);
         add_head(name, "counter", MEMBER_COUNTERS[i].help);
         for (uint16_t link = 0; link < link_count; link++) add_port_value(name, &links[link], member_count((uint16_t)(link + 1), i));

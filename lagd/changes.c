@@ -12,7 +12,7 @@
 #include <sys/socket.h>
 #include <unistd.h>
 
-#include "lagd.h"
+#include "team.h"
 
 #define ROOM 65536
 /* How long the kernel may take for an answer at the start, in milliseconds, and how often it is asked then. */
@@ -32,6 +32,7 @@ struct interface {
     uint32_t mtu; /* 0: not told */
     bool carrier;
     int below;     /* the interface by which it sends, or 0 */
+    int master;    /* that of which it is a port, or 0 */
     char kind[16]; /* of those that are made by the kernel; else empty */
     char discipline[DISCIPLINE_ROOM]; /* of its queues */
 };
@@ -97,6 +98,7 @@ static void take_attribute(struct interface *interface, unsigned type, const uin
     if (type == IFLA_MTU && length == sizeof interface->mtu) memcpy(&interface->mtu, value, length);
     if (type == IFLA_CARRIER && length == 1) interface->carrier = *value != 0;
     if (type == IFLA_LINK && length == sizeof interface->below) memcpy(&interface->below, value, length);
+    if (type == IFLA_MASTER && length == sizeof interface->master) memcpy(&interface->master, value, length);
     if (type == IFLA_LINKINFO) take_kind(interface, value, length);
     if (type == IFLA_PROP_LIST) {
         interface->others = value;
@@ -220,6 +222,7 @@ static void take_present(const struct interface *interface) {
         struct link *link = &links[i];
         bool named = is_named(interface, link->name), same = link->socket >= 0 && link->index == interface->index;
         if (link->socket >= 0 && (same != named || (same && !is_bound(link)))) lose_link(link);
+        if (link->socket >= 0 && !is_still_team_port(link, interface->master)) lose_link(link);
         if (!named || (link->socket < 0 && !take_up(link, interface))) continue;
         link->present = true;
         follow(link, interface);
@@ -308,6 +311,11 @@ void take_changes(void) {
 /* Asks again for what was missed, or could not be taken up; once a second. */
 void watch_changes(void) {
     if (ask_again && !asking) ask();
+}
+
+/* An interface is to be taken up anew. */
+void look_again(void) {
+    ask_again = true;
 }
 
 /* Something could not be sent: a carrier may have gone. */

@@ -122,6 +122,11 @@ static void watch_conversation(uint16_t number, uint64_t *again) {
         watch_free(conversation, number, &state);
 }
 
+/* Each port that sleeps and carries nothing is woken now and then. */
+void wake_ports(void) {
+    for (uint16_t port = 1; !broken && port <= link_count; port++) wake_port(port);
+}
+
 /* 100 ms passed. */
 void pass_flight_tick(void) {
     uint64_t again = 0;
@@ -130,7 +135,6 @@ void pass_flight_tick(void) {
     pass_probe_tick();
     for (uint16_t port = 1; port <= link_count; port++) {
         watch_port(port);
-        wake_port(port);
         if (again >> (port - 1) & 1 && send_marker_again(port)) carry.counts[MARKERS_AGAIN]++;
     }
 }

@@ -275,6 +275,7 @@ int open_changes(void);
 void take_changes(void);
 void take_messages(const uint8_t *messages, size_t length);
 void watch_changes(void);
+void look_again(void);
 void suspect_carriers(void);
 void watch_carriers(bool all);
 

@@ -10,7 +10,7 @@
 #include <sys/uio.h>
 #include <unistd.h>
 
-#include "carry.h"
+#include "team.h"
 
 /* Of the frames that wait in a socket. */
 #define SOCKET_ROOM (8 << 20)
@@ -181,6 +181,7 @@ static bool open_or_close(struct member *member, const struct link *link) {
 bool open_member(struct link *link) {
     struct member *member = member_of(link);
     if (!carries_data()) return true;
+    if (carries_by_team()) return open_team_port(link);
     if (!filter(link->socket, false)) return false;
     open_guard(link, &member->guard);
     member->has_marker = false;
@@ -226,6 +227,7 @@ void count_losses(void) {
 /* The interface is gone, or the daemon ends. */
 void close_member(struct link *link) {
     struct member *member = member_of(link);
+    if (carries_by_team()) close_team_port(link);
     if (!carries_data() || member->socket < 0) return;
     withdraw_port(link->settings.number);
     count_loss(member);
@@ -246,7 +248,7 @@ void put_back_members(void) {
 /* The TAP device takes what each member takes; 0: there is no such member any more. */
 void follow_mtu(struct link *link, uint32_t mtu) {
     uint32_t least = 0;
-    if (!carries_data() || member_of(link)->mtu == mtu) return;
+    if (!carries_data() || carries_by_team() || member_of(link)->mtu == mtu) return;
     member_of(link)->mtu = mtu;
     for (uint16_t i = 0; i < link_count; i++)
         if (members[i].mtu > 0 && (least == 0 || members[i].mtu < least)) least = members[i].mtu;

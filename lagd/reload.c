@@ -18,6 +18,7 @@ static const char *restart_for(const struct settings *wanted) {
     if (wanted->config.max_links != settings.config.max_links) return "another max-links";
     if (wanted->key_by_speed != settings.key_by_speed) return "another key-by-speed";
     if (strcmp(wanted->carry, settings.carry) != 0) return "another carry";
+    if (wanted->plane != settings.plane) return "another plane";
     if (wanted->hash != settings.hash || wanted->hash_seed != settings.hash_seed) return "another hash or hash-seed";
     if (wanted->offload != settings.offload || wanted->fast != settings.fast) return "another offload or fast";
     for (uint16_t port = 1; port <= link_count; port++) {

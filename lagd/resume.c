@@ -4,6 +4,7 @@
 #include <string.h>
 
 #include "state.h"
+#include "team.h"
 
 /* The ticks until a port distributes: wait_while has 2 s (IEEE 802.1AX-2014, 6.4.4), and the next one attaches it. */
 #define TICKS 22
@@ -105,15 +106,18 @@ static void release_former_members(void) {
         bool stays = false;
         for (uint16_t port = 0; port < link_count; port++)
             stays = stays || (links[port].socket >= 0 && links[port].index == inherited.links[i].index);
-        if (!stays) put_back(inherited.links[i].index, inherited.links[i].mac);
+        if (stays) continue;
+        leave_team_port(inherited.links[i].index);
+        put_back(inherited.links[i].index, inherited.links[i].mac);
     }
 }
 
-/* Before the interfaces are taken up: whether there is something to go on with. Where no data is carried any more, nothing is a member. */
+/* Before the interfaces are taken up: whether there is something to go on with. Where no data is carried any more, or by the team driver, what
+ * was set of members is set back. */
 void begin_resuming(void) {
     began = boottime();
     for (unsigned i = 0; i < inherited.link_count; i++) resuming = resuming || inherited.links[i].carried;
-    if (inherited.others && !settings.carry[0]) release_former_members();
+    if (inherited.others && (!settings.carry[0] || settings.plane == PLANE_TEAM)) release_former_members();
 }
 
 /* Tells what became of the links of the last daemon, if some are there. */
@@ -179,7 +183,7 @@ void resume_data(unsigned count) {
         go_on_answering((enum answering)inherited.answering);
     }
     for (uint16_t number = 0; count > 0 && number < CONVERSATIONS; number++) {
-        int member = fast_member_of(number);
+        int member = carries_by_team() ? bucket_member_of(number) : fast_member_of(number);
         uint16_t port = port_on(member != 0 ? member : inherited.members[number]);
         if (port != 0) stay(number, port);
     }

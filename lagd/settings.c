@@ -137,6 +137,18 @@ static bool take_carry(const char *text, struct settings *settings) {
     return true;
 }
 
+static bool take_plane(const char *text, struct settings *settings) {
+    bool tap, known = read_choice(text, "tap", "team", &tap);
+    settings->plane = tap ? PLANE_TAP : PLANE_TEAM;
+    return known;
+}
+
+/* By what data goes. */
+const char *way_text(const struct settings *settings) {
+    if (settings->plane == PLANE_TEAM) return "team";
+    return settings->fast ? "fast" : settings->offload ? "offload" : "plain";
+}
+
 static const char *const HASHES[] = {[HASH_LAYER2] = "layer2", [HASH_LAYER2_3] = "layer2+3", [HASH_LAYER3_4] = "layer3+4",
     [HASH_ENCAP3_4] = "encap3+4", [HASH_VLAN_SRCMAC] = "vlan+srcmac"};
 
@@ -195,7 +207,9 @@ static const struct bundle_key BUNDLE_KEYS[] = {
     {"hook", "a path that begins with /, of at most 191 characters, of a program that may be run", take_hook, 'x', "PROGRAM",
         "is run when the bundle becomes up, degraded or down"},
     {"carry", "a name of an interface of at most 15 characters", take_carry, 'C', "NAME",
-        "carries the data of a TAP device of this name, which it makes, with the MAC address of the system"},
+        "carries the data of a device of this name, which it makes, with the MAC address of the system"},
+    {"plane", "tap or team", take_plane, 'P', "tap|team",
+        "what that device is: a TAP device, as if not given, or one of the kernel's team driver,\nby which the kernel carries"},
     {"hash", "layer2, layer2+3, layer3+4, encap3+4 or vlan+srcmac", take_hash, 'H', "layer2|layer2+3|layer3+4|encap3+4|vlan+srcmac",
         "what frames of one conversation have in common; layer2, if not given"},
     {"hash-seed", A_NUMBER, take_hash_seed, 'S', "N", "another number spreads conversations in another way, but by layer2; 0 if not given"},
@@ -321,6 +335,7 @@ static const char *key_of_data(const struct settings *settings) {
     if (settings->offload) return "offload";
     if (line_of(settings, "hash")) return "hash";
     if (line_of(settings, "hash-seed")) return "hash-seed";
+    if (line_of(settings, "plane")) return "plane";
     return line_of(settings, "flight") ? "flight" : NULL;
 }
 
@@ -339,8 +354,11 @@ struct lack lack_of(const struct settings *settings) {
     for (uint16_t i = 0; i < settings->port_count; i++)
         if (strcmp(settings->ports[i].name, settings->carry) == 0)
             return (struct lack){"carry=NAME that is not the interface of a port", "carry"};
-    if (data && !settings->carry[0]) return (struct lack){"carry=NAME beside hash, hash-seed, flight, offload or fast", data};
+    if (data && !settings->carry[0]) return (struct lack){"carry=NAME beside plane, hash, hash-seed, flight, offload or fast", data};
     if (settings->hash_seed && settings->hash == HASH_LAYER2) return (struct lack){"another hash than layer2 beside hash-seed", "hash-seed"};
+    if (settings->plane == PLANE_TEAM && (settings->offload || settings->fast))
+        return (struct lack){"neither offload nor fast beside plane=team, by which the kernel carries all", "plane"};
+    if (settings->plane == PLANE_TEAM && settings->hash == HASH_ENCAP3_4) return (struct lack){"another hash than encap3+4 beside plane=team", "hash"};
     if (settings->min_links > settings->port_count)
         return (struct lack){"min-links that is at most the number of interfaces", "min-links"};
     if (settings->config.max_links && settings->min_links > settings->config.max_links)

@@ -55,6 +55,12 @@ struct port_settings {
     int active, short_timeout, individual; /* 0 or 1, or AS_BUNDLE */
 };
 
+/* What carries the data. */
+enum plane {
+    PLANE_TAP,  /* a TAP device, and the daemon or programs of the kernel */
+    PLANE_TEAM, /* the team driver of the kernel */
+};
+
 struct settings {
     char name[NAME_ROOM]; /* of the bundle */
     unsigned lines[MOST_BUNDLE_KEYS]; /* those that give the keys, from 1; 0: none does */
@@ -69,7 +75,8 @@ struct settings {
     uint16_t min_links;       /* a bundle of fewer is down */
     uint16_t marker_responses;
     char hook[PATH_ROOM]; /* the program that is run where the bundle changes, or empty */
-    char carry[DEVICE_ROOM]; /* the TAP device whose data is carried, or empty */
+    char carry[DEVICE_ROOM]; /* the device whose data is carried, or empty */
+    enum plane plane;        /* what that is */
     enum hash hash;          /* of that data */
     uint16_t hash_seed;      /* by which bundles with the same hash differ; not of layer2 */
     uint16_t flight;         /* how long a frame of it can be on its way, in milliseconds */
@@ -96,6 +103,7 @@ struct lack {
 
 struct settings usual_settings(void);
 const char *hash_text(enum hash hash);
+const char *way_text(const struct settings *settings);
 const struct bundle_key *bundle_key(size_t index);
 const char *set_bundle(struct settings *settings, const char *name, const char *text, unsigned line);
 unsigned line_of(const struct settings *settings, const char *name);

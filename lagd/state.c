@@ -10,10 +10,13 @@
 #include <unistd.h>
 
 #include "state.h"
+#include "team.h"
 
 /* It rises with each change of the file, and of what programs of the kernel share with the daemon. */
 #define FORM_VERSION 1
 #define WAY_ROOM 96
+/* Their end, where the team driver carries. */
+#define OF_TEAM "/team"
 #define HEX_ROOM (2 * NIW_FRAME + 1)
 #define HEX_LENGTH "248"
 /* A marker that went after the file was written has another identifier than those from here on. */
@@ -40,8 +43,19 @@ static const char *way(void) {
     struct system_id own = {.priority = settings.config.priority};
     memcpy(own.mac, settings.config.mac, sizeof own.mac);
     snprintf(text, sizeof text, "%s/%s/%s/%u/%s", system_text(&own, system), settings.carry[0] ? settings.carry : "-",
-        hash_text(settings.hash), settings.hash_seed, settings.fast ? "fast" : settings.offload ? "offload" : "plain");
+        hash_text(settings.hash), settings.hash_seed, way_text(&settings));
     return text;
+}
+
+/* Whether settings are those of a bundle whose data the team driver carries. */
+static bool is_way_of_team(const char *given) {
+    size_t length = strlen(given);
+    return length >= sizeof OF_TEAM - 1 && strcmp(given + length - (sizeof OF_TEAM - 1), OF_TEAM) == 0;
+}
+
+/* Whether the next daemon is to take the device away at its end: a daemon made it. */
+static bool is_made(void) {
+    return carries_by_team() ? has_made_team() : tap_persists();
 }
 
 static void write_link(FILE *file, const struct link *link) {
@@ -72,7 +86,7 @@ static void write_state(FILE *file) {
     fprintf(file, "marker %" PRIu32 "\n", is_done(marker.status, "niw_next_marker") && marker.left ? marker.id : 0);
     fprintf(file, "bundle %u %u %lld\n", bundle.state, bundle.aggregator, (long long)bundle.changed_at);
     if (carries_data())
-        fprintf(file, "tap %d %d %" PRIu32 " %u\n", tap_index(), tap_persists(), mtu_of_administrator(), peer_answering());
+        fprintf(file, "tap %d %d %" PRIu32 " %u\n", tap_index(), is_made(), mtu_of_administrator(), peer_answering());
     for (uint16_t i = 0; i < link_count; i++)
         if (links[i].socket >= 0) write_link(file, &links[i]);
     if (carries_data()) write_conversations(file);
@@ -177,9 +191,12 @@ static bool read_rest(FILE *file) {
 
 /* By other settings nothing goes on: what stays to be done is to put back what the last daemon changed. It has a line once these interfaces
  * are found. */
-static void keep_interfaces(void) {
+static void keep_interfaces(bool team) {
     inherited.others = true;
-    if (inherited.persists) end_tap(inherited.tap);
+    if (team)
+        leave_team(inherited.tap, inherited.persists);
+    else if (inherited.persists)
+        end_tap(inherited.tap);
     for (unsigned i = 0; i < inherited.link_count; i++) inherited.links[i].carried = false;
     memset(inherited.members, 0, sizeof inherited.members);
     inherited.bundle = (struct bundle){0};
@@ -197,7 +214,7 @@ static const char *read_state(FILE *file) {
     if (fscanf(file, " boot %63s way %95s", boot, given) != 2) return "it is cut off";
     if (strcmp(boot, boot_id()) != 0) return "it is of another boot";
     if (!read_rest(file)) return "it is cut off, or wrong";
-    if (strcmp(given, way()) != 0) keep_interfaces();
+    if (strcmp(given, way()) != 0) keep_interfaces(is_way_of_team(given));
     return NULL;
 }
 

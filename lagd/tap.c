@@ -15,6 +15,7 @@
 #include <unistd.h>
 
 #include "state.h"
+#include "team.h"
 
 /* Of Linux 5.2, and not in older headers: the network namespace of a device. */
 #ifndef TUNGETDEVNETNS
@@ -58,13 +59,18 @@ static bool ask_tap(unsigned long what, struct ifreq *request) {
     return ioctl(asker, what, request) == 0;
 }
 
+/* Has the device a carrier, or none; answers whether the kernel does so. */
+static bool give_carrier(bool on) {
+    return carries_by_team() ? set_device_carrier(number, on) : ioctl(tap, TUNSETCARRIER, &(int){on}) == 0;
+}
+
 /* The carrier of the device, which is on while data is carried. */
 void set_carrier(bool on) {
     if (carrier == on || number == 0) return;
     carrier = on;
     carrier_ticks = 0;
     if (!on) open_host(false);
-    if (ioctl(tap, TUNSETCARRIER, &(int){on}) < 0)
+    if (!give_carrier(on))
         (void)say(LOG_ERR | ABOUT_CARRIER, "carry %s: no carrier: %s", settings.carry, strerror(errno));
 }
 
@@ -89,7 +95,7 @@ bool has_carrier(void) {
 static void settle_mtu(void) {
     struct ifreq now = {0}, wanted = {0};
     uint32_t mtu, least;
-    if (!ask_tap(SIOCGIFMTU, &now)) return;
+    if (carries_by_team() || !ask_tap(SIOCGIFMTU, &now)) return; /* members have the MTU of a team device */
     mtu = (uint32_t)now.ifr_mtu;
     if (set_mtu != 0 && mtu != set_mtu) less_mtu = mtu < most_mtu ? mtu : 0;
     if (set_mtu != 0 && mtu != set_mtu && mtu > most_mtu)
@@ -272,6 +278,15 @@ int open_tap(const char *name, const uint8_t *mac) {
     return tap;
 }
 
+/* The device is one of the team driver. Its carrier stays where the data of the last daemon goes on. */
+void use_team_device(int index) {
+    asker = socket(AF_UNIX, SOCK_DGRAM | SOCK_CLOEXEC, 0);
+    if (asker < 0) stop(REFUSED, "no team device", strerror(errno));
+    number = index;
+    carrier = true;
+    if (!resuming) set_carrier(false);
+}
+
 /* The device that the last daemon made outlive itself goes. */
 void end_tap(int index) {
     char room[IF_NAMESIZE];
@@ -287,6 +302,7 @@ void end_tap(int index) {
 /* The next daemon gets the device as it is, by its name where no manager of services keeps it; or it is to go with this one. */
 void keep_tap(bool keeps) {
     struct ifreq device = {0};
+    if (carries_by_team()) return;
     if (persists == keeps || ioctl(tap, TUNGETIFF, &device) < 0 || (keeps && (has_store() || (device.ifr_flags & IFF_PERSIST)))) return;
     if (ioctl(tap, TUNSETPERSIST, keeps) == 0) persists = keeps;
 }

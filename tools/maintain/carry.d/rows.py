@@ -2,6 +2,9 @@
 
 from __future__ import annotations
 
+from collections import Counter
+from typing import Sequence
+
 from bonds import Programs
 from checking import check, command
 
@@ -36,6 +39,7 @@ TAG, TWO_TAGS, OTHER_TAG = "81000064", "88a8000181000064", "81006065"
 IN_A, IN_B, IN_A6, IN_B6 = ipv4("09", A)[28:], ipv4("09", B)[28:], ipv6("09", A)[28:], ipv6("09", B)[28:]
 GRE, GRE6, GRE_KEYED, GRE_TEB = "00000800", "000086dd", "2000080000000007", "00006558"
 TO_USUAL, TO_OTHER = "c0002118", "c00012b6"
+HASHES = ("layer2+3", "layer3+4", "encap3+4", "vlan+srcmac")
 # Each pair of frames, with whether they are of one conversation by layer2+3, layer3+4, encap3+4 and vlan+srcmac.
 ROWS = {
     "UDP, another port": (ipv4("01", A), ipv4("01", B), True, False, False, True),
@@ -89,15 +93,28 @@ ROWS = {
 }
 
 
-def rows(programs: Programs) -> None:
-    """Conversations of frames, row by row."""
+def check_pairs(program: str, what: str, places: Sequence[int]) -> None:
+    """A program that prints conversations has the pairs of each row in one, or in two, by each hash of these places."""
     text = "".join(f"{frame}\n" for row in ROWS.values() for frame in row[:2])
-    for place, name in enumerate(("layer2+3", "layer3+4", "encap3+4", "vlan+srcmac"), 1):
+    for place in places:
+        name = HASHES[place - 1]
         spread = set()
         for seed in ("0", "1", "40000"):
-            told = command(programs.conversations, str(place), seed, input=text).stdout.split()
+            told = command(program, str(place), seed, input=text).stdout.split()
             numbers = [(told[2 * row], told[2 * row + 1]) for row in range(len(ROWS))] if len(told) == 2 * len(ROWS) else []
             wrong = [what for (what, row), (one, other) in zip(ROWS.items(), numbers) if (one == other) != row[place + 1]]
-            check(bool(numbers) and not wrong, f"{name}, seed {seed}: {len(ROWS)} pairs of frames are of one conversation, or of two", *wrong)
+            check(bool(numbers) and not wrong, f"{name}, seed {seed}: {len(ROWS)} pairs of frames are of one {what}, or of two", *wrong)
             spread.add(tuple(told))
         check(len(spread) == 3, f"{name}: with another seed they have other numbers")
+
+
+def rows(programs: Programs) -> None:
+    """Conversations of frames, row by row; and their buckets, by the program of the team driver, which spreads connections."""
+    check_pairs(programs.conversations, "conversation", (1, 2, 3, 4))
+    check_pairs(programs.buckets, "bucket", (1, 2, 4))
+    macs = [f"{MACS[:22]}{last:02x}{'88b5'}{'00' * 46}" for last in range(256)]
+    numbers = [command(program, "0", "0", input="\n".join(macs)).stdout for program in (programs.conversations, programs.buckets)]
+    check(numbers[0] == numbers[1] and len(set(numbers[1].split())) == 256, "layer2: the bucket of a frame is its conversation")
+    flows = "\n".join(ipv4("01", f"{20000 + flow:04x}2710", 6) for flow in range(2560))
+    count = Counter(command(programs.buckets, "2", "0", input=flows).stdout.split())
+    check(len(count) == 256 and max(count.values()) < 30, f"layer3+4: 2,560 connections are in {len(count)} buckets, {max(count.values())} in one at most")

@@ -108,6 +108,13 @@ def build_memory(folder: str, libraries: Sequence[str]) -> str:
     return build(os.path.join(folder, "memory"), sources, libraries, *STRICT, *COUNTED)
 
 
+def build_buckets(folder: str) -> str:
+    """Builds where the daemon puts the buckets of the team driver alone, with ASan and UBSan, over a driver and a library in memory; answers
+    the path of the program."""
+    sources = [*(f"{MAINTAIN}/live.d/{name}.c" for name in ("buckets", "checks")), f"{DAEMON}/buckets.c"]
+    return build(os.path.join(folder, "buckets"), sources, [], *STRICT, f"-I{DAEMON}", *SANITIZED)
+
+
 def build_threads(folder: str, libraries: Sequence[str]) -> str:
     """Builds the threads that call handles; answers the path of the program."""
     return build(os.path.join(folder, "threads"), [f"{MAINTAIN}/live.d/threads.c"], libraries, *STRICT, "-g", "-pthread")

@@ -56,6 +56,7 @@ WRONG = {
     "[Bundle]\nhash=layer4\n": "2: expected layer2, layer2+3, layer3+4, encap3+4 or vlan+srcmac: hash=layer4",
     "[Bundle]\nwait-to-restore=3601\n": "2: expected a number of seconds from 0 to 3600: wait-to-restore=3601",
     "[Bundle]\nflight=0\n": "2: expected a number of milliseconds from 1 to 60000: flight=0",
+    "[Bundle]\nplane=bond\n": "2: expected tap or team: plane=bond",
     "[Bundle]\noffload=on\n": "2: expected yes or no: offload=on",
     FILE.replace("[Port a0]", "carry=a0\n[Port a0]"): "8: expected carry=NAME that is not the interface of a port: carry",
     "[Bundle]\n key=7\n": "2: expected a line that does not begin with a space:  key=7",
@@ -78,11 +79,14 @@ CONTRADICTIONS = {
     FILE.replace("partner=first", f"partner=32768,{SYSTEM}"): "5: expected a partner that is not this system: partner",
     FILE.replace("min-links=1", "revert=yes"): "6: expected max-links=N beside revert: revert",
     FILE.replace("min-links=1", "carry=lag0\nhash-seed=7"): "7: expected another hash than layer2 beside hash-seed: hash-seed",
+    **{FILE.replace("min-links=1", f"carry=lag0\nplane=team\n{key}=yes"): "7: expected neither offload nor fast beside plane=team, by which the kernel "
+       "carries all: plane" for key in ("offload", "fast")},
+    FILE.replace("min-links=1", "carry=lag0\nplane=team\nhash=encap3+4"): "8: expected another hash than encap3+4 beside plane=team: hash",
     FILE.replace("min-links=1", "hook=/nowhere/hook"): f"6: {A_HOOK}/nowhere/hook",
     FILE.replace("min-links=1", "hook=/etc/passwd"): f"6: {A_HOOK}/etc/passwd",
     FILE.replace("min-links=1", "hook=/etc"): f"6: {A_HOOK}/etc",
-    **{FILE.replace("min-links=1", f"{key}={value}"): f"6: expected carry=NAME beside hash, hash-seed, flight, offload or fast: {key}"
-       for key, value in (("hash", "layer2"), ("hash-seed", "7"), ("flight", "500"), ("offload", "yes"), ("fast", "yes"))},
+    **{FILE.replace("min-links=1", f"{key}={value}"): f"6: expected carry=NAME beside plane, hash, hash-seed, flight, offload or fast: {key}"
+       for key, value in (("plane", "tap"), ("hash", "layer2"), ("hash-seed", "7"), ("flight", "500"), ("offload", "yes"), ("fast", "yes"))},
 }
 
 

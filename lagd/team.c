@@ -1,0 +1,215 @@
+/* The plane of the team driver: a team device in the place of the TAP device, and members that are its ports. The kernel passes all data by
+ * itself, also while no daemon runs: the next one takes the device over. */
+#define _GNU_SOURCE
+#include <errno.h>
+#include <net/if.h>
+#include <poll.h>
+#include <stdlib.h>
+#include <string.h>
+
+#include "state.h"
+#include "team.h"
+
+#define MODE "loadbalance"
+/* The mode of a device that has none yet. */
+#define NO_MODE "*NOMODE*"
+/* How often the driver counts what each bucket has sent, in its unit of 100 ms. */
+#define COUNTED_EVERY 1
+/* How often a name is tried that the TAP device of the last daemon has still, each 100 ms. */
+#define MOST_TRIES 10
+
+static bool opened;
+static bool made;                   /* whether a daemon made the device, so that it goes at the end */
+static bool taken[NIW_MOST_PORTS]; /* whether the interface of a port is a port of the device */
+
+bool carries_by_team(void) {
+    return opened;
+}
+
+bool is_team_port(uint16_t port) {
+    return taken[port - 1];
+}
+
+/* Whether a daemon made the device. */
+bool has_made_team(void) {
+    return made;
+}
+
+static void need(bool done, const char *what) {
+    if (!done) stop(REFUSED, what, strerror(errno));
+}
+
+/* The lowest MTU of the interfaces that are there: the driver gives its ports that of the device. */
+static uint32_t least_mtu(void) {
+    uint32_t least = 0;
+    for (uint16_t i = 0; i < settings.port_count; i++) {
+        struct device member;
+        if (read_device(0, settings.ports[i].name, &member) && member.mtu != 0 && (least == 0 || member.mtu < least)) least = member.mtu;
+    }
+    return least == 0 ? ETH_DATA_LEN : least;
+}
+
+/* Whether no other lagd has an interface. */
+static bool is_unlocked(int index) {
+    int lock = lock_interface(index);
+    if (lock >= 0) return_stored("lock", index, lock);
+    return lock >= 0;
+}
+
+/* Whether each port of a device is an interface of this bundle. */
+static bool has_own_ports(const struct team_now *now) {
+    for (unsigned at = 0; at < now->port_count; at++) {
+        bool own = false;
+        for (uint16_t i = 0; i < settings.port_count && !own; i++) {
+            struct device member;
+            own = read_device(0, settings.ports[i].name, &member) && member.index == now->ports[at];
+            if (own && !is_unlocked(member.index)) stop(REFUSED, "another lagd has the interface", settings.ports[i].name);
+        }
+        if (!own) return false;
+    }
+    return true;
+}
+
+/* Takes a device that is there: that of the last daemon, or one that is of no use to others. */
+static void take_device(const struct device *device, const uint8_t *mac) {
+    struct team_now now;
+    bool known = device->index == inherited.tap;
+    if (strcmp(device->kind, TEAM_KIND) != 0) stop(REFUSED, settings.carry, "an interface of this name is there, and is no team device");
+    need(read_team(device->index, &now), settings.carry);
+    if (strcmp(now.mode, MODE) != 0 && strcmp(now.mode, NO_MODE) != 0) stop(REFUSED, settings.carry, "a team device of another mode is there");
+    if (!has_own_ports(&now) && !known) stop(REFUSED, settings.carry, "a team device with ports of others is there");
+    made = known && inherited.persists;
+    need(known || set_address(device->index, mac), settings.carry);
+    use_team_device(device->index);
+}
+
+/* Finds the device of the last daemon, whatever an administrator named it since, or else one of this name; answers whether there is one. A
+ * TAP device of the last daemon goes. */
+static bool find_device(const char *name, struct device *device) {
+    int tap = take_stored("tap", 0);
+    if (tap >= 0) close_stored("tap", 0, tap);
+    if (inherited.tap != 0 && read_device(inherited.tap, NULL, device) && strcmp(device->kind, TEAM_KIND) == 0) return true;
+    for (int tries = 0; read_device(0, name, device); tries++) {
+        if (strcmp(device->kind, "tun") != 0 || tries == MOST_TRIES) return true;
+        (void)poll(NULL, 0, NIW_TICK_MILLISECONDS);
+    }
+    return false;
+}
+
+/* Has the driver spread frames over buckets, and tell what each of them sent. */
+static void set_options(const char *mode_now) {
+    struct sock_filter steps[MOST_HASH_STEPS];
+    int index = tap_index();
+    need(strcmp(mode_now, MODE) == 0 || set_team_text(index, "mode", MODE), "team: mode " MODE);
+    need(set_team_hash(index, steps, make_team_hash(steps)), "team: bpf_hash_func");
+    need(set_team_text(index, "lb_tx_method", "hash_to_port_mapping"), "team: lb_tx_method");
+    need(set_team_number(index, "lb_stats_refresh_interval", COUNTED_EVERY), "team: lb_stats_refresh_interval");
+}
+
+/* Opens the device: it has no carrier, unless the data of the last daemon goes on. */
+void open_team(const char *name, const uint8_t *mac) {
+    struct device device;
+    struct team_now now;
+    need(find_team_driver(), "plane=team: this kernel has no team driver");
+    if (atexit(end_team) != 0) stop(REFUSED, "no memory", "for the team device");
+    opened = true;
+    if (find_device(name, &device)) {
+        take_device(&device, mac);
+    } else {
+        need(make_team_device(name, mac, least_mtu()) && read_device(0, name, &device), name);
+        made = true;
+        use_team_device(device.index);
+    }
+    need(read_team(tap_index(), &now), "team");
+    set_options(now.mode);
+    start_buckets();
+}
+
+/* Gives a port the address of the device: frames to that would be of another host for the network stack. The driver puts back what it had. Some
+ * cards take an address only while they are down. */
+static bool give_address(int index, const uint8_t *mac) {
+    if (set_address(index, mac)) return true;
+    return errno == EBUSY && set_interface_up(index, false) && set_address(index, mac) && set_interface_up(index, true);
+}
+
+/* The device has another address than some ports: who administers it may change it. */
+void give_team_addresses(void) {
+    uint8_t mac[ETH_ALEN];
+    if (!read_tap_mac(mac)) return;
+    for (uint16_t i = 0; i < link_count; i++)
+        if (taken[i] && memcmp(links[i].mac, mac, sizeof mac) != 0) (void)give_address(links[i].index, mac);
+}
+
+/* Takes an interface out of the device, by which it goes down: also where the device is gone, or somebody else took it out. */
+void leave_team_port(int index) {
+    struct device port;
+    bool up;
+    if (!opened || !read_device(index, NULL, &port) || (port.master != 0 && port.master != tap_index())) return;
+    up = port.master == 0 || (port.flags & IFF_UP);
+    if ((port.master == 0 || set_master(index, 0)) && up) (void)set_interface_up(index, true);
+}
+
+/* Makes an interface a port of the device, which takes it while it is down; answers whether it is one, and else errno tells why not. One that
+ * belongs to another device stays there. */
+bool open_team_port(struct link *link) {
+    struct device port;
+    uint8_t mac[ETH_ALEN];
+    bool up, done;
+    if (!read_device(link->index, NULL, &port) || !read_tap_mac(mac)) return false;
+    up = (port.flags & IFF_UP) != 0;
+    errno = EBUSY;
+    if (port.master != 0 && port.master != tap_index()) return false;
+    done = port.master != 0 || ((!up || set_interface_up(link->index, false)) && set_master(link->index, tap_index()));
+    taken[link - links] = done && (memcmp(port.mac, mac, sizeof mac) == 0 || give_address(link->index, mac));
+    forget_port(link->settings.number);
+    if (!taken[link - links]) {
+        int fault = errno;
+        leave_team_port(link->index);
+        if (!done && up) (void)set_interface_up(link->index, true);
+        errno = fault;
+    }
+    return taken[link - links];
+}
+
+/* The interface is no member any more, or the daemon ends. */
+void close_team_port(struct link *link) {
+    if (!taken[link - links]) return;
+    taken[link - links] = false;
+    forget_port(link->settings.number);
+    leave_team_port(link->index);
+}
+
+/* Whether an interface is still a port of the device, as the kernel tells another master, or none: that may be older than what the daemon
+ * did. */
+bool is_still_team_port(const struct link *link, int master) {
+    struct device now;
+    if (!opened || !taken[link - links] || master == tap_index() || !read_device(link->index, NULL, &now)) return true;
+    if (now.master == tap_index()) return true;
+    (void)say(LOG_WARNING | ABOUT_DATA, "port %u %s: it was taken out of %s", link->settings.number, link->name, settings.carry);
+    return false;
+}
+
+/* By other settings nothing goes on: the ports of the device are free, and it goes if the last daemon made it. */
+void leave_team(int index, bool with_device) {
+    struct device device, port;
+    if (!find_team_driver() || !read_device(index, NULL, &device) || strcmp(device.kind, TEAM_KIND) != 0) return;
+    for (unsigned i = 0; i < inherited.link_count; i++)
+        if (read_device(inherited.links[i].index, NULL, &port) && port.master == index && set_master(port.index, 0))
+            (void)set_interface_up(port.index, true);
+    if (with_device) (void)remove_device(index);
+}
+
+/* The program ends, and no other one goes on: its ports are free, and the device goes if a daemon made it. */
+void end_team(void) {
+    if (!opened || has_left) return;
+    for (uint16_t i = 0; i < link_count; i++) close_team_port(&links[i]);
+    if (made && tap_index() != 0) (void)remove_device(tap_index());
+    opened = false;
+}
+
+/* Whether this kernel has what carries the data of a file: answers how the program ends. */
+int check_kernel(const struct options *options) {
+    if (options->settings.plane != PLANE_TEAM || find_team_driver()) return DONE;
+    complain("%s:%u: plane=team: this kernel has no team driver: %s", options->file, line_of(&options->settings, "plane"), strerror(errno));
+    return REFUSED;
+}

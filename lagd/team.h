@@ -1,0 +1,77 @@
+/* The plane of the kernel's team driver: what its files share. */
+#ifndef LAGD_TEAM_H
+#define LAGD_TEAM_H
+
+#include <linux/filter.h>
+
+#include "carry.h"
+
+/* The kind of its devices, as rtnetlink has it. */
+#define TEAM_KIND "team"
+/* The most ports of a device that are told: its own, and some that others put there. */
+#define MOST_TEAM_PORTS (2 * NIW_MOST_PORTS)
+
+/* What the kernel has of an interface. */
+struct device {
+    int index, master; /* `master`: the interface of which it is a port, or 0 */
+    unsigned flags;
+    char kind[16]; /* of those that the kernel makes; else empty */
+    uint8_t mac[ETH_ALEN];
+    uint32_t mtu;
+    uint64_t octets_sent, frames_received;
+};
+
+/* What the driver has of a device. */
+struct team_now {
+    char mode[32];
+    int members[CONVERSATIONS];     /* of each bucket the interface by which its frames go, or 0 */
+    uint64_t octets[CONVERSATIONS]; /* that each bucket has sent, as the driver counted them last */
+    unsigned port_count;
+    int ports[MOST_TEAM_PORTS]; /* their interfaces */
+    bool enabled[MOST_TEAM_PORTS];
+};
+
+/* team_netlink.c */
+bool find_team_driver(void);
+bool read_device(int index, const char *name, struct device *device);
+bool make_team_device(const char *name, const uint8_t *mac, uint32_t mtu);
+bool remove_device(int index);
+bool set_interface_up(int index, bool up);
+bool set_master(int index, int master);
+bool set_address(int index, const uint8_t *mac);
+bool set_device_carrier(int index, bool on);
+bool set_team_text(int index, const char *name, const char *text);
+bool set_team_number(int index, const char *name, uint32_t number);
+bool set_team_hash(int index, const struct sock_filter *steps, size_t count);
+bool set_port_enabled(int index, int port, bool enabled);
+bool set_bucket(int index, uint16_t bucket, int port);
+bool read_team(int index, struct team_now *now);
+
+/* team_hash.c */
+#define MOST_HASH_STEPS 256
+size_t make_team_hash(struct sock_filter steps[static MOST_HASH_STEPS]);
+
+/* team.c */
+bool carries_by_team(void);
+bool has_made_team(void);
+void open_team(const char *name, const uint8_t *mac);
+void end_team(void);
+bool open_team_port(struct link *link);
+void close_team_port(struct link *link);
+bool is_team_port(uint16_t port);
+bool is_still_team_port(const struct link *link, int master);
+void give_team_addresses(void);
+void leave_team(int index, bool with_device);
+void leave_team_port(int index);
+int check_kernel(const struct options *options);
+
+/* buckets.c */
+void start_buckets(void);
+void settle_buckets(void);
+void pass_bucket_tick(void);
+void forget_port(uint16_t port);
+int bucket_member_of(uint16_t number);
+uint64_t team_frames_received(void);
+unsigned count_waiting_buckets(void);
+
+#endif

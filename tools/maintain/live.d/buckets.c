@@ -1,0 +1,282 @@
+/* The buckets of the team driver (lagd/buckets.c) over a driver in memory, and a library of four calls: links come and go, frames are sent,
+ * the driver counts late, others change what it has, and it refuses. After each turn buckets are on ports that carry, and those alone are
+ * enabled. A bucket leaves a port that carries only if the driver counted no frame of it for `flight`.
+ *
+ * It prints a line for each check that fails, and then 'buckets: N passed, M failed'; status 1 if one failed. */
+#define _GNU_SOURCE
+#include <errno.h>
+#include <stdlib.h>
+#include <string.h>
+
+#include "checks.h"
+#include "team.h"
+
+#define PORTS 3
+#define INDEX 10 /* of the interface of a port: so much above its number */
+#define DEVICE 7
+#define TURNS 20000
+#define FLIGHT 300
+#define TICK 100
+/* After so many ticks in which nothing happens each bucket is on its own port. */
+#define CALM 30
+
+const char *const program = "buckets";
+struct carry carry;
+struct settings settings = {.flight = FLIGHT};
+struct niw_system own_system;
+struct link links[NIW_MOST_PORTS];
+uint16_t link_count = PORTS;
+bool broken;
+
+/* The driver. */
+static bool enabled[PORTS + 1];
+static int member_of[CONVERSATIONS];
+static uint64_t sent[CONVERSATIONS], counted[CONVERSATIONS], last_counted[CONVERSATIONS]; /* the last: the time of the last frame that is counted */
+static uint64_t last_sent[CONVERSATIONS], all_sent, counted_at;
+static uint16_t placed_in; /* the aggregator that was active last */
+static unsigned refusals; /* how many orders are refused from now on */
+static bool is_port[PORTS + 1];
+
+/* The library: which ports distribute, in which of two aggregators, and the port of each conversation in either. */
+static bool distributes[PORTS + 1];
+static uint16_t aggregator = 1, on[3][CONVERSATIONS];
+static bool carrier;
+static bool early, stranded; /* whether a bucket left a port too early, or was left on one that is disabled */
+
+static unsigned random_below(unsigned bound) {
+    return (unsigned)random() % bound;
+}
+
+/* Whether a conversation is on a port that distributes. */
+static bool is_on(uint16_t agg, uint16_t conv) {
+    return on[agg][conv] != 0 && distributes[on[agg][conv]];
+}
+
+struct niw_number lagffi_offer_conversation(struct niw_system *handle, uint16_t agg, uint16_t conv) {
+    struct niw_number answer = {.status = NIW_OK};
+    (void)handle;
+    if (on[agg][conv] != 0 && !is_on(agg, conv)) answer.status = NIW_HELD;
+    if (on[agg][conv] == 0 && carry.port_count == 0) answer.status = NIW_NONE_DISTRIBUTING;
+    if (answer.status == NIW_OK && on[agg][conv] == 0) on[agg][conv] = carry.ports[conv % carry.port_count];
+    answer.number = on[agg][conv];
+    return answer;
+}
+
+uint32_t lagffi_force(struct niw_system *handle, uint16_t agg, uint16_t conv) {
+    bool held = on[agg][conv] != 0 && !is_on(agg, conv);
+    (void)handle;
+    if (held) on[agg][conv] = 0;
+    return held ? NIW_OK : NIW_NOT_ASSIGNED;
+}
+
+uint32_t lagffi_rest(struct niw_system *handle, uint16_t agg, uint16_t conv) {
+    bool has = is_on(agg, conv);
+    (void)handle;
+    if (has) on[agg][conv] = 0;
+    return has ? NIW_OK : NIW_NOT_ASSIGNED;
+}
+
+bool ask_state(uint16_t agg, uint16_t number, struct niw_assignment *state) {
+    *state = (struct niw_assignment){.port = on[agg][number], .what = NIW_CONVERSATION_FREE};
+    if (on[agg][number] != 0) state->what = is_on(agg, number) ? NIW_CONVERSATION_ON : NIW_CONVERSATION_WANTED;
+    return true;
+}
+
+bool is_held(const struct niw_assignment *state) {
+    return state->what == NIW_CONVERSATION_WANTED;
+}
+
+bool is_done(uint32_t status, const char *call) {
+    if (status == NIW_OK) return true;
+    check(false, call, "the library does it");
+    exit(tell_checks());
+}
+
+static bool refuses(void) {
+    errno = ENODEV;
+    return refusals > 0 && refusals-- > 0;
+}
+
+bool set_port_enabled(int index, int port, bool wanted) {
+    uint16_t number = (uint16_t)(port - INDEX);
+    if (index != DEVICE || !is_port[number] || refuses()) return false;
+    for (uint16_t bucket = 0; !wanted && bucket < CONVERSATIONS; bucket++) {
+        if (member_of[bucket] != port) continue;
+        stranded = stranded || carry.port_count > 0;
+        member_of[bucket] = 0;
+    }
+    enabled[number] = wanted;
+    return true;
+}
+
+bool set_bucket(int index, uint16_t bucket, int port) {
+    uint16_t before = member_of[bucket] == 0 ? 0 : (uint16_t)(member_of[bucket] - INDEX);
+    bool leaves = before != 0 && before != port - INDEX && distributes[before] && placed_in == aggregator;
+    if (index != DEVICE || !enabled[port - INDEX] || refuses()) return false;
+    if (leaves && last_counted[bucket] + FLIGHT > counted_at) early = true;
+    member_of[bucket] = port;
+    return true;
+}
+
+bool read_device(int index, const char *name, struct device *device) {
+    (void)name;
+    *device = (struct device){.index = index, .octets_sent = all_sent};
+    return true;
+}
+
+bool read_team(int index, struct team_now *now) {
+    *now = (struct team_now){0};
+    memcpy(now->members, member_of, sizeof now->members);
+    memcpy(now->octets, counted, sizeof now->octets);
+    for (uint16_t port = 1; port <= PORTS; port++) {
+        if (!is_port[port]) continue;
+        now->ports[now->port_count] = port + INDEX;
+        now->enabled[now->port_count++] = enabled[port];
+    }
+    return index == DEVICE;
+}
+
+/* What the daemon has beside. */
+uint64_t milliseconds(void) {
+    return carry.time;
+}
+uint64_t ticks_passed(void) {
+    return carry.time / TICK;
+}
+int tap_index(void) {
+    return DEVICE;
+}
+bool is_team_port(uint16_t port) {
+    return is_port[port];
+}
+void give_team_addresses(void) {
+}
+void look_at_carry(void) {
+    carry.changed = true;
+}
+void look_again(void) {
+}
+void set_carrier(bool on) {
+    carrier = on;
+}
+bool say(int level, const char *format, ...) {
+    (void)level;
+    return format != NULL;
+}
+
+static void choose_ports(void) {
+    carry.port_count = 0;
+    for (uint16_t port = 1; port <= PORTS; port++)
+        if (distributes[port]) carry.ports[carry.port_count++] = port;
+    carry.active = carry.port_count > 0 ? aggregator : 0;
+}
+
+/* The driver refused something of a port: its link is lost, and so is its place. */
+void lose_link(struct link *link) {
+    uint16_t port = (uint16_t)(link - links + 1);
+    distributes[port] = is_port[port] = enabled[port] = false;
+    for (uint16_t bucket = 0; bucket < CONVERSATIONS; bucket++)
+        if (member_of[bucket] == port + INDEX) member_of[bucket] = 0;
+    forget_port(port);
+}
+
+/* An interface becomes a port again: the driver enables it. */
+static void take_port(uint16_t port) {
+    if (is_port[port]) return;
+    is_port[port] = enabled[port] = true;
+    forget_port(port);
+}
+
+/* The driver counts what was sent. */
+static void count(void) {
+    memcpy(counted, sent, sizeof counted);
+    memcpy(last_counted, last_sent, sizeof last_counted);
+    counted_at = carry.time;
+}
+
+/* Some conversations send for a while, and are still for a while. */
+static void send_some(void) {
+    static bool sends[CONVERSATIONS];
+    for (uint16_t number = 0; number < CONVERSATIONS; number++) {
+        if (random_below(8) == 0) sends[number] = random_below(3) == 0;
+        if (!sends[number] || carry.port_count == 0) continue;
+        sent[number] += 60;
+        all_sent += 60;
+        last_sent[number] = carry.time;
+    }
+}
+
+static void happen(void) {
+    uint16_t port = (uint16_t)(1 + random_below(PORTS)), bucket = (uint16_t)random_below(CONVERSATIONS);
+    if (random_below(20) == 0 && is_port[port]) distributes[port] = !distributes[port];
+    if (random_below(10) == 0) take_port(port);
+    if (random_below(100) == 0) aggregator = 3 - aggregator;
+    if (random_below(200) == 0) refusals = 1 + random_below(2);
+    if (random_below(50) == 0 && is_port[port] && !distributes[port]) enabled[port] = true;
+    if (random_below(50) == 0 && enabled[port] && carry.port_count > 0 && !distributes[port]) member_of[bucket] = port + INDEX;
+}
+
+static void settle(void) {
+    for (unsigned turn = 0; turn < 8; turn++) {
+        carry.changed = false;
+        choose_ports();
+        settle_buckets();
+        if (!carry.changed) break;
+    }
+    if (carry.active != 0) placed_in = aggregator;
+}
+
+/* 100 ms pass. */
+static void pass(bool eventful) {
+    carry.time += TICK;
+    if (eventful) happen();
+    if (eventful) send_some();
+    if (!eventful || random_below(4) > 0) count();
+    choose_ports();
+    pass_bucket_tick();
+    settle();
+}
+
+static bool are_placed(void) {
+    bool right = carrier == (carry.port_count > 0);
+    for (uint16_t bucket = 0; bucket < CONVERSATIONS; bucket++) {
+        uint16_t port = on[aggregator][bucket];
+        right = right && on[3 - aggregator][bucket] == 0;
+        right = right && (carry.port_count == 0 || (port != 0 && member_of[bucket] == port + INDEX && distributes[port]));
+    }
+    for (uint16_t port = 1; port <= PORTS; port++) right = right && (!is_port[port] || enabled[port] == distributes[port]);
+    return right;
+}
+
+/* Whether each bucket is on the port of its number. */
+static bool are_spread(void) {
+    for (uint16_t bucket = 0; carry.port_count > 0 && bucket < CONVERSATIONS; bucket++)
+        if (member_of[bucket] != carry.ports[bucket % carry.port_count] + INDEX) return false;
+    return true;
+}
+
+int main(void) {
+    unsigned wrong = 0, unspread = 0, calms = 0;
+    srandom(1);
+    carry.time = 1000;
+    for (uint16_t i = 0; i < PORTS; i++) links[i] = (struct link){.name = "port", .index = i + 1 + INDEX};
+    for (uint16_t port = 1; port <= PORTS; port++) take_port(port);
+    start_buckets();
+    for (unsigned turn = 0; turn < TURNS; turn++) {
+        bool calm = turn % 200 >= 200 - 2 * CALM;
+        for (uint16_t port = 1; calm && port <= PORTS; port++) take_port(port);
+        for (uint16_t port = 1; turn % 200 == 200 - 2 * CALM && port <= PORTS; port++) distributes[port] = turn % 600 > 200 && (port == 1 || random_below(2) == 0);
+        if (calm) refusals = 0;
+        pass(!calm);
+        if (turn % 200 >= 200 - CALM) wrong += !are_placed(); /* what others set is set back within a second */
+        if (turn % 200 == 199) {
+            calms++;
+            unspread += !are_spread();
+        }
+    }
+    CHECK(wrong == 0 && !stranded);
+    CHECK(!early);
+    CHECK(calms == TURNS / 200 && unspread == 0);
+    CHECK(carry.counts[MOVES] > 1000 && carry.counts[RESTED] > 1000 && carry.counts[FORCED] > 1000);
+    return tell_checks();
+}
