@@ -69,7 +69,6 @@ pub use Rattle.portmachines.specs.Receive.{default_partner, lacpdu_rows, receive
 pub use Rattle.portmachines.specs.Rows.{AtRest, Fires, FiresTimes, Row, RunsToRest}
 pub use Rattle.portmachines.specs.Start.{Starts, before_start}
 pub use Rattle.portmachines.specs.Transmit.{after_sending, aged, count_down, is_due, pdu_of}
-pub use Rattle.portmachines.specs.Window.{KeepsWindow, sent_before}
 pub use Rattle.portmachines.proofs.Choices.{one_effect, one_mux, one_periodic}
 pub use Rattle.portmachines.proofs.Runs.{EachRelates, Fires-relates, Reaches-keeps, Rests-relates}
 pub use Rattle.selection.specs.declared.view.PortView.{PortView, PortView as Seen}

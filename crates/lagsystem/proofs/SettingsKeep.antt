@@ -1,15 +1,14 @@
 -- Every setting keeps the invariant of a system, and is a list of lawful moves.
 use Rattle.lagsystem.proofs.Common.{Bool, Err, List, None, Ok, Option, Result, Some, [], ap, arith, cond, false, if◌then◌else◌, inl, inr, length}
 use Rattle.lagsystem.proofs.Common.{nat_lt, refl, slice_get, slice_set, subst, suc, sym, true, ℕ, ◌&&◌, ◌||◌, ◌∙◌, ◌∷◌, ◌≡◌, ◌≤◌, ◌⊎◌, false≢true}
-use Rattle.lagsystem.proofs.Common.{or_parts, nat_tests, AllByRecursion, list_any, AggId, Key, Choice, Unselected, is_unselected, Members}
-use Rattle.lagsystem.proofs.Common.{LawfulMoves, PortMove, ModelCall, View, members_call, moves_joined, Machines, partner_synchronized, receive_rows}
-use Rattle.lagsystem.proofs.Common.{has_chosen, Table, model_distributor, PortConfig, SystemFault, SystemPort, choice_with_link, configured_numbers}
-use Rattle.lagsystem.proofs.Common.{is_limit, refusal, ReceivesAtRest, key_of, model_port, model_port_of, model_setup, model_view, model_view_at}
-use Rattle.lagsystem.proofs.Common.{none_enabled, number_of_port, OccupantsAgree, WithinLimit, IsAlready, LimitsLinks, OnlyPortBecomes, PortBecomes}
-use Rattle.lagsystem.proofs.Common.{SetsPort, Setting, SettingPromise, SettingStep, ages_at, in_mode, is_crowded, is_held_so, is_in_mode, is_over}
-use Rattle.lagsystem.proofs.Common.{limit_refusal, max_delay_after, max_links_after, members_up, with_held, PortChangesBy, PortsChangeBy, Settling}
-use Rattle.lagsystem.proofs.Common.{HasPorts, HeldUnselected, IsSound, PortsAgree, held_apart, SystemState, aggregators_value, machines_of}
-use Rattle.lagsystem.proofs.Common.{port_index, port_numbers, with_system_ports, with_table, views}
+use Rattle.lagsystem.proofs.Common.{or_parts, nat_tests, list_any, AggId, Key, Choice, Unselected, is_unselected, Members, LawfulMoves, PortMove}
+use Rattle.lagsystem.proofs.Common.{ModelCall, members_call, moves_joined, Machines, partner_synchronized, receive_rows, has_chosen, Table}
+use Rattle.lagsystem.proofs.Common.{model_distributor, PortConfig, SystemFault, SystemPort, choice_with_link, configured_numbers, is_limit, refusal}
+use Rattle.lagsystem.proofs.Common.{ReceivesAtRest, model_port, model_port_of, model_setup, model_view, model_view_at, none_enabled, number_of_port}
+use Rattle.lagsystem.proofs.Common.{OccupantsAgree, WithinLimit, LimitsLinks, OnlyPortBecomes, SetsPort, Setting, SettingPromise, SettingStep}
+use Rattle.lagsystem.proofs.Common.{ages_at, in_mode, is_crowded, is_held_so, is_in_mode, is_over, limit_refusal, max_delay_after, max_links_after}
+use Rattle.lagsystem.proofs.Common.{members_up, with_held, PortChangesBy, PortsChangeBy, Settling, HeldUnselected, IsSound, held_apart, SystemState}
+use Rattle.lagsystem.proofs.Common.{machines_of, port_index, port_numbers, with_system_ports, with_table, views}
 use Rattle.lagsystem.proofs.AgesKept.{ages_in, ages_of, ages_set, few_by, same_ages, settling_ages, zip_ages}
 use Rattle.lagsystem.proofs.Choose.{Fits}
 use Rattle.lagsystem.proofs.FirstView.{configured_setup}
