@@ -1,9 +1,8 @@
 -- A settling leaves the ages of the LACPDUs that each port sent.
-use Rattle.lagsystem.proofs.Common.{Bool, List, None, Option, Some, [], ap, arith, cond, find, map, option_map, refl, slice_get, slice_set, subst, suc, false}
-use Rattle.lagsystem.proofs.Common.{sym, zero, ℕ, ◌==◌, ◌∙◌, ◌∷◌, ◌≡◌, nat_tests, Choice, Machines, mux_rows, RunsPeriodic, periodic_rows, RunsToRest}
-use Rattle.lagsystem.proofs.Common.{Reaches-keeps, AggregatorsValue, SystemPort, ChoosesIn, PortsChangeBy, Settling, ready_of, with_choice, SystemState}
-use Rattle.lagsystem.proofs.Common.{aggregators_value, machines_of, port_numbers, views, AtMostThreeAges}
-use Rattle.lagsystem.specs.Settings.{ages_at}
+use Rattle.lagsystem.proofs.Common.{Bool, List, None, Option, Some, [], ap, arith, cond, false, find, map, option_map, refl, slice_get, slice_set}
+use Rattle.lagsystem.proofs.Common.{suc, sym, zero, ℕ, ◌==◌, ◌∙◌, ◌∷◌, ◌≡◌, nat_tests, Choice, Machines, mux_rows, RunsPeriodic, periodic_rows}
+use Rattle.lagsystem.proofs.Common.{RunsToRest, Reaches-keeps, AggregatorsValue, SystemPort, ages_at, ChoosesIn, PortsChangeBy, Settling, ready_of}
+use Rattle.lagsystem.proofs.Common.{with_choice, SystemState, aggregators_value, port_numbers, views, AtMostThreeAges}
 use Rattle.lagsystem.proofs.Keeps.{settling_in}
 use Rattle.lagsystem.proofs.PromotionLemmas.{KeptByChoices, choosing_keeps}
 use Rattle.lagsystem.proofs.SettlingLemmas.{RunsReady}

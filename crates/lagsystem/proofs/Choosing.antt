@@ -1,7 +1,8 @@
 -- Ports choose one after another, and the list of views stays equal to their views.
 use Rattle.lagsystem.proofs.Common.{Bool, List, None, Option, Some, [], ap, arith, false, get_or, length, not, refl, slice_get, slice_set, suc, zero}
-use Rattle.lagsystem.proofs.Common.{ℕ, ◌<◌, ◌&&◌, ◌||◌, ◌∙◌, ◌∷◌, ◌≡◌, or_parts, nat_tests, list_any, Choice, is_selected, is_unselected, PortView}
-use Rattle.lagsystem.proofs.Common.{AggregatorsValue, is_eligible, SystemPort, after_choice_at, after_choices, with_choice, may_choose, selection_view, views}
+use Rattle.lagsystem.proofs.Common.{ℕ, ◌&&◌, ◌<◌, ◌||◌, ◌∙◌, ◌∷◌, ◌≡◌, or_parts, nat_tests, list_any, Choice, is_selected, is_unselected, PortView}
+use Rattle.lagsystem.proofs.Common.{AggregatorsValue, is_eligible, SystemPort, after_choice_at, after_choices, with_choice, may_choose}
+use Rattle.lagsystem.proofs.Common.{selection_view, views}
 use Rattle.lagsystem.proofs.SettlingLemmas.{none_taken}
 
 abbrev one_may_choose : List SystemPort → Bool

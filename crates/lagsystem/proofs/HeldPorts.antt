@@ -1,6 +1,6 @@
 -- No call makes the host hold a port, and a port that it holds stays UNSELECTED.
-use Rattle.lagsystem.proofs.Common.{Bool, List, None, Option, Some, ap, arith, false, if◌then◌else◌, inl, inr, length, not, option_map, refl, subst, sym}
-use Rattle.lagsystem.proofs.Common.{true, ℕ, ◌&&◌, ◌∙◌, ◌≡◌, ◌⊎◌, nat_tests, AllByRecursion, AggId, Choice, Selected, Standby, Unselected}
+use Rattle.lagsystem.proofs.Common.{Bool, List, None, Option, Some, ap, arith, false, if◌then◌else◌, inl, inr, length, not, option_map, refl, subst}
+use Rattle.lagsystem.proofs.Common.{sym, true, ℕ, ◌&&◌, ◌∙◌, ◌≡◌, ◌⊎◌, nat_tests, AllByRecursion, AggId, Choice, Selected, Standby, Unselected}
 use Rattle.lagsystem.proofs.Common.{is_unselected, Machines, mux_rows, RunsPeriodic, receive_rows, RunsToRest, after_sending, count_down}
 use Rattle.lagsystem.proofs.Common.{chosen_aggregator, AggregatorsValue, Reply, SystemPort, Call, ChangesParty, OnlyPortChangesBy, ProcessesLacpdu}
 use Rattle.lagsystem.proofs.Common.{SetsLink, SetsPortEnabled, Step, ThenSettles, Ticks, HasJustStarted, IsFirst, ChoosesIn, PortsChangeBy, Settling}

@@ -3,10 +3,10 @@ use Rattle.lagsystem.proofs.Common.{Bool, List, None, Option, Some, [], ap, arit
 use Rattle.lagsystem.proofs.Common.{slice_set, subst, suc, sym, true, zero, ℕ, ◌&&◌, ◌||◌, ◌∙◌, ◌∷◌, ◌≡◌, false≢true, nat_tests, AllByRecursion}
 use Rattle.lagsystem.proofs.Common.{AllZip, list_all, AggId, Key, Choice, Selected, is_selected, is_unselected, Waiting, Machines, mux_rows}
 use Rattle.lagsystem.proofs.Common.{same_mux_state, RunsPeriodic, periodic_rows, AtRest, Fires, FiresTimes, Row, RunsToRest, Reaches-keeps, PortView}
-use Rattle.lagsystem.proofs.Common.{chosen_if_eligible, has_group_of, has_occupant, occupants, AggregatorsValue, is_eligible, occupies, SystemPort}
-use Rattle.lagsystem.proofs.Common.{MuxIsSettled, MuxesAreSettled, PeriodicIsSettled, PeriodicsAreSettled, NoneIsNext, PortChangesBy, PortsChangeBy}
-use Rattle.lagsystem.proofs.Common.{PromotesFirst, SettlesPorts, Settling, after_choice_at, after_choices, aggregator_for, choice_for, choice_in}
-use Rattle.lagsystem.proofs.Common.{ready_of, with_choice, SystemState, aggregators_value, port_numbers, with_system_ports, may_choose, selection_view, views}
+use Rattle.lagsystem.proofs.Common.{chosen_if_eligible, has_group_of, has_occupant, occupants, AggregatorsValue, occupies, SystemPort, MuxIsSettled}
+use Rattle.lagsystem.proofs.Common.{MuxesAreSettled, PeriodicIsSettled, PeriodicsAreSettled, NoneIsNext, PortChangesBy, PortsChangeBy, PromotesFirst}
+use Rattle.lagsystem.proofs.Common.{SettlesPorts, Settling, after_choice_at, after_choices, aggregator_for, choice_for, choice_in, ready_of}
+use Rattle.lagsystem.proofs.Common.{with_choice, SystemState, aggregators_value, port_numbers, with_system_ports, may_choose, selection_view, views}
 use Rattle.lagsystem.proofs.Keeps.{chosen_numbers, promoted_numbers, settling_in, settling_keeps, zip_numbers}
 use Rattle.lagsystem.proofs.Limiting.{nothing_promoted, settled_none}
 use Rattle.lagsystem.proofs.PromotionLemmas.{choices_keep, promotions_keep}

@@ -1,18 +1,14 @@
 -- Every setting keeps the invariant of a system, and is a list of lawful moves.
-use Rattle.lagsystem.proofs.Common.{Bool, Err, List, None, Ok, Option, Result, Some, [], ap, arith, false, if◌then◌else◌, inl, inr, length, refl, ◌∷◌}
-use Rattle.lagsystem.proofs.Common.{slice_get, slice_set, subst, sym, true, ℕ, ◌&&◌, ◌∙◌, ◌≡◌, ◌⊎◌, nat_tests, AllByRecursion, Choice, Unselected}
-use Rattle.lagsystem.proofs.Common.{is_unselected, LawfulMoves, PortMove, ModelCall, View, moves_joined, Machines, partner_synchronized, receive_rows}
-use Rattle.lagsystem.proofs.Common.{Table, model_distributor, SystemFault, SystemPort, ReceivesAtRest, key_of, model_port, model_port_of, model_setup}
-use Rattle.lagsystem.proofs.Common.{model_view, model_view_at, none_enabled, OccupantsAgree, WithinLimit, Settling, HasPorts, HeldUnselected, IsSound}
-use Rattle.lagsystem.proofs.Common.{PortsAgree, SystemState, aggregators_value, configured_numbers, machines_of, port_numbers, with_system_ports}
-use Rattle.lagsystem.proofs.Common.{with_table, refusal, held_apart, views, AggId, Key, PortConfig, PortChangesBy, PortsChangeBy, choice_with_link}
-use Rattle.lagsystem.proofs.Common.{cond, false≢true, has_chosen, list_any, nat_lt, number_of_port, or_parts, port_index, suc, ◌||◌, ◌≤◌}
-use Rattle.lagmodel.specs.Law.{Members}
-use Rattle.lagmodel.proofs.Calls.{members_call}
-use Rattle.lagsystem.specs.Settings.{IsAlready, OnlyPortBecomes, PortBecomes, Setting, SettingPromise, SettingStep, SetsPort, ages_at, in_mode}
-use Rattle.lagsystem.specs.First.{is_limit}
-use Rattle.lagsystem.specs.Settings.{LimitsLinks, is_crowded, is_over, limit_refusal, members_up}
-use Rattle.lagsystem.specs.Settings.{is_held_so, is_in_mode, max_delay_after, max_links_after, with_held}
+use Rattle.lagsystem.proofs.Common.{Bool, Err, List, None, Ok, Option, Result, Some, [], ap, arith, cond, false, if◌then◌else◌, inl, inr, length}
+use Rattle.lagsystem.proofs.Common.{nat_lt, refl, slice_get, slice_set, subst, suc, sym, true, ℕ, ◌&&◌, ◌||◌, ◌∙◌, ◌∷◌, ◌≡◌, ◌≤◌, ◌⊎◌, false≢true}
+use Rattle.lagsystem.proofs.Common.{or_parts, nat_tests, list_any, AggId, Key, Choice, Unselected, is_unselected, Members, LawfulMoves, PortMove}
+use Rattle.lagsystem.proofs.Common.{ModelCall, members_call, moves_joined, Machines, partner_synchronized, receive_rows, has_chosen, Table}
+use Rattle.lagsystem.proofs.Common.{model_distributor, PortConfig, SystemFault, SystemPort, choice_with_link, configured_numbers, is_limit, refusal}
+use Rattle.lagsystem.proofs.Common.{ReceivesAtRest, model_port, model_port_of, model_setup, model_view, model_view_at, none_enabled, number_of_port}
+use Rattle.lagsystem.proofs.Common.{OccupantsAgree, WithinLimit, LimitsLinks, OnlyPortBecomes, SetsPort, Setting, SettingPromise, SettingStep}
+use Rattle.lagsystem.proofs.Common.{ages_at, in_mode, is_crowded, is_held_so, is_in_mode, is_over, limit_refusal, max_delay_after, max_links_after}
+use Rattle.lagsystem.proofs.Common.{members_up, with_held, PortChangesBy, PortsChangeBy, Settling, HeldUnselected, IsSound, held_apart, SystemState}
+use Rattle.lagsystem.proofs.Common.{machines_of, port_index, port_numbers, with_system_ports, with_table, views}
 use Rattle.lagsystem.proofs.AgesKept.{ages_in, ages_of, ages_set, few_by, same_ages, settling_ages, zip_ages}
 use Rattle.lagsystem.proofs.Choose.{Fits}
 use Rattle.lagsystem.proofs.FirstView.{configured_setup}

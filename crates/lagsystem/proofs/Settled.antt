@@ -1,10 +1,10 @@
 -- The calls that settle: their own effect, from what its parts do, and the ports that distributed before it.
-use Rattle.lagsystem.proofs.Common.{Bool, List, Option, arith, ℕ, ◌≡◌, nat_tests, AggId, Machines, receive_rows, RunsToRest, count_down, Assignment}
-use Rattle.lagsystem.proofs.Common.{On, ChangesAssignments, after_tick, Table, assignment_of, SystemPort, FreesIfDown, OnlyPortChangesBy}
-use Rattle.lagsystem.proofs.Common.{PortAtChangesBy, SetsLink, SetsPortEnabled, Ticks, WereInUse, aggregators_in_use, PortsChangeBy, IsSound}
-use Rattle.lagsystem.proofs.Common.{SystemState, port_index, with_system_ports, with_table}
-use Rattle.lagsystem.proofs.Common.{AggregatorsValue, Some, Settling, aggregators_value, ap, choice_with_link, inl, inr, port_numbers, refl, subst, sym, ◌∙◌}
-use Rattle.lagsystem.specs.Settings.{IsAlready, LimitsLinks, OnlyPortBecomes, PortBecomes, SetsPort}
+use Rattle.lagsystem.proofs.Common.{Bool, List, Option, Some, ap, arith, inl, inr, refl, subst, sym, ℕ, ◌∙◌, ◌≡◌, nat_tests, AggId, Machines}
+use Rattle.lagsystem.proofs.Common.{receive_rows, RunsToRest, count_down, AggregatorsValue, Assignment, On, ChangesAssignments, after_tick, Table}
+use Rattle.lagsystem.proofs.Common.{assignment_of, SystemPort, FreesIfDown, OnlyPortChangesBy, PortAtChangesBy, SetsLink, SetsPortEnabled, Ticks}
+use Rattle.lagsystem.proofs.Common.{choice_with_link, WereInUse, aggregators_in_use, IsAlready, LimitsLinks, OnlyPortBecomes, PortBecomes, SetsPort}
+use Rattle.lagsystem.proofs.Common.{PortsChangeBy, Settling, IsSound, SystemState, aggregators_value, port_index, port_numbers, with_system_ports}
+use Rattle.lagsystem.proofs.Common.{with_table}
 use Rattle.lagsystem.proofs.Keeps.{Keeps, keeps_link, keeps_place, keeps_slots, keeps_tick, numbers_set, zip_numbers}
 
 -- a state of these fields, with other ports and conversations

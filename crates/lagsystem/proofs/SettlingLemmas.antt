@@ -3,9 +3,9 @@ use Rattle.lagsystem.proofs.Common.{Bool, List, None, Option, Some, [], ap, arit
 use Rattle.lagsystem.proofs.Common.{slice_get, slice_set, subst, suc, sym, true, zero, ℕ, ◌&&◌, ◌||◌, ◌∙◌, ◌∷◌, ◌≡◌, or_parts, nat_tests, list_all}
 use Rattle.lagsystem.proofs.Common.{list_any, AggId, Key, Choice, Selected, Standby, Unselected, is_selected, Machines, mux_rows, RunsPeriodic}
 use Rattle.lagsystem.proofs.Common.{RunsToRest, PortView, chosen_aggregator, ports_that_chose, AggregatorsValue, has_chosen, has_waited}
-use Rattle.lagsystem.proofs.Common.{is_detached_or_waiting, SystemPort, ChoosesIn, PortChangesBy, PortsChangeBy, SettlesPorts}
-use Rattle.lagsystem.proofs.Common.{after_choice_at, aggregator_for, choice_for, choice_in, is_restless, ready_of, with_choice, SystemState}
-use Rattle.lagsystem.proofs.Common.{aggregators_value, with_system_ports, may_choose, selection_view, views}
+use Rattle.lagsystem.proofs.Common.{is_detached_or_waiting, SystemPort, ChoosesIn, PortChangesBy, PortsChangeBy, SettlesPorts, after_choice_at}
+use Rattle.lagsystem.proofs.Common.{aggregator_for, choice_for, choice_in, is_restless, ready_of, with_choice, SystemState, aggregators_value}
+use Rattle.lagsystem.proofs.Common.{with_system_ports, may_choose, selection_view, views}
 use Rattle.lagsystem.proofs.Lists.{AllZip-weaker}
 
 abbrev one_expired : List PortView → Bool

@@ -1,9 +1,8 @@
 -- Every call preserves the invariant of a system, and the invariant implies that the ports agree.
-use Rattle.lagsystem.proofs.Common.{List, [], ap, refl, subst, sym, ℕ, ◌∷◌, View, members_first, one_partner, partner_synchronized, selected, Table}
-use Rattle.lagsystem.proofs.Common.{Reply, SystemPort, Call, Step, IsFirst, JoinedByLawfulMoves, MuxesConsistent, model_setup, model_view}
-use Rattle.lagsystem.proofs.Common.{CallPromise, DistributeAsMuxDoes, HasPorts, IsSound, PortsAgree, SystemState, KeepsTransmitLimit}
-use Rattle.lagmodel.specs.Law.{Members}
-use Rattle.lagmodel.proofs.Calls.{members_call}
+use Rattle.lagsystem.proofs.Common.{List, [], ap, refl, subst, sym, ℕ, ◌∷◌, Members, View, members_call, members_first, one_partner}
+use Rattle.lagsystem.proofs.Common.{partner_synchronized, selected, Table, Reply, SystemPort, Call, Step, IsFirst, JoinedByLawfulMoves}
+use Rattle.lagsystem.proofs.Common.{MuxesConsistent, model_setup, model_view, CallPromise, DistributeAsMuxDoes, HasPorts, IsSound, PortsAgree}
+use Rattle.lagsystem.proofs.Common.{SystemState, KeepsTransmitLimit}
 use Rattle.lagsystem.proofs.FirstView.{configured_setup, first_shows}
 use Rattle.lagsystem.proofs.HeldPorts.{Step-apart, Step-free, first_apart}
 use Rattle.lagsystem.proofs.Keeps.{Step-aggregators, Step-conversations, Step-frame, Step-ports}

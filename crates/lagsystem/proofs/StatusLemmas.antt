@@ -1,8 +1,9 @@
 -- What each status of a port says of the port and its system: by the cases of its definition.
 use Rattle.lagsystem.proofs.Common.{Bool, Some, arith, false, if◌then◌else◌, nat_lt, not, refl, slice_get, sym, true, ℕ, ◌&&◌, ◌≡◌, true≢false}
-use Rattle.lagsystem.proofs.Common.{nat_tests, AggId, Choice, Selected, Standby, Unselected, same_system, exact_system, MuxState, Attached}
-use Rattle.lagsystem.proofs.Common.{CollectingDistributing, ReceiveState, Current, Defaulted, Expired, Initialize, PortDisabled, is_synchronized}
-use Rattle.lagsystem.proofs.Common.{is_unselected, same_mux_state, SystemPort, can_receive_in, IsSound, held_apart, SystemState, IsDistributing, Says, meaning}
+use Rattle.lagsystem.proofs.Common.{nat_tests, AggId, Choice, Selected, Standby, Unselected, is_unselected, same_system, exact_system, MuxState}
+use Rattle.lagsystem.proofs.Common.{Attached, CollectingDistributing, ReceiveState, Current, Defaulted, Expired, Initialize, PortDisabled}
+use Rattle.lagsystem.proofs.Common.{is_synchronized, same_mux_state, SystemPort, can_receive_in, IsSound, held_apart, SystemState, IsDistributing}
+use Rattle.lagsystem.proofs.Common.{Says, meaning}
 use Rattle.lagsystem.specs.declared.port_status.PortStatus.{PortStatus}
 use Rattle.lagsystem.specs.declared.port_status.PortStatus.TheVariants as status
 use Rattle.lagsystem.specs.PortStatus.{status_by_choice, status_by_receive}

@@ -205,9 +205,8 @@ impl<F: Fn(u16, usize) -> usize + Drop> Inner<F> {
 }
 
 impl<F: Fn(u16, usize) -> usize + Drop> System<F> {
-    // promise: a port that the host holds is UNSELECTED until it is let go; `hold_port`, `set_mode`, `set_max_delay` and `set_max_links`
-    //    change what they name, settle, and keep what a call keeps; no call holds a port
-    // contract: `promise` (`SettingPromise`); `HeldUnselected` of `IsSound`; `CallPromise` (`held`)
+    // promise: `hold_port`, `set_mode`, `set_max_delay`, `set_max_links` keep what calls keep; a held port is UNSELECTED
+    // contract: `promise` (`SettingPromise`); `IsSound` (`held`)
     /// Holds a port, or lets it go. A port that is held is UNSELECTED and chooses no aggregator: it leaves its aggregator, what is
     /// On it becomes Wanted there, and its LACPDUs say that it is not in sync, so that the peer's port leaves too. It goes on
     /// sending and processing LACPDUs, and answers markers. Once it is let go, it may choose again. One settling follows.

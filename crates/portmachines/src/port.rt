@@ -128,7 +128,7 @@ impl Port {
         self.machines.run_periodic();
     }
 
-    // promise: `select` writes Selected alone; `set_mode` LACP_Activity and LACP_Timeout, and NTT if one changes
+    // promise: `select` writes Selected, `set_mode` activity, timeout and NTT; nothing else
     // contract: `Port::select`, `set_mode`
     // promise: the receive machine is at rest between calls
     // contract: the invariant of `Port`

@@ -1,7 +1,5 @@
 use crate::systems::{DATA, Row, config, end, marker, no_partner, plays, plays_lists, plays_with};
-use lagsystem::{
-    AggId, Assignment, BadConfig, Choice, Info, MuxState, PortStatus, SystemFault,
-};
+use lagsystem::{AggId, Assignment, BadConfig, Choice, Info, MuxState, PortStatus, SystemFault};
 use slowpdu::MarkerKind;
 
 const SELECTED: Choice = Choice::Selected(AggId(1));
@@ -47,7 +45,9 @@ fn a_port_is_held_before_its_link_comes_up(rt: HostRuntime) -> Result<(), System
         Row::Chosen(1, Choice::Unselected),
         Row::Mux(1, MuxState::Detached),
         Row::Status(1, PortStatus::Held),
-        Row::Sends(1, ours(1, 0x07), theirs(1)),
+        // an LACPDU that does not name the port
+        Row::Takes(1, theirs(1), no_partner(0)),
+        Row::Sends(1, ours(1, 0x07), end(2, 1, 1, 0x05)),
         hears(1),
         Row::Holds(1, false, Ok(())),
         Row::Chosen(1, SELECTED),
@@ -68,7 +68,14 @@ fn a_port_that_distributes_leaves_when_it_is_held(rt: HostRuntime) -> Result<(),
         Row::Mux(1, MuxState::Detached),
         Row::Status(1, PortStatus::Held),
         Row::Distributing(1, &[2]),
-        Row::Conversing(1, 48, Some(Assignment::Wanted { port: 1, preferred: None })),
+        Row::Conversing(
+            1,
+            48,
+            Some(Assignment::Wanted {
+                port: 1,
+                preferred: None,
+            }),
+        ),
         Row::Timers(1, 10, 0, true),
         Row::Offers(1, &DATA, Err(SystemFault::Held)),
         Row::Sends(1, ours(1, 0x07), theirs(1)),
@@ -181,7 +188,13 @@ fn a_limit_is_raised_and_lowered(rt: HostRuntime) -> Result<(), SystemFault> {
         &down,
         // the limit stays as it was set
         &[Row::Link(1, true), Row::Link(2, true), Row::Link(3, true)],
-        &[hears(1), hears(2), hears(3), Row::Chosen(2, SELECTED), Row::Chosen(3, STANDBY)],
+        &[
+            hears(1),
+            hears(2),
+            hears(3),
+            Row::Chosen(2, SELECTED),
+            Row::Chosen(3, STANDBY),
+        ],
     ];
     plays_lists(&rt, rt.alloc(), given, &lists)
 }

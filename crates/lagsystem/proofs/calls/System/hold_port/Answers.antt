@@ -1,5 +1,5 @@
+use Rattle.lagsystem.proofs.Common.{Setting}
 use Rattle.lagsystem.proofs.SettingsKeep.{setting_promise, setting_sound}
-use Rattle.lagsystem.specs.Settings.{Setting}
 use Rattle.lagsystem.proofs.calls.System.hold_port.Goals as goal
 
 pub invariant_of-self : goal.invariant_of-self

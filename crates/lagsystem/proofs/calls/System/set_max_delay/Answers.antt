@@ -1,6 +1,5 @@
-use Rattle.lagsystem.proofs.Common.{Ok, inner_state, refl}
+use Rattle.lagsystem.proofs.Common.{Ok, refl, inner_state, Setting}
 use Rattle.lagsystem.proofs.SettingsKeep.{setting_promise, setting_sound}
-use Rattle.lagsystem.specs.Settings.{Setting}
 use Rattle.lagsystem.proofs.calls.System.set_max_delay.Goals as goal
 
 pub invariant_of-self : goal.invariant_of-self

@@ -1,5 +1,4 @@
-use Rattle.lagsystem.proofs.Common.{ap, arith, sym, ◌∙◌, with_items, with_items_is, aggregators_in_use, inner_state}
-use Rattle.lagsystem.specs.Settings.{limit_refusal}
+use Rattle.lagsystem.proofs.Common.{ap, arith, sym, ◌∙◌, with_items_is, with_items, aggregators_in_use, inner_state, limit_refusal}
 use Rattle.lagsystem.proofs.Settled.{limits_carried, limits_made}
 use Rattle.lagsystem.proofs.inner.Inner.set_max_links.Goals as goal
 

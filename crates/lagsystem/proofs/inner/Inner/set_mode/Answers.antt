@@ -1,6 +1,5 @@
-use Rattle.lagsystem.proofs.Common.{ap, arith, ◌∙◌, ◌≡◌, OnTrue_at, OnFalse_at, with_items, with_items_is, aggregators_in_use, inner_state, port_index, refl}
-use Rattle.lagsystem.proofs.Common.{with_system_ports}
-use Rattle.lagsystem.specs.Settings.{PortBecomes, in_mode, is_in_mode}
+use Rattle.lagsystem.proofs.Common.{ap, arith, refl, ◌∙◌, ◌≡◌, OnFalse_at, OnTrue_at, with_items_is, with_items, aggregators_in_use, inner_state}
+use Rattle.lagsystem.proofs.Common.{PortBecomes, in_mode, is_in_mode, port_index, with_system_ports}
 use Rattle.lagsystem.proofs.Settled.{becomes_carried, becomes_made, becomes_settled, is_so_already}
 use Rattle.lagsystem.proofs.inner.Inner.set_mode.Goals as goal
 
