@@ -176,8 +176,7 @@ void send_frame(struct link *link, const uint8_t *frame) {
     memcpy(sent + 6, link->mac, 6);
     if (is_lacpdu) link->tried = true;
     if (give_past_data(link, sent)) {
-        if (is_lacpdu) note_lacpdu(link);
-        (void)is_done(niw_count_sent(&link->counters, sent, sizeof sent), "niw_count_sent");
+        if (is_done(niw_count_sent(&link->counters, sent, sizeof sent), "niw_count_sent") && is_lacpdu) note_lacpdu(link);
         return;
     }
     link->counts[FAILED_SENT]++;

@@ -23,6 +23,8 @@ SOURCE, ELSEWHERE = "02:00:00:00:00:77", "02:00:00:00:00:78"
 # Two pairs of an LACPDU each way and one aggregate wait of 2 s; and three short periods of 1 s until a partner has gone. A loaded
 # machine takes longer: these are limits, and a sign ends each wait.
 COMES_UP, GOES_DOWN = 40, 30
+# LACP_Activity, and Synchronization (6.4.2.3): of a link that is individual, so that its peer need not be named.
+IS_ACTIVE, IN_SYNC = 1, 8
 # How long a daemon is stopped: longer than three short periods.
 STALL = 5
 SET_PIPE_SIZE = 1031
@@ -208,8 +210,8 @@ def count_frames(daemon: Daemon, wire: Wire) -> None:
         wire.send(payload, source=source)
     for payload in b"\3\1" + bytes(108), b"\1\1\1\x13" + bytes(106), marker(3), bytes(50):
         wire.send(payload)
-    wanted = {"markers_received": 3, "marker_responses_sent": 3, "marker_responses_received": 2, "refused_received": 4}
-    wanted["foreign_responses"] = 3
+    wanted = {"markers_received": 3, "marker_responses_sent": 3, "marker_responses_received": 2}
+    wanted.update({"unknown_received": 1, "illegal_received": 3, "foreign_responses": 3})
     wanted["lacpdus_received"] = 1
     counts = lambda: daemon.port("a0")["counters"]
     check(within(ENDS, lambda: wanted.items() <= counts().items()), "frames are counted by kind", counts())
@@ -249,6 +251,32 @@ def stranger(part: Part) -> None:
     check(within(ENDS, both), "the status has both daemons of a namespace", daemon.text())
     daemon.ends("the daemon")
     second.ends("the other one")
+
+
+def churn(part: Part) -> None:
+    """A peer whose Synchronization bit is 0 for 60 s, which the status, the metrics and a count tell, and then 1."""
+    daemon = part.ours("a0")
+    check(within(ENDS, lambda: daemon.port("a0")["link"] == "up"), "a daemon, and a peer that is not synchronized", daemon.printed())
+    wire, begin = Wire(THEIRS, "b0"), time.monotonic()
+
+    def becomes(seconds: float, state: int, wanted: str) -> bool:
+        """Whether the partner comes to be so within this time, while an LACPDU comes every half second."""
+        until = time.monotonic() + seconds
+        while (port := daemon.port("a0"))["partner_churn"] != wanted and time.monotonic() < until:
+            wire.send(lacpdu(STRANGER, 1, state))
+            time.sleep(0.5)
+        return bool(port["partner_churn"] == wanted)
+
+    check(not becomes(55, IS_ACTIVE, "CHURN"), "for 55 s its partner does not churn", daemon.text())
+    check(becomes(10, IS_ACTIVE, "CHURN"), "after 60 s it does", daemon.text())
+    took, port, text = time.monotonic() - begin, daemon.port("a0"), daemon.text()
+    check(57 < took < 65, "60 s after its link came up", took)
+    check(port["counters"]["partner_churns"] == 1 and port["counters"]["actor_churns"] == 0, "and is counted", text)
+    check(port["actor_churn"] == "NO_CHURN" and "  partner_churn: CHURN\n" in text, "the daemon itself is synchronized", text)
+    told = inside(OURS, daemon.program, "--folder", daemon.folder, "--metrics").stdout
+    check('lagd_port_partner_churn{bundle="a0",interface="a0",port="1"} 1' in told.splitlines(), "so say the metrics", told)
+    check(becomes(COMES_UP, IS_ACTIVE | IN_SYNC, "NO_CHURN"), "until its peer is synchronized", daemon.text())
+    daemon.ends("the daemon")
 
 
 def stall(part: Part) -> None:
@@ -480,6 +508,7 @@ PARTS = {
     "a daemon alone": lone_daemon,
     "a stranger on the wire": stranger,
     "why a port does not distribute": reasons,
+    "a peer that is not synchronized": churn,
     "a daemon that is stopped": stall,
     "a sender that is stopped": stall_of_sender,
     "questions to one that is stopped": full_queue,

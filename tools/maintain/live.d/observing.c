@@ -2,11 +2,13 @@
 #include "checks.h"
 #include "lag.h"
 
-#define MORE_THAN_SYNC (NIW_STATE_ACTIVITY | NIW_STATE_AGGREGATION | NIW_STATE_SYNCHRONIZATION)
-#define ALL_BUT_SYNC (0xff & ~NIW_STATE_SYNCHRONIZATION)
+#define IN_SYNC (NIW_STATE_ACTIVITY | NIW_STATE_AGGREGATION | NIW_STATE_SYNCHRONIZATION)
+#define OUT_OF_SYNC (0xff & ~NIW_STATE_SYNCHRONIZATION)
 
 static void pass(struct niw_churn *churn, unsigned ticks, bool up, uint8_t actor_state, uint8_t partner_state) {
-    for (unsigned tick = 0; tick < ticks; tick++) CHECK(niw_churn_tick(churn, up, actor_state, partner_state) == NIW_OK);
+    bool done = true;
+    for (unsigned tick = 0; tick < ticks; tick++) done = niw_churn_tick(churn, up, actor_state, partner_state) == NIW_OK && done;
+    CHECK(done);
 }
 
 static bool is_machine(const struct niw_churn_machine *it, uint32_t state, uint16_t waited, uint64_t churns, uint64_t synchronizations) {
@@ -16,17 +18,17 @@ static bool is_machine(const struct niw_churn_machine *it, uint32_t state, uint1
 /* The partner is out of sync for 60 s, and then in sync; the actor the other way round. */
 static void check_churn(void) {
     struct niw_churn churn = {0};
-    pass(&churn, 700, false, MORE_THAN_SYNC, ALL_BUT_SYNC);
+    pass(&churn, 700, false, IN_SYNC, OUT_OF_SYNC);
     CHECK(is_machine(&churn.actor, NIW_CHURN_MONITOR, 0, 0, 0) && is_machine(&churn.partner, NIW_CHURN_MONITOR, 0, 0, 0));
-    pass(&churn, 599, true, MORE_THAN_SYNC, ALL_BUT_SYNC);
+    pass(&churn, 599, true, IN_SYNC, OUT_OF_SYNC);
     CHECK(is_machine(&churn.actor, NIW_CHURN_NO_CHURN, 0, 0, 1) && is_machine(&churn.partner, NIW_CHURN_MONITOR, 599, 0, 0));
-    pass(&churn, 1, true, MORE_THAN_SYNC, ALL_BUT_SYNC);
+    pass(&churn, 1, true, IN_SYNC, OUT_OF_SYNC);
     CHECK(is_machine(&churn.partner, NIW_CHURN_CHURN, 0, 1, 0));
-    pass(&churn, 599, true, 0, MORE_THAN_SYNC);
+    pass(&churn, 599, true, 0, IN_SYNC);
     CHECK(is_machine(&churn.actor, NIW_CHURN_MONITOR, 599, 0, 1) && is_machine(&churn.partner, NIW_CHURN_NO_CHURN, 0, 1, 1));
-    pass(&churn, 1, true, 0, MORE_THAN_SYNC);
+    pass(&churn, 1, true, 0, IN_SYNC);
     CHECK(is_machine(&churn.actor, NIW_CHURN_CHURN, 0, 1, 1));
-    pass(&churn, 1, false, 0, MORE_THAN_SYNC);
+    pass(&churn, 1, false, 0, IN_SYNC);
     CHECK(is_machine(&churn.actor, NIW_CHURN_MONITOR, 0, 1, 1) && is_machine(&churn.partner, NIW_CHURN_MONITOR, 0, 1, 1));
     churn.actor.state = 7;
     churn.actor.waited = UINT16_MAX;
