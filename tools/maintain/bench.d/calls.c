@@ -14,16 +14,18 @@
 
 #include "lag.h"
 
+#ifndef CALLS
 #define CALLS 100000
+#endif
 #define ROUNDS 15
 #define ROOM 16384 /* octets of stack that are painted */
 #define PAINT 0xa5
 
 enum kind { NOTHING, NEW, FREE, TICK, TICKS, RECEIVE, TRANSMIT, SET_LINK, CONFIGURE, RESTART, OFFER, OFFER_CONVERSATION, MOVE, LEAVE, FORCE, FORCE_PORT,
-    VIEWS, DUE, TICKS_UNTIL_DUE, CONVERSATION_PORTS, KINDS };
+    VIEWS, DUE, TICKS_UNTIL_DUE, CONVERSATION_PORTS, RESUME, KINDS };
 static const char *const NAMES[KINDS] = {"-", "niw_new", "niw_free", "niw_tick", "niw_ticks, 100 of them", "niw_receive", "niw_transmit", "niw_set_link",
     "niw_configure", "niw_restart", "niw_offer", "niw_offer_conversation", "niw_move_conversation", "niw_leave_conversation", "niw_force", "niw_force_port",
-    "niw_views", "niw_due", "niw_ticks_until_due", "niw_conversation_ports"};
+    "niw_views", "niw_due", "niw_ticks_until_due", "niw_conversation_ports", "niw_resume"};
 
 struct call {
     enum kind kind;
@@ -35,6 +37,7 @@ static struct niw_system here = NIW_EMPTY;
 static uint16_t ports, conversations, rows[NIW_MANY_CONVERSATIONS];
 static bool changed[NIW_MANY_CONVERSATIONS];
 static struct niw_view views[NIW_MOST_PORTS];
+static struct niw_saved saved[NIW_MOST_PORTS];
 static uint8_t frame[NIW_FRAME], response[NIW_FRAME], last_marker[NIW_FRAME];
 static uint64_t seed;
 static size_t deepest[KINDS];
@@ -44,15 +47,18 @@ static uint32_t chance(uint32_t below) {
     return (uint32_t)(seed >> 33) % below;
 }
 
-static void make(void) {
+/* Makes a system; of saved ports a warm one. */
+static void make(const struct niw_saved *from) {
     struct niw_config config = {.priority = 32768, .mac = {2, 0, 0, 0, 0, 1}, .first_marker = 1, .conversations = conversations};
     struct niw_port all[NIW_MOST_PORTS] = {0};
     uint16_t keys[NIW_MOST_PORTS];
+    struct niw_made made;
     for (uint16_t i = 0; i < ports; i++) {
         all[i] = (struct niw_port){(uint16_t)(i + 1), 128, {2, 0, 0, 0, 1, 1}, 1, true, true, true};
         keys[i] = 1;
     }
-    if (niw_new(&here, &config, keys, ports, all, ports).status != NIW_OK) exit(1);
+    made = from ? niw_resume(&here, &config, keys, ports, all, ports, from, ports) : niw_new(&here, &config, keys, ports, all, ports);
+    if (made.status != NIW_OK) exit(1);
 }
 
 /* An LACPDU of a peer that is in sync: of one of three systems and two keys, and mostly of the first ones. */
@@ -72,18 +78,30 @@ static void forge(const struct call *it) {
     }
 }
 
+/* What was saved of each port: an LACPDU of one peer, which knows the port. */
+static void save(void) {
+    for (uint16_t port = 1; port <= ports; port++) {
+        struct niw_pdu pdu = {.subtype = NIW_SUBTYPE_LACPDU};
+        pdu.actor = (struct niw_participant){32768, {2, 0, 0, 0, 9, 0}, 5, 128, port, 0x3f};
+        pdu.partner = (struct niw_participant){32768, {2, 0, 0, 0, 0, 1}, 1, 128, port, 0x3f};
+        saved[port - 1] = (struct niw_saved){.port = port, .frame = {1, 0x80, 0xc2, 0, 0, 2, 2, 0, 0, 0, 9, 0, 0x88, 0x09}};
+        niw_encode(&pdu, saved[port - 1].frame + 14, NIW_PAYLOAD_LENGTH);
+    }
+}
+
 /* What a call needs, before its time begins. */
 static void prepare(const struct call *it) {
     if (it->kind == RECEIVE) forge(it);
     if (it->kind == OFFER) memcpy(frame, (const uint8_t[14]){2, 0, 0, 0, (uint8_t)(it->conversation >> 8), (uint8_t)it->conversation, 2, 0, 0, 0, 0, 0, 8, 0}, 14);
-    if (it->kind == NEW) niw_free(&here);
-    if (it->kind == FREE && !here.live) make();
+    if (it->kind == NEW || it->kind == RESUME) niw_free(&here);
+    if (it->kind == FREE && !here.live) make(NULL);
 }
 
 static void call(const struct call *it) {
     struct niw_change change = {(uint16_t)(1 + it->chance % 2), (uint16_t)(it->chance % 3), it->chance % 8 != 0};
     switch (it->kind) {
-    case NEW: make(); break;
+    case NEW: make(NULL); break;
+    case RESUME: make(saved); break;
     case FREE: niw_free(&here); break;
     case TICK: niw_tick(&here); break;
     case TICKS: niw_ticks(&here, 100); break;
@@ -108,7 +126,7 @@ static void call(const struct call *it) {
 
 /* Which calls are made: mostly those that a host makes all the time, in runs of one kind, so that much is held at once. */
 static enum kind drawn(void) {
-    static const uint8_t WEIGHTS[KINDS] = {2, 2, 2, 30, 1, 60, 60, 8, 3, 2, 5, 4, 4, 3, 3, 4, 5, 5, 5, 3};
+    static const uint8_t WEIGHTS[KINDS] = {2, 2, 2, 30, 1, 60, 60, 8, 3, 2, 5, 4, 4, 3, 3, 4, 5, 5, 5, 3, 2};
     uint32_t all = 0, at;
     for (int kind = 0; kind < KINDS; kind++) all += WEIGHTS[kind];
     at = chance(all);
@@ -119,9 +137,9 @@ static enum kind drawn(void) {
     return NOTHING;
 }
 
-/* Whether all links are down after a call of this kind. */
+/* Whether links may be down after a call of this kind. */
 static bool empties(enum kind kind) {
-    return kind == NEW || kind == FREE || kind == RESTART;
+    return kind == NEW || kind == FREE || kind == RESTART || kind == RESUME;
 }
 
 static void draw(struct call *calls) {
@@ -159,7 +177,7 @@ static void play(const struct call *calls, uint32_t *times) {
     for (unsigned i = 0; i < CALLS; i++) {
         struct timespec began, ended;
         uint64_t took;
-        if (!here.live) make();
+        if (!here.live) make(NULL);
         for (uint16_t port = 1; port <= ports && (i == 0 || empties(calls[i - 1].kind)); port++) niw_set_link(&here, port, true);
         prepare(&calls[i]);
         if (!times) paint();
@@ -199,6 +217,7 @@ int main(void) {
         ports = SIZES[size][0];
         conversations = SIZES[size][1];
         seed = size + 1;
+        save();
         draw(calls);
         memset(times, 0xff, sizeof times);
         memset(deepest, 0, sizeof deepest);

@@ -18,7 +18,7 @@ PORTS = (2, 8, 64)
 PARTS = ("lacp", "hmap")
 # Each function by itself: the linker drops what nobody calls.
 SMALL = ["-O2", "-ffunction-sections", "-fdata-sections"]
-WRAPS = [f"-Wl,--wrap={name}" for name in ("malloc", "realloc", "free")]
+WRAPS = [f"-Wl,--wrap={name}" for name in ("malloc", "calloc", "realloc", "free")]
 
 
 def text(file: str) -> int:
@@ -87,7 +87,7 @@ def measure(cache: str) -> int:
     print(f"{machine()}. Open vSwitch {version}; {RUNS} runs, of each the lowest and the highest figure.\n")
     print("|code and constants, octets||\n|---|---:|")
     print("".join(f"|{name}|{octets:,}|\n" for name, octets in sizes.items()))
-    print("|" + "|".join(["", *(it for ports in PORTS for it in (f"ours, {ports} ports", "theirs", "ratio"))]) + "|")
+    print("|" + "|".join(["ns a call; octets", *(it for ports in PORTS for it in (f"ours, {ports} ports", "theirs", "ratio"))]) + "|")
     print("|---|" + "---:|" * 3 * len(PORTS))
     names = dict.fromkeys(name for name, _ in runs[0])
     print("".join(f"{row(name, runs)}\n" for name in names), end="")

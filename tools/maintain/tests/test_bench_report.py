@@ -35,7 +35,7 @@ def test_a_call_without_a_time_has_a_dash_and_a_wrong_answer_is_told(capsys: pyt
     report.timed_rows(table, report.Measured(LINES), ["calls", "2 / 1", "8 / 1"], "call", [("2", "1"), ("8", "1")])
     report.timed_rows(table, report.Measured(LINES), ["calls", "64 / all"], "call", [("64", "all")])
     printed = capsys.readouterr().out
-    assert "| tick  |  73.4 |     - |\n" in printed and "| tick  |    1,235 | WRONG\n" in printed
+    assert "|tick|73.4|-|\n" in printed and "|tick|1,235| WRONG\n" in printed
     assert (table.rows, table.wrong) == (2, 1)
 
 

@@ -1,4 +1,5 @@
-/* Counts the octets that are held of malloc and realloc; the program is linked with --wrap for each of the three names. */
+/* Counts the octets that are held of malloc, calloc and realloc; the program is linked with --wrap for each name. Compilers make calloc of a malloc
+ * that is cleared. */
 #include <stddef.h>
 #include <string.h>
 
@@ -6,6 +7,7 @@ void *__real_malloc(size_t size);
 void *__real_realloc(void *old, size_t size);
 void __real_free(void *old);
 void *__wrap_malloc(size_t size);
+void *__wrap_calloc(size_t count, size_t size);
 void *__wrap_realloc(void *old, size_t size);
 void __wrap_free(void *old);
 extern unsigned long heap_held;
@@ -37,6 +39,12 @@ static void *gave(void *old)
 void *__wrap_malloc(size_t size)
 {
     return took(__real_malloc(size + HEAD), size);
+}
+
+void *__wrap_calloc(size_t count, size_t size)
+{
+    void *made = __wrap_malloc(count * size);
+    return made ? memset(made, 0, count * size) : NULL;
 }
 
 void *__wrap_realloc(void *old, size_t size)
