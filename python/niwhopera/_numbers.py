@@ -663,6 +663,9 @@ class Functions:
         self.rest: Callable[..., int] = _bound(
             library, "lagffi_rest", ctypes.c_uint32, [ctypes.POINTER(NiwSystem), ctypes.c_uint16, ctypes.c_uint16]
         )
+        self.adopt: Callable[..., int] = _bound(
+            library, "lagffi_adopt", ctypes.c_uint32, [ctypes.POINTER(NiwSystem), ctypes.c_uint16, ctypes.c_uint16, ctypes.c_uint16]
+        )
         self.probe: Callable[..., NiwSent] = _bound(
             library, "lagffi_probe", NiwSent, [ctypes.POINTER(NiwSystem), ctypes.c_uint16, ctypes.POINTER(ctypes.c_uint8), ctypes.c_size_t]
         )

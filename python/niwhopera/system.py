@@ -180,6 +180,11 @@ class System(Handle):
         NOT_ASSIGNED, MARKERS_SPENT."""
         check(self._c.move_conversation(self._at(), _aggregator(aggregator), _conversation(conversation), _port(port)))
 
+    def adopt(self, aggregator: int, conversation: int, port: int) -> None:
+        """Puts a conversation on the port on which a data plane has it: after `resume`, before another frame of it is offered. Raises
+        `Held`, also where it is on another port; NOT_DISTRIBUTING, NOT_ASSIGNED, MARKERS_SPENT."""
+        check(self._c.adopt(self._at(), _aggregator(aggregator), _conversation(conversation), _port(port)))
+
     def force(self, aggregator: int, conversation: int) -> None:
         """Frees a conversation at once, so that its frames may overtake one another. Raises NOT_ASSIGNED."""
         check(self._c.force(self._at(), _aggregator(aggregator), _conversation(conversation)))

@@ -185,6 +185,15 @@ def test_a_warm_start_tells_its_peer_nothing_new(world: TwoSystems) -> None:
         for port, sent in warm.transmissions():
             assert peer.receive(port, sent.frame).kind is ReceivedKind.TOOK_LACPDU
         assert peer.views() == before and warm.due() == ()
+        warm.adopt(1, 6, 2)
+        warm.adopt(1, 6, 2)
+        assert (warm.offer_conversation(1, 6), warm.offer_conversation(1, 8), warm.next_marker(), warm.due()) == (2, 1, 1, ())
+        with pytest.raises(Held):
+            warm.adopt(1, 6, 1)
+        for conversation, port, why in (256, 1, Status.NOT_ASSIGNED), (7, 9, Status.NO_PORT):
+            with pytest.raises(LagError) as told:
+                warm.adopt(1, conversation, port)
+            assert told.value.status is why
 
 
 def test_a_warm_start_is_refused(world: TwoSystems) -> None:

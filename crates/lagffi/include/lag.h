@@ -46,7 +46,7 @@ struct niw_queue {
 #define NIW_EMPTY {false, NULL}
 
 /* The version of this header: it is to go up with each change of what stands here. */
-#define NIW_VERSION 9
+#define NIW_VERSION 11
 /* The version of the release that the header is of. */
 #define NIW_VERSION_TEXT "0.1.0"
 /* The octets of a frame that the library answers. */
@@ -80,10 +80,11 @@ enum {
                                    the link of its port goes down, or niw_force or niw_force_port frees it. A link that falls
                                    silent and stays up holds them for ever: once its port has not distributed for longer
                                    than frames can take through the network, niw_force_port. niw_offer_in_active_aggregator and
-                                   niw_offer_conversation_in_active_aggregator: the same, or it is on a port or held in another aggregator */
+                                   niw_offer_conversation_in_active_aggregator: the same, or it is on a port or held in another aggregator;
+                                   niw_adopt: the same, or it is on another port */
     NIW_NONE_DISTRIBUTING = 6,  /* the conversation is free, and no port distributes in the aggregator */
-    NIW_NOT_DISTRIBUTING = 7,   /* the port to move to does not distribute in the aggregator; niw_resume: a saved port does not come to
-                                   distribute as its LACPDU says */
+    NIW_NOT_DISTRIBUTING = 7,   /* the port to move to does not distribute in the aggregator, nor that of niw_adopt; niw_resume: a
+                                   saved port does not come to distribute as its LACPDU says */
     NIW_SAME_PORT = 8,          /* the port to move to is the one that the conversation is on */
     NIW_NOT_ASSIGNED = 9,       /* the conversation is free, or there is no such conversation or aggregator, or a list of
                                    conversations has more than 65536 */
@@ -412,6 +413,7 @@ struct niw_number lagffi_force_port(struct niw_system *handle, uint16_t port);
 struct niw_number lagffi_offer_conversation(struct niw_system *handle, uint16_t agg, uint16_t conv);
 uint32_t lagffi_leave_conversation(struct niw_system *handle, uint16_t agg, uint16_t conv);
 uint32_t lagffi_rest(struct niw_system *handle, uint16_t agg, uint16_t conv);
+uint32_t lagffi_adopt(struct niw_system *handle, uint16_t agg, uint16_t conv, uint16_t port);
 struct niw_sent lagffi_probe(struct niw_system *handle, uint16_t port, uint8_t *frame, size_t room);
 struct niw_number lagffi_offer_in_active_aggregator(struct niw_system *handle, uint16_t agg, const uint8_t *frame,
     size_t length);
@@ -585,6 +587,12 @@ static inline uint32_t niw_leave_conversation(struct niw_system *handle, uint16_
  * order. */
 static inline uint32_t niw_rest(struct niw_system *handle, uint16_t agg, uint16_t conv) {
     return handle ? lagffi_rest(handle, agg, conv) : niw_null_status();
+}
+
+/* Puts a conversation on the port on which the program's chip has it, whichever port the algorithm picks: after niw_resume, before
+ * another frame of it is offered. No frame and no marker is sent. One that is on the port already stays. */
+static inline uint32_t niw_adopt(struct niw_system *handle, uint16_t agg, uint16_t conv, uint16_t port) {
+    return handle ? lagffi_adopt(handle, agg, conv, port) : niw_null_status();
 }
 
 /* A marker that asks whether the peer of a port answers markers, to be sent now; `frame` has NIW_FRAME octets or more, and is written

@@ -17,7 +17,7 @@ static const struct {
 #define EXPORT(name) {#name, (void (*)(void))lagffi_##name}
     EXPORT(new), EXPORT(free), EXPORT(receive), EXPORT(tick), EXPORT(ticks), EXPORT(set_link), EXPORT(configure), EXPORT(restart),
     EXPORT(transmit), EXPORT(offer), EXPORT(move_conversation), EXPORT(force), EXPORT(force_port), EXPORT(offer_conversation),
-    EXPORT(leave_conversation), EXPORT(rest), EXPORT(probe), EXPORT(offer_in_active_aggregator),
+    EXPORT(leave_conversation), EXPORT(rest), EXPORT(adopt), EXPORT(probe), EXPORT(offer_in_active_aggregator),
     EXPORT(offer_conversation_in_active_aggregator), EXPORT(ports), EXPORT(views), EXPORT(due), EXPORT(aggregators), EXPORT(load),
     EXPORT(held), EXPORT(answers), EXPORT(is_up), EXPORT(state), EXPORT(receive_state), EXPORT(is_due), EXPORT(party),
     EXPORT(partner), EXPORT(group), EXPORT(defaulted), EXPORT(distributes), EXPORT(choice), EXPORT(is_standby), EXPORT(mux_state),
