@@ -7,7 +7,7 @@ use Rattle.lagsystem.specs.declared.fault.BadConfig.TheVariants.{Ports, Aggregat
 use Rattle.lagsystem.specs.declared.fault.SystemFault.{SystemFault}
 use Rattle.lagsystem.specs.declared.fault.SystemFault.TheVariants.{NoPort, NoAggregator, FrameLength, SlowFrame, Held, NoneDistributing}
 use Rattle.lagsystem.specs.declared.fault.SystemFault.TheVariants.{NotDistributing, SamePort, NotAssigned, MarkersSpent, BadConfig}
-use Rattle.lagsystem.specs.declared.fault.SystemFault.TheVariants.{NoMemory}
+use Rattle.lagsystem.specs.declared.fault.SystemFault.TheVariants.{NoMemory, OverLimit}
 
 -- the number of a reason to refuse a configuration, in the order of checking
 abbrev pub reason_number : Reason → ℕ
@@ -31,6 +31,7 @@ fault_number NotAssigned = 9
 fault_number MarkersSpent = 10
 fault_number (BadConfig reason) = 11
 fault_number NoMemory = 12
+fault_number OverLimit = 13
 
 -- the text of a reason to refuse a configuration, as Display writes it
 abbrev pub reason_text : Reason → List ℕ
@@ -55,6 +56,7 @@ fault_text NotAssigned = codes "the conversation is free, or there is no such co
 fault_text MarkersSpent = codes "no marker identifier is left"
 fault_text (BadConfig reason) = reason_text reason
 fault_text NoMemory = codes "out of memory"
+fault_text OverLimit = codes "an aggregator has more links than this limit"
 
 -- the name of a fault of a system, in one word
 abbrev pub fault_name : SystemFault → List ℕ
@@ -70,6 +72,7 @@ fault_name NotAssigned = codes "not-assigned"
 fault_name MarkersSpent = codes "markers-spent"
 fault_name (BadConfig reason) = codes "bad-config"
 fault_name NoMemory = codes "no-memory"
+fault_name OverLimit = codes "over-limit"
 
 -- a refusal of the distributor as a fault of the system
 abbrev pub system_fault : DistFault → SystemFault

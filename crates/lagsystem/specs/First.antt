@@ -1,5 +1,5 @@
 -- The first state of a system.
-use Rattle.std.specs.Prelude.{◌≡◌, ℕ, Bool, true, ◌+◌, ◌&&◌, List, [], ◌∷◌, length, map, nat_le, nat_lt, if◌then◌else◌, Option}
+use Rattle.std.specs.Prelude.{◌≡◌, ℕ, Bool, true, false, ◌+◌, ◌&&◌, List, [], ◌∷◌, length, map, nat_le, nat_lt, if◌then◌else◌, Option}
 use Rattle.std.specs.Prelude.{Some, None, option_map}
 use Rattle.std.specs.List.{AllZip}
 use Rattle.lagtypes.specs.declared.identifiers.Key.{Key}
@@ -31,10 +31,10 @@ setup_of system c =
       short = c.short;
     }
 
--- a port that has just started, with its link down
+-- a port that has just started, with its link down; the host does not hold it
 abbrev pub HasJustStarted : SystemId → PortConfig → SystemPort → Type 0
 HasJustStarted system c system_port = (system_port.number ≡ c.number) × (system_port.mac ≡ c.mac)
-    × Starts (before_start (setup_of system c)) system_port.port
+    × Starts (before_start (setup_of system c)) system_port.port × (system_port.held ≡ false)
 
 -- every port has just started, and one settling followed; every conversation is free, and the next marker is the first
 abbrev pub IsFirst : SystemState → Type 0

@@ -34,3 +34,4 @@ pub mod Waiting
 pub mod Quiet
 pub mod Soonest
 pub mod HostCalls
+pub mod Settings

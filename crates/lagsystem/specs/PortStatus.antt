@@ -1,5 +1,5 @@
 -- Whether a port distributes, and else the first reason why not; its number, its name and its text (profile).
-use Rattle.std.specs.Prelude.{ℕ, List, codes, not, nat_lt, if◌then◌else◌}
+use Rattle.std.specs.Prelude.{ℕ, List, codes, not, nat_lt, if◌then◌else◌, Option, option_map}
 use Rattle.lagtypes.specs.declared.party.Choice.{Choice}
 use Rattle.lagtypes.specs.declared.party.Choice.TheVariants as choice
 use Rattle.lagtypes.specs.Same.{same_system}
@@ -10,6 +10,8 @@ use Rattle.portmachines.specs.Machines.{Machines}
 use Rattle.portmachines.specs.Mux.{same_mux_state}
 use Rattle.lagsystem.specs.declared.port_status.PortStatus.{PortStatus}
 use Rattle.lagsystem.specs.declared.port_status.PortStatus.TheVariants as status
+use Rattle.lagsystem.specs.declared.system_ports.SystemPort.{SystemPort}
+use Rattle.lagsystem.specs.State.{SystemState, port_index, system_port_at}
 
 -- of a SELECTED port that has heard its partner: its mux machine is in ATTACHED; or wait_while runs; or it waits for others
 abbrev pub status_when_selected : Machines → PortStatus
@@ -35,11 +37,15 @@ status_by_receive p receive.Current = status_when_current p
 status_by_receive p receive.Initialize = status_when_current p
 status_by_receive p receive.PortDisabled = status_when_current p
 
--- the status of a port: it distributes; else its link is down; else by its receive machine
-abbrev pub status_of_port : Machines → PortStatus
-status_of_port p =
-    if same_mux_state CollectingDistributing p.mux then status.Distributing
-    else (if not p.enabled then status.LinkDown else status_by_receive p p.receive)
+-- the status of a port: it distributes; else its link is down; else the host holds it; else by its receive machine
+abbrev pub status_of_port : SystemPort → PortStatus
+status_of_port s =
+    if same_mux_state CollectingDistributing s.port.mux then status.Distributing
+    else (if not s.port.enabled then status.LinkDown else (if s.held then status.Held else status_by_receive s.port s.port.receive))
+
+-- the status of the port with this number; None if there is no such port
+abbrev pub port_status_at : ℕ → SystemState → Option PortStatus
+port_status_at n s = option_map status_of_port (system_port_at (port_index n s.system_ports) s.system_ports)
 
 -- the number of a status, in the order of `PortStatus`
 abbrev pub status_number : PortStatus → ℕ
@@ -53,6 +59,7 @@ status_number (status.Standby agg) = 6
 status_number (status.Waiting ticks) = 7
 status_number status.WaitingForMembers = 8
 status_number status.PartnerNotSynchronized = 9
+status_number status.Held = 10
 
 -- the name of a status, in one word
 abbrev pub status_name : PortStatus → List ℕ
@@ -66,6 +73,7 @@ status_name (status.Standby agg) = codes "standby"
 status_name (status.Waiting ticks) = codes "waiting"
 status_name status.WaitingForMembers = codes "waiting-for-members"
 status_name status.PartnerNotSynchronized = codes "partner-not-synchronized"
+status_name status.Held = codes "held"
 
 -- the text of a status, as Display writes it; neither the aggregator nor the ticks are told
 abbrev pub status_text : PortStatus → List ℕ
@@ -79,3 +87,4 @@ status_text (status.Standby agg) = codes "its aggregator has no room for one mor
 status_text (status.Waiting ticks) = codes "it waits for wait_while"
 status_text status.WaitingForMembers = codes "it waits for other ports of its aggregator"
 status_text status.PartnerNotSynchronized = codes "the partner is not synchronized"
+status_text status.Held = codes "the host holds it"

@@ -12,7 +12,7 @@ use Rattle.portmachines.specs.Rows.{RunsToRest}
 use Rattle.portmachines.specs.Mux.{mux_rows}
 use Rattle.portmachines.specs.Periodic.{RunsPeriodic}
 use Rattle.selection.specs.declared.view.PortView.{PortView}
-use Rattle.selection.specs.Views.{has_waited, is_eligible}
+use Rattle.selection.specs.Views.{has_waited}
 use Rattle.selection.specs.Choice.{chosen_aggregator}
 use Rattle.selection.specs.Limits.{AggregatorsValue, has_room, next_standby_index}
 use Rattle.selection.specs.Ready.{is_ready}
@@ -22,10 +22,10 @@ use Rattle.distributor.specs.declared.assignment.Assignment.TheVariants.{On, Wan
 use Rattle.distributor.specs.Calls.{is_among}
 use Rattle.distributor.specs.Conversations.{assignment_of}
 use Rattle.lagsystem.specs.Readers.{aggregator_numbered, distributing}
-use Rattle.lagsystem.specs.Views.{selection_view, views}
+use Rattle.lagsystem.specs.Views.{may_choose, selection_view, views}
 use Rattle.lagsystem.specs.State.{SystemState, aggregators_value, with_system_ports, with_table}
 
--- the port keeps its number and its MAC address, and its machines change by the relation
+-- the port keeps its number, its MAC address and whether it is held, and its machines change by the relation
 abbrev pub PortChangesBy : (Machines → Machines → Type 0) → SystemPort → SystemPort → Type 0
 PortChangesBy R old new = (new ≡ record old { port = new.port }) × R old.port new.port
 
@@ -69,9 +69,9 @@ PromotesFirst aggs zero old new = new ≡ old
 PromotesFirst aggs (suc n) old new =
     (mid : List SystemPort) × PromotesFirst aggs n old mid × PromotesAll aggs (aggregator_numbered (suc n)) mid new
 
--- the aggregator that a port chooses, if it is eligible
+-- the aggregator that a port chooses, if it may choose one
 abbrev pub aggregator_for : List Key → List SystemPort → SystemPort → Option AggId
-aggregator_for keys system_ports system_port = if is_eligible (selection_view system_port) then chosen_aggregator keys (views system_ports)
+aggregator_for keys system_ports system_port = if may_choose system_port then chosen_aggregator keys (views system_ports)
     system_port.number else None
 
 -- SELECTED with the aggregator if that has room, else STANDBY
@@ -83,11 +83,11 @@ choice_if false agg = Standby agg
 abbrev pub choice_in : AggregatorsValue → List PortView → AggId → Choice
 choice_in aggs seen agg = choice_if (has_room aggs seen agg) agg
 
--- what a port becomes that chooses an aggregator, if it is eligible
+-- what a port becomes that chooses an aggregator, if it may choose one
 abbrev pub choice_for : AggregatorsValue → List SystemPort → SystemPort → Option Choice
 choice_for aggs system_ports system_port = option_map (choice_in aggs (views system_ports)) (aggregator_for aggs.keys system_ports system_port)
 
--- the ports after the one at this index has chosen an aggregator, if it is eligible
+-- the ports after the one at this index has chosen an aggregator, if it may choose one
 abbrev pub after_choice_at : AggregatorsValue → List SystemPort → ℕ → Option SystemPort → List SystemPort
 after_choice_at aggs system_ports index None = system_ports
 after_choice_at aggs system_ports index (Some system_port) = slice_set system_ports index (with_choice system_port (choice_for aggs system_ports system_port))
@@ -97,10 +97,10 @@ abbrev pub after_choices : AggregatorsValue → ℕ → List SystemPort → List
 after_choices aggs zero system_ports = system_ports
 after_choices aggs (suc n) system_ports = after_choice_at aggs (after_choices aggs n system_ports) n (slice_get (after_choices aggs n system_ports) n)
 
--- promise: then eligible ports choose; each sees the promotions and the choices before it. It becomes SELECTED exactly if the aggregator
+-- promise: then the ports choose that are eligible and not held; each sees the promotions and the choices before it. It becomes SELECTED exactly if the aggregator
 --    has room, else STANDBY; a port becomes STANDBY in no other way
 -- contract: `step` (`ChoosesIn`, `choice_for`, `choice_in`)
--- STANDBY ports become SELECTED where there is room; then each eligible port, ascending, chooses its aggregator
+-- STANDBY ports become SELECTED where there is room; then each port that may choose, ascending, chooses its aggregator
 abbrev pub ChoosesIn : AggregatorsValue → List SystemPort → List SystemPort → Type 0
 ChoosesIn aggs old new =
     (mid : List SystemPort) × PromotesFirst aggs (length aggs.keys) old mid × (new ≡ after_choices aggs (length mid) mid)

@@ -1,8 +1,9 @@
 -- The invariant of a system, and what every call promises.
-use Rattle.std.specs.Prelude.{◌≡◌, ℕ, true, List, [], ◌∷◌, length, None}
+use Rattle.std.specs.Prelude.{◌≡◌, ℕ, Bool, true, false, if◌then◌else◌, List, [], ◌∷◌, length, None}
 use Rattle.std.specs.List.{AllByRecursion}
 use Rattle.portmachines.specs.declared.mux.MuxState.TheVariants.{CollectingDistributing}
 use Rattle.portmachines.specs.Mux.{same_mux_state}
+use Rattle.lagtypes.specs.Choices.{is_unselected}
 use Rattle.lagmodel.specs.Law.{Members, OnePartner}
 use Rattle.distributor.specs.declared.assignment.Assignment.TheVariants.{On}
 use Rattle.distributor.specs.Calls.{is_among}
@@ -30,6 +31,18 @@ abbrev pub OnlyOnDistributing : SystemState → Type 0
 OnlyOnDistributing s = (g k p : ℕ) → assignment_of s.table g k ≡ On p
     → is_among (distributing (aggregator_numbered g) s.system_ports) p ≡ true
 
+-- the host holds no port
+abbrev pub NoneHeld : SystemState → Type 0
+NoneHeld s = AllByRecursion (λ x. x.held ≡ false) s.system_ports
+
+-- the port is UNSELECTED if the host holds it
+abbrev pub held_apart : SystemPort → Bool
+held_apart x = if x.held then is_unselected x.port.choice else true
+
+-- so is each port that the host holds (profile)
+abbrev pub HeldUnselected : List SystemPort → Type 0
+HeldUnselected system_ports = AllByRecursion (λ x. held_apart x ≡ true) system_ports
+
 -- what holds of every system: the invariant of `System`
 pub record IsSound (s : SystemState) : Type 0 where
   pub ports : HasPorts s
@@ -43,12 +56,14 @@ pub record IsSound (s : SystemState) : Type 0 where
   pub occupants : OccupantsAgree s.keys s.system_ports
   pub limited : WithinLimit s.max_links (views s.system_ports)
   pub promoted : NoneIsNext (aggregators_value s) (views s.system_ports)
+  pub held : HeldUnselected s.system_ports
 
--- the state that `new` makes of a configuration
+-- the state that `new` makes of a configuration: the host holds no port
 pub record IsMade (config : Config) (s : SystemState) : Type 0 where
   pub first : IsFirst s
   pub configured : IsConfigured config s
   pub sound : IsSound s
+  pub held : NoneHeld s
 
 -- a port distributes in the model's view exactly if its mux machine does
 abbrev pub DistributeAsMuxDoes : List SystemPort → Type 0
@@ -69,8 +84,8 @@ pub record PortsAgree (s : SystemState) : Type 0 where
   pub distribute : DistributeAsMuxDoes s.system_ports
 
 -- What every call promises. It is a `Step`; the model allows it, with the visible acts that its reply has; each port
--- keeps its transmit limit; the ports agree after it (`PortsAgree`); and the configuration stays, with the count of
--- conversations and the limit of links.
+-- keeps its transmit limit; the ports agree after it (`PortsAgree`); the configuration stays, with the count of
+-- conversations and the limit of links; and no call makes the host hold a port.
 pub record CallPromise (gives : ℕ → ℕ → ℕ → Type 0) (old : SystemState) (call : Call) (reply : Reply) (new : SystemState) : Type 0 where
   pub step : Step gives old call reply new
   pub moves : JoinedByLawfulMoves old call reply new
@@ -79,3 +94,4 @@ pub record CallPromise (gives : ℕ → ℕ → ℕ → Type 0) (old : SystemSta
   pub configured : model_setup new ≡ model_setup old
   pub conversations : new.conversations ≡ old.conversations
   pub max_links : new.max_links ≡ old.max_links
+  pub held : NoneHeld old → NoneHeld new

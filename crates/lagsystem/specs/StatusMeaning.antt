@@ -1,13 +1,12 @@
 -- What each status of a port says of the port and its system (6.4.7, 6.4.8, 6.4.10, 6.4.12, 6.4.14, 6.4.15; profile).
 use Rattle.std.specs.Prelude.{◌≡◌, ◌<◌, ℕ, true, false, length, Some, None, slice_get}
 use Rattle.lagtypes.specs.declared.identifiers.AggId.{AggId}
-use Rattle.lagtypes.specs.declared.party.Choice.TheVariants.{Selected, Standby}
+use Rattle.lagtypes.specs.declared.party.Choice.TheVariants.{Unselected, Selected, Standby}
 use Rattle.portmachines.specs.declared.mux.MuxState.TheVariants.{Waiting, Attached, CollectingDistributing}
 use Rattle.portmachines.specs.declared.receive.ReceiveState.TheVariants.{Expired, Defaulted, Current}
 use Rattle.portmachines.specs.Machines.{Machines}
 use Rattle.portmachines.specs.Mux.{partner_synchronized, selected}
 use Rattle.selection.specs.Choice.{chosen_aggregator, has_occupant, occupants_share_group, ports_that_chose}
-use Rattle.selection.specs.Views.{is_eligible}
 use Rattle.lagsystem.specs.declared.port_status.PortStatus.{PortStatus}
 use Rattle.lagsystem.specs.declared.port_status.PortStatus.TheVariants as status
 use Rattle.lagsystem.specs.declared.system_ports.SystemPort.{SystemPort}
@@ -15,12 +14,12 @@ use Rattle.lagsystem.specs.ModelView.{key_of}
 use Rattle.lagsystem.specs.PortStatus.{status_of_port}
 use Rattle.lagsystem.specs.Sound.{IsSound}
 use Rattle.lagsystem.specs.State.{SystemState}
-use Rattle.lagsystem.specs.Views.{selection_view, views}
+use Rattle.lagsystem.specs.Views.{may_choose, selection_view, views}
 
 -- in each sound system, this holds of each port with this status
 abbrev pub Says : PortStatus → (SystemState → SystemPort → Type 0) → Type 0
 Says status Holds = (s : SystemState) (i : ℕ) (x : SystemPort) → IsSound s → slice_get s.system_ports i ≡ Some x
-    → status_of_port x.port ≡ status → Holds s x
+    → status_of_port x ≡ status → Holds s x
 
 -- the port is SELECTED, its partner is synchronized, and its mux machine is in COLLECTING_DISTRIBUTING
 pub record IsDistributing (s : SystemState) (x : SystemPort) : Type 0 where
@@ -31,6 +30,12 @@ pub record IsDistributing (s : SystemState) (x : SystemPort) : Type 0 where
 -- the link is down
 abbrev pub IsDown : SystemState → SystemPort → Type 0
 IsDown s x = x.port.enabled ≡ false
+
+-- the link is up, and the host holds the port, which is UNSELECTED
+pub record IsHeld (s : SystemState) (x : SystemPort) : Type 0 where
+  pub up : x.port.enabled ≡ true
+  pub held : x.held ≡ true
+  pub chosen : x.port.choice ≡ Unselected
 
 -- the link is up, and the receive machine is EXPIRED
 abbrev pub HearsNoPartner : SystemState → SystemPort → Type 0
@@ -49,11 +54,11 @@ pub record HearsItself (s : SystemState) (x : SystemPort) : Type 0 where
   pub hears : HearsPartner x.port
   pub own : x.port.partner.system ≡ x.port.party.system
 
--- The port is eligible, and the Selection Logic finds no aggregator for it: each with its key has an occupant, and some
+-- The port is eligible and not held, and the Selection Logic finds no aggregator for it: each with its key has an occupant, and some
 -- occupant has another group (LAG ID), or the link of the port is Individual.
 pub record FindsNoAggregator (s : SystemState) (x : SystemPort) : Type 0 where
   pub hears : HearsPartner x.port
-  pub eligible : is_eligible (selection_view x) ≡ true
+  pub eligible : may_choose x ≡ true
   pub none : chosen_aggregator s.keys (views s.system_ports) x.number ≡ None
   pub occupied : (agg : AggId) → key_of s.keys agg.0 ≡ Some x.port.party.key → has_occupant (views s.system_ports) agg ≡ true
   pub closed : (agg : AggId) → key_of s.keys agg.0 ≡ Some x.port.party.key
@@ -111,3 +116,4 @@ meaning (status.Standby agg) = FindsNoRoom agg
 meaning (status.Waiting ticks) = Waits ticks
 meaning status.WaitingForMembers = WaitsForMember
 meaning status.PartnerNotSynchronized = WaitsForPartner
+meaning status.Held = IsHeld

@@ -1,5 +1,5 @@
 -- What the Selection Logic reads of the ports.
-use Rattle.std.specs.Prelude.{ℕ, ◌==◌, ◌||◌, List, map}
+use Rattle.std.specs.Prelude.{ℕ, Bool, ◌==◌, ◌||◌, ◌&&◌, not, List, map}
 use Rattle.slowpdu.specs.Parties.{party_of}
 use Rattle.portmachines.specs.declared.mux.MuxState.{MuxState}
 use Rattle.portmachines.specs.declared.mux.MuxState.TheVariants.{Detached, Waiting, Attached, CollectingDistributing}
@@ -8,6 +8,7 @@ use Rattle.portmachines.specs.Receive.{same_receive_state}
 use Rattle.selection.specs.declared.view.PortView.{PortView}
 use Rattle.selection.specs.declared.view.Stage.{Stage}
 use Rattle.selection.specs.declared.view.Stage.TheVariants as stage
+use Rattle.selection.specs.Views.{is_eligible}
 use Rattle.lagsystem.specs.declared.system_ports.SystemPort.{SystemPort}
 
 -- how far the mux machine has come, from its state and the ticks that wait_while has left
@@ -33,3 +34,7 @@ selection_view s =
 -- what the Selection Logic reads of all ports, in their order
 abbrev pub views : List SystemPort → List PortView
 views system_ports = map selection_view system_ports
+
+-- the port may choose an aggregator: it is eligible, and the host does not hold it (profile)
+abbrev pub may_choose : SystemPort → Bool
+may_choose s = is_eligible (selection_view s) && not s.held

@@ -49,6 +49,8 @@ pub enum SystemFault {
     BadConfig(BadConfig),
     /// 12: memory was refused. Only `System::new` returns it, after it has accepted the configuration.
     NoMemory,
+    /// 13: an aggregator has more members whose links are up than the limit that `System::set_max_links` is to set.
+    OverLimit,
 }
 
 impl BadConfig {
@@ -67,7 +69,7 @@ impl BadConfig {
 }
 
 impl SystemFault {
-    /// The number of the fault, 1 to 12 (profile).
+    /// The number of the fault, 1 to 13 (profile).
     pub fn number(&self) -> u8
         ensures { result ≡ fault_number self.now }
     {
@@ -84,10 +86,11 @@ impl SystemFault {
             SystemFault::MarkersSpent => 10,
             SystemFault::BadConfig(_) => 11,
             SystemFault::NoMemory => 12,
+            SystemFault::OverLimit => 13,
         }
     }
 
-    /// The name of the fault in one word, as lines of a program have it, `no-port` to `no-memory`; a reason of `BadConfig` is not
+    /// The name of the fault in one word, as lines of a program have it, `no-port` to `over-limit`; a reason of `BadConfig` is not
     /// told (profile).
     pub fn name(&self) -> &'static str
         ensures { result.now ≡ fault_name self.now }
@@ -105,6 +108,7 @@ impl SystemFault {
             SystemFault::MarkersSpent => "markers-spent",
             SystemFault::BadConfig(_) => "bad-config",
             SystemFault::NoMemory => "no-memory",
+            SystemFault::OverLimit => "over-limit",
         }
     }
 }
@@ -159,6 +163,7 @@ impl fmt::Display for SystemFault {
             SystemFault::MarkersSpent => f.write_str("no marker identifier is left"),
             SystemFault::BadConfig(reason) => write!(f, "{reason}"),
             SystemFault::NoMemory => f.write_str("out of memory"),
+            SystemFault::OverLimit => f.write_str("an aggregator has more links than this limit"),
         }
     }
 }

@@ -123,7 +123,7 @@ impl<F: Fn(u16, usize) -> usize + Drop> Inner<F> {
     }
 
     /// One settling. `before` has for each port the aggregator in which it distributed before the call.
-    fn settle(&mut self, before: &[Option<AggId>])
+    pub(crate) fn settle(&mut self, before: &[Option<AggId>])
         requires { WereInUse before.now (inner_state self.old) }
         ensures settled { Settling (inner_state self.old) (inner_state self.new) }
         ensures algorithm { self.new.distributor.algorithm ≡ self.old.distributor.algorithm }

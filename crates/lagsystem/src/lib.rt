@@ -28,6 +28,7 @@ mod process_lacpdu;
 mod promoting;
 mod received;
 mod set_link;
+mod settings;
 mod settling;
 mod start;
 mod system_ports;

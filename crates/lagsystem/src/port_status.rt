@@ -1,15 +1,17 @@
 ghost use Rattle.std.specs.Prelude.{◌≡◌, ◌↔◌, Some, option_map, true};
 ghost use Rattle.portmachines.specs.Mux.{same_mux_state};
-ghost use Rattle.lagsystem.specs.PortStatus.{status_name, status_number, status_of_port, status_text, status_when_current};
+ghost use Rattle.lagsystem.specs.PortStatus.{port_status_at, status_name, status_number, status_of_port, status_text, status_when_current};
 ghost use Rattle.lagsystem.specs.PortStatus.{status_when_selected};
 ghost use Rattle.lagsystem.specs.State.{machines_of};
 
 use crate::calls::System;
+use crate::system_ports::SystemPort;
 use lagtypes::{AggId, Choice};
 use portmachines::{MuxState, Port, ReceiveState};
 use std::fmt;
 
-/// Whether a port distributes, and else the first reason why not, in the order in which they stand here (profile). The law
+/// Whether a port distributes, and else the first reason why not, in the order in which they stand here, but that `Held` comes
+/// behind `LinkDown` (profile). The law
 /// `port_status_says_why` proves what each says.
 #[derive(Clone, Copy, Debug, PartialEq, Eq)]
 pub enum PortStatus {
@@ -36,12 +38,14 @@ pub enum PortStatus {
     WaitingForMembers,
     /// The port is SELECTED and in ATTACHED: its recorded partner is not synchronized (6.4.15).
     PartnerNotSynchronized,
+    /// The link is up, and the host holds the port, which is UNSELECTED (profile).
+    Held,
 }
 
 impl PortStatus {
     // promise: a status has its number, name and text
     // contract: `PortStatus::number`, `name`, `Display`
-    /// The number of the status, 0 for `Distributing` to 9, in the order in which they stand here (profile).
+    /// The number of the status, 0 for `Distributing` to 10, in the order in which they stand here (profile).
     pub fn number(&self) -> u8
         ensures { result ≡ status_number self.now }
     {
@@ -56,10 +60,11 @@ impl PortStatus {
             PortStatus::Waiting(_) => 7,
             PortStatus::WaitingForMembers => 8,
             PortStatus::PartnerNotSynchronized => 9,
+            PortStatus::Held => 10,
         }
     }
 
-    /// The name of the status in one word, as lines of a program have it, `distributing` to `partner-not-synchronized`; neither
+    /// The name of the status in one word, as lines of a program have it, `distributing` to `held`; neither
     /// the aggregator of `Standby` nor the ticks of `Waiting` are told (profile).
     pub fn name(&self) -> &'static str
         ensures { result.now ≡ status_name self.now }
@@ -75,6 +80,7 @@ impl PortStatus {
             PortStatus::Waiting(_) => "waiting",
             PortStatus::WaitingForMembers => "waiting-for-members",
             PortStatus::PartnerNotSynchronized => "partner-not-synchronized",
+            PortStatus::Held => "held",
         }
     }
 }
@@ -100,6 +106,7 @@ impl fmt::Display for PortStatus {
                 "it waits for other ports of its aggregator",
             ),
             PortStatus::PartnerNotSynchronized => f.write_str("the partner is not synchronized"),
+            PortStatus::Held => f.write_str("the host holds it"),
         }
     }
 }
@@ -132,14 +139,18 @@ fn status_when_selected(port: &Port) -> PortStatus
 }
 
 /// The status of a port.
-fn status_of_port(port: &Port) -> PortStatus
-    ensures { result ≡ status_of_port port.now }
+fn status_of_port(system_port: &SystemPort) -> PortStatus
+    ensures { result ≡ status_of_port system_port.now }
 {
+    let port = &system_port.port;
     if port.distributes() {
         return PortStatus::Distributing;
     }
     if !port.is_enabled() {
         return PortStatus::LinkDown;
+    }
+    if system_port.held {
+        return PortStatus::Held;
     }
     match port.receive_state() {
         ReceiveState::Expired => PortStatus::NoLacpdu,
@@ -154,12 +165,12 @@ impl<F: Fn(u16, usize) -> usize + Drop> System<F> {
     /// Whether a port distributes, and else the first reason why not; None if there is no such port (profile).
     /// `Distributing` exactly if `distributes` is true.
     pub fn port_status(&self, port: u16) -> Option<PortStatus>
-        ensures is { result ≡ option_map status_of_port (machines_of port self.now.state) }
+        ensures is { result ≡ port_status_at port self.now.state }
         ensures distributing { (result ≡ Some PortStatus.Distributing)
             ↔ (option_map (λ p. same_mux_state MuxState.CollectingDistributing p.mux) (machines_of port self.now.state) ≡ Some true) }
     {
         match self.inner.system_port(port) {
-            Some(system_port) => Some(status_of_port(&system_port.port)),
+            Some(system_port) => Some(status_of_port(system_port)),
             None => None,
         }
     }

@@ -5,7 +5,7 @@ use crate::system_ports::SystemPort;
 use lagtypes::Choice;
 
 /// Selected of a port whose link is set: with a limit of links, UNSELECTED if the link is down; else it stays.
-fn choice_with_link(max_links: Option<u16>, up: bool, choice: Choice) -> Choice
+pub(crate) fn choice_with_link(max_links: Option<u16>, up: bool, choice: Choice) -> Choice
     ensures { result ≡ choice_with_link max_links up choice }
 {
     match max_links {

@@ -4,14 +4,14 @@ ghost use Rattle.lagtypes.specs.Choices.{is_selected};
 ghost use Rattle.portmachines.specs.Rows.{RunsToRest};
 ghost use Rattle.portmachines.specs.Mux.{mux_rows};
 ghost use Rattle.portmachines.specs.Periodic.{RunsPeriodic};
-ghost use Rattle.selection.specs.Views.{has_waited, is_eligible};
-ghost use Rattle.lagsystem.specs.Views.{selection_view, views};
+ghost use Rattle.selection.specs.Views.{has_waited};
+ghost use Rattle.lagsystem.specs.Views.{may_choose, selection_view, views};
 ghost use Rattle.lagsystem.specs.Settling.{PortsChangeBy, SettlesPorts, after_choice_at, after_choices, ready_of};
 ghost use Rattle.lagsystem.specs.Settling.{ChoosesAndRunsMux, ChoosesIn, choice_in, is_restless};
 ghost use Rattle.lagsystem.specs.State.{SystemState, aggregators_value, with_system_ports};
 
 use crate::promoting::{may_promote, promote_each};
-use crate::system_ports::{SystemPort, is_eligible, is_selected, list_views, member_has_waited};
+use crate::system_ports::{SystemPort, is_selected, list_views, may_choose, member_has_waited};
 use arrayvec::ArrayVec;
 use lagtypes::{AggId, Choice};
 use selection::{Aggregators, PortView};
@@ -35,22 +35,22 @@ fn first_not_selected(system_ports: &[SystemPort]) -> Option<usize>
 }
 
 /// Whether some port may choose an aggregator.
-fn any_eligible(system_ports: &[SystemPort]) -> bool
-    ensures { result ≡ list_any (λ s. is_eligible (selection_view s)) system_ports.now }
+fn any_may_choose(system_ports: &[SystemPort]) -> bool
+    ensures { result ≡ list_any (λ s. may_choose s) system_ports.now }
 {
     system_ports
         .iter()
-        .any(|system_port| is_eligible(system_port))
+        .any(|system_port| may_choose(system_port))
 }
 
 /// Whether some port may choose an aggregator. `first` is the index of the first port that is not SELECTED: none before it
 /// may.
-fn any_eligible_from(system_ports: &[SystemPort], first: usize) -> bool
+fn any_may_choose_from(system_ports: &[SystemPort], first: usize) -> bool
     requires { position (λ s. not (is_selected s.port.choice)) system_ports.now ≡ Some first }
-    ensures { result ≡ list_any (λ s. is_eligible (selection_view s)) system_ports.now }
+    ensures { result ≡ list_any (λ s. may_choose s) system_ports.now }
 {
     let rest = &system_ports[first..];
-    any_eligible(rest)
+    any_may_choose(rest)
 }
 
 /// What a port becomes that takes the aggregator: SELECTED if that has room, else STANDBY.
@@ -64,7 +64,7 @@ fn choice_in(aggregators: &Aggregators, port_views: &[PortView], agg: AggId) -> 
     }
 }
 
-/// Lets the port at this index choose an aggregator, if it is eligible. The list of the views of all ports is
+/// Lets the port at this index choose an aggregator, if it may. The list of the views of all ports is
 /// updated, so that the ports after it see the choice.
 fn choose_one(
     aggregators: &Aggregators,
@@ -77,7 +77,7 @@ fn choose_one(
     ensures chosen { system_ports.new ≡ after_choice_at aggregators.now system_ports.old place (slice_get system_ports.old place) }
     ensures port_views { port_views.new ≡ views system_ports.new }
 {
-    if !is_eligible(&system_ports[place]) {
+    if !may_choose(&system_ports[place]) {
         return;
     }
     let system_port = &mut system_ports[place];
@@ -88,7 +88,7 @@ fn choose_one(
     }
 }
 
-/// Lets each port in turn choose an aggregator, if it is eligible.
+/// Lets each port in turn choose an aggregator, if it may.
 fn choose_each(
     aggregators: &Aggregators,
     system_ports: &mut [SystemPort],
@@ -102,7 +102,7 @@ fn choose_each(
     }
 }
 
-/// Step 2: STANDBY ports become SELECTED where there is room; then each eligible port chooses its aggregator, in order;
+/// Step 2: STANDBY ports become SELECTED where there is room; then each port that may choose does so, in order;
 /// each sees the choices made before it.
 fn choose_all(aggregators: &Aggregators, system_ports: &mut [SystemPort])
     requires { length system_ports.old ≤ 64 }
@@ -124,7 +124,7 @@ fn choose_some(aggregators: &Aggregators, system_ports: &mut [SystemPort], first
 {
     if may_promote(aggregators, system_ports, first) {
         promote_and_choose(aggregators, system_ports);
-    } else if any_eligible_from(system_ports, first) {
+    } else if any_may_choose_from(system_ports, first) {
         choose_only(aggregators, system_ports);
     }
 }
@@ -247,7 +247,7 @@ fn run_each_periodic(system_ports: &mut [SystemPort])
 }
 
 /// Steps 1 to 5 of settling (profile), which read and change ports only. The cost is linear in the ports, except in two
-/// cases. For each eligible port the views of all ports are searched for an aggregator; a port that finds none is tried
+/// cases. For each port that may choose the views of all ports are searched for an aggregator; a port that finds none is tried
 /// again in each settling. And if some SELECTED port is in WAITING with wait_while expired, the views are searched once for
 /// each SELECTED port. Step 6, the conversations, is in holding.rt.
 pub(crate) fn settle_ports(aggregators: &Aggregators, system_ports: &mut [SystemPort])

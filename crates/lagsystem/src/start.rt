@@ -55,7 +55,7 @@ fn first_bad_port_number(ports: &[PortConfig]) -> Option<usize>
 }
 
 /// Whether this is a limit of links: 1 to 64, or none.
-fn is_limit(max_links: Option<u16>) -> bool
+pub(crate) fn is_limit(max_links: Option<u16>) -> bool
     ensures { result ≡ is_limit max_links }
 {
     match max_links {

@@ -1,6 +1,6 @@
 ghost use Rattle.std.specs.Prelude.{◌≡◌, ◌<◌, ◌≤◌, ◌&&◌, IfSome, [], length};
 ghost use Rattle.std.specs.List.Sorted.{IsStrictlyIncreasing};
-ghost use Rattle.lagsystem.specs.Views.{stage_of, selection_view, views};
+ghost use Rattle.lagsystem.specs.Views.{may_choose, stage_of, selection_view, views};
 ghost use Rattle.lagsystem.specs.State.{port_index, port_numbers};
 ghost use Rattle.lagsystem.specs.First.{HasJustStarted, setup_of};
 ghost use Rattle.lagtypes.specs.Choices.{is_selected, is_unselected};
@@ -12,7 +12,7 @@ use lagtypes::{Choice, Party, PortId, SystemId};
 use portmachines::{MuxState, Port, ReceiveState, Setup};
 use selection::{PortView, Stage};
 
-/// One port of a system: its number, its MAC address and its machines.
+/// One port of a system: its number, its MAC address, its machines, and whether the host holds it.
 #[derive(Drop)]
 pub(crate) struct SystemPort {
     /// The port number.
@@ -21,6 +21,8 @@ pub(crate) struct SystemPort {
     pub(crate) mac: [u8; 6],
     /// The machines of the port, with their variables.
     pub(crate) port: Port,
+    /// Whether the host holds the port: it stays UNSELECTED until it is let go.
+    pub(crate) held: bool,
 }
 
 /// The index of the port with this number, or None. Nearly always the ports have the numbers from 1 on without a gap, so
@@ -100,11 +102,18 @@ fn is_unselected(system_port: &SystemPort) -> bool
     }
 }
 
-/// Whether a port may choose an aggregator now. UNSELECTED is asked first: it rules out most ports.
-pub(crate) fn is_eligible(system_port: &SystemPort) -> bool
+/// Whether a port is eligible: the Selection Logic may give it an aggregator. UNSELECTED is asked first: it rules out most ports.
+fn is_eligible(system_port: &SystemPort) -> bool
     ensures { result ≡ is_eligible (selection_view system_port.now) }
 {
     is_unselected(system_port) && selection_view(system_port).is_eligible()
+}
+
+/// Whether a port may choose an aggregator now: it is eligible, and the host does not hold it.
+pub(crate) fn may_choose(system_port: &SystemPort) -> bool
+    ensures { result ≡ may_choose system_port.now }
+{
+    is_eligible(system_port) && !system_port.held
 }
 
 /// Whether a port is SELECTED.
@@ -152,15 +161,17 @@ impl SystemPort {
             number: config.number,
             mac: config.mac,
             port: Port::new(setup_of(system, config)),
+            held: false,
         }
     }
 
-    /// Starts the port again, in place.
+    /// Starts the port again, in place; the host does not hold it.
     pub(crate) fn restart(&mut self, system: SystemId, config: &PortConfig)
         ensures { HasJustStarted system config.now self.new }
     {
         self.number = config.number;
         self.mac = config.mac;
         self.port = Port::new(setup_of(system, config));
+        self.held = false;
     }
 }

@@ -1,7 +1,7 @@
 -- The machines are deterministic: each call has exactly one effect.
 use Rattle.portmachines.proofs.Common.{Bool, List, [], ap, false, inl, inr, not, refl, subst, suc, sym, true, zero, ℕ, ◌&&◌, ◌∙◌, ◌∷◌, ◌≡◌, and_left}
 use Rattle.portmachines.proofs.Common.{and_parts, and_right, cases_Bool, Lacpdu, ReceiveState, Current, Defaulted, Expired, Initialize, PortDisabled}
-use Rattle.portmachines.proofs.Common.{Mux, OneEffect, Periodic, Reinit, Select, Set_link, Take, Tick, Transmit, Machines, mux_rows, start_mux}
+use Rattle.portmachines.proofs.Common.{Mux, OneEffect, Periodic, Reinit, Select, Set_link, Set_mode, Take, Tick, Transmit, Machines, mux_rows, start_mux}
 use Rattle.portmachines.proofs.Common.{RunsPeriodic, clear_ntt, periodic_rows, current_while_expired, lacpdu_rows, partner_not_synchronized}
 use Rattle.portmachines.proofs.Common.{receive_rows, same_receive_state, start_receive, AtRest, Fires, FiresTimes, OneEnabledAtMost, Row, RunsToRest}
 use Rattle.portmachines.proofs.Common.{count_down}
@@ -197,6 +197,7 @@ one_effect (Take pdu) old one other rest h k =
 one_effect (Mux ready) old one other rest h k = one_mux ready old one other h k
 one_effect Periodic old one other rest h k = one_periodic old one other h k
 one_effect (Select choice) old one other rest h k = h ∙ sym k
+one_effect (Set_mode active short) old one other rest h k = h ∙ sym k
 one_effect (Reinit party) old one other rest h k =
     let e : h.0 ≡ k.0 = settles_one IsSafe receive_rows receive-way (start_receive (record old { party = party })) h.0 k.0 tt h.1 k.1 in
     h.2 ∙ ap start_mux e ∙ sym k.2

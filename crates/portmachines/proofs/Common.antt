@@ -6,7 +6,7 @@ pub use Rattle.std.proofs.lemmas.Bool.{and_left, and_parts, and_right, cases_Boo
 pub use Rattle.slowpdu.specs.declared.pdu.Lacpdu.{Lacpdu}
 pub use Rattle.portmachines.specs.declared.receive.ReceiveState.{ReceiveState}
 pub use Rattle.portmachines.specs.declared.receive.ReceiveState.TheVariants.{Current, Defaulted, Expired, Initialize, PortDisabled}
-pub use Rattle.portmachines.specs.Calls.{Mux, OneEffect, Periodic, PortCall, Reinit, Select, Set_link, Take, Tick, Transmit}
+pub use Rattle.portmachines.specs.Calls.{Mux, OneEffect, Periodic, PortCall, Reinit, Select, Set_link, Set_mode, Take, Tick, Transmit}
 pub use Rattle.portmachines.specs.Machines.{Machines}
 pub use Rattle.portmachines.specs.Mux.{mux_rows, partner_synchronized, same_mux_state, start_mux}
 pub use Rattle.portmachines.specs.Periodic.{RunsPeriodic, clear_ntt, periodic_rows, periodic_table}

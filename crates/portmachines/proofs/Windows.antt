@@ -1,7 +1,7 @@
 -- Any eleven consecutive ticks hold at most three LACPDUs.
 use Rattle.portmachines.proofs.Common.{Bool, List, [], ap, append-nil, append_assoc, arith, cond, false, if◌then◌else◌, inl, inr, length, nat_le}
 use Rattle.portmachines.proofs.Common.{nat_lt, refl, subst, suc, sym, true, zero, ℕ, ◌&&◌, ◌++◌, ◌+◌, ◌-◌, ◌<◌, ◌∙◌, ◌∷◌, ◌≡◌, ◌≤◌, and_parts, le-leb}
-use Rattle.portmachines.proofs.Common.{leb-true, lt-leb, ltb-false, ltb-true, Lacpdu, Mux, Periodic, PortCall, Reinit, Select, Set_link, Take, Tick}
+use Rattle.portmachines.proofs.Common.{leb-true, lt-leb, ltb-false, ltb-true, Lacpdu, Mux, Periodic, PortCall, Reinit, Select, Set_link, Set_mode, Take, Tick}
 use Rattle.portmachines.proofs.Common.{Transmit, Machines, mux_rows, RunsPeriodic, periodic_rows, lacpdu_rows, receive_rows, start_receive}
 use Rattle.portmachines.proofs.Common.{FiresIfEnabled, RunsToRest, after_sending, aged, count_down, is_due}
 use Rattle.std.specs.List.{AllByRecursion}
@@ -197,6 +197,8 @@ run-window now (Mux ready ∷ calls) old before ticks i h =
 run-window now (Periodic ∷ calls) old before ticks i h =
     quiet-window now calls old h.0 before ticks h.1 (λ b r. run-window now calls h.0 b r) (periodic-ages old h.0 h.2) i h.3 h.4
 run-window now (Select choice ∷ calls) old before ticks i h =
+    quiet-window now calls old h.0 before ticks h.1 (λ b r. run-window now calls h.0 b r) (ap (λ (x : Machines). x.ages) h.2) i h.3 h.4
+run-window now (Set_mode active short ∷ calls) old before ticks i h =
     quiet-window now calls old h.0 before ticks h.1 (λ b r. run-window now calls h.0 b r) (ap (λ (x : Machines). x.ages) h.2) i h.3 h.4
 run-window now (Reinit party ∷ calls) old before ticks i h =
     quiet-window now calls old h.0 before ticks h.1 (λ b r. run-window now calls h.0 b r)

@@ -3,7 +3,7 @@ use Rattle.std.specs.Prelude.{◌≡◌, ℕ, ◌+◌, ◌-◌, ◌≤◌, Bool,
 use Rattle.std.specs.List.{AllByRecursion}
 use Rattle.portmachines.specs.Machines.{Machines}
 use Rattle.portmachines.specs.Transmit.{is_due}
-use Rattle.portmachines.specs.Calls.{PortCall, Tick, Transmit, Set_link, Take, Mux, Periodic, Select, Reinit, CallEffect}
+use Rattle.portmachines.specs.Calls.{PortCall, Tick, Transmit, Set_link, Take, Mux, Periodic, Select, Reinit, Set_mode, CallEffect}
 
 -- whether the call returns an LACPDU
 abbrev pub returns_lacpdu : PortCall → Machines → Bool
@@ -15,6 +15,7 @@ returns_lacpdu (Mux ready) p = false
 returns_lacpdu Periodic p = false
 returns_lacpdu (Select choice) p = false
 returns_lacpdu (Reinit party) p = false
+returns_lacpdu (Set_mode active short) p = false
 
 -- the number of the current tick after the call, if it is this one before
 abbrev pub tick_after_port_call : PortCall → ℕ → ℕ
@@ -26,6 +27,7 @@ tick_after_port_call (Mux ready) now = now
 tick_after_port_call Periodic now = now
 tick_after_port_call (Select choice) now = now
 tick_after_port_call (Reinit party) now = now
+tick_after_port_call (Set_mode active short) now = now
 
 -- the calls begin at this tick, and the port sends LACPDUs at the ticks in the last list
 abbrev pub SendsAtTicks : ℕ → List PortCall → Machines → List ℕ → Type 0

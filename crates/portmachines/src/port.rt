@@ -5,7 +5,7 @@ ghost use Rattle.portmachines.specs.Periodic.{RunsPeriodic, periodic_rows};
 ghost use Rattle.portmachines.specs.Mux.{mux_rows, same_mux_state};
 ghost use Rattle.portmachines.specs.Transmit.{actor_state, count_down, is_due, pdu_of, after_sending};
 ghost use Rattle.portmachines.specs.Start.{Starts, before_start};
-ghost use Rattle.portmachines.specs.Calls.{OneEffect};
+ghost use Rattle.portmachines.specs.Calls.{OneEffect, with_mode};
 
 use crate::machines::Machines;
 use crate::mux::MuxState;
@@ -148,6 +148,21 @@ impl Port {
         self.machines.start();
     }
 
+    // promise: `set_mode` writes LACP_Activity and LACP_Timeout, and sets NTT if one of them changes
+    // contract: `Port::set_mode` (`with_mode`)
+    /// Sets LACP_Activity, false for a passive port, and LACP_Timeout, true for Short Timeout. NTT becomes true if one of them
+    /// was another. Nothing else changes: current_while goes on, and starts with the other time at the next LACPDU (6.4.2.3,
+    /// 6.4.7; profile).
+    pub fn set_mode(&mut self, active: bool, short: bool)
+        ensures { self.new ≡ with_mode active short self.old }
+    {
+        if self.machines.active != active || self.machines.short != short {
+            self.machines.ntt = true;
+        }
+        self.machines.active = active;
+        self.machines.short = short;
+    }
+
     // promise: an LACPDU is sent exactly if NTT is set and fewer than three ages are kept; it has the port's party and state, the recorded
     //    partner and the given CollectorMaxDelay
     // contract: `Port::transmit` (`pdu`, `state`)
@@ -193,6 +208,20 @@ impl Port {
         ensures { result ≡ self.now.defaulted }
     {
         self.machines.defaulted
+    }
+
+    /// LACP_Activity: false if the port is passive (6.4.2.3).
+    pub fn is_active(&self) -> bool
+        ensures { result ≡ self.now.active }
+    {
+        self.machines.active
+    }
+
+    /// LACP_Timeout: true for Short Timeout (6.4.2.3).
+    pub fn is_short(&self) -> bool
+        ensures { result ≡ self.now.short }
+    {
+        self.machines.short
     }
 
     /// The state of the receive machine (6.4.12).

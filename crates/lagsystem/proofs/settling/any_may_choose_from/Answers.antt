@@ -1,7 +1,7 @@
 use Rattle.lagsystem.proofs.Common.{ap, arith, drop, length, length-drop, take, take_all, ◌-◌, ◌∙◌, ◌≡◌, list_any, is_eligible, selection_view}
 use Rattle.lagsystem.proofs.Choosing.{selected_not_eligible}
 use Rattle.lagsystem.proofs.FrontLemmas.{any_from, first_within}
-use Rattle.lagsystem.proofs.settling.any_eligible_from.Goals as goal
+use Rattle.lagsystem.proofs.settling.any_may_choose_from.Goals as goal
 
 pub slice_bounds-rest-end : goal.slice_bounds-rest-end
 slice_bounds-rest-end c = omega (arith, first_within c.args.system_ports.now c.args.first c.requires)
@@ -20,5 +20,5 @@ returns c =
     let l = c.args.system_ports.now in
     let i = c.args.first in
     let whole : take (length l - i) (drop i l) ≡ drop i l = take_all (length l - i) (drop i l) (omega (arith, length-drop i l)) in
-    c.any_eligible.ensures ∙ ap (list_any (λ s. is_eligible (selection_view s))) whole
-    ∙ any_from (λ s. is_eligible (selection_view s)) (λ s. selected_not_eligible (selection_view s)) l i c.requires
+    c.any_may_choose.ensures ∙ ap (list_any (λ s. may_choose s)) whole
+    ∙ any_from (λ s. may_choose s) (λ s. selected_not_eligible (selection_view s)) l i c.requires
