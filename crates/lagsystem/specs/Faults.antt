@@ -31,7 +31,7 @@ fault_number NotAssigned = 9
 fault_number MarkersSpent = 10
 fault_number (BadConfig reason) = 11
 fault_number NoMemory = 12
-fault_number OverLimit = 13
+fault_number OverLimit = 24
 
 -- the text of a reason to refuse a configuration, as Display writes it
 abbrev pub reason_text : Reason → List ℕ

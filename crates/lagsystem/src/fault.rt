@@ -49,7 +49,7 @@ pub enum SystemFault {
     BadConfig(BadConfig),
     /// 12: memory was refused. Only `System::new` returns it, after it has accepted the configuration.
     NoMemory,
-    /// 13: an aggregator has more members whose links are up than the limit that `System::set_max_links` is to set.
+    /// 24: an aggregator has more members whose links are up than the limit that `System::set_max_links` is to set.
     OverLimit,
 }
 
@@ -69,7 +69,7 @@ impl BadConfig {
 }
 
 impl SystemFault {
-    /// The number of the fault, 1 to 13 (profile).
+    /// The number of the fault, 1 to 12 or 24: between them are refusals of the C library alone (profile).
     pub fn number(&self) -> u8
         ensures { result ≡ fault_number self.now }
     {
@@ -86,7 +86,7 @@ impl SystemFault {
             SystemFault::MarkersSpent => 10,
             SystemFault::BadConfig(_) => 11,
             SystemFault::NoMemory => 12,
-            SystemFault::OverLimit => 13,
+            SystemFault::OverLimit => 24,
         }
     }
 
