@@ -21,11 +21,11 @@ static const struct {
     EXPORT(offer_conversation_in_active_aggregator), EXPORT(ports), EXPORT(views), EXPORT(due), EXPORT(aggregators), EXPORT(load),
     EXPORT(held), EXPORT(answers), EXPORT(is_up), EXPORT(state), EXPORT(receive_state), EXPORT(is_due), EXPORT(party),
     EXPORT(partner), EXPORT(group), EXPORT(defaulted), EXPORT(distributes), EXPORT(choice), EXPORT(is_standby), EXPORT(mux_state),
-    EXPORT(port_status), EXPORT(current_while), EXPORT(wait_while), EXPORT(ntt), EXPORT(distributing), EXPORT(resume),
-    EXPORT(active_aggregator), EXPORT(conversation), EXPORT(conversation_state), EXPORT(conversation_ports), EXPORT(released),
-    EXPORT(next_marker), EXPORT(ticks_until_due), EXPORT(decode), EXPORT(encode), EXPORT(next_move), EXPORT(queue_new),
-    EXPORT(queue_free), EXPORT(queue_put), EXPORT(queue_next), EXPORT(queue_drop), EXPORT(queue_oldest),
-    EXPORT(queue_next_released), EXPORT(queue_waiting), EXPORT(queue_counts),
+    EXPORT(port_status), EXPORT(current_while), EXPORT(wait_while), EXPORT(ntt), EXPORT(distributing), EXPORT(resume), EXPORT(hold),
+    EXPORT(set_mode), EXPORT(set_max_delay), EXPORT(set_max_links), EXPORT(active_aggregator), EXPORT(conversation),
+    EXPORT(conversation_state), EXPORT(conversation_ports), EXPORT(released), EXPORT(next_marker), EXPORT(ticks_until_due),
+    EXPORT(decode), EXPORT(encode), EXPORT(next_move), EXPORT(queue_new), EXPORT(queue_free), EXPORT(queue_put), EXPORT(queue_next),
+    EXPORT(queue_drop), EXPORT(queue_oldest), EXPORT(queue_next_released), EXPORT(queue_waiting), EXPORT(queue_counts),
 };
 
 const char *const program = "calls";
