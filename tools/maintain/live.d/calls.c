@@ -582,11 +582,11 @@ static void check_texts(void) {
     char text[NIW_STATE_TEXT_ROOM + 1];
     for (uint32_t i = 0; i <= NIW_ALL_FULL; i++)
         for (uint32_t j = 0; j < i; j++) CHECK(strcmp(niw_status_text(i), niw_status_text(j)) != 0);
-    CHECK(strcmp(niw_status_text(NIW_STALE + 1), "unknown") == 0 && strcmp(niw_status_text(UINT32_MAX), "unknown") == 0);
+    CHECK(strcmp(niw_status_text(NIW_OVER_LIMIT + 1), "unknown") == 0 && strcmp(niw_status_text(UINT32_MAX), "unknown") == 0);
     CHECK(strcmp(niw_status_text(NIW_NO_MEMORY), "out of memory") == 0 && strcmp(niw_reason_text(0), "unknown") == 0);
     CHECK(strstr(niw_reason_text(NIW_REASON_PORT_NUMBER), "number") && strcmp(niw_reason_text(77), "unknown") == 0);
     CHECK(strcmp(niw_port_status_text(NIW_PORT_STATUS_LINK_DOWN), "the link is down") == 0);
-    CHECK(strcmp(niw_port_status_text(NIW_PORT_STATUS_PARTNER_NOT_SYNCHRONIZED + 1), "unknown") == 0);
+    CHECK(strcmp(niw_port_status_text(NIW_PORT_STATUS_HELD + 1), "unknown") == 0);
     CHECK(strcmp(niw_receive_state_text(NIW_RECEIVE_DEFAULTED), "DEFAULTED") == 0 && strcmp(niw_receive_state_text(5), "unknown") == 0);
     CHECK(strcmp(niw_mux_state_text(NIW_MUX_ATTACHED), "ATTACHED") == 0 && strcmp(niw_mux_state_text(4), "unknown") == 0);
     for (size_t i = 0; i < sizeof states; i++) {
@@ -733,6 +733,7 @@ int main(void) {
     check_next_move();
     check_queue();
     check_resume();
+    check_settings();
     check_active_aggregator();
     check_ticks();
     check_waits();
