@@ -1,14 +1,14 @@
 -- Choosing an aggregator is the model's move of joining it.
 use Rattle.lagsystem.proofs.Common.{Bool, List, None, Option, Some, [], ap, arith, false, inl, inr, length, not, option_map, refl, slice_get}
-use Rattle.lagsystem.proofs.Common.{slice_set, subst, sym, true, ℕ, ◌&&◌, ◌∙◌, ◌∷◌, ◌≡◌, ◌≢◌, cases_eq, false≢true, nat_tests, none-some, same_Some}
-use Rattle.lagsystem.proofs.Common.{AllByRecursion, AggId, Key, Choice, Selected, Standby, Unselected, is_selected, is_standby, is_unselected}
-use Rattle.lagsystem.proofs.Common.{SamePair, individual, same_system, party_of, ports_of, LawfulMoves, PortAllowed, PortMove, pair_at, port_after}
-use Rattle.lagsystem.proofs.Common.{DistributorFacts, ModelCall, PortFacts, SystemSetup, mapped_some, moves_at, moves_joined, MuxState}
+use Rattle.lagsystem.proofs.Common.{slice_set, subst, sym, true, ℕ, ◌&&◌, ◌∙◌, ◌∷◌, ◌≡◌, ◌≢◌, and_parts, cases_eq, false≢true, nat_tests, none-some}
+use Rattle.lagsystem.proofs.Common.{same_Some, AllByRecursion, AggId, Key, Choice, Selected, Standby, Unselected, is_selected, is_standby}
+use Rattle.lagsystem.proofs.Common.{is_unselected, SamePair, individual, same_system, party_of, ports_of, LawfulMoves, PortAllowed, PortMove, pair_at}
+use Rattle.lagsystem.proofs.Common.{port_after, DistributorFacts, ModelCall, PortFacts, SystemSetup, mapped_some, moves_at, moves_joined, MuxState}
 use Rattle.lagsystem.proofs.Common.{CollectingDistributing, partner_synchronized, same_mux_state, chosen_aggregator, chosen_for_view, IsOccupant}
 use Rattle.lagsystem.proofs.Common.{MayJoin, ends, AggregatorsValue, has_room, is_detached, is_eligible, SystemPort, key_of, model_port}
 use Rattle.lagsystem.proofs.Common.{model_port_of, model_view_at, number_of_port, selected_number, OccupantsAgree, occupied, ChoosesIn, PromotesNext}
-use Rattle.lagsystem.proofs.Common.{after_choices, aggregator_for, choice_for, choice_if, choice_in, with_choice, port_numbers, selection_view}
-use Rattle.lagsystem.proofs.Common.{stage_of, views}
+use Rattle.lagsystem.proofs.Common.{after_choices, aggregator_for, choice_for, choice_if, choice_in, with_choice, port_numbers, may_choose}
+use Rattle.lagsystem.proofs.Common.{selection_view, stage_of, views}
 use Rattle.selection.proofs.Joining.{choice-joins, if-some}
 use Rattle.lagsystem.proofs.Keeps.{given_number, numbers_set}
 use Rattle.lagsystem.proofs.Limiting.{next_stands}
@@ -106,8 +106,8 @@ pub taken_joins : (keys : List Key) (system_ports : List SystemPort) (i : ℕ) (
     → Rises 0 (port_numbers system_ports) → slice_get system_ports i ≡ Some s → aggregator_for keys system_ports s ≡ Some agg
     → (is_eligible (selection_view s) ≡ true) × MayJoin keys (views system_ports) agg (selection_view s)
 taken_joins keys system_ports i s agg r h k =
-    let x = if-some (is_eligible (selection_view s)) (chosen_aggregator keys (views system_ports) s.number) agg k in (
-      x.0,
+    let x = if-some (may_choose s) (chosen_aggregator keys (views system_ports) s.number) agg k in (
+      (and_parts (is_eligible (selection_view s)) (not s.held) x.0).0,
       choice-joins keys (views system_ports) (selection_view s) agg
           (sym (ap (chosen_for_view keys (views system_ports)) (find_here 0 system_ports i s r h)) ∙ x.1),
     )

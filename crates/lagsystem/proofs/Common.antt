@@ -46,12 +46,14 @@ pub use Rattle.slowpdu.specs.Pdus.{ReadsPdu, WritesPdu}
 pub use Rattle.slowpdu.proofs.PduLemmas.{no_fault, one_pdu, one_written}
 pub use Rattle.slowpdu.proofs.WritingLemmas.{framed_payload, framed_slow}
 pub use Rattle.lagmodel.specs.Bridge.{AreNumbered, find_number, ports_of}
+pub use Rattle.lagmodel.specs.Law.{Members}
 pub use Rattle.lagmodel.specs.Move.{Act, ConversationMove, Distributes, DistributorMoves, LawfulMoves, Move, PortAllowed, PortMove, Sends_frame}
 pub use Rattle.lagmodel.specs.Move.{Sends as Shows, Took, pair_at, port_act, port_after}
 pub use Rattle.lagmodel.specs.View.{Conversation, DistributorFacts, IsSystemSetup, Lacp, ControlMessage as Message, ModelCall, PortFacts, SystemSetup}
 pub use Rattle.lagmodel.specs.View.{ModelCall as Told, LacpMessage as Told_lacpdu, Receive as Told_receive, View, at_port, first_port, first_view}
 pub use Rattle.lagmodel.specs.View.{replies_frame, zero_party}
 pub use Rattle.lagmodel.proofs.Base.{cond_false, cond_true, mapped_some, chosen as whichever}
+pub use Rattle.lagmodel.proofs.Calls.{members_call}
 pub use Rattle.lagmodel.proofs.Ports.{group_sym, individual_along, members_first, one_partner}
 pub use Rattle.lagmodel.proofs.Uses.{find_at, flows_weaker, moves_at, moves_flows, moves_joined, moves_port, numbered_set, ports_set}
 pub use Rattle.portmachines.specs.declared.mux.MuxState.{MuxState}
@@ -67,7 +69,6 @@ pub use Rattle.portmachines.specs.Receive.{default_partner, lacpdu_rows, receive
 pub use Rattle.portmachines.specs.Rows.{AtRest, Fires, FiresTimes, Row, RunsToRest}
 pub use Rattle.portmachines.specs.Start.{Starts, before_start}
 pub use Rattle.portmachines.specs.Transmit.{after_sending, aged, count_down, is_due, pdu_of}
-pub use Rattle.portmachines.specs.Window.{KeepsWindow, sent_before}
 pub use Rattle.portmachines.proofs.Choices.{one_effect, one_mux, one_periodic}
 pub use Rattle.portmachines.proofs.Runs.{EachRelates, Fires-relates, Reaches-keeps, Rests-relates}
 pub use Rattle.selection.specs.declared.view.PortView.{PortView, PortView as Seen}
@@ -113,7 +114,7 @@ pub use Rattle.lagsystem.specs.Calls.{Ticks, Transmit, changed_party, choice_wit
 pub use Rattle.lagsystem.specs.ConversationTables.{TellsRows, has_changed, has_freed, is_busy, port_on}
 pub use Rattle.lagsystem.specs.Drives.{Drives, call_of}
 pub use Rattle.lagsystem.specs.First.{HasJustStarted, IsConfigured, IsFirst, config_refusal, configured_number, configured_numbers}
-pub use Rattle.lagsystem.specs.First.{first_bad_port_number, is_count, refusal, refusal_of_limits, setup_of}
+pub use Rattle.lagsystem.specs.First.{first_bad_port_number, is_count, is_limit, refusal, refusal_of_limits, setup_of}
 pub use Rattle.lagsystem.specs.Forcing.{ForcesFirst, ForcesIfHeld, ForcesIn, ForcesPort, FreesHeld, NoneIsHeldOn, after_forcing, count_held_on}
 pub use Rattle.lagsystem.specs.Holding.{WereInUse, after_holding, aggregators_in_use, has_stopped, stopped}
 pub use Rattle.lagsystem.specs.Hosts.{would_transmit, would_transmit_at}
@@ -138,15 +139,19 @@ pub use Rattle.lagsystem.specs.Readers.{aggregator_numbered, collecting, convers
 pub use Rattle.lagsystem.specs.Readers.{distributes_in, distributing, number_of_conversation, selected_aggregator, two_octets}
 pub use Rattle.lagsystem.specs.Sending.{IsLacpduOf, PortSendsLacpduIfDue, SendsLacpdu, SendsLacpduIfDue, SendsMarker, SendsMarkerOf, TransmitsAt}
 pub use Rattle.lagsystem.specs.Sending.{TransmitsIf, own_marker}
+pub use Rattle.lagsystem.specs.Settings.{IsAlready, LimitsLinks, OnlyPortBecomes, PortBecomes, SetsPort, Setting, SettingPromise, SettingStep}
+pub use Rattle.lagsystem.specs.Settings.{ages_at, in_mode, is_crowded, is_held_so, is_in_mode, is_over, limit_refusal, max_delay_after}
+pub use Rattle.lagsystem.specs.Settings.{max_links_after, members_up, with_held}
 pub use Rattle.lagsystem.specs.Settling.{ChoosesIn, HoldsConversations, PortChangesBy, PortsChangeBy, PromotesAll, PromotesFirst, PromotesNext}
 pub use Rattle.lagsystem.specs.Settling.{PromotesTimes, SettlesPorts, Settling, after_choice_at, after_choices, aggregator_for, choice_for, choice_if}
 pub use Rattle.lagsystem.specs.Settling.{choice_in, held_unless_on, is_restless, ready_of, with_choice}
-pub use Rattle.lagsystem.specs.Sound.{CallPromise, DistributeAsMuxDoes, HasPorts, IsSound, OnlyOnDistributing, PortsAgree}
+pub use Rattle.lagsystem.specs.Sound.{CallPromise, DistributeAsMuxDoes, HasPorts, HeldUnselected, IsSound, NoneHeld, OnlyOnDistributing, PortsAgree}
+pub use Rattle.lagsystem.specs.Sound.{held_apart}
 pub use Rattle.lagsystem.specs.State.{SystemState, SystemValue, aggregators_value, machines_of, port_index, port_numbers, system_port_at}
 pub use Rattle.lagsystem.specs.State.{with_system_ports, with_table}
 pub use Rattle.lagsystem.specs.StatusMeaning.{FindsNoAggregator, FindsNoRoom, HearsPartner, IsDistributing, Says, Waits, WaitsForMember}
 pub use Rattle.lagsystem.specs.StatusMeaning.{WaitsForPartner, WaitsIn, meaning}
-pub use Rattle.lagsystem.specs.Views.{selection_view as seen_at, selection_view, stage_of, views}
+pub use Rattle.lagsystem.specs.Views.{may_choose, selection_view, stage_of, views}
 pub use Rattle.lagsystem.specs.Waiting.{soonest, ticks_in_window, ticks_until_due, ticks_until_due_on, ticks_until_expired, ticks_until_frame}
 pub use Rattle.lagsystem.specs.Waiting.{ticks_until_room}
 pub use Rattle.lagsystem.specs.Windows.{AgesSince, AtMostThreeAges, EachAtMostThreeAges, KeepsTransmitLimit, StartsWithoutAges, StaysWindowed}

@@ -1,15 +1,16 @@
 -- The first state of a system has the model's first view.
-use Rattle.lagsystem.proofs.Common.{Bool, List, None, Option, Some, [], ap, arith, cond, eqb, eqb-true, false, inl, inr, length, option_map, refl}
-use Rattle.lagsystem.proofs.Common.{slice_get, subst, suc, sym, true, zero, ℕ, ◌&&◌, ◌∙◌, ◌∷◌, ◌≡◌, ◌⊎◌, and_left, and_parts, and_right, nat_tests}
-use Rattle.lagsystem.proofs.Common.{none-some, same_Some, AllByRecursion, AllZip, AggId, SystemId, Standby, Unselected, Party, is_selected, bits_of}
-use Rattle.lagsystem.proofs.Common.{with_synchronization, encode_then_decode, find_number, ports_of, IsSystemSetup, PortFacts, first_port, first_view}
-use Rattle.lagsystem.proofs.Common.{mapped_some, whichever, Detached, Start, Current, Expired, Initialize, PortDisabled, Machines, mux_rows}
-use Rattle.lagsystem.proofs.Common.{partner_synchronized, RunsPeriodic, periodic_rows, receive_rows, same_receive_state, start_receive, AtRest, Fires}
-use Rattle.lagsystem.proofs.Common.{FiresTimes, Row, RunsToRest, Starts, before_start, Reaches-keeps, AggregatorsValue, is_eligible}
-use Rattle.lagsystem.proofs.Common.{model_distributor, first_flows, PortConfig, SystemPort, HasJustStarted, IsFirst, configured_number, setup_of}
-use Rattle.lagsystem.proofs.Common.{configured_party, model_port, model_port_of, model_setup, model_view, number_of_port, ChoosesIn, PortChangesBy}
-use Rattle.lagsystem.proofs.Common.{PortsChangeBy, PromotesFirst, PromotesNext, after_choice_at, after_choices, ready_of, SystemState}
-use Rattle.lagsystem.proofs.Common.{aggregators_value, with_system_ports, with_table, seen_at, views}
+use Rattle.lagsystem.proofs.Common.{Bool, List, None, Option, Some, [], ap, arith, cond, eqb, eqb-true, false, if◌then◌else◌, inl, inr, length, not}
+use Rattle.lagsystem.proofs.Common.{option_map, refl, slice_get, slice_set, subst, suc, sym, true, zero, ℕ, ◌&&◌, ◌∙◌, ◌∷◌, ◌≡◌, ◌⊎◌, and_left}
+use Rattle.lagsystem.proofs.Common.{and_parts, and_right, nat_tests, none-some, same_Some, AllByRecursion, AllZip, AggId, SystemId, Standby}
+use Rattle.lagsystem.proofs.Common.{Unselected, Party, is_selected, bits_of, with_synchronization, encode_then_decode, find_number, ports_of}
+use Rattle.lagsystem.proofs.Common.{IsSystemSetup, PortFacts, first_port, first_view, mapped_some, whichever, Detached, Start, Current, Expired}
+use Rattle.lagsystem.proofs.Common.{Initialize, PortDisabled, Machines, mux_rows, partner_synchronized, RunsPeriodic, periodic_rows, receive_rows}
+use Rattle.lagsystem.proofs.Common.{same_receive_state, start_receive, AtRest, Fires, FiresTimes, Row, RunsToRest, Starts, before_start}
+use Rattle.lagsystem.proofs.Common.{Reaches-keeps, chosen_aggregator, AggregatorsValue, is_eligible, model_distributor, first_flows, PortConfig}
+use Rattle.lagsystem.proofs.Common.{SystemPort, HasJustStarted, IsFirst, configured_number, setup_of, configured_party, model_port, model_port_of}
+use Rattle.lagsystem.proofs.Common.{model_setup, model_view, number_of_port, ChoosesIn, PortChangesBy, PortsChangeBy, PromotesFirst, PromotesNext}
+use Rattle.lagsystem.proofs.Common.{after_choice_at, after_choices, ready_of, with_choice, SystemState, aggregators_value, with_system_ports}
+use Rattle.lagsystem.proofs.Common.{with_table, may_choose, selection_view, views}
 use Rattle.lagsystem.proofs.Effects.{named, zero_named}
 use Rattle.lagsystem.proofs.Rest.{zip_all}
 use Rattle.lagsystem.proofs.Keeps.{settling_in}
@@ -151,14 +152,18 @@ idle_slots system R k (c ∷ cs) (x ∷ xs) (y ∷ ys) a h =
     let rest = idle_slots system R k cs xs ys a.1 h.1 in
     λ i. here i ∷ rest i
 
--- no port is eligible while its link is down
-not_eligible : (s : SystemPort) → s.port.enabled ≡ false → is_eligible (seen_at s) ≡ false
-not_eligible s e = ap (λ b. is_eligible (record (seen_at s) { enabled = b })) e
+-- no port may choose while its link is down
+chooses_none : (s : SystemPort) → s.port.enabled ≡ false → may_choose s ≡ false
+chooses_none s e = ap (λ b. is_eligible (record (selection_view s) { enabled = b }) && not s.held) e
 
 choose_idle : (aggs : AggregatorsValue) (system_ports : List SystemPort) (i : ℕ) (o : Option SystemPort) → slice_get system_ports i ≡ o
     → AllByRecursion (λ s. s.port.enabled ≡ false) system_ports → after_choice_at aggs system_ports i o ≡ system_ports
 choose_idle aggs system_ports i None e down = refl
-choose_idle aggs system_ports i (Some s) e down = grind (arith, nat_tests, none_for, not_eligible, all-get, set_same)
+choose_idle aggs system_ports i (Some s) e down =
+    let none = chooses_none s (all-get (λ s. s.port.enabled ≡ false) system_ports i s e down) in
+    ap (λ o. slice_set system_ports i (with_choice s o))
+    (none_for aggs system_ports s (ap (λ b. if b then chosen_aggregator aggs.keys (views system_ports) s.number else None) none))
+    ∙ set_same system_ports i s e
 
 chosen_idle : (aggs : AggregatorsValue) (n : ℕ) (system_ports : List SystemPort) → AllByRecursion (λ s. s.port.enabled ≡ false) system_ports
     → after_choices aggs n system_ports ≡ system_ports

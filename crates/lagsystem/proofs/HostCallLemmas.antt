@@ -1,9 +1,8 @@
 -- Lists of all calls keep the transmit limit, and ports that agree.
-use Rattle.lagsystem.proofs.Common.{Bool, Err, IfOk, List, None, Ok, Option, Result, Some, [], ap, arith, false, refl, subst, sym, true, ℕ, ◌++◌, ◌+◌}
-use Rattle.lagsystem.proofs.Common.{◌∙◌, ◌∷◌, ◌≡◌, nat_tests, AggId, KeepsWindow, Assignment, next_identifier, Reply, SystemFault, SystemPort}
-use Rattle.lagsystem.proofs.Common.{OffersIf, Call, RefusesNoPort, Transmit, call_of, ForcesPort, FreesHeld, model_setup, GivesOrRefuses, Probes}
-use Rattle.lagsystem.proofs.Common.{ProbesAt, ProbesIf, SendsMarkerOf, CallPromise, PortsAgree, SystemState, machines_of, port_index, with_table}
-use Rattle.lagsystem.proofs.Common.{AgesSince, EachAtMostThreeAges, remembered_sends, sends_after}
+use Rattle.lagsystem.proofs.Common.{Bool, Err, IfOk, List, None, Ok, Option, Result, Some, [], ap, arith, false, refl, subst, sym, true, ℕ, ◌∙◌, ◌∷◌}
+use Rattle.lagsystem.proofs.Common.{◌≡◌, nat_tests, AggId, Assignment, next_identifier, SystemFault, SystemPort, OffersIf, Transmit, call_of}
+use Rattle.lagsystem.proofs.Common.{ForcesPort, FreesHeld, model_setup, GivesOrRefuses, Probes, ProbesAt, ProbesIf, SendsMarkerOf, PortsAgree}
+use Rattle.lagsystem.proofs.Common.{SystemState, machines_of, port_index, with_table, remembered_sends, sends_after}
 use Rattle.lagsystem.specs.declared.drive.HostCall.{HostCall}
 use Rattle.lagsystem.specs.declared.drive.HostCall.TheVariants as host
 use Rattle.lagsystem.specs.declared.drive.HostReply.{HostReply}
@@ -12,7 +11,7 @@ use Rattle.lagsystem.specs.declared.drive.Reply.TheVariants as reply
 use Rattle.lagsystem.specs.HostCalls.{HostAgreementLaw, HostPromise, HostRun, HostWindowLaw, KeepsAgreement, StaysWindowedForHosts, sends_after_host}
 use Rattle.lagsystem.specs.HostCalls.{tick_after_host}
 use Rattle.lagsystem.proofs.Preserves.{marker_silent, none_silent}
-use Rattle.lagsystem.proofs.Windows.{GoodAt, GoodIn, good_end, good_few, good_step, found, is_numbered, port_in}
+use Rattle.lagsystem.proofs.Windows.{GoodAt, GoodIn, good_end, good_few, good_step, found, port_in}
 
 -- ---- the five calls change the conversations alone
 

@@ -64,4 +64,7 @@ pub mod ProbingLemmas
 pub mod TellingLemmas
 pub mod StillDueLemmas
 pub mod HeldLemmas
+pub mod HeldPorts
+pub mod AgesKept
+pub mod SettingsKeep
 pub mod HostCallLemmas

@@ -6,7 +6,7 @@ use Rattle.lagsystem.proofs.Common.{Machines, PortView, is_aggregator, ports_tha
 use Rattle.lagsystem.proofs.Common.{NoneStandsBy, is_next, none_is_next, nothing_is_next, SystemPort, NoneIsNext, WithinLimit, aggregator_numbered}
 use Rattle.lagsystem.proofs.Common.{ChoosesIn, PortsChangeBy, PromotesFirst, PromotesNext, aggregator_for, choice_if, choice_in, with_choice}
 use Rattle.lagsystem.proofs.Common.{selection_view, views}
-use Rattle.lagsystem.proofs.NoneLeft.{eligible_then, unselected}
+use Rattle.lagsystem.proofs.NoneLeft.{may_then, unselected}
 use Rattle.lagsystem.proofs.Occupying.{LeavesOrStays}
 use Rattle.lagsystem.proofs.PromotionLemmas.{all_keep, choices_keep, promotions_keep}
 
@@ -19,7 +19,7 @@ count agg (s ∷ ss) = cond (has_chosen agg s.port.choice) (suc (count agg ss)) 
 one_counted : (b : Bool) (v : PortView) (rest : List PortView) (n : ℕ) → length rest ≡ n → length (cond b (v ∷ rest) rest) ≡ cond b (suc n) n
 one_counted b v rest n h = grind (arith, nat_tests)
 
-counted : (agg : AggId) (l : List SystemPort) → length (ports_that_chose agg (views l)) ≡ count agg l
+pub counted : (agg : AggId) (l : List SystemPort) → length (ports_that_chose agg (views l)) ≡ count agg l
 counted agg [] = refl
 counted agg (s ∷ ss) = grind (arith, nat_tests, counted agg ss)
 
@@ -229,7 +229,7 @@ choice_none : (aggs : AggregatorsValue) (l : List SystemPort) (i : ℕ) (s : Sys
     → aggregator_for aggs.keys l s ≡ o → slice_get l i ≡ Some s → (a : AggId) → NoneNext aggs a l
     → NoneNext aggs a (slice_set l i (with_choice s (option_map (choice_in aggs (views l)) o)))
 choice_none aggs l i s None k e a q = subst (NoneNext aggs a) (sym (set_itself l i s e)) q
-choice_none aggs l i s (Some agg) k e a q = grind (arith, nat_tests, eligible_then, taken_none, unselected)
+choice_none aggs l i s (Some agg) k e a q = grind (arith, nat_tests, may_then, taken_none, unselected)
 
 pub choosing_none : (aggs : AggregatorsValue) (old new : List SystemPort) → ChoosesIn aggs old new → (a : AggId) → NoneNext aggs a new
 choosing_none aggs old new h a =

@@ -1,5 +1,5 @@
 -- Lists whose elements are related in pairs, and a loop that writes or pushes each in turn.
-use Rattle.lagsystem.proofs.Common.{List, [], add-one, arith, get_or, length, refl, set, subst, suc, zero, ℕ, ◌++◌, ◌+◌, ◌<◌, ◌∷◌, ◌≡◌, ◌≤◌, AllZip}
+use Rattle.lagsystem.proofs.Common.{List, [], add-one, arith, get_or, length, set, suc, zero, ℕ, ◌++◌, ◌+◌, ◌<◌, ◌∷◌, ◌≡◌, ◌≤◌, AllZip}
 
 pub AllZip-weaker : {X : Type 0} (R S : X → X → Type 0) → ((x y : X) → R x y → S x y) → (xs ys : List X) → AllZip R xs ys → AllZip S xs ys
 AllZip-weaker R S w [] [] h = tt

@@ -1,9 +1,9 @@
 -- When all ports have chosen, none that is still eligible finds an aggregator.
-use Rattle.lagsystem.proofs.Common.{Bool, List, None, Option, Some, [], ap, arith, false, if◌then◌else◌, inl, inr, length, option_map, refl}
+use Rattle.lagsystem.proofs.Common.{Bool, List, None, Option, Some, [], ap, arith, false, if◌then◌else◌, inl, inr, length, not, option_map, refl}
 use Rattle.lagsystem.proofs.Common.{slice_get, slice_set, subst, suc, sym, true, zero, ℕ, ◌&&◌, ◌<◌, ◌∙◌, ◌∷◌, ◌≡◌, ◌⊎◌, nat_tests, same_Some}
 use Rattle.lagsystem.proofs.Common.{AllByRecursion, AggId, Key, Choice, Unselected, is_unselected, PortView, chosen_aggregator, chosen_for_view}
 use Rattle.lagsystem.proofs.Common.{chosen_if_eligible, AggregatorsValue, has_room, is_eligible, SystemPort, after_choice_at, after_choices}
-use Rattle.lagsystem.proofs.Common.{aggregator_for, choice_for, choice_if, choice_in, with_choice, port_numbers, selection_view, views}
+use Rattle.lagsystem.proofs.Common.{aggregator_for, choice_for, choice_if, choice_in, with_choice, port_numbers, may_choose, selection_view, views}
 use Rattle.lagsystem.proofs.Keeps.{chosen_numbers, numbers_set}
 use Rattle.lagsystem.proofs.NoneStays.{none_after}
 use Rattle.lagsystem.proofs.Rising.{Rises, all-get, find_here}
@@ -60,9 +60,9 @@ not_when b x h = grind (arith, nat_tests)
 pub takes_is : (keys : List Key) (system_ports : List SystemPort) (j : ℕ) (t : SystemPort) → Rises 0 (port_numbers system_ports)
     → slice_get system_ports j ≡ Some t
     → aggregator_for keys system_ports t
-    ≡ (if is_eligible (selection_view t) then (if is_eligible (selection_view t) then chosen_if_eligible keys (views system_ports)
+    ≡ (if may_choose t then (if is_eligible (selection_view t) then chosen_if_eligible keys (views system_ports)
     (selection_view t) else None) else None)
-takes_is keys system_ports j t r e = ap (λ o. if is_eligible (selection_view t) then chosen_for_view keys (views system_ports) o else None)
+takes_is keys system_ports j t r e = ap (λ o. if may_choose t then chosen_for_view keys (views system_ports) o else None)
     (find_here 0 system_ports j t r e)
 
 none_then : (keys : List Key) (system_ports : List SystemPort) (i j : ℕ) (s t : SystemPort) (a : Choice)
@@ -77,17 +77,17 @@ none_then keys system_ports i j s t a r e u g l h =
     let x : Option AggId = chosen_if_eligible keys (views system_ports) (selection_view t) in
     let y : Option AggId = chosen_if_eligible keys (views later) (selection_view t) in
     takes_is keys later j t rise (get_other system_ports i j (with_choice s (Some a)) l ∙ g)
-    ∙ when_still b (if b then x else None) (if b then y else None) (sym (takes_is keys system_ports j t r g) ∙ h)
+    ∙ when_still (may_choose t) (if b then x else None) (if b then y else None) (sym (takes_is keys system_ports j t r g) ∙ h)
     (λ k. when_still b x y k (none_after keys system_ports i s a (selection_view t) e u))
 
-pub eligible_then : (b : Bool) (x : Option AggId) (a : AggId) → (if b then x else None) ≡ Some a → b ≡ true
-eligible_then b x a e = grind (arith, nat_tests)
+pub may_then : (b : Bool) (x : Option AggId) (a : AggId) → (if b then x else None) ≡ Some a → b ≡ true
+may_then b x a e = grind (arith, nat_tests)
 
-pub unselected : (c : Choice) (b d : Bool) → ((b && is_unselected c) && d) ≡ true → c ≡ Unselected
-unselected c b d h = grind (arith, nat_tests)
+pub unselected : (c : Choice) (b d e : Bool) → (((b && is_unselected c) && d) && e) ≡ true → c ≡ Unselected
+unselected c b d e h = grind (arith, nat_tests)
 
-not_unselected : (room : Bool) (agg : AggId) (b d : Bool) → ((b && is_unselected (choice_if room agg)) && d) ≡ false
-not_unselected room agg b d = grind (arith, nat_tests)
+not_unselected : (room : Bool) (agg : AggId) (b d e : Bool) → (((b && is_unselected (choice_if room agg)) && d) && e) ≡ false
+not_unselected room agg b d e = grind (arith, nat_tests)
 
 -- each of the first n finds none
 abbrev Found_none : List Key → ℕ → List SystemPort → Type 0
@@ -112,9 +112,8 @@ one_taken aggs system_ports n s (Some a) w e r k j t l g =
     let keys = aggs.keys in
     let room = has_room aggs (views system_ports) a in
     let c = choice_if room a in
-    let v = selection_view s in
-    let can : is_eligible v ≡ true = eligible_then (is_eligible v) (chosen_aggregator keys (views system_ports) s.number) a w in
-    let u : s.port.choice ≡ Unselected = unselected s.port.choice _ _ can in
+    let can : may_choose s ≡ true = may_then (may_choose s) (chosen_aggregator keys (views system_ports) s.number) a w in
+    let u : s.port.choice ≡ Unselected = unselected s.port.choice _ _ _ can in
     let later : List SystemPort = slice_set system_ports n (with_choice s (Some c)) in
     elim (below_or_at j n l) [
       | inl h ↦ let there : slice_get system_ports j ≡ Some t = sym (get_other system_ports n j (with_choice s (Some c)) h)
@@ -122,8 +121,8 @@ one_taken aggs system_ports n s (Some a) w e r k j t l g =
       | inr h ↦ let is : t ≡ with_choice s (Some c) = get_here system_ports n (with_choice s (Some c)) t
           (ap (slice_get later) (sym h) ∙ g) in
           subst (λ (x : SystemPort). aggregator_for keys later x ≡ None) (sym is)
-          (not_when (is_eligible (selection_view (with_choice s (Some c))))
-          (chosen_aggregator keys (views later) s.number) (not_unselected room a _ _))
+          (not_when (may_choose (with_choice s (Some c)))
+          (chosen_aggregator keys (views later) s.number) (not_unselected room a _ _ _))
     ]
 
 one_chosen : (aggs : AggregatorsValue) (system_ports : List SystemPort) (n : ℕ) (o : Option SystemPort) → slice_get system_ports n ≡ o
@@ -144,31 +143,36 @@ pub each_place : (P : SystemPort → Type 0) (system_ports : List SystemPort)
 each_place P [] k = tt
 each_place P (s ∷ ss) k = (k 0 s refl, each_place P ss (λ j t e. k (suc j) t e))
 
--- a port that is seen so, beside these, takes no aggregator
-abbrev pub TakesNone : List Key → List PortView → PortView → Type 0
-TakesNone keys seen v = (if is_eligible v then chosen_if_eligible keys seen v else None) ≡ None
+-- a port that is seen so, beside these, takes no aggregator; the last argument: it is held
+abbrev pub TakesNone : List Key → List PortView → PortView → Bool → Type 0
+TakesNone keys seen v held = (if is_eligible v && not held then chosen_if_eligible keys seen v else None) ≡ None
 
-when_twice : (b : Bool) (x : Option AggId) → (if b then (if b then x else None) else None) ≡ None → (if b then x else None) ≡ None
-when_twice b x h = grind (arith, nat_tests)
+when_twice : (b d : Bool) (x : Option AggId) → (if b && d then (if b then x else None) else None) ≡ None
+    → (if b && d then x else None) ≡ None
+when_twice b d x h = grind (arith, nat_tests)
 
-when_again : (b : Bool) (x : Option AggId) → (if b then x else None) ≡ None → (if b then (if b then x else None) else None) ≡ None
-when_again b x h = grind (arith, nat_tests)
+when_again : (b d : Bool) (x : Option AggId) → (if b && d then x else None) ≡ None
+    → (if b && d then (if b then x else None) else None) ≡ None
+when_again b d x h = grind (arith, nat_tests)
 
 pub taken_none : (keys : List Key) (system_ports : List SystemPort) → Rises 0 (port_numbers system_ports)
-    → AllByRecursion (λ t. TakesNone keys (views system_ports) (selection_view t)) system_ports
+    → AllByRecursion (λ t. TakesNone keys (views system_ports) (selection_view t) t.held) system_ports
     → (j : ℕ) (t : SystemPort) → slice_get system_ports j ≡ Some t → aggregator_for keys system_ports t ≡ None
-taken_none keys system_ports r all j t e = grind (arith, nat_tests, takes_is, when_again, all-get)
+taken_none keys system_ports r all j t e =
+    takes_is keys system_ports j t r e
+    ∙ when_again (is_eligible (selection_view t)) (not t.held) (chosen_if_eligible keys (views system_ports) (selection_view t))
+    (all-get (λ t. TakesNone keys (views system_ports) (selection_view t) t.held) system_ports j t e all)
 
 -- each port, when all have chosen
 pub none_takes : (aggs : AggregatorsValue) (system_ports : List SystemPort) → Rises 0 (port_numbers system_ports)
-    → AllByRecursion (λ t. TakesNone aggs.keys (views (after_choices aggs (length system_ports) system_ports)) (selection_view t))
+    → AllByRecursion (λ t. TakesNone aggs.keys (views (after_choices aggs (length system_ports) system_ports)) (selection_view t) t.held)
     (after_choices aggs (length system_ports) system_ports)
 none_takes aggs system_ports r =
     let keys = aggs.keys in
     let last : List SystemPort = after_choices aggs (length system_ports) system_ports in
     let rise : Rises 0 (port_numbers last) = subst (λ ns. Rises 0 ns) (sym (chosen_numbers aggs (length system_ports) system_ports)) r in
-    each_place (λ t. TakesNone keys (views last) (selection_view t)) last
-    (λ j t e. when_twice (is_eligible (selection_view t)) (chosen_if_eligible keys (views last) (selection_view t))
+    each_place (λ t. TakesNone keys (views last) (selection_view t) t.held) last
+    (λ j t e. when_twice (is_eligible (selection_view t)) (not t.held) (chosen_if_eligible keys (views last) (selection_view t))
     (sym (takes_is keys last j t rise e)
     ∙ all_chosen aggs (length system_ports) system_ports r j t
     (subst (λ m. j < m) (length_chosen aggs (length system_ports) system_ports) (get_within last j t e)) e))

@@ -75,7 +75,7 @@ choosing_on : (aggs : AggregatorsValue) (old new : List SystemPort) → Rises 0 
     → ArePlaced aggs old → ArePlaced aggs new
 choosing_on aggs old new r h p = (choosing_agrees aggs old new r h p.0, choosing_within aggs old new h p.1)
 
-settling_placed : (old new : SystemState) → Rises 0 (port_numbers old.system_ports) → Settling old new → IsPlaced old → IsPlaced new
+pub settling_placed : (old new : SystemState) → Rises 0 (port_numbers old.system_ports) → Settling old new → IsPlaced old → IsPlaced new
 settling_placed old new r h p =
     let s = settling_in old new h in
     let aggs = aggregators_value old in

@@ -20,7 +20,7 @@ pub first_carried : (s : SystemState) → IsFirst s → OnlyOnDistributing s
 first_carried s h g k p e = grind (arith, nat_tests)
 
 -- step 6 leaves those that are on ports that distribute
-leaves_carried : (old new : SystemState) → HoldsConversations old new → OnlyOnDistributing new
+pub leaves_carried : (old new : SystemState) → HoldsConversations old new → OnlyOnDistributing new
 leaves_carried old new h g k p e = grind (arith, nat_tests)
 
 -- the ports stay, and a conversation is where it was or on a port that distributes in its aggregator

@@ -16,7 +16,7 @@ started_rests s p h = subst (AtRest receive_rows) (sym h.2) h.1.2
 one_slot : (system : SystemId) (c : PortConfig) (x y : SystemPort) → HasJustStarted system c x → HasJustStarted system c y → x ≡ y
 one_slot system c x y h k =
     let port = one_start (setup_of system c) x.port y.port h.2 k.2 in
-    λ i. record { number = (h.0 ∙ sym k.0) i; mac = (h.1 ∙ sym k.1) i; port = port i }
+    λ i. record { number = (h.0 ∙ sym k.0) i; mac = (h.1 ∙ sym k.1) i; port = port i; held = (h.3 ∙ sym k.3) i }
 
 one_list : (system : SystemId) (ports : List PortConfig) (xs ys : List SystemPort) → AllZip (HasJustStarted system) ports xs
     → AllZip (HasJustStarted system) ports ys → xs ≡ ys

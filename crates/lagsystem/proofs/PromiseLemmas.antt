@@ -17,6 +17,7 @@ table_sound old new f a c on s = subst IsSound (sym f) (record {
   occupants = s.occupants;
   limited = s.limited;
   promoted = s.promoted;
+  held = s.held;
 })
 
 pub table_promise : (call : ModelCall) (acts : List Act) (old new : SystemState) → new ≡ with_table old new.table

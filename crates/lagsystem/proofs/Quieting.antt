@@ -3,10 +3,10 @@ use Rattle.lagsystem.proofs.Common.{Bool, List, None, Option, Some, [], ap, arit
 use Rattle.lagsystem.proofs.Common.{slice_set, subst, suc, sym, true, zero, ℕ, ◌&&◌, ◌||◌, ◌∙◌, ◌∷◌, ◌≡◌, false≢true, nat_tests, AllByRecursion}
 use Rattle.lagsystem.proofs.Common.{AllZip, list_all, AggId, Key, Choice, Selected, is_selected, is_unselected, Waiting, Machines, mux_rows}
 use Rattle.lagsystem.proofs.Common.{same_mux_state, RunsPeriodic, periodic_rows, AtRest, Fires, FiresTimes, Row, RunsToRest, Reaches-keeps, PortView}
-use Rattle.lagsystem.proofs.Common.{chosen_if_eligible, has_group_of, has_occupant, occupants, AggregatorsValue, is_eligible, occupies, SystemPort}
-use Rattle.lagsystem.proofs.Common.{MuxIsSettled, MuxesAreSettled, PeriodicIsSettled, PeriodicsAreSettled, NoneIsNext, PortChangesBy, PortsChangeBy}
-use Rattle.lagsystem.proofs.Common.{PromotesFirst, SettlesPorts, Settling, after_choice_at, after_choices, aggregator_for, choice_for, choice_in}
-use Rattle.lagsystem.proofs.Common.{ready_of, with_choice, SystemState, aggregators_value, port_numbers, with_system_ports, selection_view, views}
+use Rattle.lagsystem.proofs.Common.{chosen_if_eligible, has_group_of, has_occupant, occupants, AggregatorsValue, occupies, SystemPort, MuxIsSettled}
+use Rattle.lagsystem.proofs.Common.{MuxesAreSettled, PeriodicIsSettled, PeriodicsAreSettled, NoneIsNext, PortChangesBy, PortsChangeBy, PromotesFirst}
+use Rattle.lagsystem.proofs.Common.{SettlesPorts, Settling, after_choice_at, after_choices, aggregator_for, choice_for, choice_in, ready_of}
+use Rattle.lagsystem.proofs.Common.{with_choice, SystemState, aggregators_value, port_numbers, with_system_ports, may_choose, selection_view, views}
 use Rattle.lagsystem.proofs.Keeps.{chosen_numbers, promoted_numbers, settling_in, settling_keeps, zip_numbers}
 use Rattle.lagsystem.proofs.Limiting.{nothing_promoted, settled_none}
 use Rattle.lagsystem.proofs.PromotionLemmas.{choices_keep, promotions_keep}
@@ -103,25 +103,25 @@ same_groups keys seen agg v (x ∷ xs) (y ∷ ys) h =
     (mux_groups (ready_of keys seen x.port.choice) v x y h.0.0 h.0.1) (same_groups keys seen agg v xs ys h.1)
 
 -- a port that takes none takes none after the mux step
-not_unselected : (b d u : Bool) → u ≡ false → ((b && u) && d) ≡ false
-not_unselected b d u h = grind (arith, nat_tests)
+not_unselected : (b d e u : Bool) → u ≡ false → (((b && u) && d) && e) ≡ false
+not_unselected b d e u h = grind (arith, nat_tests)
 
 not_selected : (c : Choice) → is_unselected c ≡ true → is_selected c ≡ false
 not_selected c h = grind (arith, nat_tests)
 
 none_moved : (keys : List Key) (xs ys : List SystemPort) (x y : SystemPort) → PortsChangeBy (RunsReady keys (views xs)) xs ys
-    → PortChangesBy (RunsReady keys (views xs)) x y → RestsAlone x → TakesNone keys (views xs) (selection_view x)
-    → (s : Bool) → is_unselected x.port.choice ≡ s → TakesNone keys (views ys) (selection_view y)
+    → PortChangesBy (RunsReady keys (views xs)) x y → RestsAlone x → TakesNone keys (views xs) (selection_view x) x.held
+    → (s : Bool) → is_unselected x.port.choice ≡ s → TakesNone keys (views ys) (selection_view y) y.held
 none_moved keys xs ys x y all h a none false s =
     let same = mux_choice (ready_of keys (views xs) x.port.choice) x.port y.port h.1 in
-    not_when (is_eligible (selection_view y)) (chosen_if_eligible keys (views ys) (selection_view y))
-    (not_unselected _ _ (is_unselected y.port.choice) (ap is_unselected same ∙ s))
+    not_when (may_choose y) (chosen_if_eligible keys (views ys) (selection_view y))
+    (not_unselected _ _ _ (is_unselected y.port.choice) (ap is_unselected same ∙ s))
 none_moved keys xs ys x y all h a none true s =
     let b = ready_of keys (views xs) x.port.choice in
     let still : y.port ≡ x.port = stays (mux_rows b) h.1.0 x.port y.port (rest_unselected b x.port (not_selected x.port.choice s) (a s)) h.1.1 in
     let same : y ≡ x = h.0 ∙ (λ i. record x { port = still i }) in
-    subst (λ (z : SystemPort). TakesNone keys (views ys) (selection_view z)) (sym same)
-    (when_still (is_eligible (selection_view x)) (chosen_if_eligible keys (views xs) (selection_view x))
+    subst (λ (z : SystemPort). TakesNone keys (views ys) (selection_view z) z.held) (sym same)
+    (when_still (may_choose x) (chosen_if_eligible keys (views xs) (selection_view x))
     (chosen_if_eligible keys (views ys) (selection_view x)) none
     (none_alike keys (views xs) (views ys) (selection_view x) (λ agg. same_occupants keys (views xs) agg xs ys all)
     (λ agg. same_groups keys (views xs) agg (selection_view x) xs ys all)))
@@ -141,12 +141,12 @@ all_both P Q (x ∷ xs) h k = ((h.0, k.0), all_both P Q xs h.1 k.1)
 
 -- after the mux step a port takes none and no row is enabled without Ready
 abbrev Moved : List Key → List SystemPort → SystemPort → Type 0
-Moved keys system_ports y = TakesNone keys (views system_ports) (selection_view y) × AtRest (mux_rows false) y.port
+Moved keys system_ports y = TakesNone keys (views system_ports) (selection_view y) y.held × AtRest (mux_rows false) y.port
 
 moved : (keys : List Key) (xs ys : List SystemPort) → PortsChangeBy (RunsReady keys (views xs)) xs ys
-    → AllByRecursion (λ x. RestsAlone x × TakesNone keys (views xs) (selection_view x)) xs → AllByRecursion (Moved keys ys) ys
+    → AllByRecursion (λ x. RestsAlone x × TakesNone keys (views xs) (selection_view x) x.held) xs → AllByRecursion (Moved keys ys) ys
 moved keys xs ys h a =
-    zip_gives (PortChangesBy (RunsReady keys (views xs))) (λ x. RestsAlone x × TakesNone keys (views xs) (selection_view x)) (Moved keys ys)
+    zip_gives (PortChangesBy (RunsReady keys (views xs))) (λ x. RestsAlone x × TakesNone keys (views xs) (selection_view x) x.held) (Moved keys ys)
     (λ x y m k. (
       none_moved keys xs ys x y h m k.0 k.1 (is_unselected x.port.choice) refl,
       rest_unready (ready_of keys (views xs) x.port.choice) y.port m.1.2,
@@ -187,6 +187,12 @@ periodic_rest p q h r = subst (λ (m : Machines). AtRest (mux_rows false) m) (sy
 periodic_paced : (y z : SystemPort) → PortChangesBy RunsPeriodic y z → PeriodicIsSettled z
 periodic_paced y z h = grind (arith, nat_tests)
 
+-- a port that looks the same to the Selection Logic, and is held as before, takes none either
+takes_alike : (keys : List Key) (seen : List PortView) (y z : SystemPort) → selection_view z ≡ selection_view y → z.held ≡ y.held
+    → TakesNone keys seen (selection_view y) y.held → TakesNone keys seen (selection_view z) z.held
+takes_alike keys seen y z e h k =
+    subst (λ b. TakesNone keys seen (selection_view z) b) (sym h) (subst (λ v. TakesNone keys seen v y.held) (sym e) k)
+
 -- after a settling
 settled_still : (aggs : AggregatorsValue) (old new : List SystemPort) → Rises 0 (port_numbers old) → SettlesIn aggs old new
     → MuxesAreSettled aggs.keys new × PeriodicsAreSettled new
@@ -199,8 +205,8 @@ settled_still aggs old new r s =
     let a1 : AllByRecursion RestsAlone s.one =
     zip_all (PortChangesBy (RunsToRest (mux_rows false))) RestsAlone (λ x y m s. m.1.2) old s.one s.stops in
     let a0 : AllByRecursion RestsAlone mid = promoted_rests aggs (length keys) s.one mid s.chooses.1 a1 in
-    let a2 : AllByRecursion (λ x. RestsAlone x × TakesNone keys (views last) (selection_view x)) last =
-    all_both RestsAlone (λ x. TakesNone keys (views last) (selection_view x)) last
+    let a2 : AllByRecursion (λ x. RestsAlone x × TakesNone keys (views last) (selection_view x) x.held) last =
+    all_both RestsAlone (λ x. TakesNone keys (views last) (selection_view x) x.held) last
     (chosen_rests aggs (length mid) mid a0) (none_takes aggs mid r0) in
     let m4 : PortsChangeBy (RunsReady keys (views last)) last s.four =
     subst (λ l. PortsChangeBy (RunsReady keys (views l)) l s.four) s.chooses.2 s.runs in
@@ -209,13 +215,13 @@ settled_still aggs old new r s =
     let r5 : Rises 0 (port_numbers new) = subst (λ ns. Rises 0 ns) (sym (zip_numbers RunsPeriodic s.four new s.paces
     ∙ zip_numbers (RunsReady keys (views last)) last s.four m4 ∙ chosen_numbers aggs (length mid) mid)) r0 in
     let a5 : AllByRecursion (Moved keys new) new = zip_gives (PortChangesBy RunsPeriodic) (Moved keys s.four) (Moved keys new) (λ y z m k. (
-      subst (λ l. TakesNone keys l (selection_view z)) (sym seen)
-          (subst (λ v. TakesNone keys (views s.four) v) (sym (periodic_view y z m)) k.0),
+      subst (λ l. TakesNone keys l (selection_view z) z.held) (sym seen)
+          (takes_alike keys (views s.four) y z (periodic_view y z m) (ap (λ (x : SystemPort). x.held) m.0) k.0),
       periodic_rest y.port z.port m.1 k.1,
     )) s.four new s.paces a4 in
     let still : MuxesAreSettled keys new = each_place (MuxIsSettled keys new) new (λ j z e. record {
       mux = (all-get (Moved keys new) new j z e a5).1;
-      apart = taken_none keys new r5 (both_first (λ z. TakesNone keys (views new) (selection_view z)) (λ z. AtRest (mux_rows false) z.port) new a5)
+      apart = taken_none keys new r5 (both_first (λ z. TakesNone keys (views new) (selection_view z) z.held) (λ z. AtRest (mux_rows false) z.port) new a5)
           j z e;
       unready = ap (λ l. ready_of keys l z.port.choice) seen ∙ none_ready keys last s.four m4 z.port.choice;
     }) in

@@ -71,7 +71,7 @@ zip_all R P k [] (y ∷ ys) h = absurd h
 zip_all R P k (x ∷ xs) [] h = absurd h
 zip_all R P k (x ∷ xs) (y ∷ ys) h = (k x y h.0, zip_all R P k xs ys h.1)
 
-zip_kept : (R : SystemPort → SystemPort → Type 0) (P : SystemPort → Type 0) → ((x y : SystemPort) → R x y → P x → P y)
+pub zip_kept : (R : SystemPort → SystemPort → Type 0) (P : SystemPort → Type 0) → ((x y : SystemPort) → R x y → P x → P y)
     → (xs ys : List SystemPort) → AllZip R xs ys → AllByRecursion P xs → AllByRecursion P ys
 zip_kept R P k [] [] h a = tt
 zip_kept R P k [] (y ∷ ys) h a = absurd h
@@ -112,7 +112,7 @@ settling_rested old new h a =
     )
 
 -- the own effects
-place_kept : (P : SystemPort → Type 0) (R : Machines → Machines → Type 0) (o : Option ℕ) (old new : List SystemPort)
+pub place_kept : (P : SystemPort → Type 0) (R : Machines → Machines → Type 0) (o : Option ℕ) (old new : List SystemPort)
     → ((s : SystemPort) (q : Machines) → R s.port q → P s → P (record s { port = q })) → PortAtChangesBy R o old new
     → AllByRecursion P old → AllByRecursion P new
 place_kept P R None old new k h a = absurd h

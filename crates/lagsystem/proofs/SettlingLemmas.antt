@@ -3,9 +3,9 @@ use Rattle.lagsystem.proofs.Common.{Bool, List, None, Option, Some, [], ap, arit
 use Rattle.lagsystem.proofs.Common.{slice_get, slice_set, subst, suc, sym, true, zero, ℕ, ◌&&◌, ◌||◌, ◌∙◌, ◌∷◌, ◌≡◌, or_parts, nat_tests, list_all}
 use Rattle.lagsystem.proofs.Common.{list_any, AggId, Key, Choice, Selected, Standby, Unselected, is_selected, Machines, mux_rows, RunsPeriodic}
 use Rattle.lagsystem.proofs.Common.{RunsToRest, PortView, chosen_aggregator, ports_that_chose, AggregatorsValue, has_chosen, has_waited}
-use Rattle.lagsystem.proofs.Common.{is_detached_or_waiting, is_eligible, SystemPort, ChoosesIn, PortChangesBy, PortsChangeBy, SettlesPorts}
-use Rattle.lagsystem.proofs.Common.{after_choice_at, aggregator_for, choice_for, choice_in, is_restless, ready_of, with_choice, SystemState}
-use Rattle.lagsystem.proofs.Common.{aggregators_value, with_system_ports, selection_view, views}
+use Rattle.lagsystem.proofs.Common.{is_detached_or_waiting, SystemPort, ChoosesIn, PortChangesBy, PortsChangeBy, SettlesPorts, after_choice_at}
+use Rattle.lagsystem.proofs.Common.{aggregator_for, choice_for, choice_in, is_restless, ready_of, with_choice, SystemState, aggregators_value}
+use Rattle.lagsystem.proofs.Common.{with_system_ports, may_choose, selection_view, views}
 use Rattle.lagsystem.proofs.Lists.{AllZip-weaker}
 
 abbrev one_expired : List PortView → Bool
@@ -156,11 +156,11 @@ pub none_for : (aggs : AggregatorsValue) (system_ports : List SystemPort) (s : S
 none_for aggs system_ports s h = ap (option_map (choice_in aggs (views system_ports))) h
 
 pub none_taken : (aggs : AggregatorsValue) (system_ports : List SystemPort) (i : ℕ) (s : SystemPort) → slice_get system_ports i ≡ Some s
-    → is_eligible (selection_view s) ≡ false → system_ports ≡ after_choice_at aggs system_ports i (slice_get system_ports i)
+    → may_choose s ≡ false → system_ports ≡ after_choice_at aggs system_ports i (slice_get system_ports i)
 none_taken aggs system_ports i s e h = grind (arith, nat_tests, none_for, set_same)
 
 pub one_taken : (aggs : AggregatorsValue) (system_ports : List SystemPort) (i : ℕ) (s t : SystemPort) (o : Option AggId)
-    → slice_get system_ports i ≡ Some s → slice_get system_ports i ≡ Some t → is_eligible (selection_view s) ≡ true
+    → slice_get system_ports i ≡ Some s → slice_get system_ports i ≡ Some t → may_choose s ≡ true
     → o ≡ chosen_aggregator aggs.keys (views system_ports) t.number
     → slice_set system_ports i (with_choice t (option_map (choice_in aggs (views system_ports)) o)) ≡ after_choice_at aggs system_ports i
     (slice_get system_ports i)

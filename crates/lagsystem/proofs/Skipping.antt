@@ -35,18 +35,18 @@ all_among keys system_ports news [] e h = tt
 all_among keys system_ports news (x ∷ xs) e h = (still_among keys system_ports news x e h.0, all_among keys system_ports news xs e h.1)
 
 pub alike_still : (keys : List Key) (system_ports : List SystemPort) (s t : SystemPort) → selection_view t ≡ selection_view s
-    → AtRest (mux_rows false) t.port → MuxIsSettled keys system_ports s → MuxIsSettled keys system_ports t
-alike_still keys system_ports s t e r h = grind (arith, nat_tests)
+    → t.held ≡ s.held → AtRest (mux_rows false) t.port → MuxIsSettled keys system_ports s → MuxIsSettled keys system_ports t
+alike_still keys system_ports s t e held r h = grind (arith, nat_tests)
 
 -- the ports are settled again once the mux machine of one that looks the same is at rest
 ran_still : (keys : List Key) (system_ports : List SystemPort) (i : ℕ) (s u : SystemPort) → slice_get system_ports i ≡ Some s
-    → AtRest (mux_rows false) u.port → LooksUnchanged s u → MuxesAreSettled keys system_ports
+    → AtRest (mux_rows false) u.port → LooksUnchanged s u → u.held ≡ s.held → MuxesAreSettled keys system_ports
     → MuxesAreSettled keys (slice_set system_ports i u)
-ran_still keys system_ports i s u e rest a h =
+ran_still keys system_ports i s u e rest a held h =
     let here = all-get (MuxIsSettled keys system_ports) system_ports i s e h in
     let seen = alike_views system_ports i s u e a in
     all_among keys system_ports (slice_set system_ports i u) (slice_set system_ports i u) seen
-    (all-set (MuxIsSettled keys system_ports) system_ports i u h (alike_still keys system_ports s u a rest here))
+    (all-set (MuxIsSettled keys system_ports) system_ports i u h (alike_still keys system_ports s u a held rest here))
 
 -- every other mux machine is at rest
 set_ran : (keys : List Key) (all system_ports : List SystemPort) (i : ℕ) (t u : SystemPort) → AllByRecursion (MuxIsSettled keys all) system_ports
@@ -133,7 +133,8 @@ ports_settled v old i one two q none h k =
     subst (λ l. SettlesPorts (processed v old i true one h) (with_system_ports old l)) (sym last)
     (settles_from (processed v old i true one h) us (slice_set us i w)
     (set_ran old.keys old.system_ports old.system_ports i h.changes.mid u q.0 h.changes.runs)
-    (ran_still old.keys old.system_ports i h.before u h.there h.changes.runs.1.2 h.changes.same.1 q.0)
+    (ran_still old.keys old.system_ports i h.before u h.there h.changes.runs.1.2 h.changes.same.1
+    (ap (λ (x : SystemPort). x.held) h.changes.runs.0 ∙ ap (λ (x : SystemPort). x.held) h.changes.processes.0) q.0)
     (subst (λ l. NoneIsNext (aggregators_value old) l) (sym (alike_views old.system_ports i h.before u h.there h.changes.same.1)) none)
     (set_runs old.system_ports i u w q.1 (refl, runs)))
 

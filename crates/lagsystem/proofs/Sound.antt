@@ -1,10 +1,10 @@
 -- Every call preserves the invariant of a system, and the invariant implies that the ports agree.
-use Rattle.lagsystem.proofs.Common.{List, [], ap, refl, subst, sym, ℕ, ◌∷◌, View, members_first, one_partner, partner_synchronized, selected, Table}
-use Rattle.lagsystem.proofs.Common.{Reply, SystemPort, Call, Step, IsFirst, JoinedByLawfulMoves, MuxesConsistent, model_setup, model_view}
-use Rattle.lagsystem.proofs.Common.{CallPromise, DistributeAsMuxDoes, HasPorts, IsSound, PortsAgree, SystemState, KeepsTransmitLimit}
-use Rattle.lagmodel.specs.Law.{Members}
-use Rattle.lagmodel.proofs.Calls.{members_call}
+use Rattle.lagsystem.proofs.Common.{List, [], ap, refl, subst, sym, ℕ, ◌∷◌, Members, View, members_call, members_first, one_partner}
+use Rattle.lagsystem.proofs.Common.{partner_synchronized, selected, Table, Reply, SystemPort, Call, Step, IsFirst, JoinedByLawfulMoves}
+use Rattle.lagsystem.proofs.Common.{MuxesConsistent, model_setup, model_view, CallPromise, DistributeAsMuxDoes, HasPorts, IsSound, PortsAgree}
+use Rattle.lagsystem.proofs.Common.{SystemState, KeepsTransmitLimit}
 use Rattle.lagsystem.proofs.FirstView.{configured_setup, first_shows}
+use Rattle.lagsystem.proofs.HeldPorts.{Step-apart, Step-free, first_apart}
 use Rattle.lagsystem.proofs.Keeps.{Step-aggregators, Step-conversations, Step-frame, Step-ports}
 use Rattle.lagsystem.proofs.OccupantSteps.{Step-placed, first_placed}
 use Rattle.lagsystem.proofs.OnPorts.{Step-carried, first_carried}
@@ -29,6 +29,7 @@ first_sound s p h = record {
   promoted = (first_quiet s p h).2;
   occupants = (first_placed s h).0;
   limited = (first_placed s h).1;
+  held = first_apart s h;
 }
 
 pub joins : (gives : ℕ → ℕ → ℕ → Type 0) (old : SystemState) (call : Call) (answer : Reply) (new : SystemState)
@@ -50,6 +51,7 @@ Step-sound gives old call answer new h s =
       promoted = (Step-quiet gives old call answer new h s.ports (s.quiet.0, s.quiet.1, s.promoted)).2;
       occupants = (Step-placed gives old call answer new h s.ports (s.occupants, s.limited)).0;
       limited = (Step-placed gives old call answer new h s.ports (s.occupants, s.limited)).1;
+      held = Step-apart gives old call answer new h s.held;
       members = subst (λ u. Members u (model_view new).port) (sym (ap model_setup (Step-frame gives old call answer new h))) kept;
     }
 
@@ -85,4 +87,5 @@ answers gives old call reply new h s = record {
   configured = ap model_setup (Step-frame gives old call reply new h);
   conversations = ap (λ (s : SystemState). s.conversations) (Step-frame gives old call reply new h);
   max_links = ap (λ (s : SystemState). s.max_links) (Step-frame gives old call reply new h);
+  held = Step-free gives old call reply new h;
 }

@@ -9,16 +9,17 @@ use Rattle.lagsystem.proofs.Common.{has_occupant, is_aggregator, lowest, occupan
 use Rattle.lagsystem.proofs.Common.{is_ready, has_chosen, has_waited, is_detached, is_detached_or_waiting, is_eligible, stands_by, NoneStandsBy}
 use Rattle.lagsystem.proofs.Common.{none_is_next, SystemPort, key_of, MuxIsSettled, WithinLimit, occupied, aggregator_numbered, ready_of, IsSound}
 use Rattle.lagsystem.proofs.Common.{SystemState, aggregators_value, FindsNoAggregator, FindsNoRoom, HearsPartner, Waits, WaitsForMember}
-use Rattle.lagsystem.proofs.Common.{WaitsForPartner, WaitsIn, selection_view, stage_of, views}
+use Rattle.lagsystem.proofs.Common.{WaitsForPartner, WaitsIn, may_choose, selection_view, stage_of, views}
 use Rattle.lagsystem.proofs.NoneLeft.{takes_is}
 use Rattle.lagsystem.proofs.Rising.{all-get, ports_rise}
 
--- a port of a sound system that hears its partner, and does not distribute
+-- a port of a sound system that hears its partner, is not held, and does not distribute
 pub record Heard (s : SystemState) (i : ℕ) (x : SystemPort) : Type 0 where
   pub sound : IsSound s
   pub at : slice_get s.system_ports i ≡ Some x
   pub idle : same_mux_state CollectingDistributing x.port.mux ≡ false
   pub hears : HearsPartner x.port
+  pub free : x.held ≡ false
 
 -- what no aggregator passes
 
@@ -69,8 +70,9 @@ settled_at : (s : SystemState) (i : ℕ) (x : SystemPort) → IsSound s → slic
     → MuxIsSettled s.keys s.system_ports x
 settled_at s i x h at = all-get (MuxIsSettled s.keys s.system_ports) s.system_ports i x at h.quiet.0
 
-is_chosen : (b : Bool) (o : Option AggId) → b ≡ true → (if b then (if b then o else None) else None) ≡ None → o ≡ None
-is_chosen b o e h = grind (arith, nat_tests)
+is_chosen : (b d : Bool) (o : Option AggId) → b ≡ true → d ≡ false → (if b && not d then (if b then o else None) else None) ≡ None
+    → o ≡ None
+is_chosen b d o e f h = grind (arith, nat_tests)
 
 none_if : (b : Bool) (o : Option AggId) → b ≡ true → (if b then o else None) ≡ None → o ≡ None
 none_if b o e h = grind (arith, nat_tests)
@@ -84,18 +86,19 @@ finds_no_aggregator s i x l other free =
     let h = l.sound in
     let at = l.at in
     let settled = settled_at s i x h at in
-    let may : is_eligible v ≡ true =
+    let eligible : is_eligible v ≡ true =
     all_five p.enabled (same_receive_state Current p.receive || same_receive_state Defaulted p.receive)
     (is_detached (stage_of p.mux p.wait_while)) (is_unselected p.choice) (same_system p.partner.system p.party.system) l.hears.0
     (ap (λ r. same_receive_state Current r || same_receive_state Defaulted r) l.hears.1)
     (detached_at p.mux p.wait_while p.choice _ free settled.mux.1.0 settled.mux.1.1.1.0 settled.mux.1.1.1.1.1.0) (ap is_unselected free) other in
-    let nothing : chosen_if_eligible s.keys seen v ≡ None = is_chosen (is_eligible v) (chosen_if_eligible s.keys seen v) may
-    (sym (takes_is s.keys s.system_ports i x (ports_rise s h.ports) at) ∙ settled.apart) in
+    let nothing : chosen_if_eligible s.keys seen v ≡ None = is_chosen (is_eligible v) x.held
+    (chosen_if_eligible s.keys seen v) eligible l.free (sym (takes_is s.keys s.system_ports i x (ports_rise s h.ports) at) ∙ settled.apart) in
+    let may : may_choose x ≡ true = λ i. eligible i && not (l.free i) in
     let both = first_none (lowest s.keys p.party.key (occupants_share_group seen v)) (lowest s.keys p.party.key (has_no_occupant seen)) nothing in
     record {
       hears = l.hears;
       eligible = may;
-      none = none_if (is_eligible v) (chosen_aggregator s.keys seen x.number) may settled.apart;
+      none = none_if (may_choose x) (chosen_aggregator s.keys seen x.number) may settled.apart;
       occupied = λ agg key. not-false (has_occupant seen agg) (none_passes s.keys p.party.key (has_no_occupant seen) both.1 agg.0 key);
       closed = λ agg key. none_passes s.keys p.party.key (occupants_share_group seen v) both.0 agg.0 key;
     }

@@ -37,7 +37,7 @@ sent_quiet old i s e q =
     let news : List SystemPort = slice_set old.system_ports i t in (
       all_among old.keys old.system_ports news news (alike_views old.system_ports i s t e refl)
           (all-set (MuxIsSettled old.keys old.system_ports) old.system_ports i t q.0
-          (alike_still old.keys old.system_ports s t refl here.mux here)),
+          (alike_still old.keys old.system_ports s t refl refl here.mux here)),
       all-set PeriodicIsSettled old.system_ports i t q.1 (sent_paced s (all-get PeriodicIsSettled old.system_ports i s e q.1)),
       subst (λ l. NoneIsNext (aggregators_value old) l) (sym (alike_views old.system_ports i s t e refl)) q.2,
     )

@@ -4,12 +4,13 @@ use Rattle.lagsystem.proofs.Common.{if◌then◌else◌, length, length-append, 
 use Rattle.lagsystem.proofs.Common.{ℕ, ◌&&◌, ◌++◌, ◌+◌, ◌<◌, ◌==◌, ◌∙◌, ◌∷◌, ◌≡◌, ◌≤◌, and_parts, nat_tests, position-Some, get_or_from_slice_get}
 use Rattle.lagsystem.proofs.Common.{slice_get_past, AllByRecursion, AllZip, position_or_len, SystemId, Choice, Lacpdu, read_field, Setup, Machines}
 use Rattle.lagsystem.proofs.Common.{mux_rows, RunsPeriodic, receive_rows, RunsToRest, Starts, before_start, after_sending, aged, count_down, is_due}
-use Rattle.lagsystem.proofs.Common.{KeepsWindow, sent_before, Reaches-keeps, PortChange, PortConfig, Reply, SystemPort, Call, ChangesParty}
-use Rattle.lagsystem.proofs.Common.{OnlyPortChangesBy, PortAtChangesBy, ProcessesLacpdu, SetsLink, SetsPortEnabled, Step, TableRun, ThenSettles}
-use Rattle.lagsystem.proofs.Common.{Transmit, changed_party, choice_with_link, HasJustStarted, IsFirst, setup_of, PortsChangeBy, Settling, ready_of}
-use Rattle.lagsystem.proofs.Common.{with_choice, SystemState, aggregators_value, machines_of, port_index, system_port_at, with_system_ports, views}
-use Rattle.lagsystem.proofs.Common.{AgesSince, AtMostThreeAges, EachAtMostThreeAges, StartsWithoutAges, StaysWindowed, SystemWindowLaw}
-use Rattle.lagsystem.proofs.Common.{WindowFromStart, remembered_sends, sends_after, tick_after}
+use Rattle.lagsystem.proofs.Common.{Reaches-keeps, PortChange, PortConfig, Reply, SystemPort, Call, ChangesParty, OnlyPortChangesBy, PortAtChangesBy}
+use Rattle.lagsystem.proofs.Common.{ProcessesLacpdu, SetsLink, SetsPortEnabled, Step, TableRun, ThenSettles, Transmit, changed_party}
+use Rattle.lagsystem.proofs.Common.{choice_with_link, HasJustStarted, IsFirst, setup_of, PortsChangeBy, Settling, ready_of, with_choice, SystemState}
+use Rattle.lagsystem.proofs.Common.{aggregators_value, machines_of, port_index, system_port_at, with_system_ports, views, AgesSince, AtMostThreeAges}
+use Rattle.lagsystem.proofs.Common.{EachAtMostThreeAges, StartsWithoutAges, StaysWindowed, SystemWindowLaw, WindowFromStart, remembered_sends}
+use Rattle.lagsystem.proofs.Common.{sends_after, tick_after}
+use Rattle.portmachines.specs.Window.{KeepsWindow, sent_before}
 use Rattle.std.proofs.lemmas.List.Folds.{find_at}
 use Rattle.portmachines.specs.Calls as port
 use Rattle.portmachines.specs.Window as window

@@ -1,5 +1,5 @@
 -- All calls that change a system: those of `drive`, and five more, of hosts with a data plane (profile).
-use Rattle.std.specs.Prelude.{◌≡◌, ◌≤◌, ℕ, List, [], ◌∷◌, IfOk, Ok, length}
+use Rattle.std.specs.Prelude.{◌≡◌, ℕ, List, [], ◌∷◌, IfOk, Ok, length}
 use Rattle.lagmodel.specs.View.{ModelCall}
 use Rattle.portmachines.specs.Window.{KeepsWindow}
 use Rattle.lagsystem.specs.declared.drive.HostCall.{HostCall}

@@ -97,7 +97,7 @@ abbrev pub after_choices : AggregatorsValue → ℕ → List SystemPort → List
 after_choices aggs zero system_ports = system_ports
 after_choices aggs (suc n) system_ports = after_choice_at aggs (after_choices aggs n system_ports) n (slice_get (after_choices aggs n system_ports) n)
 
--- promise: then the ports choose that are eligible and not held; each sees the promotions and the choices before it. It becomes SELECTED exactly if the aggregator
+-- promise: then eligible ports that are not held choose; each sees the promotions and the choices before it. It becomes SELECTED exactly if the aggregator
 --    has room, else STANDBY; a port becomes STANDBY in no other way
 -- contract: `step` (`ChoosesIn`, `choice_for`, `choice_in`)
 -- STANDBY ports become SELECTED where there is room; then each port that may choose, ascending, chooses its aggregator

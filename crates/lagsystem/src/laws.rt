@@ -115,9 +115,7 @@ pub fn offers_and_data_make_none_due<F: Fn(u16, usize) -> usize>()
     ensures data { (algorithm : F) → DataChangesNothing (F.post algorithm) }
 {}
 
-// promise: each status is true of the port and its system. `NoAggregator`: eligible, none is found, and each aggregator with its key has an
-//    occupant, where the link is Individual or an occupant is of another group. `Standby`: the aggregator has as many members as the limit.
-//    `WaitingForMembers`: another member in WAITING has ticks left
+// promise: each status is true of the port and its system, as `meaning` says
 // contract: `port_status_says_why` (`meaning`, a row each)
 /// What `port_status` says of a port and its system, in every system: `meaning` has a row for each `PortStatus`, whose comments
 /// say the same (6.4.7, 6.4.8, 6.4.10, 6.4.12, 6.4.14, 6.4.15; profile).

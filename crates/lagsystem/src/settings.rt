@@ -1,5 +1,6 @@
 ghost use Rattle.std.specs.Prelude.{◌≡◌, ◌<◌, ◌&&◌, Ok, filter, if◌then◌else◌, length};
 ghost use Rattle.std.specs.Bool.{OnFalse, OnTrue};
+ghost use Rattle.std.specs.List.{list_any};
 ghost use Rattle.lagtypes.specs.declared.party.Choice.{Choice};
 ghost use Rattle.selection.specs.Views.{has_chosen};
 ghost use Rattle.lagsystem.specs.Calls.{choice_with_link};
@@ -18,6 +19,7 @@ use crate::start::is_limit;
 use crate::system_ports::SystemPort;
 use arrayvec::ArrayVec;
 use lagtypes::{AggId, Choice};
+use portmachines::Port;
 
 /// Selected of a port that is held or let go: UNSELECTED if it is held; else it stays.
 fn choice_if_held(held: bool, choice: Choice) -> Choice
@@ -102,16 +104,19 @@ fn is_crowded(system_ports: &[SystemPort], most: u16, choice: Choice) -> bool
     }
 }
 
+/// Whether some aggregator has more members whose links are up than this many.
+fn any_crowded(system_ports: &[SystemPort], most: u16) -> bool
+    ensures { result ≡ list_any (λ x. is_crowded most system_ports.now x.port.choice) system_ports.now }
+{
+    system_ports.iter().any(|system_port| is_crowded(system_ports, most, system_port.port.choice()))
+}
+
 /// Whether some aggregator has more members whose links are up than the limit.
 fn is_over(system_ports: &[SystemPort], max_links: Option<u16>) -> bool
     ensures { result ≡ is_over max_links system_ports.now }
 {
     match max_links {
-        Some(most) => system_ports.iter().any(|system_port| is_crowded(
-            system_ports,
-            most,
-            system_port.port.choice(),
-        )),
+        Some(most) => any_crowded(system_ports, most),
         None => false,
     }
 }
@@ -129,15 +134,21 @@ fn limit_refusal(system_ports: &[SystemPort], max_links: Option<u16>) -> Option<
     None
 }
 
+/// With a limit, makes a port UNSELECTED if its link is down.
+fn unselect_if_down(port: &mut Port, max_links: Option<u16>)
+    ensures { port.new ≡ record port.old { choice = choice_with_link max_links port.old.enabled port.old.choice } }
+{
+    let choice = choice_with_link(max_links, port.is_enabled(), port.choice());
+    port.select(choice);
+}
+
 /// With a limit, makes each port whose link is down UNSELECTED.
 fn unselect_down(system_ports: &mut [SystemPort], max_links: Option<u16>)
     ensures { PortsChangeBy (λ p q. q ≡ record p { choice = choice_with_link max_links p.enabled p.choice })
         system_ports.old system_ports.new }
 {
     for system_port in system_ports.iter_mut() {
-        let port = &mut system_port.port;
-        let choice = choice_with_link(max_links, port.is_enabled(), port.choice());
-        port.select(choice);
+        unselect_if_down(&mut system_port.port, max_links);
     }
 }
 
@@ -194,9 +205,8 @@ impl<F: Fn(u16, usize) -> usize + Drop> Inner<F> {
 }
 
 impl<F: Fn(u16, usize) -> usize + Drop> System<F> {
-    // promise: `hold_port` holds a port, which is UNSELECTED until it is let go, or lets it go; then one settling. It changes nothing
-    //    if that is so already, and refuses `NoPort`
-    // contract: `hold_port` (`promise`: `SettingStep`); the invariant of `System` (`HeldUnselected`)
+    // promise: `hold_port`, `set_mode`, `set_max_delay`, `set_max_links` keep what calls keep; a held port is UNSELECTED
+    // contract: `promise` (`SettingPromise`); `IsSound` (`held`)
     /// Holds a port, or lets it go. A port that is held is UNSELECTED and chooses no aggregator: it leaves its aggregator, what is
     /// On it becomes Wanted there, and its LACPDUs say that it is not in sync, so that the peer's port leaves too. It goes on
     /// sending and processing LACPDUs, and answers markers. Once it is let go, it may choose again. One settling follows.
@@ -219,9 +229,6 @@ impl<F: Fn(u16, usize) -> usize + Drop> System<F> {
         }
     }
 
-    // promise: `set_mode` gives a port LACP_Activity and LACP_Timeout and sets NTT; then one settling. It changes nothing if the port
-    //    has them, and refuses `NoPort`
-    // contract: `set_mode` (`promise`: `SettingStep`)
     /// Sets LACP_Activity, false for a passive port, and LACP_Timeout, true for Short Timeout, of a port. NTT is set, and one
     /// settling follows. current_while goes on: it starts with the new time at the next LACPDU. Nothing changes if the port has
     /// these values already. A `restart` goes back to the configured ones. `NoPort` if there is no such port (6.4.2.3, 6.4.7;
@@ -233,8 +240,6 @@ impl<F: Fn(u16, usize) -> usize + Drop> System<F> {
         self.inner.set_mode(port, active, short)
     }
 
-    // promise: `set_max_delay` sets CollectorMaxDelay, and changes nothing else
-    // contract: `set_max_delay` (`promise`: `SettingStep`)
     /// Sets CollectorMaxDelay, in tens of microseconds, of the LACPDUs from now on. Nothing else changes: none is sent for it.
     /// After a `restart` it stays as it was set (6.2.3.1.1; profile).
     pub fn set_max_delay(&mut self, max_delay: u16)
@@ -244,9 +249,6 @@ impl<F: Fn(u16, usize) -> usize + Drop> System<F> {
         self.inner.max_delay = max_delay;
     }
 
-    // promise: `set_max_links` sets the limit of links; then one settling, in which STANDBY ports come up. It refuses a limit that is not
-    //    1 to 64, and one that some aggregator is above, and changes nothing then
-    // contract: `set_max_links` (`promise`: `SettingStep`, `limit_refusal`)
     /// Sets the limit of links of each aggregator, 1 to 64, or None for any number. With a limit, a port whose link is down is
     /// UNSELECTED, as `set_link` leaves it. One settling follows: STANDBY ports become SELECTED where there is room now. After a
     /// `restart` the limit stays as it was set. Refused in this order, and nothing changes: `BadConfig(MaxLinks)` if the limit

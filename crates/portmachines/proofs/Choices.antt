@@ -1,10 +1,10 @@
 -- The machines are deterministic: each call has exactly one effect.
 use Rattle.portmachines.proofs.Common.{Bool, List, [], ap, false, inl, inr, not, refl, subst, suc, sym, true, zero, ℕ, ◌&&◌, ◌∙◌, ◌∷◌, ◌≡◌, and_left}
 use Rattle.portmachines.proofs.Common.{and_parts, and_right, cases_Bool, Lacpdu, ReceiveState, Current, Defaulted, Expired, Initialize, PortDisabled}
-use Rattle.portmachines.proofs.Common.{Mux, OneEffect, Periodic, Reinit, Select, Set_link, Set_mode, Take, Tick, Transmit, Machines, mux_rows, start_mux}
-use Rattle.portmachines.proofs.Common.{RunsPeriodic, clear_ntt, periodic_rows, current_while_expired, lacpdu_rows, partner_not_synchronized}
-use Rattle.portmachines.proofs.Common.{receive_rows, same_receive_state, start_receive, AtRest, Fires, FiresTimes, OneEnabledAtMost, Row, RunsToRest}
-use Rattle.portmachines.proofs.Common.{count_down}
+use Rattle.portmachines.proofs.Common.{Mux, OneEffect, Periodic, Reinit, Select, Set_link, Set_mode, Take, Tick, Transmit, Machines, mux_rows}
+use Rattle.portmachines.proofs.Common.{start_mux, RunsPeriodic, clear_ntt, periodic_rows, current_while_expired, lacpdu_rows}
+use Rattle.portmachines.proofs.Common.{partner_not_synchronized, receive_rows, same_receive_state, start_receive, AtRest, Fires, FiresTimes}
+use Rattle.portmachines.proofs.Common.{OneEnabledAtMost, Row, RunsToRest, count_down}
 use Rattle.portmachines.proofs.OneRow.{one-mux, one-periodic, one-receive}
 
 -- tests

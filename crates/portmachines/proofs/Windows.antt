@@ -1,9 +1,9 @@
 -- Any eleven consecutive ticks hold at most three LACPDUs.
 use Rattle.portmachines.proofs.Common.{Bool, List, [], ap, append-nil, append_assoc, arith, cond, false, if◌then◌else◌, inl, inr, length, nat_le}
 use Rattle.portmachines.proofs.Common.{nat_lt, refl, subst, suc, sym, true, zero, ℕ, ◌&&◌, ◌++◌, ◌+◌, ◌-◌, ◌<◌, ◌∙◌, ◌∷◌, ◌≡◌, ◌≤◌, and_parts, le-leb}
-use Rattle.portmachines.proofs.Common.{leb-true, lt-leb, ltb-false, ltb-true, Lacpdu, Mux, Periodic, PortCall, Reinit, Select, Set_link, Set_mode, Take, Tick}
-use Rattle.portmachines.proofs.Common.{Transmit, Machines, mux_rows, RunsPeriodic, periodic_rows, lacpdu_rows, receive_rows, start_receive}
-use Rattle.portmachines.proofs.Common.{FiresIfEnabled, RunsToRest, after_sending, aged, count_down, is_due}
+use Rattle.portmachines.proofs.Common.{leb-true, lt-leb, ltb-false, ltb-true, Lacpdu, Mux, Periodic, PortCall, Reinit, Select, Set_link, Set_mode}
+use Rattle.portmachines.proofs.Common.{Take, Tick, Transmit, Machines, mux_rows, RunsPeriodic, periodic_rows, lacpdu_rows, receive_rows}
+use Rattle.portmachines.proofs.Common.{start_receive, FiresIfEnabled, RunsToRest, after_sending, aged, count_down, is_due}
 use Rattle.std.specs.List.{AllByRecursion}
 use Rattle.std.proofs.lemmas.Bool.Decides.{nat_tests}
 use Rattle.portmachines.specs.Start.{Starts}

@@ -128,8 +128,8 @@ impl Port {
         self.machines.run_periodic();
     }
 
-    // promise: `select` writes Selected and nothing else
-    // contract: `Port::select`
+    // promise: `select` writes Selected, `set_mode` activity, timeout and NTT; nothing else
+    // contract: `Port::select`, `set_mode`
     // promise: the receive machine is at rest between calls
     // contract: the invariant of `Port`
     /// Sets Selected, with the aggregator that the Selection Logic chose (6.4.8, 6.4.14).
@@ -148,8 +148,6 @@ impl Port {
         self.machines.start();
     }
 
-    // promise: `set_mode` writes LACP_Activity and LACP_Timeout, and sets NTT if one of them changes
-    // contract: `Port::set_mode` (`with_mode`)
     /// Sets LACP_Activity, false for a passive port, and LACP_Timeout, true for Short Timeout. NTT becomes true if one of them
     /// was another. Nothing else changes: current_while goes on, and starts with the other time at the next LACPDU (6.4.2.3,
     /// 6.4.7; profile).

@@ -173,8 +173,6 @@ impl Aggregators {
         self.max_links
     }
 
-    // promise: `set_max_links` sets the limit and nothing else
-    // contract: `Aggregators::set_max_links`
     /// Sets how many members each aggregator may have; None: any number (profile).
     pub fn set_max_links(&mut self, max_links: Option<u16>)
         ensures { self.new ≡ record self.old { max_links = max_links } }

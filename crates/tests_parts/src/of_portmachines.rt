@@ -56,6 +56,8 @@ enum Step {
     Heard(Info, Info),
     Select(Choice),
     Reinit(Party),
+    /// `set_mode`: active, and short.
+    Mode(bool, bool),
     /// `mux` with this Ready returns this number of rows.
     Mux(bool, u8),
     /// Whether the rows that `mux` fires with this Ready set NTT to true, after it was false.
@@ -209,6 +211,7 @@ fn does(rt: &impl Abort, place: usize, port: &mut Port, step: Step) {
         }),
         Step::Select(choice) => port.select(choice),
         Step::Reinit(party) => port.reinit(party),
+        Step::Mode(active, short) => port.set_mode(active, short),
         _ => answers(rt, place, port, step),
     }
 }
@@ -396,6 +399,35 @@ fn another_party_starts_the_machines_again(rt: HostRuntime) {
         Step::Is(Fact::Enabled(true)),
         Step::Is(Fact::MuxIn(MuxState::Detached)),
         Step::Is(Fact::Distributes(false)),
+    ];
+    walk(&rt, port_after_a_second(), &steps);
+}
+
+#[test]
+fn another_mode_is_told_to_the_partner(rt: HostRuntime) {
+    let steps = [
+        Step::Sends(Some(0xc7)),
+        // active and short, as before
+        Step::Mode(true, true),
+        Step::Is(Fact::Ntt(false)),
+        Step::Mode(true, false),
+        Step::Is(Fact::Ntt(true)),
+        Step::Is(Fact::CurrentWhile(20)),
+        Step::Sends(Some(0xc5)),
+        Step::Mode(false, false),
+        Step::Sends(Some(0xc4)),
+        // three were sent
+        Step::Mode(false, true),
+        Step::Sends(None),
+        Step::Is(Fact::State(0xc6)),
+        // the next LACPDU starts current_while with the time that is set
+        Step::Mode(false, false),
+        Step::Take(0x05),
+        Step::Is(Fact::CurrentWhile(900)),
+        Step::Mode(false, true),
+        Step::Is(Fact::CurrentWhile(900)),
+        Step::Take(0x05),
+        Step::Is(Fact::CurrentWhile(30)),
     ];
     walk(&rt, port_after_a_second(), &steps);
 }

@@ -9,6 +9,7 @@ mod load;
 mod memory;
 mod most_links;
 mod plan;
+mod settings;
 mod standby;
 mod statuses;
 mod truncated;
@@ -60,6 +61,16 @@ enum Row<'a> {
     Forces(u16, u16, Result<(), SystemFault>),
     /// `force_port` of a port returns this.
     ForcesPort(u16, Result<u32, SystemFault>),
+    /// `hold_port` of a port returns this; then `is_held` tells it, if there is this port.
+    Holds(u16, bool, Result<(), SystemFault>),
+    /// `set_mode` of a port to active and short returns this.
+    Mode(u16, bool, bool, Result<(), SystemFault>),
+    /// `set_max_links` returns this.
+    Limit(Option<u16>, Result<(), SystemFault>),
+    /// `set_max_delay`.
+    Delay(u16),
+    /// `transmit` returns an LACPDU with this Actor and Partner information and this CollectorMaxDelay.
+    SendsWith(u16, Info, Info, u16),
     /// `transmit` returns the marker with this identifier.
     Marks(u16, u32),
     /// This Marker Response comes on a port and frees this many conversations.
@@ -366,6 +377,33 @@ fn tells<F: Fn(u16, usize) -> usize + Drop>(
     }
 }
 
+/// Makes a setting, where a row says so.
+fn sets<F: Fn(u16, usize) -> usize + Drop>(
+    rt: &impl Abort,
+    system: &mut System<F>,
+    place: usize,
+    row: Row<'_>,
+)
+    ensures { system.new.algorithm ≡ system.old.algorithm }
+{
+    match row {
+        Row::Holds(port, held, answer) => {
+            let came = system.hold_port(port, held);
+            same_in_row(rt, place, &came, &answer);
+            same_in_row(rt, place, &system.is_held(port).is_some(), &answer.is_ok());
+            same_in_row(rt, place, &system.is_held(port).unwrap_or(held), &held);
+        }
+        Row::Mode(port, active, short, answer) => {
+            same_in_row(rt, place, &system.set_mode(port, active, short), &answer);
+        }
+        Row::Limit(max_links, answer) => {
+            same_in_row(rt, place, &system.set_max_links(max_links), &answer);
+        }
+        Row::Delay(max_delay) => system.set_max_delay(max_delay),
+        _ => {}
+    }
+}
+
 /// Forces what is held on a port, where a row says so.
 fn forces_port<F: Fn(u16, usize) -> usize + Drop>(
     rt: &impl Abort,
@@ -403,6 +441,7 @@ fn plays(
         let replies = system.drive(alloc, &plan.calls)?;
         same_in_row(rt, place, &replies.as_slice(), &plan.replies.as_slice());
         forces_port(rt, &mut system, place, *row);
+        sets(rt, &mut system, place, *row);
         same_facts(rt, place, &look(&system, kept_port(*row)), &before);
         tells(rt, &system, place, *row);
     }

@@ -180,7 +180,7 @@ fn reasons_have_numbers_and_texts(rt: HostRuntime) -> Result<(), AllocError> {
 }
 
 /// The faults of a system, in the order of their numbers, from 1 on.
-const FAULTS: [(SystemFault, &str); 12] = [
+const FAULTS: [(SystemFault, &str); 13] = [
     (SystemFault::NoPort, "the system has no port of this number"),
     (
         SystemFault::NoAggregator,
@@ -217,6 +217,10 @@ const FAULTS: [(SystemFault, &str); 12] = [
         "the configuration has not 1 to 64 ports",
     ),
     (SystemFault::NoMemory, "out of memory"),
+    (
+        SystemFault::OverLimit,
+        "an aggregator has more links than this limit",
+    ),
 ];
 
 #[test]

@@ -1,6 +1,6 @@
 use crate::systems::{DATA, Row, lacpdu, mac, marker};
 use lagsystem::{AggId, Call, Key, NoMemory, PortChange, Received, Reply, SystemFault};
-use slowpdu::{MarkerKind, frame};
+use slowpdu::{Lacpdu, MarkerKind, frame};
 use std::alloc::Global;
 
 /// Calls, and their expected replies.
@@ -108,7 +108,10 @@ fn call_of(alloc: Global, row: Row<'_>) -> Result<Option<Call>, NoMemory> {
             Call::Receive(port, Vec::from_slice(alloc, octets)?)
         }
         Row::Configures(port, key, _) => Call::Configure(port, change(key)),
-        Row::Silent(port) | Row::Sends(port, _, _) | Row::Marks(port, _) => Call::Transmit(port),
+        Row::Silent(port)
+        | Row::Sends(port, _, _)
+        | Row::SendsWith(port, _, _, _)
+        | Row::Marks(port, _) => Call::Transmit(port),
         Row::Offers(agg, octets, _) => Call::Offer(AggId(agg), Vec::from_slice(alloc, octets)?),
         Row::Moves(agg, conv, port, _) => Call::MoveConversation(AggId(agg), conv, port),
         Row::Forces(agg, conv, _) => Call::Force(AggId(agg), conv),
@@ -132,6 +135,14 @@ fn reply_of(row: Row<'_>) -> Reply {
         Row::Configures(_, _, answer) => Reply::Configure(Ok(answer)),
         Row::Silent(_) => Reply::Transmit(Ok(None)),
         Row::Sends(port, actor, partner) => sent(port, &lacpdu(actor, partner)),
+        Row::SendsWith(port, actor, partner, max_delay) => {
+            let pdu = Lacpdu {
+                actor,
+                partner,
+                max_delay,
+            };
+            sent(port, &pdu.encode())
+        }
         Row::Marks(port, id) => sent(port, &marker(MarkerKind::Information, port, 1, id).encode()),
         Row::Offers(_, _, answer) => Reply::Offer(answer),
         Row::Moves(_, _, _, answer) => Reply::MoveConversation(answer),

@@ -177,7 +177,7 @@ fn a_long_timeout_runs_for_900_ticks(rt: HostRuntime) -> Result<(), SystemFault>
 }
 
 /// The statuses of a port in the order of their numbers, from 0 on: the name of each, and its text.
-const STATUSES: [(PortStatus, &str, &str); 10] = [
+const STATUSES: [(PortStatus, &str, &str); 11] = [
     (PortStatus::Distributing, "distributing", "it distributes"),
     (PortStatus::LinkDown, "link-down", "the link is down"),
     (PortStatus::NoLacpdu, "no-lacpdu", "no LACPDU came in time"),
@@ -212,6 +212,7 @@ const STATUSES: [(PortStatus, &str, &str); 10] = [
         "partner-not-synchronized",
         "the partner is not synchronized",
     ),
+    (PortStatus::Held, "held", "the host holds it"),
 ];
 
 #[test]

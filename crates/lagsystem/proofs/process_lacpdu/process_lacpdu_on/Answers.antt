@@ -1,4 +1,4 @@
-use Rattle.lagsystem.proofs.Common.{subst, sym, ◌∙◌, ◌≡◌, OnTrue_at, Info, SystemPort, HasRecordedActor, IsSamePartner, LooksUnchanged}
+use Rattle.lagsystem.proofs.Common.{subst, sym, ◌∙◌, ◌≡◌, OnTrue_at, Info, HasRecordedActor, IsSamePartner, LooksUnchanged}
 use Rattle.lagsystem.proofs.Skipping.{alike_if, both_alike, took_and_ran}
 use Rattle.lagsystem.proofs.process_lacpdu.process_lacpdu_on.Goals as goal
 

@@ -1,5 +1,5 @@
-use Rattle.lagsystem.proofs.Common.{ap, arith, drop, length, length-drop, take, take_all, ◌-◌, ◌∙◌, ◌≡◌, list_any, is_eligible, selection_view}
-use Rattle.lagsystem.proofs.Choosing.{selected_not_eligible}
+use Rattle.lagsystem.proofs.Common.{ap, arith, drop, length, length-drop, take, take_all, ◌-◌, ◌∙◌, ◌≡◌, list_any, may_choose}
+use Rattle.lagsystem.proofs.Choosing.{selected_chooses_none}
 use Rattle.lagsystem.proofs.FrontLemmas.{any_from, first_within}
 use Rattle.lagsystem.proofs.settling.any_may_choose_from.Goals as goal
 
@@ -21,4 +21,4 @@ returns c =
     let i = c.args.first in
     let whole : take (length l - i) (drop i l) ≡ drop i l = take_all (length l - i) (drop i l) (omega (arith, length-drop i l)) in
     c.any_may_choose.ensures ∙ ap (list_any (λ s. may_choose s)) whole
-    ∙ any_from (λ s. may_choose s) (λ s. selected_not_eligible (selection_view s)) l i c.requires
+    ∙ any_from (λ s. may_choose s) selected_chooses_none l i c.requires

@@ -1,5 +1,5 @@
 use Rattle.lagsystem.proofs.Common.{length, sym, ◌∙◌}
-use Rattle.lagsystem.proofs.Choosing.{none_chosen, none_left_eligible}
+use Rattle.lagsystem.proofs.Choosing.{none_chosen, none_left_to_choose}
 use Rattle.lagsystem.proofs.FrontLemmas.{none_unselected}
 use Rattle.lagsystem.proofs.Limiting.{nothing_promoted}
 use Rattle.lagsystem.proofs.NextLemmas.{none_left_standby}
@@ -12,5 +12,5 @@ returns-in-None c =
     let none = none_unselected l (sym c.first_not_selected.ensures ∙ c.in-None.is) in (
       l,
       nothing_promoted aggs (length aggs.keys) l (none_left_standby aggs l none),
-      none_chosen aggs (length l) l (none_left_eligible l none),
+      none_chosen aggs (length l) l (none_left_to_choose l none),
     )

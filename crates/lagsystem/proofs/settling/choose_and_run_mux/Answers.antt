@@ -1,5 +1,5 @@
 use Rattle.lagsystem.proofs.Common.{length, sym, ◌∙◌}
-use Rattle.lagsystem.proofs.Choosing.{none_chosen, none_left_eligible}
+use Rattle.lagsystem.proofs.Choosing.{none_chosen, none_left_to_choose}
 use Rattle.lagsystem.proofs.Limiting.{nothing_promoted}
 use Rattle.lagsystem.proofs.NextLemmas.{none_left_standby}
 use Rattle.lagsystem.proofs.SettlingLemmas.{none_restless_has_waited, none_restless_unselected, runs_unready}
@@ -15,7 +15,7 @@ returns-else-any_restless c =
       (
         l,
         nothing_promoted aggs (length aggs.keys) l (none_left_standby aggs l selected),
-        none_chosen aggs (length l) l (none_left_eligible l selected),
+        none_chosen aggs (length l) l (none_left_to_choose l selected),
       ),
       runs_unready aggs.keys l l (none_restless_has_waited l none) c.requires.ran,
     )

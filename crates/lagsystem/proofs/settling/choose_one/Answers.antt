@@ -4,13 +4,13 @@ use Rattle.lagsystem.proofs.Choosing.{seen_taken}
 use Rattle.lagsystem.proofs.SettlingLemmas.{none_taken, one_taken}
 use Rattle.lagsystem.proofs.settling.choose_one.Goals as goal
 
-pub returns-then-not-is_eligible-clause-chosen : goal.returns-then-not-is_eligible-clause-chosen
-returns-then-not-is_eligible-clause-chosen c =
+pub returns-then-not-may_choose-clause-chosen : goal.returns-then-not-may_choose-clause-chosen
+returns-then-not-may_choose-clause-chosen c =
     let system_ports = c.args.system_ports.now in
     let i = c.args.place in
     let d = c.index-system_ports-place.result in
     none_taken c.args.aggregators.now system_ports i (get_or system_ports i d) (slice_get-get_or system_ports i d c.requires.within)
-    (sym c.is_eligible.ensures ∙ c.if-not-is_eligible.true)
+    (sym c.may_choose.ensures ∙ c.if-not-may_choose.true)
 
 pub returns-in-Some-clause-chosen : goal.returns-in-Some-clause-chosen
 returns-in-Some-clause-chosen c =
@@ -25,7 +25,7 @@ returns-in-Some-clause-chosen c =
     ∙ one_taken aggs system_ports i (get_or system_ports i d) t (Some c.in-Some.agg)
     (slice_get-get_or system_ports i d c.requires.within)
     (slice_get-get_or system_ports i c.index-system_ports-place-2.result c.requires.within)
-    (sym c.is_eligible.ensures ∙ c.if-not-is_eligible.false)
+    (sym c.may_choose.ensures ∙ c.if-not-may_choose.false)
     (sym c.in-Some.is ∙ c.choose.ensures.exact
     ∙ ap (λ (l : List PortView). chosen_aggregator c.args.aggregators.now.keys l t.number) c.requires.port_views)
 
@@ -47,6 +47,6 @@ returns-in_default-clause-chosen c =
     one_taken c.args.aggregators.now system_ports i (get_or system_ports i d) t None
     (slice_get-get_or system_ports i d c.requires.within)
     (slice_get-get_or system_ports i c.index-system_ports-place-2.result c.requires.within)
-    (sym c.is_eligible.ensures ∙ c.if-not-is_eligible.false)
+    (sym c.may_choose.ensures ∙ c.if-not-may_choose.false)
     (sym c.in_default.is ∙ c.choose.ensures.exact
     ∙ ap (λ (l : List PortView). chosen_aggregator c.args.aggregators.now.keys l t.number) c.requires.port_views)

@@ -2,6 +2,7 @@ use Rattle.lagsystem.proofs.Common.{List, None, ap, arith, length, subst, sym, â
 use Rattle.lagsystem.proofs.Common.{config_refusal, inner_state}
 use Rattle.lagsystem.proofs.Keeps.{accepted_keys_few, configured_made, first_made, ports_made, started_by}
 use Rattle.lagsystem.proofs.Rising.{accepted_count}
+use Rattle.lagsystem.proofs.HeldPorts.{first_free}
 use Rattle.lagsystem.proofs.Sound.{first_sound}
 use Rattle.lagsystem.proofs.inner.Inner.new.Goals as goal
 
@@ -43,4 +44,5 @@ returns-clause-made g c =
       first = first;
       configured = configured_made config aggs.keys aggs.max_links system_ports last keys limit settles;
       sound = first_sound last (ports_made config aggs.keys aggs.max_links system_ports last keys limit accepted new settles) first;
+      held = first_free last first;
     }

@@ -1,4 +1,4 @@
-use Rattle.lagsystem.proofs.Common.{Some, ap, false, refl, slice_get, sym, true, ◌∙◌, ◌≡◌, slice_get-get_or, Answered, Disabled, Dropped, SystemPort}
+use Rattle.lagsystem.proofs.Common.{Some, ap, refl, slice_get, sym, true, ◌∙◌, ◌≡◌, slice_get-get_or, Answered, Disabled, Dropped, SystemPort}
 use Rattle.lagsystem.proofs.Common.{Data_frame, Runt, up_or_dropped, inner_state, port_index}
 use Rattle.lagsystem.proofs.ReceivingLemmas.{answered_at, collected, control_at, parses_none, parses_one}
 use Rattle.lagsystem.proofs.inner.Inner.receive.Goals as goal

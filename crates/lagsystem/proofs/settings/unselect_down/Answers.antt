@@ -1,0 +1,15 @@
+use Rattle.lagsystem.proofs.Common.{arith, get_or, refl, SoFar-all, SoFar-more, PortChangesBy}
+use Rattle.lagsystem.proofs.SettingsKeep.{Relinks}
+use Rattle.lagsystem.proofs.settings.unselect_down.Goals as goal
+
+pub loop-system_port-preserved : goal.loop-system_port-preserved
+loop-system_port-preserved c =
+    let s = get_or c.loop-system_port.system_ports c.loop-system_port.system_port-index c.system_port-item.result in
+    SoFar-more (PortChangesBy (Relinks c.args.max_links)) c.loop-system_port.system_port-index c.args.system_ports.now
+    c.loop-system_port.system_ports c.system_port-item.result (record s { port = c.unselect_if_down.new.port })
+    (omega arith) c.loop-system_port.invariant (refl, c.unselect_if_down.ensures)
+
+pub returns : goal.returns
+returns c =
+    SoFar-all (PortChangesBy (Relinks c.args.max_links)) c.loop-system_port.system_port-index c.args.system_ports.now
+    c.loop-system_port.system_ports (omega arith) c.loop-system_port.invariant
