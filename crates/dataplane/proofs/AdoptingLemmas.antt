@@ -1,11 +1,11 @@
 -- Adopting: a free conversation comes onto its port by calls that a system has.
-use Rattle.std.specs.Prelude.{Bool, true, false, ◌&&◌, ◌≡◌, ◌≢◌, ◌<◌, ◌≤◌, ◌^◌, ◌⊎◌, ℕ, cond, eqb, if◌then◌else◌, is_none, is_some, ltb, nat_lt, List, [], ◌∷◌}
+use Rattle.std.specs.Prelude.{Bool, true, false, ◌&&◌, ◌≡◌, ◌<◌, ◌≤◌, ◌^◌, ◌⊎◌, ℕ, cond, eqb, if◌then◌else◌, is_none, is_some, ltb, nat_lt, List, [], ◌∷◌}
 use Rattle.std.specs.Prelude.{Option, Some, None, Result, Ok, Err, MatchOption, option_map}
 use Rattle.dataplane.proofs.Common.{ap, arith, cases_Bool, eq-eqb, eqb-true, inl, inr, refl, subst, sym, ◌∙◌, nat_tests, AggId, LawfulMoves, Sends_frame, ModelCall}
 use Rattle.dataplane.proofs.Common.{Offer, JoinedByLawfulMoves, model_setup, model_view, conversation_count, distributing, number_of_conversation}
 use Rattle.dataplane.proofs.Common.{CallPromise, SystemState, machines_of, port_index}
 use Rattle.distributor.specs.declared.assignment.Assignment.{Assignment}
-use Rattle.distributor.specs.declared.assignment.Assignment.TheVariants.{Free, On, Wanted, Flushing}
+use Rattle.distributor.specs.declared.assignment.Assignment.TheVariants.{Free, On, Wanted}
 use Rattle.distributor.specs.declared.fault.DistFault.{DistFault}
 use Rattle.distributor.specs.Calls.{Assigns, PicksPort, is_among, preferred_among}
 use Rattle.distributor.specs.Changes.{SetsAssignment}
@@ -16,7 +16,6 @@ use Rattle.lagsystem.specs.declared.drive.Reply.TheVariants as reply
 use Rattle.lagsystem.specs.Assigning.{OffersConversation, OffersIf, TakesPort, frame_of_conversation}
 use Rattle.lagsystem.specs.ModelView.{model_view_at}
 use Rattle.lagsystem.specs.Offers.{GivesAssignment, GivesOrRefuses, MayBeOffered, has_aggregator, in_system, system_force_result, system_move_result}
-use Rattle.lagsystem.specs.Promises.{TablePromise}
 use Rattle.lagsystem.specs.State.{system_port_at, with_table}
 use Rattle.lagsystem.proofs.AssigningLemmas.{framed}
 use Rattle.lagmodel.specs.Law.{BelowNext, FlushedByMarker, OnItsCable, serials}
@@ -143,7 +142,7 @@ as_preferred gives agg conv port p s t f free h =
     same p q e = cc
 
 not_equal : (n m : ℕ) → (n ≡ m → ⊥) → eqb n m ≡ false
-not_equal n m h = elim (cases_Bool (eqb n m)) [ | inl t ↦ absurd (h (eqb-true n m t)) | inr f ↦ f ]
+not_equal n m h = elim (cases_Bool (eqb n m)) [ inl t ↦ absurd (h (eqb-true n m t)) | inr f ↦ f ]
 
 -- a move from another port is accepted
 pub is_moved : (agg : AggId) (conv port p : ℕ) (s : SystemState) (answer : Result Unit SystemFault) (t : SystemState)
@@ -296,8 +295,8 @@ placed_behind gives later agg conv port p q s t u v w moved forced o m h l each 
     let b = then_forced gives agg conv port p s t u v moved forced o m h in
     let there : q ≡ port = as_preferred later agg conv port q v w b.2 (now_in u v agg conv (Free (Some port)) b.1) l in
     let freed : GivesAssignment agg conv (Free (Some port)) s v =
-        both s u v agg conv (Wanted p (Some port)) (Free (Some port))
-        (both s t u agg conv (On p) (Wanted p (Some port)) (first_given gives agg conv port p s t o) a.1) b.1 in
+    both s u v agg conv (Wanted p (Some port)) (Free (Some port))
+    (both s t u agg conv (On p) (Wanted p (Some port)) (first_given gives agg conv port p s t o) a.1) b.1 in
     let given = subst (λ n. GivesAssignment agg conv (On n) v w) there (is_given later agg conv port q v w b.2 l) in
     placed later agg conv port s v w freed.1 (same_flows s.table v.table agg.0 conv o.0.0 (Some port) freed.0 o.0.1) b.2
     (both s v w agg conv (Free (Some port)) (On port) freed given)
@@ -311,7 +310,7 @@ on_new : (x : WorldSetup) (w : World) (s : Side) (after : View) → TakesOver (w
     × (serials s g k (w.on_cable s c) ≡ [])
 on_new x w s after t on g k c free =
     let z = on s g k c free in (
-      elim z.0 [ | inl e ↦ inl e | inr q ↦ inr (q.0, q.1, ap conversation_port (t.on g k q.0 q.2)) ],
+      elim z.0 [ inl e ↦ inl e | inr q ↦ inr (q.0, q.1, ap conversation_port (t.on g k q.0 q.2)) ],
       z.1,
     )
 
