@@ -1,11 +1,11 @@
 -- Adopting: a free conversation comes onto its port by calls that a system has.
-use Rattle.std.specs.Prelude.{Bool, true, false, ◌&&◌, ◌≡◌, ◌≢◌, ◌<◌, ◌^◌, ◌⊎◌, ℕ, cond, eqb, if◌then◌else◌, is_none, is_some, ltb, nat_lt, List, [], ◌∷◌}
-use Rattle.std.specs.Prelude.{Option, Some, None, Result, Ok, Err, MatchOption}
-use Rattle.dataplane.proofs.Common.{ap, arith, eq-eqb, eqb-true, inl, inr, refl, subst, sym, ◌∙◌, nat_tests, AggId, LawfulMoves, Sends_frame, ModelCall}
+use Rattle.std.specs.Prelude.{Bool, true, false, ◌&&◌, ◌≡◌, ◌<◌, ◌≤◌, ◌^◌, ◌⊎◌, ℕ, cond, eqb, if◌then◌else◌, is_none, is_some, ltb, nat_lt, List, [], ◌∷◌}
+use Rattle.std.specs.Prelude.{Option, Some, None, Result, Ok, Err, MatchOption, option_map}
+use Rattle.dataplane.proofs.Common.{ap, arith, cases_Bool, eq-eqb, eqb-true, inl, inr, refl, subst, sym, ◌∙◌, nat_tests, AggId, LawfulMoves, Sends_frame, ModelCall}
 use Rattle.dataplane.proofs.Common.{Offer, JoinedByLawfulMoves, model_setup, model_view, conversation_count, distributing, number_of_conversation}
 use Rattle.dataplane.proofs.Common.{CallPromise, SystemState, machines_of, port_index}
 use Rattle.distributor.specs.declared.assignment.Assignment.{Assignment}
-use Rattle.distributor.specs.declared.assignment.Assignment.TheVariants.{Free, On, Wanted, Flushing}
+use Rattle.distributor.specs.declared.assignment.Assignment.TheVariants.{Free, On, Wanted}
 use Rattle.distributor.specs.declared.fault.DistFault.{DistFault}
 use Rattle.distributor.specs.Calls.{Assigns, PicksPort, is_among, preferred_among}
 use Rattle.distributor.specs.Changes.{SetsAssignment}
@@ -16,10 +16,12 @@ use Rattle.lagsystem.specs.declared.drive.Reply.TheVariants as reply
 use Rattle.lagsystem.specs.Assigning.{OffersConversation, OffersIf, TakesPort, frame_of_conversation}
 use Rattle.lagsystem.specs.ModelView.{model_view_at}
 use Rattle.lagsystem.specs.Offers.{GivesAssignment, GivesOrRefuses, MayBeOffered, has_aggregator, in_system, system_force_result, system_move_result}
-use Rattle.lagsystem.specs.Promises.{TablePromise}
 use Rattle.lagsystem.specs.State.{system_port_at, with_table}
 use Rattle.lagsystem.proofs.AssigningLemmas.{framed}
-use Rattle.dataplane.specs.Adopting.{IsFreeIn, IsPlaced, adopt_result, adopted}
+use Rattle.lagmodel.specs.Law.{BelowNext, FlushedByMarker, OnItsCable, serials}
+use Rattle.lagmodel.specs.View.{View, conversation_port}
+use Rattle.lagmodel.specs.World.{Side, One, Two, World, WorldSetup, end_at, peer}
+use Rattle.dataplane.specs.Adopting.{IsFreeIn, IsPlaced, RestsOn, TakesOver, adopt_result, adopted, with_view}
 
 -- what there has to be for a free conversation to come onto the port
 pub record Fits (s : SystemState) (agg : AggId) (conv port : ℕ) : Type 0 where
@@ -133,19 +135,23 @@ pub as_preferred : (gives : ℕ → ℕ → ℕ → Type 0) (agg : AggId) (conv 
 as_preferred gives agg conv port p s t f free h =
     let ports = distributing agg s.system_ports in
     let k = subst (λ a. Assigns gives conv ports a (Ok p)) free (taken gives agg conv port s (Ok p) t f h).0 in
-    let there = subst (λ (b : Bool). MatchOption (cond b (Some port) None) (PicksPort gives conv ports (Ok p)) (λ q. Ok p ≡ Ok q)) f.among k in
+    let there = subst (λ (b : Bool). MatchOption (cond b (Some port) None) (PicksPort gives conv ports (Ok p)) (λ q. ◌≡◌ {A = Result ℕ DistFault} (Ok p) (Ok q))) f.among k in
     same p port there
   where
     same : (p q : ℕ) → ◌≡◌ {A = Result ℕ DistFault} (Ok p) (Ok q) → p ≡ q
     same p q e = cc
 
+not_equal : (n m : ℕ) → (n ≡ m → ⊥) → eqb n m ≡ false
+not_equal n m h = elim (cases_Bool (eqb n m)) [ inl t ↦ absurd (h (eqb-true n m t)) | inr f ↦ f ]
+
 -- a move from another port is accepted
 pub is_moved : (agg : AggId) (conv port p : ℕ) (s : SystemState) (answer : Result Unit SystemFault) (t : SystemState)
-    → Fits s agg conv port → assignment_of s.table agg.0 conv ≡ On p → eqb p port ≡ false
+    → Fits s agg conv port → assignment_of s.table agg.0 conv ≡ On p → (p ≡ port → ⊥)
     → GivesOrRefuses agg conv (system_move_result s agg conv port) s answer t
     → (answer ≡ Ok tt) × GivesAssignment agg conv (Wanted p (Some port)) s t
 is_moved agg conv port p s answer t f on differs h =
     let there = f.there in let known = f.known in let within = f.within in let among = f.among in let left = f.left in
+    let apart : eqb p port ≡ false = not_equal p port differs in
     let accepted : system_move_result s agg conv port ≡ Ok (Wanted p (Some port)) = grind (arith, nat_tests) in
     subst (λ r. GivesOrRefuses agg conv r s answer t) accepted h
 
@@ -211,3 +217,135 @@ placed gives agg conv port old mid new stays alike f h each = record {
         (subst (λ c. LawfulMoves (model_setup mid) c (model_view mid) (Sends_frame port agg.0 conv ∷ []) (model_view new)) m.2
         (subst (λ k. LawfulMoves (model_setup mid) m.0 (model_view mid) (Sends_frame port agg.0 k ∷ []) (model_view new)) frame.1
         (subst (λ acts. LawfulMoves (model_setup mid) m.0 (model_view mid) acts (model_view new)) m.3 m.4)))
+
+-- The calls of an adoption, up to each of them: none is refused, and the conversation comes to its port.
+abbrev Offered : (ℕ → ℕ → ℕ → Type 0) → AggId → ℕ → ℕ → ℕ → SystemState → SystemState → Type 0
+Offered gives agg conv port p s t = IsFreeIn s agg conv × (adopt_result s agg conv port ≡ Ok (On port))
+    × OffersConversation gives agg conv s (Ok p) t × (p ≡ port → ⊥)
+
+abbrev Moved : AggId → ℕ → ℕ → SystemState → Result Unit SystemFault → SystemState → Type 0
+Moved agg conv port s answer t = GivesOrRefuses agg conv (system_move_result s agg conv port) s answer t
+
+abbrev Forced : AggId → ℕ → SystemState → Result Unit SystemFault → SystemState → Type 0
+Forced agg conv s answer t = GivesOrRefuses agg conv (system_force_result s agg conv) s answer t
+
+first_given : (gives : ℕ → ℕ → ℕ → Type 0) (agg : AggId) (conv port p : ℕ) (s t : SystemState) → Offered gives agg conv port p s t
+    → GivesAssignment agg conv (On p) s t
+first_given gives agg conv port p s t o = is_given gives agg conv port p s t (fits s agg conv port o.0 o.1) o.2
+
+first_fits : (gives : ℕ → ℕ → ℕ → Type 0) (agg : AggId) (conv port p : ℕ) (s t : SystemState) → Offered gives agg conv port p s t
+    → Fits t agg conv port
+first_fits gives agg conv port p s t o =
+    still_fits s t agg conv port conv (On p) (first_given gives agg conv port p s t o) (fits s agg conv port o.0 o.1)
+
+then_moved : (gives : ℕ → ℕ → ℕ → Type 0) (agg : AggId) (conv port p : ℕ) (s t u : SystemState) (moved : Result Unit SystemFault)
+    → Offered gives agg conv port p s t → Moved agg conv port t moved u
+    → (moved ≡ Ok tt) × GivesAssignment agg conv (Wanted p (Some port)) t u
+then_moved gives agg conv port p s t u moved o m =
+    is_moved agg conv port p t moved u (first_fits gives agg conv port p s t o)
+    (now_in s t agg conv (On p) (first_given gives agg conv port p s t o)) o.3 m
+
+then_forced : (gives : ℕ → ℕ → ℕ → Type 0) (agg : AggId) (conv port p : ℕ) (s t u v : SystemState) (moved forced : Result Unit SystemFault)
+    → Offered gives agg conv port p s t → Moved agg conv port t moved u → Forced agg conv u forced v
+    → (forced ≡ Ok tt) × GivesAssignment agg conv (Free (Some port)) u v × Fits v agg conv port
+then_forced gives agg conv port p s t u v moved forced o m h =
+    let a = then_moved gives agg conv port p s t u moved o m in
+    let f = still_fits t u agg conv port conv (Wanted p (Some port)) a.1 (first_fits gives agg conv port p s t o) in
+    let b = is_forced agg conv port p u forced v f (now_in t u agg conv (Wanted p (Some port)) a.1) h in
+    (b.0, b.1, still_fits u v agg conv port conv (Free (Some port)) b.1 f)
+
+not_done : (fault : SystemFault) → ◌≡◌ {A = Result Unit SystemFault} (Err fault) (Ok tt) → ⊥
+not_done fault e = absurd cc
+
+pub move_is_accepted : (gives : ℕ → ℕ → ℕ → Type 0) (agg : AggId) (conv port p : ℕ) (s t u : SystemState) (fault : SystemFault)
+    → Offered gives agg conv port p s t → Moved agg conv port t (Err fault) u → ⊥
+move_is_accepted gives agg conv port p s t u fault o m = not_done fault (then_moved gives agg conv port p s t u (Err fault) o m).0
+
+pub force_is_accepted : (gives : ℕ → ℕ → ℕ → Type 0) (agg : AggId) (conv port p : ℕ) (s t u v : SystemState) (moved : Result Unit SystemFault)
+    (fault : SystemFault) → Offered gives agg conv port p s t → Moved agg conv port t moved u → Forced agg conv u (Err fault) v → ⊥
+force_is_accepted gives agg conv port p s t u v moved fault o m h =
+    not_done fault (then_forced gives agg conv port p s t u v moved (Err fault) o m h).0
+
+pub offer_is_accepted : (gives later : ℕ → ℕ → ℕ → Type 0) (agg : AggId) (conv port p : ℕ) (s t u v w : SystemState)
+    (moved forced : Result Unit SystemFault) (fault : SystemFault) → Offered gives agg conv port p s t → Moved agg conv port t moved u
+    → Forced agg conv u forced v → OffersConversation later agg conv v (Err fault) w → ⊥
+offer_is_accepted gives later agg conv port p s t u v w moved forced fault o m h l =
+    let b = then_forced gives agg conv port p s t u v moved forced o m h in
+    is_answered later agg conv port v fault w b.2 (Some port, now_in u v agg conv (Free (Some port)) b.1) l
+
+pub first_refused : (gives : ℕ → ℕ → ℕ → Type 0) (agg : AggId) (conv port : ℕ) (s t : SystemState) (fault : SystemFault) → IsFreeIn s agg conv
+    → adopt_result s agg conv port ≡ Ok (On port) → OffersConversation gives agg conv s (Err fault) t → ⊥
+first_refused gives agg conv port s t fault free e o = is_answered gives agg conv port s fault t (fits s agg conv port free e) free o
+
+pub placed_at_once : (gives : ℕ → ℕ → ℕ → Type 0) (agg : AggId) (conv port p : ℕ) (s t : SystemState) → IsFreeIn s agg conv
+    → adopt_result s agg conv port ≡ Ok (On port) → OffersConversation gives agg conv s (Ok p) t → OffersEach gives agg conv s (Ok p) t
+    → p ≡ port → IsPlaced agg conv port s t
+placed_at_once gives agg conv port p s t free e o each same =
+    let f = fits s agg conv port free e in
+    placed gives agg conv port s s t refl refl f
+    (subst (λ q. GivesAssignment agg conv (On q) s t) same (is_given gives agg conv port p s t f o))
+    (subst (λ q. OffersEach gives agg conv s (Ok q) t) same each)
+
+pub placed_behind : (gives later : ℕ → ℕ → ℕ → Type 0) (agg : AggId) (conv port p q : ℕ) (s t u v w : SystemState)
+    (moved forced : Result Unit SystemFault) → Offered gives agg conv port p s t → Moved agg conv port t moved u
+    → Forced agg conv u forced v → OffersConversation later agg conv v (Ok q) w → OffersEach later agg conv v (Ok q) w
+    → IsPlaced agg conv port s w
+placed_behind gives later agg conv port p q s t u v w moved forced o m h l each =
+    let a = then_moved gives agg conv port p s t u moved o m in
+    let b = then_forced gives agg conv port p s t u v moved forced o m h in
+    let there : q ≡ port = as_preferred later agg conv port q v w b.2 (now_in u v agg conv (Free (Some port)) b.1) l in
+    let freed : GivesAssignment agg conv (Free (Some port)) s v =
+    both s u v agg conv (Wanted p (Some port)) (Free (Some port))
+    (both s t u agg conv (On p) (Wanted p (Some port)) (first_given gives agg conv port p s t o) a.1) b.1 in
+    let given = subst (λ n. GivesAssignment agg conv (On n) v w) there (is_given later agg conv port q v w b.2 l) in
+    placed later agg conv port s v w freed.1 (same_flows s.table v.table agg.0 conv o.0.0 (Some port) freed.0 o.0.1) b.2
+    (both s v w agg conv (Free (Some port)) (On port) freed given)
+    (subst (λ n. OffersEach later agg conv v (Ok n) w) there each)
+
+-- What order rests on, with the new system in place of the old one: of the other system nothing changes.
+on_new : (x : WorldSetup) (w : World) (s : Side) (after : View) → TakesOver (w.view s) after → OnItsCable x w → (g k c : ℕ)
+    → w.forced s g k ≡ false
+    → ((serials s g k (w.on_cable (peer s) c) ≡ []) ⊎ ((p : ℕ) × (end_at x.cables s c ≡ Some p)
+    × (conversation_port (after.flows.state g k) ≡ Some p)))
+    × (serials s g k (w.on_cable s c) ≡ [])
+on_new x w s after t on g k c free =
+    let z = on s g k c free in (
+      elim z.0 [ inl e ↦ inl e | inr q ↦ inr (q.0, q.1, ap conversation_port (t.on g k q.0 q.2)) ],
+      z.1,
+    )
+
+on_cable_of : (x : WorldSetup) (w : World) (s : Side) (after : View) → TakesOver (w.view s) after → OnItsCable x w
+    → OnItsCable x (with_view w s after)
+on_cable_of x w One after t on One g k c free = on_new x w One after t on g k c free
+on_cable_of x w One after t on Two g k c free = on Two g k c free
+on_cable_of x w Two after t on One g k c free = on One g k c free
+on_cable_of x w Two after t on Two g k c free = on_new x w Two after t on g k c free
+
+flushed_of : (x : WorldSetup) (w : World) (s : Side) (after : View) → TakesOver (w.view s) after → FlushedByMarker x w
+    → FlushedByMarker x (with_view w s after)
+flushed_of x w One after t f One g k p n c free e = absurd (t.waits g k p n e)
+flushed_of x w One after t f Two g k p n c free e = f Two g k p n c free e
+flushed_of x w Two after t f One g k p n c free e = f One g k p n c free e
+flushed_of x w Two after t f Two g k p n c free e = absurd (t.waits g k p n e)
+
+later : (n m k : ℕ) → m ≤ k → n < m → n < k
+later n m k h l = omega (arith, h, l)
+
+below_of : (w : World) (s : Side) (after : View) → TakesOver (w.view s) after → BelowNext w → BelowNext (with_view w s after)
+below_of w One after t b One c p n stamp mac =
+    let z = b One c p n stamp mac in
+    (λ m. later n (w.view One).flows.next after.flows.next t.next (z.0 m), λ m. later n (w.view One).flows.next after.flows.next t.next (z.1 m))
+below_of w One after t b Two c p n stamp mac = b Two c p n stamp mac
+below_of w Two after t b One c p n stamp mac = b One c p n stamp mac
+below_of w Two after t b Two c p n stamp mac =
+    let z = b Two c p n stamp mac in
+    (λ m. later n (w.view Two).flows.next after.flows.next t.next (z.0 m), λ m. later n (w.view Two).flows.next after.flows.next t.next (z.1 m))
+
+pub taken_over : (x : WorldSetup) (w : World) (s : Side) (after : View) → TakesOver (w.view s) after → RestsOn x w
+    → RestsOn x (with_view w s after)
+taken_over x w s after t r = record {
+  on_its_cable = on_cable_of x w s after t r.on_its_cable;
+  flushed_by_marker = flushed_of x w s after t r.flushed_by_marker;
+  below_next = below_of w s after t r.below_next;
+  collected_then_in_flight = r.collected_then_in_flight;
+}

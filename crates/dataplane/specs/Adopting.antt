@@ -1,5 +1,5 @@
 -- What it is to adopt a conversation: its first port is the one on which a data plane has it (profile).
-use Rattle.std.specs.Prelude.{◌≡◌, ◌≢◌, ◌≤◌, ℕ, cond, eqb, if◌then◌else◌, is_none, is_some, List, [], ◌∷◌, Option, Some, Result, Ok, Err}
+use Rattle.std.specs.Prelude.{◌≡◌, ◌≢◌, ◌≤◌, ℕ, eqb, if◌then◌else◌, is_none, is_some, List, [], ◌∷◌, Option, Some, Result, Ok, Err}
 use Rattle.lagtypes.specs.declared.identifiers.AggId.{AggId}
 use Rattle.distributor.specs.declared.assignment.Assignment.{Assignment}
 use Rattle.distributor.specs.declared.assignment.Assignment.TheVariants.{Free, On, Wanted, Flushing}

@@ -131,13 +131,7 @@ pub extern "C" fn lagffi_rest(alloc: Global, lag: &mut Lag, agg: u16, conv: u16)
 /// another frame of it is offered. No frame and no marker is sent. One that is on the port already stays.
 /// Refuses: NIW_NO_SYSTEM, NIW_NO_AGGREGATOR, NIW_NO_PORT, NIW_NOT_ASSIGNED, NIW_HELD, NIW_NOT_DISTRIBUTING, NIW_MARKERS_SPENT.
 #[unsafe(no_mangle)]
-pub extern "C" fn lagffi_adopt(
-    alloc: Global,
-    lag: &mut Lag,
-    agg: u16,
-    conv: u16,
-    port: u16,
-) -> u32
+pub extern "C" fn lagffi_adopt(alloc: Global, lag: &mut Lag, agg: u16, conv: u16, port: u16) -> u32
     ensures { CallsHeldSystem (held_value lag.old.held.kept) (held_value lag.new.held.kept)
         (λ old new. (answer : Result Unit SystemFault) × GivesOrRefuses (aggregator_numbered agg) conv
         (adopt_result old (aggregator_numbered agg) conv port) old answer new
