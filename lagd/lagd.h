@@ -96,6 +96,7 @@ struct link {
     uint8_t mac[6];
     bool present; /* whether the answer of the kernel that is being read named it */
     bool up;
+    bool held;             /* whether the file takes it out of use */
     bool waits;            /* whether its carrier is there, and has to be steady for longer before it is up */
     uint64_t steady_since; /* the milliseconds since which that is there, while it waits */
     uint32_t kernel_losses; /* how often the carrier went, as the kernel last told */
@@ -269,6 +270,7 @@ bool has_waited(const struct link *link);
 
 /* revert.c */
 void pass_revert_second(void);
+void limit_links(uint16_t most);
 
 /* changes.c */
 int open_changes(void);
@@ -293,6 +295,7 @@ const char *speed_text(const struct speed *speed, char room[static 40]);
 /* system.c */
 void make_system(void);
 void set_link(uint16_t port, bool up);
+bool hold_port(uint16_t port, bool hold);
 void lose_link(struct link *link);
 void send_due(void);
 void send_again(void);

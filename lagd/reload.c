@@ -1,4 +1,4 @@
-/* A file that is read again: what the library can change of a port is changed, and of the rest a line says that it needs a restart. */
+/* A file that is read again: what the library can change is changed, and of the rest a line says that it needs a restart. */
 #define _GNU_SOURCE
 #include <string.h>
 
@@ -15,17 +15,13 @@ static const char *restart_for(const struct settings *wanted) {
     if (!has_same_ports(wanted)) return "other interfaces";
     if (wanted->config.priority != settings.config.priority || memcmp(wanted->config.mac, settings.config.mac, 6) != 0)
         return "another system";
-    if (wanted->config.max_links != settings.config.max_links) return "another max-links";
     if (wanted->key_by_speed != settings.key_by_speed) return "another key-by-speed";
     if (strcmp(wanted->carry, settings.carry) != 0) return "another carry";
     if (wanted->plane != settings.plane) return "another plane";
     if (wanted->hash != settings.hash || wanted->hash_seed != settings.hash_seed) return "another hash or hash-seed";
     if (wanted->offload != settings.offload || wanted->fast != settings.fast) return "another offload or fast";
     for (uint16_t port = 1; port <= link_count; port++) {
-        struct niw_port now = links[port - 1].settings, next = port_of(wanted, port);
-        if (next.active != now.active) return "another activity";
-        if (next.short_timeout != now.short_timeout) return "another timeout";
-        if (!has_aggregator(next.key)) return "a key that no port had at the start";
+        if (!has_aggregator(port_of(wanted, port).key)) return "a key that no port had at the start";
     }
     return NULL;
 }
@@ -47,6 +43,29 @@ static bool change_port(uint16_t port, const struct settings *wanted) {
     return true;
 }
 
+/* Gives a port its activity and timeout; answers whether one differs. */
+static bool change_mode(uint16_t port, const struct settings *wanted) {
+    struct link *link = &links[port - 1];
+    struct niw_port next = port_of(wanted, port);
+    if (next.active == link->settings.active && next.short_timeout == link->settings.short_timeout) return false;
+    if (!is_done(niw_set_mode(&own_system, port, next.active, next.short_timeout), "niw_set_mode")) return false;
+    link->settings.active = next.active;
+    link->settings.short_timeout = next.short_timeout;
+    return true;
+}
+
+/* Holds a port, or lets it go; answers whether that differs. */
+static bool change_hold(uint16_t port, const struct settings *wanted) {
+    bool hold = wants_hold(wanted, port);
+    return links[port - 1].held != hold && hold_port(port, hold);
+}
+
+/* Gives a port what the file has of it; answers whether anything differs. */
+static bool change_all(uint16_t port, const struct settings *wanted) {
+    bool port_changed = change_port(port, wanted), mode_changed = change_mode(port, wanted), hold_changed = change_hold(port, wanted);
+    return port_changed || mode_changed || hold_changed;
+}
+
 /* Who may be the partner changes for each link at once. One that is no longer pinned is so by who speaks next. */
 static void change_policy(const struct settings *wanted) {
     bool same = wanted->policy == settings.policy && memcmp(&wanted->partner, &settings.partner, sizeof wanted->partner) == 0;
@@ -64,7 +83,8 @@ static void change_policy(const struct settings *wanted) {
 /* Takes what can be changed; answers how many ports have something else now. */
 static unsigned take(const struct settings *wanted) {
     unsigned changed = 0;
-    for (uint16_t port = 1; has_same_ports(wanted) && port <= link_count; port++) changed += change_port(port, wanted);
+    for (uint16_t port = 1; has_same_ports(wanted) && port <= link_count; port++) changed += change_all(port, wanted);
+    limit_links(wanted->config.max_links);
     change_policy(wanted);
     settings.partner_required = wanted->partner_required;
     settings.min_links = wanted->min_links <= link_count ? wanted->min_links : link_count;

@@ -1,5 +1,6 @@
-/* Under max-links: a port that stands by takes the place of one with a higher identifier. The library lets no port that is in use give way
- * (IEEE 802.1AX-2014, 6.4.14 leaves that open), so that one leaves its aggregator, and comes back to stand by. */
+/* Under max-links: a port that stands by takes the place of one with a higher identifier, and where the limit sinks, those with the highest
+ * ones stand by. The library lets no port that is in use give way (IEEE 802.1AX-2014, 6.4.14 leaves that open), so it is held, which takes
+ * it out of its aggregator, and let go, to stand by. */
 #define _GNU_SOURCE
 #include "lagd.h"
 
@@ -36,18 +37,50 @@ static bool is_ready(const struct link *link) {
         && is_told(niw_wait_while(&own_system, link->settings.number), "niw_wait_while", &ticks) && ticks == 0;
 }
 
-/* A port leaves its aggregator, by a key that none has, and comes back. What is on its way there leaves it behind a marker. */
+/* A port leaves its aggregator, and comes back to stand by. What is on its way there leaves it behind a marker. */
 static void give_way(struct link *last, const struct link *next) {
-    struct niw_change change = {.key = free_key(0, NULL), .priority = last->settings.priority,
-        .aggregatable = last->settings.aggregatable};
-    if (!is_done(niw_configure(&own_system, last->settings.number, &change).status, "niw_configure")) return;
-    change.key = last->settings.key;
-    if (!is_done(niw_configure(&own_system, last->settings.number, &change).status, "niw_configure")) return;
+    if (!is_done(niw_hold(&own_system, last->settings.number, true), "niw_hold")) return;
+    if (!is_done(niw_hold(&own_system, last->settings.number, false), "niw_hold")) return;
     (void)say(LOG_NOTICE | ABOUT_PORT, "port %u %s: it makes way for port %u %s", last->settings.number, last->name,
         next->settings.number, next->name);
     look_at_carry();
     send_due();
     take_views();
+}
+
+/* Of an aggregator with more links in use than so many, the one that gives way first; else NULL. */
+static struct link *surplus_of(uint16_t aggregator, uint16_t most) {
+    struct link *last = NULL;
+    unsigned count = 0;
+    for (uint16_t i = 0; i < link_count; i++) {
+        if (links[i].view.aggregator != aggregator || links[i].view.standby || !links[i].up) continue;
+        count++;
+        if (!last || is_below(last, &links[i])) last = &links[i];
+    }
+    return count > most ? last : NULL;
+}
+
+/* Holds the ports that are too many under a limit, which are marked; answers whether that is done. */
+static bool hold_surplus(uint16_t most, bool *marked) {
+    for (uint16_t aggregator = 1; aggregator <= aggregator_count; aggregator++)
+        for (struct link *last = surplus_of(aggregator, most); last; last = surplus_of(aggregator, most)) {
+            if (!is_done(niw_hold(&own_system, last->settings.number, true), "niw_hold")) return false;
+            marked[last->settings.number - 1] = true;
+            take_views();
+        }
+    return true;
+}
+
+/* An aggregator has no more links than so many from now on; 0: any number. Where the limit sinks, what is too many stands by. */
+void limit_links(uint16_t most) {
+    bool marked[NIW_MOST_PORTS] = {false};
+    if (most == settings.config.max_links) return;
+    take_views();
+    if (most != 0 && !hold_surplus(most, marked)) return;
+    if (!is_done(niw_set_max_links(&own_system, most), "niw_set_max_links")) return;
+    settings.config.max_links = most;
+    for (uint16_t i = 0; i < link_count; i++)
+        if (marked[i] && !is_done(niw_hold(&own_system, (uint16_t)(i + 1), links[i].held), "niw_hold")) return;
 }
 
 /* A second passed. One port gives way at most. */

@@ -237,6 +237,7 @@ static const struct {
     {"timeout", "short or long", "short", "long", offsetof(struct port_settings, short_timeout)},
     {"activity", "active or passive", "active", "passive", offsetof(struct port_settings, active)},
     {"individual", YES_OR_NO, "yes", "no", offsetof(struct port_settings, individual)},
+    {"hold", YES_OR_NO, "yes", "no", offsetof(struct port_settings, hold)},
 };
 
 enum { PORT_KEY_COUNT = sizeof PORT_KEYS / sizeof *PORT_KEYS };
@@ -310,6 +311,7 @@ const char *add_port(struct settings *settings, const char *name, size_t length)
     if (settings->port_count == NIW_MOST_PORTS) return "at most 64 interfaces";
     *port = (struct port_settings){
         .key = AS_BUNDLE, .priority = AS_BUNDLE, .active = AS_BUNDLE, .short_timeout = AS_BUNDLE, .individual = AS_BUNDLE,
+        .hold = AS_BUNDLE,
     };
     memcpy(port->name, name, length);
     settings->port_count++;
@@ -383,4 +385,9 @@ struct niw_port port_of(const struct settings *settings, uint16_t port) {
         .active = value_of(own->active, settings->active) != 0,
         .short_timeout = value_of(own->short_timeout, settings->short_timeout) != 0,
     };
+}
+
+/* Whether a port, from 1, is to be out of use. */
+bool wants_hold(const struct settings *settings, uint16_t port) {
+    return value_of(settings->ports[port - 1].hold, false) != 0;
 }

@@ -52,7 +52,7 @@ enum { AS_BUNDLE = -1 };
 struct port_settings {
     char name[NAME_ROOM];      /* of the interface */
     int key, priority;         /* 0 to 65535, or AS_BUNDLE */
-    int active, short_timeout, individual; /* 0 or 1, or AS_BUNDLE */
+    int active, short_timeout, individual, hold; /* 0 or 1, or AS_BUNDLE */
 };
 
 /* What carries the data. */
@@ -111,6 +111,7 @@ const char *set_port(struct port_settings *port, const char *name, const char *t
 const char *add_port(struct settings *settings, const char *name, size_t length);
 struct lack lack_of(const struct settings *settings);
 struct niw_port port_of(const struct settings *settings, uint16_t port);
+bool wants_hold(const struct settings *settings, uint16_t port);
 
 /* file.c */
 bool read_file(const char *path, struct settings *wanted);

@@ -45,6 +45,13 @@ static uint32_t random_marker(void) {
     return random % INT32_MAX + 1;
 }
 
+/* Takes a port out of use, whatever its link does, or lets it be used again; answers whether that is done. */
+bool hold_port(uint16_t port, bool hold) {
+    if (!is_done(niw_hold(&own_system, port, hold), "niw_hold")) return false;
+    links[port - 1].held = hold;
+    return true;
+}
+
 /* Makes the system of the settings. */
 void make_system(void) {
     struct niw_port ports[NIW_MOST_PORTS];
@@ -65,6 +72,8 @@ void make_system(void) {
     }
     make_keys(keys);
     if (!is_done(niw_new(&own_system, &settings.config, keys, aggregator_count, ports, link_count).status, "niw_new")) return;
+    for (uint16_t port = 1; port <= link_count; port++)
+        if (wants_hold(&settings, port) && !hold_port(port, true)) return;
     take_views();
 }
 

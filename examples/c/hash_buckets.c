@@ -42,7 +42,8 @@ static void fill_rows(void) {
     }
 }
 
-/* Sends what is due. A chip flushes the port before a marker: it waits until its queue is empty. */
+/* Sends what is due. A chip waits until the queue of the port is empty before a marker, and before an LACPDU of a port that is held: its
+ * peer drops what comes behind that. */
 static void send_due(struct niw_system *from, struct niw_system *to) {
     uint8_t frame[NIW_FRAME], response[NIW_FRAME];
     for (uint16_t port = 1; port <= PORTS; port++)
@@ -69,26 +70,34 @@ static void show(const char *what) {
     printf("%s: %u buckets on port 1, %u on port 2, %u clear\n", what, counts[1], counts[2], counts[0]);
 }
 
-/* Moves each bucket off a port, behind a marker. */
-static void drain(uint16_t from, uint16_t to) {
-    for (uint16_t bucket = 0; bucket < BUCKETS; bucket++)
-        if (rows[bucket] == from) niw_move_conversation(&here, 1, bucket, to);
+/* Takes a port out of use: its buckets leave it behind a marker, new ones go elsewhere, and its peer stops. A peer that answers no marker
+ * does not hold it up for longer than frames can be on their way. */
+static void drain(uint16_t port) {
+    int ticks = 10;
+    niw_hold(&here, port, true);
     clear_rows();
+    show("port 1 is held");
+    for (; niw_load(&here, port).number > 0 && ticks > 0; ticks--) pass();
+    if (ticks == 0) niw_force_port(&here, port);
+    fill_rows();
 }
 
 int main(void) {
     if (!make(&here, 1) || !make(&peer, 2)) return 1;
     for (int tick = 0; tick < 50; tick++) pass();
     show("both links carry");
-    drain(1, 2);
-    show("port 1 drains");
-    while (niw_load(&here, 1).number > 0) pass();
+    drain(1);
     show("it is drained");
     printf("%u marker\n", markers);
     niw_set_link(&here, 1, false);
-    clear_rows();
-    fill_rows();
+    niw_set_link(&peer, 1, false);
+    for (int tick = 0; tick < 50; tick++) pass();
     show("its link is down");
+    niw_set_link(&here, 1, true);
+    niw_set_link(&peer, 1, true);
+    niw_hold(&here, 1, false);
+    for (int tick = 0; tick < 50; tick++) pass();
+    printf("its link is up, and it is let go: port 1 %s\n", niw_distributes(&here, 1).is ? "carries" : "does not carry");
     niw_free(&here);
     niw_free(&peer);
     return 0;

@@ -14,6 +14,7 @@ struct side {
 
 static struct side pair[2];
 static struct niw_system peer;
+static bool agrees; /* whether the switches tell each other what they have */
 
 static bool make(struct niw_system *end, uint8_t number, uint16_t first, uint16_t count, uint16_t key, uint16_t most) {
     struct niw_config config = {32768, {2, 0, 0, 0, 0, number}, 0, 1, NIW_FEW_CONVERSATIONS, most, NIW_BY_NUMBER};
@@ -43,6 +44,13 @@ static void pass(void) {
     }
 }
 
+/* The switches of a pair tell each other what they have. While that does not fit together, the second one holds its ports: better half of
+ * the links than a pair that its peer takes for one switch, and that is none. */
+static void agree(void) {
+    bool fits = pair[0].ports[0] != pair[1].ports[0];
+    for (int i = 0; i < 2; i++) niw_hold(&pair[1].system, pair[1].ports[i], !fits);
+}
+
 /* Starts the pair and its peer, and says how many links the peer has in its one aggregator after 10 s. */
 static void play(const char *what, uint16_t second, uint16_t second_key, uint16_t most, bool loses) {
     uint16_t numbers[NIW_MOST_PORTS], firsts[2] = {1, second}, keys[2] = {7, second_key};
@@ -53,6 +61,7 @@ static void play(const char *what, uint16_t second, uint16_t second_key, uint16_
         pair[i].ports[1] = (uint16_t)(firsts[i] + 1);
         pair[i].silent = false;
     }
+    if (agrees) agree();
     for (int tick = 0; tick < 100; tick++) pass();
     pair[1].silent = loses;
     for (int tick = 0; tick < 100; tick++) pass();
@@ -66,5 +75,8 @@ int main(void) {
     play("the second switch has another key", 101, 8, 0, false);
     play("a limit of one link, in each handle", 101, 7, 1, false);
     play("both switches have ports 1 and 2, and nobody notices", 1, 7, 0, false);
+    agrees = true;
+    play("the second one notices, and holds its ports", 1, 7, 0, false);
+    play("port numbers apart, as both notice", 101, 7, 0, false);
     return 0;
 }

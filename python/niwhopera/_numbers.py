@@ -9,7 +9,7 @@ import ctypes
 from enum import IntEnum, IntFlag
 from typing import Any, Callable, Final
 
-VERSION: Final = 10
+VERSION: Final = 11
 VERSION_TEXT: Final = "0.1.0"
 FRAME: Final = 124
 PAYLOAD_LENGTH: Final = 110
@@ -50,6 +50,7 @@ class Status(IntEnum):
     CONVERSATION_FULL = 21
     ALL_FULL = 22
     STALE = 23
+    OVER_LIMIT = 24
 
 
 class Reason(IntEnum):
@@ -145,6 +146,7 @@ class PortStatus(IntEnum):
     WAITING = 7
     WAITING_FOR_MEMBERS = 8
     PARTNER_NOT_SYNCHRONIZED = 9
+    HELD = 10
 
 
 class Answers(IntEnum):
@@ -720,6 +722,9 @@ class Functions:
         self.rest: Callable[..., int] = _bound(
             library, "lagffi_rest", ctypes.c_uint32, [ctypes.POINTER(NiwSystem), ctypes.c_uint16, ctypes.c_uint16]
         )
+        self.adopt: Callable[..., int] = _bound(
+            library, "lagffi_adopt", ctypes.c_uint32, [ctypes.POINTER(NiwSystem), ctypes.c_uint16, ctypes.c_uint16, ctypes.c_uint16]
+        )
         self.probe: Callable[..., NiwSent] = _bound(
             library, "lagffi_probe", NiwSent, [ctypes.POINTER(NiwSystem), ctypes.c_uint16, ctypes.POINTER(ctypes.c_uint8), ctypes.c_size_t]
         )
@@ -803,6 +808,18 @@ class Functions:
         )
         self.resume: Callable[..., NiwMade] = _bound(
             library, "lagffi_resume", NiwMade, [ctypes.POINTER(NiwSystem), ctypes.POINTER(NiwConfig), ctypes.POINTER(ctypes.c_uint16), ctypes.c_size_t, ctypes.POINTER(NiwPort), ctypes.c_size_t, ctypes.POINTER(NiwSaved), ctypes.c_size_t]
+        )
+        self.hold: Callable[..., int] = _bound(
+            library, "lagffi_hold", ctypes.c_uint32, [ctypes.POINTER(NiwSystem), ctypes.c_uint16, ctypes.c_bool]
+        )
+        self.set_mode: Callable[..., int] = _bound(
+            library, "lagffi_set_mode", ctypes.c_uint32, [ctypes.POINTER(NiwSystem), ctypes.c_uint16, ctypes.c_bool, ctypes.c_bool]
+        )
+        self.set_max_delay: Callable[..., int] = _bound(
+            library, "lagffi_set_max_delay", ctypes.c_uint32, [ctypes.POINTER(NiwSystem), ctypes.c_uint16]
+        )
+        self.set_max_links: Callable[..., int] = _bound(
+            library, "lagffi_set_max_links", ctypes.c_uint32, [ctypes.POINTER(NiwSystem), ctypes.c_uint16]
         )
         self.active_aggregator: Callable[..., NiwNumber] = _bound(
             library, "lagffi_active_aggregator", NiwNumber, [ctypes.POINTER(NiwSystem), ctypes.c_uint16]
@@ -897,6 +914,7 @@ STATUS_TEXTS: Final = (
     "as many frames of the conversation wait as may",
     "as many frames wait as may in all",
     "the LACPDU that was saved of a port is as old as its timeout",
+    "an aggregator has more links than this limit",
 )
 REASON_TEXTS: Final = (
     "unknown",
@@ -918,6 +936,7 @@ PORT_STATUS_TEXTS: Final = (
     "it waits for wait_while",
     "it waits for other ports of its aggregator",
     "the partner is not synchronized",
+    "the host holds it",
 )
 RECEIVE_STATE_TEXTS: Final = (
     "INITIALIZE",

@@ -9,7 +9,7 @@ from . import _numbers as c
 from ._handle import Handle
 from ._numbers import Answers, ConversationState, MuxState, PortStatus, Reason, ReceivedKind, ReceiveState, SentKind, State, Status, WireFault
 from .errors import BadConfig, NotResumed, check
-from .values import Assignment, Config, End, Group, Info, Mac, Party, PortId, Received, SavedPort, Sent, SystemId, View, within
+from .values import Assignment, Config, End, Group, Info, Mac, Party, PortId, Received, SavedPort, Sent, SystemId, View, limit, within
 
 Octets = Union[bytes, bytearray, memoryview]
 # The most ticks that one call makes up: an hour and 49 minutes, in some milliseconds.
@@ -122,6 +122,26 @@ class System(Handle):
         change = c.NiwChange(within("the key", key, 0xFFFF), within("the priority", priority, 0xFFFF), aggregatable)
         return self._truth(self._c.configure(self._at(), _port(port), ctypes.byref(change)))
 
+    def hold(self, port: int, held: bool = True) -> None:
+        """Holds a port, or lets it go. A held port is in no aggregator; what is on it leaves behind a marker, and its peer takes it out
+        of use, too."""
+        check(self._c.hold(self._at(), _port(port), held))
+
+    def set_mode(self, port: int, *, active: bool, short_timeout: bool) -> None:
+        """Gives a port LACP_Activity and LACP_Timeout. `restart` goes back to those of the configuration."""
+        check(self._c.set_mode(self._at(), _port(port), active, short_timeout))
+
+    def set_max_delay(self, max_delay: int) -> None:
+        """Sets CollectorMaxDelay, in tens of microseconds, of the LACPDUs from now on."""
+        check(self._c.set_max_delay(self._at(), within("max_delay", max_delay, 0xFFFF)))
+
+    def set_max_links(self, max_links: Optional[int]) -> None:
+        """Sets the most links of an aggregator, 1 to 64; None for any number. Raises `BadConfig`; OVER_LIMIT, if an aggregator has more."""
+        status = self._c.set_max_links(self._at(), limit(max_links))
+        if status == Status.BAD_CONFIG:
+            raise BadConfig(Reason.MAX_LINKS, None)
+        check(status)
+
     def restart(self) -> None:
         """Starts again as it was made: all links are down, and what `configure` changed is lost."""
         check(self._c.restart(self._at()))
@@ -179,6 +199,11 @@ class System(Handle):
         """Moves a conversation to a port, behind a marker on the port that it is on. Raises `Held`; NOT_DISTRIBUTING, SAME_PORT,
         NOT_ASSIGNED, MARKERS_SPENT."""
         check(self._c.move_conversation(self._at(), _aggregator(aggregator), _conversation(conversation), _port(port)))
+
+    def adopt(self, aggregator: int, conversation: int, port: int) -> None:
+        """Puts a conversation on the port on which a data plane has it: after `resume`, before another frame of it is offered. Raises
+        `Held`, also where it is on another port; NOT_DISTRIBUTING, NOT_ASSIGNED, MARKERS_SPENT."""
+        check(self._c.adopt(self._at(), _aggregator(aggregator), _conversation(conversation), _port(port)))
 
     def force(self, aggregator: int, conversation: int) -> None:
         """Frees a conversation at once, so that its frames may overtake one another. Raises NOT_ASSIGNED."""
@@ -383,7 +408,7 @@ def _config(config: Config) -> c.NiwConfig:
     it = c.NiwConfig()
     it.priority, it.max_delay, it.first_marker = config.system.priority, config.max_delay, config.first_marker
     it.mac[:] = [*config.system.mac]
-    it.conversations, it.max_links, it.algorithm = config.conversations, config.max_links or 0, config.algorithm
+    it.conversations, it.max_links, it.algorithm = config.conversations, limit(config.max_links), config.algorithm
     return it
 
 

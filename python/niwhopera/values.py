@@ -102,6 +102,13 @@ class PortConfig:
         within("the priority of a port", self.priority, 0xFFFF)
 
 
+def limit(max_links: Optional[int]) -> int:
+    """A limit of links as C has it: 0 for any number. Of more than 64 the library tells."""
+    if max_links is not None and not 1 <= max_links <= 0xFFFF:
+        raise ValueError(f"max_links is {max_links}, and has to be 1 to 64, or None for any number")
+    return max_links or 0
+
+
 @dataclass(frozen=True)
 class Config:
     """A configuration.
@@ -128,8 +135,7 @@ class Config:
         within("first_marker", self.first_marker, 0xFFFFFFFF)
         within("conversations", self.conversations, 0xFFFF)
         within("algorithm", self.algorithm, 0xFFFF)
-        if self.max_links is not None and not 1 <= self.max_links <= 0xFFFF:
-            raise ValueError(f"max_links is {self.max_links}, and has to be 1 to 64, or None for any number")
+        limit(self.max_links)
 
 
 @dataclass(frozen=True)

@@ -8,16 +8,21 @@ import pytest
 from niwhopera import (
     Answers,
     Assignment,
+    BadConfig,
     ConversationState,
     Held,
+    Lacpdu,
     LagError,
     NotResumed,
     PortStatus,
+    Reason,
     ReceivedKind,
     SavedPort,
     SentKind,
+    State,
     Status,
     System,
+    decode,
 )
 from two_systems import TwoSystems, config
 
@@ -185,6 +190,56 @@ def test_a_warm_start_tells_its_peer_nothing_new(world: TwoSystems) -> None:
         for port, sent in warm.transmissions():
             assert peer.receive(port, sent.frame).kind is ReceivedKind.TOOK_LACPDU
         assert peer.views() == before and warm.due() == ()
+        warm.adopt(1, 6, 2)
+        warm.adopt(1, 6, 2)
+        assert (warm.offer_conversation(1, 6), warm.offer_conversation(1, 8), warm.next_marker(), warm.due()) == (2, 1, 1, ())
+        with pytest.raises(Held):
+            warm.adopt(1, 6, 1)
+        for conversation, port, why in (256, 1, Status.NOT_ASSIGNED), (7, 9, Status.NO_PORT):
+            with pytest.raises(LagError) as told:
+                warm.adopt(1, conversation, port)
+            assert told.value.status is why
+
+
+def test_a_held_port_is_in_no_aggregator(world: TwoSystems) -> None:
+    one, two = world.systems[1], world.systems[2]
+    assert (one.offer_conversation(1, 6), one.offer_conversation(1, 9)) == (1, 2)
+    one.hold(2)
+    assert (one.port_status(2), one.choice(2), one.distributing(1), one.held(2)) == (PortStatus.HELD, None, (1,), 1)
+    play(world, "emit 1 2 -> lacpdu 05 sent; emit 1 2 -> marker 1 sent; deliver 2 2 -> took; deliver 2 2 -> responded sent; deliver 2 1 -> released 1")
+    assert two.distributing(1) == (1,) and one.offer_conversation(1, 9) == 1
+    one.hold(2)
+    assert one.due() == ()
+    one.hold(2, False)
+    assert one.choice(2) == 1 and one.port_status(2) is not PortStatus.HELD
+
+
+def test_settings_of_a_running_system(world: TwoSystems) -> None:
+    one = world.systems[1]
+    one.set_mode(1, active=False, short_timeout=True)
+    one.set_max_delay(77)
+    [(port, sent)] = [*one.transmissions()]
+    lacpdu = decode(sent.frame[14:])
+    assert isinstance(lacpdu, Lacpdu) and (port, lacpdu.max_delay) == (1, 77)
+    assert lacpdu.actor.state & (State.ACTIVITY | State.TIMEOUT) == State.TIMEOUT
+    with pytest.raises(LagError) as told:
+        one.set_max_links(1)
+    assert told.value.status is Status.OVER_LIMIT and one.distributing(1) == (1, 2)
+    with pytest.raises(BadConfig) as wrong:
+        one.set_max_links(65)
+    assert wrong.value.reason is Reason.MAX_LINKS
+    one.hold(1)
+    one.set_max_links(1)
+    one.hold(1, False)
+    assert one.is_standby(1) and one.distributing(1) == (2,)
+    one.set_max_links(None)
+    assert not one.is_standby(1) and one.choice(1) == 1
+    for unknown in (lambda: one.hold(9), lambda: one.set_mode(9, active=True, short_timeout=True)):
+        with pytest.raises(LagError) as none:
+            unknown()
+        assert none.value.status is Status.NO_PORT
+    with pytest.raises(ValueError):
+        one.set_max_links(0)
 
 
 def test_a_warm_start_is_refused(world: TwoSystems) -> None:

@@ -1,4 +1,5 @@
 mod Common
+pub mod AdoptingLemmas
 pub mod Arriving
 pub mod Best
 pub mod Chosen

@@ -1,3 +1,4 @@
+pub mod Adopting
 pub mod Arrivals
 pub mod Choice
 pub mod Churn

@@ -46,7 +46,7 @@ struct niw_queue {
 #define NIW_EMPTY {false, NULL}
 
 /* The version of this header: it is to go up with each change of what stands here. */
-#define NIW_VERSION 10
+#define NIW_VERSION 11
 /* The version of the release that the header is of. */
 #define NIW_VERSION_TEXT "0.1.0"
 /* The octets of a frame that the library answers. */
@@ -73,7 +73,7 @@ struct niw_queue {
 /* The names and numbers of the next three enums, and the texts of niw_status_text and niw_reason_text, are written by
  * tools/maintain/interface from the enums of the sources. The comments behind the names are by hand. */
 
-/* The statuses. 1 to 12 are the refusals of a system. */
+/* The statuses. 1 to 12 and 24 are the refusals of a system. */
 enum {
     NIW_OK = 0,
     NIW_NO_PORT = 1,            /* the system has no port of this number */
@@ -84,10 +84,11 @@ enum {
                                    the link of its port goes down, or niw_force or niw_force_port frees it. A link that falls
                                    silent and stays up holds them for ever: once its port has not distributed for longer
                                    than frames can take through the network, niw_force_port. niw_offer_in_active_aggregator and
-                                   niw_offer_conversation_in_active_aggregator: the same, or it is on a port or held in another aggregator */
+                                   niw_offer_conversation_in_active_aggregator: the same, or it is on a port or held in another aggregator;
+                                   niw_adopt: the same, or it is on another port */
     NIW_NONE_DISTRIBUTING = 6,  /* the conversation is free, and no port distributes in the aggregator */
-    NIW_NOT_DISTRIBUTING = 7,   /* the port to move to does not distribute in the aggregator; niw_resume: a saved port does not come to
-                                   distribute as its LACPDU says */
+    NIW_NOT_DISTRIBUTING = 7,   /* the port to move to does not distribute in the aggregator, nor that of niw_adopt; niw_resume: a
+                                   saved port does not come to distribute as its LACPDU says */
     NIW_SAME_PORT = 8,          /* the port to move to is the one that the conversation is on */
     NIW_NOT_ASSIGNED = 9,       /* the conversation is free, or there is no such conversation or aggregator, or a list of
                                    conversations has more than 65536 */
@@ -105,7 +106,8 @@ enum {
     NIW_HAS_QUEUE = 20,         /* niw_queue_new: the handle holds queues already */
     NIW_CONVERSATION_FULL = 21, /* niw_queue_put: as many frames of the conversation wait as may */
     NIW_ALL_FULL = 22,          /* niw_queue_put: as many frames wait as may in all */
-    NIW_STALE = 23              /* niw_resume: the LACPDU that was saved of a port is as old as the port's timeout, or older */
+    NIW_STALE = 23,             /* niw_resume: the LACPDU that was saved of a port is as old as the port's timeout, or older */
+    NIW_OVER_LIMIT = 24         /* niw_set_max_links: an aggregator has more members whose links are up. Hold ports first */
 };
 
 /* Of NIW_BAD_CONFIG: the reason. */
@@ -279,7 +281,8 @@ enum {
     NIW_PORT_STATUS_STANDBY = 6,                  /* niw_choice tells the aggregator, which has no room for one more link */
     NIW_PORT_STATUS_WAITING = 7,                  /* niw_wait_while tells for how many ticks */
     NIW_PORT_STATUS_WAITING_FOR_MEMBERS = 8,      /* the others of its aggregator are not ready */
-    NIW_PORT_STATUS_PARTNER_NOT_SYNCHRONIZED = 9  /* the mux machine is in ATTACHED */
+    NIW_PORT_STATUS_PARTNER_NOT_SYNCHRONIZED = 9, /* the mux machine is in ATTACHED */
+    NIW_PORT_STATUS_HELD = 10                     /* the program holds it by niw_hold; a port whose link is down is told as down */
 };
 
 /* Whether the peer of a port answers markers. */
@@ -445,6 +448,7 @@ struct niw_number lagffi_force_port(struct niw_system *handle, uint16_t port);
 struct niw_number lagffi_offer_conversation(struct niw_system *handle, uint16_t agg, uint16_t conv);
 uint32_t lagffi_leave_conversation(struct niw_system *handle, uint16_t agg, uint16_t conv);
 uint32_t lagffi_rest(struct niw_system *handle, uint16_t agg, uint16_t conv);
+uint32_t lagffi_adopt(struct niw_system *handle, uint16_t agg, uint16_t conv, uint16_t port);
 struct niw_sent lagffi_probe(struct niw_system *handle, uint16_t port, uint8_t *frame, size_t room);
 struct niw_number lagffi_offer_in_active_aggregator(struct niw_system *handle, uint16_t agg, const uint8_t *frame,
     size_t length);
@@ -476,6 +480,10 @@ struct niw_truth lagffi_ntt(struct niw_system *handle, uint16_t port);
 struct niw_number lagffi_distributing(struct niw_system *handle, uint16_t agg, uint16_t *numbers, size_t room);
 struct niw_made lagffi_resume(struct niw_system *handle, const struct niw_config *config, const uint16_t *keys,
     size_t key_count, const struct niw_port *ports, size_t port_count, const struct niw_saved *saved, size_t saved_count);
+uint32_t lagffi_hold(struct niw_system *handle, uint16_t port, bool hold);
+uint32_t lagffi_set_mode(struct niw_system *handle, uint16_t port, bool active, bool short_timeout);
+uint32_t lagffi_set_max_delay(struct niw_system *handle, uint16_t max_delay);
+uint32_t lagffi_set_max_links(struct niw_system *handle, uint16_t max_links);
 struct niw_number lagffi_active_aggregator(struct niw_system *handle, uint16_t now);
 struct niw_number lagffi_conversation(struct niw_system *handle, const uint8_t *frame, size_t length);
 struct niw_assignment lagffi_conversation_state(struct niw_system *handle, uint16_t agg, uint16_t conv);
@@ -621,6 +629,12 @@ static inline uint32_t niw_leave_conversation(struct niw_system *handle, uint16_
  * order. */
 static inline uint32_t niw_rest(struct niw_system *handle, uint16_t agg, uint16_t conv) {
     return handle ? lagffi_rest(handle, agg, conv) : niw_null_status();
+}
+
+/* Puts a conversation on the port on which the program's chip has it, whichever port the algorithm picks: after niw_resume, before
+ * another frame of it is offered. No frame and no marker is sent. One that is on the port already stays. */
+static inline uint32_t niw_adopt(struct niw_system *handle, uint16_t agg, uint16_t conv, uint16_t port) {
+    return handle ? lagffi_adopt(handle, agg, conv, port) : niw_null_status();
 }
 
 /* A marker that asks whether the peer of a port answers markers, to be sent now; `frame` has NIW_FRAME octets or more, and is written
@@ -799,6 +813,27 @@ static inline struct niw_made niw_resume(struct niw_system *handle, const struct
     memset(&refused, 0, sizeof refused);
     refused.status = NIW_NULL;
     return refused;
+}
+
+/* Holds a port, or lets it go. A held port leaves its aggregator, and chooses none until it is let go: its conversations leave it behind a
+ * marker, and its peer takes it out of use, too. It goes on sending and processing LACPDUs, and answers markers. */
+static inline uint32_t niw_hold(struct niw_system *handle, uint16_t port, bool hold) {
+    return handle ? lagffi_hold(handle, port, hold) : niw_null_status();
+}
+
+/* Gives a port LACP_Activity, false for a passive one, and LACP_Timeout, true for the short one. niw_restart goes back to those of niw_new. */
+static inline uint32_t niw_set_mode(struct niw_system *handle, uint16_t port, bool active, bool short_timeout) {
+    return handle ? lagffi_set_mode(handle, port, active, short_timeout) : niw_null_status();
+}
+
+/* Sets CollectorMaxDelay, in tens of microseconds, of the LACPDUs from now on. */
+static inline uint32_t niw_set_max_delay(struct niw_system *handle, uint16_t max_delay) {
+    return handle ? lagffi_set_max_delay(handle, max_delay) : niw_null_status();
+}
+
+/* Sets how many links an aggregator may have, 1 to 64; 0 for no limit. Ports that stand by come up where there is room now. */
+static inline uint32_t niw_set_max_links(struct niw_system *handle, uint16_t max_links) {
+    return handle ? lagffi_set_max_links(handle, max_links) : niw_null_status();
 }
 
 /* The aggregator that carries the frames of the client, or 0 if no port distributes. `now` is the one that carried them before, or 0 for
@@ -1005,7 +1040,8 @@ static inline const char *niw_status_text(uint32_t status) {
         "the handle holds queues already",
         "as many frames of the conversation wait as may",
         "as many frames wait as may in all",
-        "the LACPDU that was saved of a port is as old as its timeout"};
+        "the LACPDU that was saved of a port is as old as its timeout",
+        "an aggregator has more links than this limit"};
     return status < sizeof texts / sizeof *texts ? texts[status] : "unknown";
 }
 
@@ -1034,7 +1070,8 @@ static inline const char *niw_port_status_text(uint64_t port_status) {
         "its aggregator has no room for one more link",
         "it waits for wait_while",
         "it waits for other ports of its aggregator",
-        "the partner is not synchronized"};
+        "the partner is not synchronized",
+        "the host holds it"};
     return port_status < sizeof texts / sizeof *texts ? texts[port_status] : "unknown";
 }
 

@@ -10,6 +10,7 @@ ghost use Rattle.lagsystem.specs.Readers.{aggregator_numbered};
 ghost use Rattle.lagsystem.specs.Sound.{CallPromise};
 ghost use Rattle.lagsystem.specs.declared.drive.Reply.{Reply};
 ghost use Rattle.lagsystem.specs.declared.fault.SystemFault.{SystemFault};
+ghost use Rattle.dataplane.specs.Adopting.{IsFreeIn, IsPlaced, adopt_result};
 ghost use Rattle.lagffi.specs.Algorithms.{gives_by};
 ghost use Rattle.lagffi.specs.Asking.{CallsHeldSystem, OffersToHeldSystem, ReadsHeldSystem, by_number_gives};
 ghost use Rattle.lagffi.specs.Holding.{held_value};
@@ -19,6 +20,7 @@ ghost use Rattle.lagffi.specs.Tables.{OffersByNumber, TellsRowsIf, lacks_row};
 use crate::handle::Lag;
 use crate::stored::{by_first, by_number, by_sum};
 use crate::values::{LagNumber, NO_SYSTEM, WRONG_BUFFER_LENGTH, status};
+use dataplane::adopt;
 use lagsystem::{AggId, System, SystemFault};
 use std::alloc::Global;
 
@@ -119,6 +121,28 @@ pub extern "C" fn lagffi_rest(alloc: Global, lag: &mut Lag, agg: u16, conv: u16)
         return NO_SYSTEM;
     };
     let answer = system.rest(AggId(agg), conv);
+    lag.put(system, block);
+    status(&answer)
+}
+
+// promise: an adoption is `adopt`
+// contract: `lagffi_adopt`
+/// Puts a conversation on the port on which the program's chip has it, whichever port the algorithm picks: after niw_resume, before
+/// another frame of it is offered. No frame and no marker is sent. One that is on the port already stays.
+/// Refuses: NIW_NO_SYSTEM, NIW_NO_AGGREGATOR, NIW_NO_PORT, NIW_NOT_ASSIGNED, NIW_HELD, NIW_NOT_DISTRIBUTING, NIW_MARKERS_SPENT.
+#[unsafe(no_mangle)]
+pub extern "C" fn lagffi_adopt(alloc: Global, lag: &mut Lag, agg: u16, conv: u16, port: u16) -> u32
+    ensures { CallsHeldSystem (held_value lag.old.held.kept) (held_value lag.new.held.kept)
+        (λ old new. (answer : Result Unit SystemFault) × GivesOrRefuses (aggregator_numbered agg) conv
+        (adopt_result old (aggregator_numbered agg) conv port) old answer new
+        × IfOk answer (λ done. IsFreeIn old (aggregator_numbered agg) conv → IsPlaced (aggregator_numbered agg) conv port old new)
+        × ((IsFreeIn old (aggregator_numbered agg) conv → ⊥) → new ≡ old)
+        × (result ≡ status_of answer)) (result ≡ no_system) }
+{
+    let Some((mut system, block)) = lag.take(alloc, by_number) else {
+        return NO_SYSTEM;
+    };
+    let answer = adopt(&mut system, AggId(agg), conv, port);
     lag.put(system, block);
     status(&answer)
 }

@@ -24,6 +24,7 @@ mod reader_values;
 mod readers;
 mod refusal;
 mod resuming;
+mod settings;
 mod stored;
 mod values;
 mod views;

@@ -162,7 +162,7 @@ fn ports_of(alloc: Global, ports: &[LagPort]) -> Result<Vec<PortConfig>, NoMemor
 }
 
 /// A limit of links as the system takes it: 0 is no limit.
-fn limit(max_links: u16) -> Option<u16>
+pub(crate) fn limit(max_links: u16) -> Option<u16>
     ensures { result ≡ lag_limit max_links }
 {
     if max_links == 0 {

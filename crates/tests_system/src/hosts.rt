@@ -1,4 +1,5 @@
 //! Calls for hosts with a data plane, of `lagsystem` and `dataplane`: rows of calls with values from docs/PROFILE.md, worked out by hand.
+mod adopting;
 mod answering;
 mod balance;
 mod carrying;

@@ -37,10 +37,11 @@ def using(text: str, exports: list[Export], known: dict[str, list[Variant]], def
     head = r"(\n\|functions\|refusals, in this order\|\n\|---\|---\|\n)"
     text = replaced(text, head + r"((?:\|[^\n]*\n)*)(\n)", "the table of what functions refuse in docs/USING.md", refusals(exports))
     rows = {f"`{enum}`": [(it.number, it.name, it.said) for it in known[enum]] for enum in ("WireFault", "DistFault", "SystemFault")}
-    last = known["SystemFault"][-1].number
-    rows["`lag.h`"] = sorted((defined[name], name, said) for name, said in OWN_TEXTS.items() if defined[name] > last and "REASON" not in name)
+    others = {0, *(it.number for it in known["SystemFault"])}
+    own = sorted((defined[name], name, said) for name, said in OWN_TEXTS.items() if defined[name] not in others and "REASON" not in name)
+    rows["`lag.h`"] = own
     for kind, listed in rows.items():
-        begins = rf"\|{kind}\|1\|[^\n]*\n" if kind != "`lag.h`" else rf"\|\|{last + 1}\|`NIW[^\n]*\n"
+        begins = rf"\|{kind}\|1\|[^\n]*\n" if kind != "`lag.h`" else rf"\|\|{own[0][0]}\|`NIW[^\n]*\n"
         pattern = rf"(\n)({begins}(?:\|\|\d+\|[^\n]*\n)*)(\|`)"
         was = re.search(pattern, text)
         cells = dict(re.findall(r"^\|[^|]*\|\d+\|`(\w+)`(\|.*)$", was[2] if was else "", re.M))

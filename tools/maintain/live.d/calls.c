@@ -17,14 +17,15 @@ static const struct {
 #define EXPORT(name) {#name, (void (*)(void))lagffi_##name}
     EXPORT(new), EXPORT(free), EXPORT(receive), EXPORT(tick), EXPORT(ticks), EXPORT(set_link), EXPORT(configure), EXPORT(restart),
     EXPORT(transmit), EXPORT(offer), EXPORT(move_conversation), EXPORT(force), EXPORT(force_port), EXPORT(offer_conversation),
-    EXPORT(leave_conversation), EXPORT(rest), EXPORT(probe), EXPORT(offer_in_active_aggregator),
+    EXPORT(leave_conversation), EXPORT(rest), EXPORT(adopt), EXPORT(probe), EXPORT(offer_in_active_aggregator),
     EXPORT(offer_conversation_in_active_aggregator), EXPORT(ports), EXPORT(views), EXPORT(due), EXPORT(aggregators), EXPORT(load),
     EXPORT(held), EXPORT(answers), EXPORT(is_up), EXPORT(state), EXPORT(receive_state), EXPORT(is_due), EXPORT(party),
     EXPORT(partner), EXPORT(group), EXPORT(defaulted), EXPORT(distributes), EXPORT(choice), EXPORT(is_standby), EXPORT(mux_state),
-    EXPORT(port_status), EXPORT(current_while), EXPORT(wait_while), EXPORT(ntt), EXPORT(distributing), EXPORT(resume),
-    EXPORT(active_aggregator), EXPORT(conversation), EXPORT(conversation_state), EXPORT(conversation_ports), EXPORT(released),
-    EXPORT(next_marker), EXPORT(ticks_until_due), EXPORT(decode), EXPORT(encode), EXPORT(next_move), EXPORT(churn_tick),
-    EXPORT(count_received), EXPORT(count_sent), EXPORT(queue_new), EXPORT(queue_free), EXPORT(queue_put), EXPORT(queue_next),
+    EXPORT(port_status), EXPORT(current_while), EXPORT(wait_while), EXPORT(ntt), EXPORT(distributing), EXPORT(resume), EXPORT(hold),
+    EXPORT(set_mode), EXPORT(set_max_delay), EXPORT(set_max_links), EXPORT(active_aggregator), EXPORT(conversation),
+    EXPORT(conversation_state), EXPORT(conversation_ports), EXPORT(released), EXPORT(next_marker), EXPORT(ticks_until_due),
+    EXPORT(decode), EXPORT(encode), EXPORT(next_move), EXPORT(churn_tick), EXPORT(count_received), EXPORT(count_sent),
+    EXPORT(queue_new), EXPORT(queue_free), EXPORT(queue_put), EXPORT(queue_next),
     EXPORT(queue_drop), EXPORT(queue_oldest), EXPORT(queue_next_released), EXPORT(queue_waiting), EXPORT(queue_counts),
 };
 
@@ -582,11 +583,11 @@ static void check_texts(void) {
     char text[NIW_STATE_TEXT_ROOM + 1];
     for (uint32_t i = 0; i <= NIW_ALL_FULL; i++)
         for (uint32_t j = 0; j < i; j++) CHECK(strcmp(niw_status_text(i), niw_status_text(j)) != 0);
-    CHECK(strcmp(niw_status_text(NIW_STALE + 1), "unknown") == 0 && strcmp(niw_status_text(UINT32_MAX), "unknown") == 0);
+    CHECK(strcmp(niw_status_text(NIW_OVER_LIMIT + 1), "unknown") == 0 && strcmp(niw_status_text(UINT32_MAX), "unknown") == 0);
     CHECK(strcmp(niw_status_text(NIW_NO_MEMORY), "out of memory") == 0 && strcmp(niw_reason_text(0), "unknown") == 0);
     CHECK(strstr(niw_reason_text(NIW_REASON_PORT_NUMBER), "number") && strcmp(niw_reason_text(77), "unknown") == 0);
     CHECK(strcmp(niw_port_status_text(NIW_PORT_STATUS_LINK_DOWN), "the link is down") == 0);
-    CHECK(strcmp(niw_port_status_text(NIW_PORT_STATUS_PARTNER_NOT_SYNCHRONIZED + 1), "unknown") == 0);
+    CHECK(strcmp(niw_port_status_text(NIW_PORT_STATUS_HELD + 1), "unknown") == 0);
     CHECK(strcmp(niw_receive_state_text(NIW_RECEIVE_DEFAULTED), "DEFAULTED") == 0 && strcmp(niw_receive_state_text(5), "unknown") == 0);
     CHECK(strcmp(niw_mux_state_text(NIW_MUX_ATTACHED), "ATTACHED") == 0 && strcmp(niw_mux_state_text(4), "unknown") == 0);
     for (size_t i = 0; i < sizeof states; i++) {
@@ -733,6 +734,7 @@ int main(void) {
     check_next_move();
     check_queue();
     check_resume();
+    check_settings();
     check_active_aggregator();
     check_observing();
     check_ticks();

@@ -38,11 +38,14 @@ void check_next_move(void);
 /* Frames that wait, by niw_queue_new and the calls of its handle. */
 void check_queue(void);
 
-/* A warm start, by niw_resume. */
+/* A warm start, by niw_resume and niw_adopt. */
 void check_resume(void);
 
 /* Churn detection and counters, by niw_churn_tick, niw_count_received and niw_count_sent. */
 void check_observing(void);
+
+/* Settings of a running system, by niw_hold and the calls beside it. */
+void check_settings(void);
 
 /* The aggregator that carries, by niw_active_aggregator, and offers in it. */
 void check_active_aggregator(void);

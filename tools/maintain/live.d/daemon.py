@@ -35,11 +35,12 @@ class Daemon:
     """A daemon, what it printed, and what it says of its ports."""
 
     def __init__(self, program: str, folder: str, space: str, system: str, key: str, *names: str, options: Sequence[str] = (), before: Sequence[str] = (), out: int | None = None,
-                 files: Sequence[int] = ()) -> None:
+                 files: Sequence[int] = (), file: str | None = None) -> None:
         self.space, self.program = space, program
         self.folder = os.path.join(folder, "run")
         self.log = os.path.join(folder, f"{space}-{names[0].partition(':')[0]}")
-        self.words = [*before, program, "--folder", self.folder, *options, key, f"32768,{system}", *names]
+        bundle = ["--config", file] if file else [*options, key, f"32768,{system}", *names]
+        self.words = [*before, program, "--folder", self.folder, *bundle]
         with open(self.log, "w", encoding="utf-8") as log:
             self.process = subprocess.Popen(["ip", "netns", "exec", space, *self.words], stdout=out or log, stderr=log, pass_fds=files)
 

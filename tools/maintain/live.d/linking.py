@@ -65,7 +65,7 @@ def ran(program: str) -> CompletedProcess[str]:
 def build_calls(folder: str, libraries: Sequence[str]) -> str:
     """Builds the program that calls each function; answers its path."""
     words = ["-std=c11", "-Wall", "-Wextra", "-Werror", *COUNTED]
-    names = ("calls", "checks", "conversations", "payloads", "queues", "resuming", "active_aggregator", "observing")
+    names = ("calls", "checks", "conversations", "payloads", "queues", "resuming", "settings", "active_aggregator", "observing")
     sources = [f"{MAINTAIN}/live.d/{name}.c" for name in names]
     return build(os.path.join(folder, "calls"), sources, libraries, *words)
 

@@ -99,6 +99,21 @@ def no_peer(trial: Trial) -> Iterator[float]:
     yield 15.0
 
 
+def reloaded(trial: Trial) -> Iterator[float]:
+    """The file has another activity, a port that is held, and a limit of links."""
+    file = os.path.join(os.path.dirname(trial.ours.folder), "bundle.conf")
+    with open(file, "a", encoding="utf-8") as it:
+        it.write("activity=passive\nhold=yes\n")
+    trial.tell(signal.SIGHUP)
+    yield 3.0
+    with open(file, encoding="utf-8") as was:
+        text = was.read()
+    with open(file, "w", encoding="utf-8") as it:
+        it.write(text.replace("[Bundle]", "[Bundle]\nmax-links=1"))
+    trial.tell(signal.SIGHUP)
+    yield 10.0
+
+
 def another_aggregator(trial: Trial) -> Iterator[float]:
     """Another aggregator has two links, beside the one that carries."""
     for number in (1, 2):
@@ -114,11 +129,20 @@ OTHERS: dict[str, tuple[Steps, list[str], list[str]]] = {
     "rest": (still_host, [], ["--marker-responses", "0"]),
     "load": (no_peer, ["--partner-required"], []),
     "leave_conversation": (another_aggregator, [], []),
+    **{name: (reloaded, [], []) for name in ("hold", "set_mode", "set_max_links")},
 }
 
 
 def steps_of(refused: str) -> tuple[Steps, list[str], list[str]]:
     return OTHERS.get(refused, (usual, [], []))
+
+
+def write_file(folder: str, names: list[str], keys: dict[str, str]) -> str:
+    """Writes the file of a bundle; answers its path."""
+    path = os.path.join(folder, "bundle.conf")
+    with open(path, "w", encoding="utf-8") as out:
+        out.write("\n".join(["[Bundle]", *(f"{name}={value}" for name, value in keys.items()), *(f"[Port {name}]" for name in names), ""]))
+    return path
 
 
 def begin(part: Part, program: str, refused: str, place: int, way: list[str]) -> Trial:
@@ -138,7 +162,12 @@ def begin(part: Part, program: str, refused: str, place: int, way: list[str]) ->
         theirs = Daemon(part.program, folder, THEIRS, OTHER, "5", *names, options=[*data, "--timeout", "long", *other])
         part.running.append(theirs)
     before = ["env", f"REFUSED={refused}", *SANITIZERS, *(["REFUSED_AT_ONCE=1"] if refused in AT_ONCE else [])]
-    ours = Daemon(program, folder, OURS, SYSTEM, "23", *(f"a{number}" for number in numbers), options=[*data, *way, *own], before=before)
+    names = [f"a{number}" for number in numbers]
+    if steps_of(refused)[0] is reloaded:
+        file = write_file(folder, names, {"key": "23", "system": f"32768,{SYSTEM}", "carry": device, "flight": "50", **{word[2:]: "yes" for word in way}})
+        ours = Daemon(program, folder, OURS, SYSTEM, "23", *names, before=before, file=file)
+    else:
+        ours = Daemon(program, folder, OURS, SYSTEM, "23", *names, options=[*data, *way, *own], before=before)
     part.running.append(ours)
     return Trial(refused, place, links, ours, theirs, device, Event())
 

@@ -1,4 +1,5 @@
-/* Calls niw_resume, and checks what it answers: the saved ports of a system distribute at once, and each reason refuses. */
+/* Calls niw_resume and niw_adopt, and checks what they answer: the saved ports of a system distribute at once, conversations go on the ports
+ * that they were on, and each reason refuses. */
 #include "checks.h"
 #include "lag.h"
 
@@ -46,6 +47,23 @@ static void check_not_resumed(void) {
     CHECK(!empty.live && !empty.at && niw_resume(&empty, &config, keys, 1, ports, PORTS, NULL, 0).status == NIW_NULL);
 }
 
+/* Conversations go on the ports that a chip has for them, of which the algorithm picks others, without a marker. One that is on a port, or
+ * held, goes on no other one. */
+static void check_adopted(struct niw_system *warm) {
+    uint8_t frame[NIW_FRAME];
+    struct niw_system empty = NIW_EMPTY;
+    CHECK(niw_adopt(&empty, 1, 4, 3) == NIW_NO_SYSTEM && niw_adopt(NULL, 1, 4, 3) == NIW_NULL);
+    CHECK(niw_adopt(warm, 2, 4, 3) == NIW_NO_AGGREGATOR && niw_adopt(warm, 1, 4, 4) == NIW_NO_PORT);
+    CHECK(niw_adopt(warm, 1, 256, 3) == NIW_NOT_ASSIGNED && niw_load(warm, 3).number == 0);
+    CHECK(niw_adopt(warm, 1, 4, 5) == NIW_OK && niw_adopt(warm, 1, 5, 3) == NIW_OK && niw_adopt(warm, 1, 6, 3) == NIW_OK);
+    CHECK(niw_load(warm, 3).number == 2 && niw_load(warm, 5).number == 1 && niw_held(warm, 3).number + niw_held(warm, 5).number == 0);
+    CHECK(niw_adopt(warm, 1, 4, 5) == NIW_OK && niw_adopt(warm, 1, 4, 3) == NIW_HELD && niw_offer_conversation(warm, 1, 4).number == 5);
+    CHECK(niw_conversation_state(warm, 1, 7).what == NIW_CONVERSATION_FREE && niw_next_marker(warm).id == 40);
+    CHECK(!niw_transmit(warm, 3, frame, sizeof frame).is && !niw_transmit(warm, 5, frame, sizeof frame).is);
+    CHECK(niw_move_conversation(warm, 1, 5, 5) == NIW_OK && niw_adopt(warm, 1, 5, 3) == NIW_HELD);
+    CHECK(niw_set_link(warm, 5, false) == NIW_OK && niw_adopt(warm, 1, 7, 5) == NIW_NOT_DISTRIBUTING);
+}
+
 void check_resume(void) {
     struct niw_system warm = NIW_EMPTY;
     uint8_t frame[NIW_FRAME];
@@ -60,5 +78,6 @@ void check_resume(void) {
         CHECK(!niw_transmit(&warm, ports[i].number, frame, sizeof frame).is);
     }
     CHECK(niw_current_while(&warm, 3).number == 30 && niw_current_while(&warm, 5).number == 900);
+    check_adopted(&warm);
     CHECK(niw_free(&warm) == NIW_OK);
 }

@@ -75,6 +75,7 @@ CONTRADICTIONS = {
     FILE.replace("[Port a0]", "key=23\n[Port a0]"): "8: expected each key once: key=23",
     FILE + "timeout=long\npriority=100\n": "12: expected each key once: priority=100",
     FILE + "individual=no\nindividual=no\n": "12: expected each key once: individual=no",
+    FILE + "hold=1\n": "11: expected yes or no: hold=1",
     FILE + "[Bundle]\n": "11: expected one section [Bundle]: [Bundle]",
     FILE.replace("partner=first", f"partner=32768,{SYSTEM}"): "5: expected a partner that is not this system: partner",
     FILE.replace("min-links=1", "revert=yes"): "6: expected max-links=N beside revert: revert",
@@ -212,6 +213,49 @@ def reloads(part: Part) -> None:
     ours.process.send_signal(signal.SIGHUP)
     check(within(ENDS, lambda: "No such file" in ours.printed()), "a file that is gone changes nothing", ours.printed())
     ours.ends("the daemon")
+
+
+def running_settings(part: Part) -> None:
+    """SIGHUP changes activity, timeout, max-links and which ports are held, without a link that goes down."""
+    path = os.path.join(part.folder, "uplink.conf")
+    write(path, FILE)
+    ours, theirs = Filed(part, path), part.theirs()
+    both_up(ours, theirs, "the bundle of a file comes to distribute")
+
+    def reloaded(text: str, changed: int) -> None:
+        write(path, text)
+        before = len(ours.printed())
+        ours.process.send_signal(signal.SIGHUP)
+        told = lambda: f"read again, {changed} ports changed" in ours.printed()[before:]
+        check(within(ENDS, told) and "restart" not in ours.printed()[before:], f"{changed} ports change at once", ours.printed()[before:])
+
+    bits = lambda: set(ours.port("a1")["actor"]["state"]) & {"activity", "timeout"}
+    lines = ours.lines("a1")
+    reloaded(FILE + "timeout=long\nactivity=passive\n", 1)
+    told = lambda: not {"activity", "timeout"} & set(theirs.port("b1")["partner"]["state"])
+    check(within(ENDS, told) and not bits(), "a port is passive and long, and its peer knows", theirs.text())
+    check(ours.distributes("a0", "a1") and ours.lines("a1") == lines, "its link carried on", ours.printed())
+    reloaded(FILE, 1)
+    check(within(ENDS, lambda: bits() == {"activity", "timeout"}), "it is active and short again", ours.text())
+    reloaded(FILE + "hold=yes\n", 1)
+    stops = lambda: ours.port("a1")["status"] == "the host holds it" and not theirs.distributes("b1")
+    check(within(GOES_DOWN, stops) and ours.distributes("a0"), "a port is held, and its peer stops, too", ours.text(), theirs.text())
+    check("degraded, 1 of 2 links carry" in ours.printed(), "the bundle has a link less", ours.printed())
+    for state in "down", "up":
+        ip(OURS, "link", "set", "a1", state)
+    check(within(COMES_UP, lambda: ours.port("a1")["status"] == "the host holds it"), "it is held when its link comes back, too", ours.text())
+    reloaded(FILE, 1)
+    both_up(ours, theirs, "it is let go, and both links distribute")
+    reloaded(FILE.replace("min-links=1", "max-links=1"), 0)
+    stands_by = lambda: ours.port("a0")["status"] == "its aggregator has no room for one more link" and not theirs.distributes("b0")
+    check(within(GOES_DOWN, stands_by) and ours.distributes("a1"), "with max-links=1 the port with the higher identifier stands by", ours.text())
+    reloaded(FILE.replace("min-links=1", "max-links=2"), 0)
+    both_up(ours, theirs, "with max-links=2 both links distribute")
+    ours.ends("the daemon")
+    write(path, FILE + "hold=yes\n")
+    again = Filed(part, path)
+    check(within(COMES_UP, lambda: again.distributes("a0")) and again.port("a1")["status"] == "the host holds it", "a port is held from the start", again.text())
+    again.ends("the daemon")
 
 
 def watchers(part: Part) -> None:
@@ -424,6 +468,7 @@ PARTS: dict[str, Callable[[Part], None]] = {
     "files": files,
     "the address of an interface": own_address,
     "a reload": reloads,
+    "settings of a running bundle": running_settings,
     "watchers and metrics": watchers,
     "metrics of two daemons": metrics_of_two,
     "hooks": hooks,

@@ -3,7 +3,7 @@ ghost use Rattle.distributor.specs.Calls.{PicksIndexes};
 
 use crate::comparing::same_in_row;
 use bitflags::Flags;
-use dataplane::offer_conversation_in_active_aggregator;
+use dataplane::{adopt, offer_conversation_in_active_aggregator};
 use lagsystem::{
     AggId, Assignment, Config, Info, Key, NoMemory, PortConfig, PortId, Received, State, System,
     SystemFault, SystemId,
@@ -29,6 +29,8 @@ pub(crate) enum Row<'a> {
     Rests(u16, u16, Result<(), SystemFault>),
     /// `move_conversation` to a port returns this.
     Moves(u16, u16, u16, Result<(), SystemFault>),
+    /// `adopt` on a port returns this.
+    Adopts(u16, u16, u16, Result<(), SystemFault>),
     ForcesPort(u16, Result<u32, SystemFault>),
     /// `probe` returns a marker with this identifier, or None.
     Probes(u16, Result<Option<u32>, SystemFault>),
@@ -249,7 +251,7 @@ fn asks<F: Fn(u16, usize) -> usize + Drop>(
     }
 }
 
-/// Plays a row of what is offered in the aggregator that carries, or else of what goes out.
+/// Plays a row of what is offered in the aggregator that carries, or adopted, or else of what goes out.
 fn carries<F: Fn(u16, usize) -> usize + Drop>(
     rt: &impl Abort,
     system: &mut System<F>,
@@ -262,6 +264,10 @@ fn carries<F: Fn(u16, usize) -> usize + Drop>(
     match row {
         Row::OffersInActiveAggregator(agg, conv, answer) => {
             let came = offer_conversation_in_active_aggregator(system, AggId(agg), conv);
+            same_in_row(rt, place, &came, &answer);
+        }
+        Row::Adopts(agg, conv, port, answer) => {
+            let came = adopt(system, AggId(agg), conv, port);
             same_in_row(rt, place, &came, &answer);
         }
         _ => sends(rt, system, place, row),

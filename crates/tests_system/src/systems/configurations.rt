@@ -180,7 +180,7 @@ fn reasons_have_numbers_and_texts(rt: HostRuntime) -> Result<(), AllocError> {
 }
 
 /// The faults of a system, in the order of their numbers, from 1 on.
-const FAULTS: [(SystemFault, &str); 13] = [
+const FAULTS: [(SystemFault, &str); 12] = [
     (SystemFault::NoPort, "the system has no port of this number"),
     (
         SystemFault::NoAggregator,
@@ -217,11 +217,14 @@ const FAULTS: [(SystemFault, &str); 13] = [
         "the configuration has not 1 to 64 ports",
     ),
     (SystemFault::NoMemory, "out of memory"),
-    (
-        SystemFault::OverLimit,
-        "an aggregator has more links than this limit",
-    ),
 ];
+
+/// What is refused with the next number that no status of the C library has, and its text.
+const LATER: (SystemFault, u8, &str) = (
+    SystemFault::OverLimit,
+    24,
+    "an aggregator has more links than this limit",
+);
 
 #[test]
 fn refusals_have_numbers_and_texts(rt: HostRuntime) -> Result<(), AllocError> {
@@ -231,6 +234,9 @@ fn refusals_have_numbers_and_texts(rt: HostRuntime) -> Result<(), AllocError> {
         same(&rt, *text, &fault.number(), &number);
         prints(&rt, rt.alloc(), *fault, *text)?;
     }
+    let (fault, number, text) = LATER;
+    same(&rt, text, &fault.number(), &number);
+    prints(&rt, rt.alloc(), fault, text)?;
     Ok(())
 }
 

@@ -1,0 +1,351 @@
+-- Adopting: a free conversation comes onto its port by calls that a system has.
+use Rattle.std.specs.Prelude.{Bool, true, false, ◌&&◌, ◌≡◌, ◌<◌, ◌≤◌, ◌^◌, ◌⊎◌, ℕ, cond, eqb, if◌then◌else◌, is_none, is_some, ltb, nat_lt, List, [], ◌∷◌}
+use Rattle.std.specs.Prelude.{Option, Some, None, Result, Ok, Err, MatchOption, option_map}
+use Rattle.dataplane.proofs.Common.{ap, arith, cases_Bool, eq-eqb, eqb-true, inl, inr, refl, subst, sym, ◌∙◌, nat_tests, AggId, LawfulMoves, Sends_frame, ModelCall}
+use Rattle.dataplane.proofs.Common.{Offer, JoinedByLawfulMoves, model_setup, model_view, conversation_count, distributing, number_of_conversation}
+use Rattle.dataplane.proofs.Common.{CallPromise, SystemState, machines_of, port_index}
+use Rattle.distributor.specs.declared.assignment.Assignment.{Assignment}
+use Rattle.distributor.specs.declared.assignment.Assignment.TheVariants.{Free, On, Wanted}
+use Rattle.distributor.specs.declared.fault.DistFault.{DistFault}
+use Rattle.distributor.specs.Calls.{Assigns, PicksPort, is_among, preferred_among}
+use Rattle.distributor.specs.Changes.{SetsAssignment}
+use Rattle.distributor.specs.Conversations.{Table, assignment_of, next_identifier}
+use Rattle.distributor.specs.Moves.{model_conversation, model_distributor}
+use Rattle.lagsystem.specs.declared.fault.SystemFault.{SystemFault}
+use Rattle.lagsystem.specs.declared.drive.Reply.TheVariants as reply
+use Rattle.lagsystem.specs.Assigning.{OffersConversation, OffersIf, TakesPort, frame_of_conversation}
+use Rattle.lagsystem.specs.ModelView.{model_view_at}
+use Rattle.lagsystem.specs.Offers.{GivesAssignment, GivesOrRefuses, MayBeOffered, has_aggregator, in_system, system_force_result, system_move_result}
+use Rattle.lagsystem.specs.State.{system_port_at, with_table}
+use Rattle.lagsystem.proofs.AssigningLemmas.{framed}
+use Rattle.lagmodel.specs.Law.{BelowNext, FlushedByMarker, OnItsCable, serials}
+use Rattle.lagmodel.specs.View.{View, conversation_port}
+use Rattle.lagmodel.specs.World.{Side, One, Two, World, WorldSetup, end_at, peer}
+use Rattle.dataplane.specs.Adopting.{IsFreeIn, IsPlaced, RestsOn, TakesOver, adopt_result, adopted, with_view}
+
+-- what there has to be for a free conversation to come onto the port
+pub record Fits (s : SystemState) (agg : AggId) (conv port : ℕ) : Type 0 where
+  pub there : has_aggregator s agg ≡ true
+  pub known : is_some (port_index port s.system_ports) ≡ true
+  pub within : nat_lt conv (conversation_count s) ≡ true
+  pub among : is_among (distributing agg s.system_ports) port ≡ true
+  pub left : is_none (next_identifier s.table) ≡ false
+
+abbrev Tests : Bool → Bool → Bool → Bool → Bool → Type 0
+Tests a b c d m = (a ≡ true) × (b ≡ true) × (c ≡ true) × (d ≡ true) × (m ≡ false)
+
+-- the tests of an adoption that is accepted
+all_pass : (a b c d m : Bool) (port : ℕ) → (if a then (if b then in_system (if c then (if d then (if m then Err DistFault.MarkersSpent
+    else Ok (On port)) else Err DistFault.NotDistributing) else Err DistFault.NotAssigned) else Err SystemFault.NoPort) else Err SystemFault.NoAggregator)
+    ≡ Ok (On port) → Tests a b c d m
+all_pass true true true true false port e = (refl, refl, refl, refl, refl)
+all_pass true true true true true port e = absurd cc
+all_pass true true true false m port e = absurd cc
+all_pass true true false d m port e = absurd cc
+all_pass true false c d m port e = absurd cc
+all_pass false b c d m port e = absurd cc
+
+-- a port that has machines has a place
+has_place : (port : ℕ) (s : SystemState) → is_some (machines_of port s) ≡ true → is_some (port_index port s.system_ports) ≡ true
+has_place port s e = at_index (port_index port s.system_ports) e
+  where
+    at_index : (o : Option ℕ) → is_some (option_map (λ x. x.port) (system_port_at o s.system_ports)) ≡ true → is_some o ≡ true
+    at_index None e = e
+    at_index (Some i) e = refl
+
+pub fits : (s : SystemState) (agg : AggId) (conv port : ℕ) → IsFreeIn s agg conv → adopt_result s agg conv port ≡ Ok (On port)
+    → Fits s agg conv port
+fits s agg conv port free e =
+    let t = all_pass (has_aggregator s agg) (is_some (machines_of port s)) (nat_lt conv (conversation_count s))
+    (is_among (distributing agg s.system_ports) port) (is_none (next_identifier s.table)) port
+    (subst (λ a. (if has_aggregator s agg then (if is_some (machines_of port s) then in_system (if nat_lt conv (conversation_count s)
+    then adopted (next_identifier s.table) (distributing agg s.system_ports) port a else Err DistFault.NotAssigned)
+    else Err SystemFault.NoPort) else Err SystemFault.NoAggregator) ≡ Ok (On port)) free.1 e) in
+    record { there = t.0; known = has_place port s t.1; within = t.2; among = t.3; left = t.4 }
+
+-- with other conversations, and the same next marker
+still_fits : (s t : SystemState) (agg : AggId) (conv port c : ℕ) (a : Assignment) → GivesAssignment agg c a s t → Fits s agg conv port
+    → Fits t agg conv port
+still_fits s t agg conv port c a h f = subst (λ x. Fits x agg conv port) (sym h.1) (record {
+  there = f.there;
+  known = f.known;
+  within = f.within;
+  among = f.among;
+  left = ap (λ n. is_none (cond (ltb n (2 ^ 32)) (Some n) None)) h.0.next ∙ f.left;
+})
+
+now_in : (s t : SystemState) (agg : AggId) (conv : ℕ) (a : Assignment) → GivesAssignment agg conv a s t
+    → assignment_of t.table agg.0 conv ≡ a
+now_in s t agg conv a h = h.0.states agg.0 conv
+    ∙ ap (λ b. cond (b && eqb conv conv) a (assignment_of s.table agg.0 conv)) (eq-eqb agg.0 agg.0 refl)
+    ∙ ap (λ b. cond b a (assignment_of s.table agg.0 conv)) (eq-eqb conv conv refl)
+
+twice : (x : Bool) (a b r : Assignment) → cond x b (cond x a r) ≡ cond x b r
+twice true a b r = refl
+twice false a b r = refl
+
+pub both : (s t u : SystemState) (agg : AggId) (conv : ℕ) (a b : Assignment) → GivesAssignment agg conv a s t → GivesAssignment agg conv b t u
+    → GivesAssignment agg conv b s u
+both s t u agg conv a b h k = (
+  record {
+    aggs = k.0.aggs ∙ h.0.aggs;
+    conversations = k.0.conversations ∙ h.0.conversations;
+    first = k.0.first ∙ h.0.first;
+    next = k.0.next ∙ h.0.next;
+    states = λ g c. k.0.states g c
+        ∙ ap (λ (r : Assignment). cond (eqb agg.0 g && eqb conv c) b r) (h.0.states g c)
+        ∙ twice (eqb agg.0 g && eqb conv c) a b (assignment_of s.table g c);
+  },
+  k.1 ∙ ap (λ (z : SystemState). with_table z u.table) h.1,
+)
+
+-- an offer of a free conversation is answered
+never_refused : (gives : ℕ → ℕ → ℕ → Type 0) (conv port : ℕ) (ports : List ℕ) (preferred : Option ℕ) (cause : DistFault)
+    → is_among ports port ≡ true → Assigns gives conv ports (Free preferred) (Err cause) → ⊥
+never_refused gives conv port ports preferred cause among h = by_preference (preferred_among ports preferred) h
+  where
+    picks : (l : List ℕ) → is_among l port ≡ true → PicksPort gives conv l (Err cause) → ⊥
+    picks [] e h = absurd cc
+    picks (p ∷ ps) e h = let r = h.4 in absurd cc
+
+    by_preference : (o : Option ℕ) → MatchOption o (PicksPort gives conv ports (Err cause)) (λ p. Err cause ≡ Ok p) → ⊥
+    by_preference None h = picks ports among h
+    by_preference (Some p) h = absurd cc
+
+taken : (gives : ℕ → ℕ → ℕ → Type 0) (agg : AggId) (conv port : ℕ) (s : SystemState) (answer : Result ℕ SystemFault) (t : SystemState)
+    → Fits s agg conv port → OffersConversation gives agg conv s answer t → TakesPort gives agg conv s answer t
+taken gives agg conv port s answer t f h =
+    subst (λ k. OffersIf true k gives agg conv s answer t) f.within
+    (subst (λ a. OffersIf a (nat_lt conv (conversation_count s)) gives agg conv s answer t) f.there h)
+
+pub is_answered : (gives : ℕ → ℕ → ℕ → Type 0) (agg : AggId) (conv port : ℕ) (s : SystemState) (fault : SystemFault) (t : SystemState)
+    → Fits s agg conv port → IsFreeIn s agg conv → OffersConversation gives agg conv s (Err fault) t → ⊥
+is_answered gives agg conv port s fault t f free h =
+    let k = taken gives agg conv port s (Err fault) t f h in
+    never_refused gives conv port (distributing agg s.system_ports) free.0 k.0.0 f.among
+    (subst (λ a. Assigns gives conv (distributing agg s.system_ports) a (Err k.0.0)) free.1 k.0.1)
+
+pub is_given : (gives : ℕ → ℕ → ℕ → Type 0) (agg : AggId) (conv port p : ℕ) (s t : SystemState)
+    → Fits s agg conv port → OffersConversation gives agg conv s (Ok p) t → GivesAssignment agg conv (On p) s t
+is_given gives agg conv port p s t f h = (taken gives agg conv port s (Ok p) t f h).1
+
+-- an offer of a conversation that prefers the port goes there
+pub as_preferred : (gives : ℕ → ℕ → ℕ → Type 0) (agg : AggId) (conv port p : ℕ) (s t : SystemState)
+    → Fits s agg conv port → assignment_of s.table agg.0 conv ≡ Free (Some port) → OffersConversation gives agg conv s (Ok p) t → p ≡ port
+as_preferred gives agg conv port p s t f free h =
+    let ports = distributing agg s.system_ports in
+    let k = subst (λ a. Assigns gives conv ports a (Ok p)) free (taken gives agg conv port s (Ok p) t f h).0 in
+    let there = subst (λ (b : Bool). MatchOption (cond b (Some port) None) (PicksPort gives conv ports (Ok p)) (λ q. ◌≡◌ {A = Result ℕ DistFault} (Ok p) (Ok q))) f.among k in
+    same p port there
+  where
+    same : (p q : ℕ) → ◌≡◌ {A = Result ℕ DistFault} (Ok p) (Ok q) → p ≡ q
+    same p q e = cc
+
+not_equal : (n m : ℕ) → (n ≡ m → ⊥) → eqb n m ≡ false
+not_equal n m h = elim (cases_Bool (eqb n m)) [ inl t ↦ absurd (h (eqb-true n m t)) | inr f ↦ f ]
+
+-- a move from another port is accepted
+pub is_moved : (agg : AggId) (conv port p : ℕ) (s : SystemState) (answer : Result Unit SystemFault) (t : SystemState)
+    → Fits s agg conv port → assignment_of s.table agg.0 conv ≡ On p → (p ≡ port → ⊥)
+    → GivesOrRefuses agg conv (system_move_result s agg conv port) s answer t
+    → (answer ≡ Ok tt) × GivesAssignment agg conv (Wanted p (Some port)) s t
+is_moved agg conv port p s answer t f on differs h =
+    let there = f.there in let known = f.known in let within = f.within in let among = f.among in let left = f.left in
+    let apart : eqb p port ≡ false = not_equal p port differs in
+    let accepted : system_move_result s agg conv port ≡ Ok (Wanted p (Some port)) = grind (arith, nat_tests) in
+    subst (λ r. GivesOrRefuses agg conv r s answer t) accepted h
+
+-- a force of what waits is accepted
+pub is_forced : (agg : AggId) (conv port p : ℕ) (s : SystemState) (answer : Result Unit SystemFault) (t : SystemState)
+    → Fits s agg conv port → assignment_of s.table agg.0 conv ≡ Wanted p (Some port)
+    → GivesOrRefuses agg conv (system_force_result s agg conv) s answer t
+    → (answer ≡ Ok tt) × GivesAssignment agg conv (Free (Some port)) s t
+is_forced agg conv port p s answer t f on h =
+    let there = f.there in let within = f.within in
+    let accepted : system_force_result s agg conv ≡ Ok (Free (Some port)) = grind (arith, nat_tests) in
+    subst (λ r. GivesOrRefuses agg conv r s answer t) accepted h
+
+-- what is free in both is the same to the model
+same_flows : (t u : Table) (agg conv : ℕ) (p q : Option ℕ) → SetsAssignment t u agg conv (Free q) → assignment_of t agg conv ≡ Free p
+    → model_distributor u ≡ model_distributor t
+same_flows t u agg conv p q h free = λ i. record { state = λ g k. at g k i; next = h.next i }
+  where
+    chosen : (x y : Bool) (g k : ℕ) → eqb agg g ≡ x → eqb conv k ≡ y
+        → model_conversation (cond (x && y) (Free q) (assignment_of t g k)) ≡ model_conversation (assignment_of t g k)
+    chosen true true g k a b = sym (ap model_conversation
+        (subst (λ z. assignment_of t z k ≡ Free p) (eqb-true agg g a) (subst (λ z. assignment_of t agg z ≡ Free p) (eqb-true conv k b) free)))
+    chosen true false g k a b = refl
+    chosen false y g k a b = refl
+
+    at : (g k : ℕ) → model_conversation (assignment_of u g k) ≡ model_conversation (assignment_of t g k)
+    at g k = ap model_conversation (h.states g k) ∙ chosen (eqb agg g) (eqb conv k) g k refl refl
+
+abbrev OffersEach : (ℕ → ℕ → ℕ → Type 0) → AggId → ℕ → SystemState → Result ℕ SystemFault → SystemState → Type 0
+OffersEach gives agg conv old answer new = (octets : List ℕ) → MayBeOffered octets → number_of_conversation old octets ≡ conv
+    → CallPromise gives old (Offer agg octets) (reply.Offer answer) new
+
+-- the last offer is lawful, and the state before it looks to the model as the first one
+pub placed : (gives : ℕ → ℕ → ℕ → Type 0) (agg : AggId) (conv port : ℕ) (old mid new : SystemState) → mid ≡ with_table old mid.table
+    → model_distributor mid.table ≡ model_distributor old.table → Fits mid agg conv port → GivesAssignment agg conv (On port) old new
+    → OffersEach gives agg conv mid (Ok port) new → IsPlaced agg conv port old new
+placed gives agg conv port old mid new stays alike f h each = record {
+  gives = h;
+  promise = record {
+    others = h.1;
+    moves = subst (λ v. LawfulMoves (model_setup old) ModelCall.Offer v (Sends_frame port agg.0 conv ∷ []) (model_view new)) looks lawful;
+    agrees = p.agrees;
+    configured = p.configured ∙ ap model_setup stays;
+    conversations = p.conversations ∙ ap (λ (s : SystemState). s.conversations) stays;
+    max_links = p.max_links ∙ ap (λ (s : SystemState). s.max_links) stays;
+  };
+}
+  where
+    frame : MayBeOffered (frame_of_conversation conv) × (number_of_conversation mid (frame_of_conversation conv) ≡ conv)
+    frame = let within = f.within in framed mid conv (grind (arith, nat_tests))
+
+    p : CallPromise gives mid (Offer agg (frame_of_conversation conv)) (reply.Offer (Ok port)) new
+    p = each (frame_of_conversation conv) frame.0 frame.1
+
+    m : JoinedByLawfulMoves mid (Offer agg (frame_of_conversation conv)) (reply.Offer (Ok port)) new
+    m = p.moves
+
+    looks : model_view mid ≡ model_view old
+    looks = ap model_view stays ∙ ap (λ d. model_view_at d old.system_ports) alike
+
+    lawful : LawfulMoves (model_setup old) ModelCall.Offer (model_view mid) (Sends_frame port agg.0 conv ∷ []) (model_view new)
+    lawful = subst (λ u. LawfulMoves u ModelCall.Offer (model_view mid) (Sends_frame port agg.0 conv ∷ []) (model_view new)) (ap model_setup stays)
+        (subst (λ c. LawfulMoves (model_setup mid) c (model_view mid) (Sends_frame port agg.0 conv ∷ []) (model_view new)) m.2
+        (subst (λ k. LawfulMoves (model_setup mid) m.0 (model_view mid) (Sends_frame port agg.0 k ∷ []) (model_view new)) frame.1
+        (subst (λ acts. LawfulMoves (model_setup mid) m.0 (model_view mid) acts (model_view new)) m.3 m.4)))
+
+-- The calls of an adoption, up to each of them: none is refused, and the conversation comes to its port.
+abbrev Offered : (ℕ → ℕ → ℕ → Type 0) → AggId → ℕ → ℕ → ℕ → SystemState → SystemState → Type 0
+Offered gives agg conv port p s t = IsFreeIn s agg conv × (adopt_result s agg conv port ≡ Ok (On port))
+    × OffersConversation gives agg conv s (Ok p) t × (p ≡ port → ⊥)
+
+abbrev Moved : AggId → ℕ → ℕ → SystemState → Result Unit SystemFault → SystemState → Type 0
+Moved agg conv port s answer t = GivesOrRefuses agg conv (system_move_result s agg conv port) s answer t
+
+abbrev Forced : AggId → ℕ → SystemState → Result Unit SystemFault → SystemState → Type 0
+Forced agg conv s answer t = GivesOrRefuses agg conv (system_force_result s agg conv) s answer t
+
+first_given : (gives : ℕ → ℕ → ℕ → Type 0) (agg : AggId) (conv port p : ℕ) (s t : SystemState) → Offered gives agg conv port p s t
+    → GivesAssignment agg conv (On p) s t
+first_given gives agg conv port p s t o = is_given gives agg conv port p s t (fits s agg conv port o.0 o.1) o.2
+
+first_fits : (gives : ℕ → ℕ → ℕ → Type 0) (agg : AggId) (conv port p : ℕ) (s t : SystemState) → Offered gives agg conv port p s t
+    → Fits t agg conv port
+first_fits gives agg conv port p s t o =
+    still_fits s t agg conv port conv (On p) (first_given gives agg conv port p s t o) (fits s agg conv port o.0 o.1)
+
+then_moved : (gives : ℕ → ℕ → ℕ → Type 0) (agg : AggId) (conv port p : ℕ) (s t u : SystemState) (moved : Result Unit SystemFault)
+    → Offered gives agg conv port p s t → Moved agg conv port t moved u
+    → (moved ≡ Ok tt) × GivesAssignment agg conv (Wanted p (Some port)) t u
+then_moved gives agg conv port p s t u moved o m =
+    is_moved agg conv port p t moved u (first_fits gives agg conv port p s t o)
+    (now_in s t agg conv (On p) (first_given gives agg conv port p s t o)) o.3 m
+
+then_forced : (gives : ℕ → ℕ → ℕ → Type 0) (agg : AggId) (conv port p : ℕ) (s t u v : SystemState) (moved forced : Result Unit SystemFault)
+    → Offered gives agg conv port p s t → Moved agg conv port t moved u → Forced agg conv u forced v
+    → (forced ≡ Ok tt) × GivesAssignment agg conv (Free (Some port)) u v × Fits v agg conv port
+then_forced gives agg conv port p s t u v moved forced o m h =
+    let a = then_moved gives agg conv port p s t u moved o m in
+    let f = still_fits t u agg conv port conv (Wanted p (Some port)) a.1 (first_fits gives agg conv port p s t o) in
+    let b = is_forced agg conv port p u forced v f (now_in t u agg conv (Wanted p (Some port)) a.1) h in
+    (b.0, b.1, still_fits u v agg conv port conv (Free (Some port)) b.1 f)
+
+not_done : (fault : SystemFault) → ◌≡◌ {A = Result Unit SystemFault} (Err fault) (Ok tt) → ⊥
+not_done fault e = absurd cc
+
+pub move_is_accepted : (gives : ℕ → ℕ → ℕ → Type 0) (agg : AggId) (conv port p : ℕ) (s t u : SystemState) (fault : SystemFault)
+    → Offered gives agg conv port p s t → Moved agg conv port t (Err fault) u → ⊥
+move_is_accepted gives agg conv port p s t u fault o m = not_done fault (then_moved gives agg conv port p s t u (Err fault) o m).0
+
+pub force_is_accepted : (gives : ℕ → ℕ → ℕ → Type 0) (agg : AggId) (conv port p : ℕ) (s t u v : SystemState) (moved : Result Unit SystemFault)
+    (fault : SystemFault) → Offered gives agg conv port p s t → Moved agg conv port t moved u → Forced agg conv u (Err fault) v → ⊥
+force_is_accepted gives agg conv port p s t u v moved fault o m h =
+    not_done fault (then_forced gives agg conv port p s t u v moved (Err fault) o m h).0
+
+pub offer_is_accepted : (gives later : ℕ → ℕ → ℕ → Type 0) (agg : AggId) (conv port p : ℕ) (s t u v w : SystemState)
+    (moved forced : Result Unit SystemFault) (fault : SystemFault) → Offered gives agg conv port p s t → Moved agg conv port t moved u
+    → Forced agg conv u forced v → OffersConversation later agg conv v (Err fault) w → ⊥
+offer_is_accepted gives later agg conv port p s t u v w moved forced fault o m h l =
+    let b = then_forced gives agg conv port p s t u v moved forced o m h in
+    is_answered later agg conv port v fault w b.2 (Some port, now_in u v agg conv (Free (Some port)) b.1) l
+
+pub first_refused : (gives : ℕ → ℕ → ℕ → Type 0) (agg : AggId) (conv port : ℕ) (s t : SystemState) (fault : SystemFault) → IsFreeIn s agg conv
+    → adopt_result s agg conv port ≡ Ok (On port) → OffersConversation gives agg conv s (Err fault) t → ⊥
+first_refused gives agg conv port s t fault free e o = is_answered gives agg conv port s fault t (fits s agg conv port free e) free o
+
+pub placed_at_once : (gives : ℕ → ℕ → ℕ → Type 0) (agg : AggId) (conv port p : ℕ) (s t : SystemState) → IsFreeIn s agg conv
+    → adopt_result s agg conv port ≡ Ok (On port) → OffersConversation gives agg conv s (Ok p) t → OffersEach gives agg conv s (Ok p) t
+    → p ≡ port → IsPlaced agg conv port s t
+placed_at_once gives agg conv port p s t free e o each same =
+    let f = fits s agg conv port free e in
+    placed gives agg conv port s s t refl refl f
+    (subst (λ q. GivesAssignment agg conv (On q) s t) same (is_given gives agg conv port p s t f o))
+    (subst (λ q. OffersEach gives agg conv s (Ok q) t) same each)
+
+pub placed_behind : (gives later : ℕ → ℕ → ℕ → Type 0) (agg : AggId) (conv port p q : ℕ) (s t u v w : SystemState)
+    (moved forced : Result Unit SystemFault) → Offered gives agg conv port p s t → Moved agg conv port t moved u
+    → Forced agg conv u forced v → OffersConversation later agg conv v (Ok q) w → OffersEach later agg conv v (Ok q) w
+    → IsPlaced agg conv port s w
+placed_behind gives later agg conv port p q s t u v w moved forced o m h l each =
+    let a = then_moved gives agg conv port p s t u moved o m in
+    let b = then_forced gives agg conv port p s t u v moved forced o m h in
+    let there : q ≡ port = as_preferred later agg conv port q v w b.2 (now_in u v agg conv (Free (Some port)) b.1) l in
+    let freed : GivesAssignment agg conv (Free (Some port)) s v =
+    both s u v agg conv (Wanted p (Some port)) (Free (Some port))
+    (both s t u agg conv (On p) (Wanted p (Some port)) (first_given gives agg conv port p s t o) a.1) b.1 in
+    let given = subst (λ n. GivesAssignment agg conv (On n) v w) there (is_given later agg conv port q v w b.2 l) in
+    placed later agg conv port s v w freed.1 (same_flows s.table v.table agg.0 conv o.0.0 (Some port) freed.0 o.0.1) b.2
+    (both s v w agg conv (Free (Some port)) (On port) freed given)
+    (subst (λ n. OffersEach later agg conv v (Ok n) w) there each)
+
+-- What order rests on, with the new system in place of the old one: of the other system nothing changes.
+on_new : (x : WorldSetup) (w : World) (s : Side) (after : View) → TakesOver (w.view s) after → OnItsCable x w → (g k c : ℕ)
+    → w.forced s g k ≡ false
+    → ((serials s g k (w.on_cable (peer s) c) ≡ []) ⊎ ((p : ℕ) × (end_at x.cables s c ≡ Some p)
+    × (conversation_port (after.flows.state g k) ≡ Some p)))
+    × (serials s g k (w.on_cable s c) ≡ [])
+on_new x w s after t on g k c free =
+    let z = on s g k c free in (
+      elim z.0 [ inl e ↦ inl e | inr q ↦ inr (q.0, q.1, ap conversation_port (t.on g k q.0 q.2)) ],
+      z.1,
+    )
+
+on_cable_of : (x : WorldSetup) (w : World) (s : Side) (after : View) → TakesOver (w.view s) after → OnItsCable x w
+    → OnItsCable x (with_view w s after)
+on_cable_of x w One after t on One g k c free = on_new x w One after t on g k c free
+on_cable_of x w One after t on Two g k c free = on Two g k c free
+on_cable_of x w Two after t on One g k c free = on One g k c free
+on_cable_of x w Two after t on Two g k c free = on_new x w Two after t on g k c free
+
+flushed_of : (x : WorldSetup) (w : World) (s : Side) (after : View) → TakesOver (w.view s) after → FlushedByMarker x w
+    → FlushedByMarker x (with_view w s after)
+flushed_of x w One after t f One g k p n c free e = absurd (t.waits g k p n e)
+flushed_of x w One after t f Two g k p n c free e = f Two g k p n c free e
+flushed_of x w Two after t f One g k p n c free e = f One g k p n c free e
+flushed_of x w Two after t f Two g k p n c free e = absurd (t.waits g k p n e)
+
+later : (n m k : ℕ) → m ≤ k → n < m → n < k
+later n m k h l = omega (arith, h, l)
+
+below_of : (w : World) (s : Side) (after : View) → TakesOver (w.view s) after → BelowNext w → BelowNext (with_view w s after)
+below_of w One after t b One c p n stamp mac =
+    let z = b One c p n stamp mac in
+    (λ m. later n (w.view One).flows.next after.flows.next t.next (z.0 m), λ m. later n (w.view One).flows.next after.flows.next t.next (z.1 m))
+below_of w One after t b Two c p n stamp mac = b Two c p n stamp mac
+below_of w Two after t b One c p n stamp mac = b One c p n stamp mac
+below_of w Two after t b Two c p n stamp mac =
+    let z = b Two c p n stamp mac in
+    (λ m. later n (w.view Two).flows.next after.flows.next t.next (z.0 m), λ m. later n (w.view Two).flows.next after.flows.next t.next (z.1 m))
+
+pub taken_over : (x : WorldSetup) (w : World) (s : Side) (after : View) → TakesOver (w.view s) after → RestsOn x w
+    → RestsOn x (with_view w s after)
+taken_over x w s after t r = record {
+  on_its_cable = on_cable_of x w s after t r.on_its_cable;
+  flushed_by_marker = flushed_of x w s after t r.flushed_by_marker;
+  below_next = below_of w s after t r.below_next;
+  collected_then_in_flight = r.collected_then_in_flight;
+}
