@@ -6,7 +6,7 @@
 
 use std::ffi::c_void;
 
-pub const NIW_VERSION: u32 = 9;
+pub const NIW_VERSION: u32 = 11;
 pub const NIW_FRAME: u32 = 124;
 pub const NIW_PAYLOAD_LENGTH: u32 = 110;
 pub const NIW_SHORTEST_FRAME: u32 = 14;
@@ -41,6 +41,7 @@ pub const NIW_HAS_QUEUE: u32 = 20;
 pub const NIW_CONVERSATION_FULL: u32 = 21;
 pub const NIW_ALL_FULL: u32 = 22;
 pub const NIW_STALE: u32 = 23;
+pub const NIW_OVER_LIMIT: u32 = 24;
 pub const NIW_REASON_PORTS: u32 = 1;
 pub const NIW_REASON_AGGREGATORS: u32 = 2;
 pub const NIW_REASON_PORT_NUMBER: u32 = 3;
@@ -91,6 +92,7 @@ pub const NIW_PORT_STATUS_STANDBY: u32 = 6;
 pub const NIW_PORT_STATUS_WAITING: u32 = 7;
 pub const NIW_PORT_STATUS_WAITING_FOR_MEMBERS: u32 = 8;
 pub const NIW_PORT_STATUS_PARTNER_NOT_SYNCHRONIZED: u32 = 9;
+pub const NIW_PORT_STATUS_HELD: u32 = 10;
 pub const NIW_ANSWERS_NEVER_ASKED: u32 = 0;
 pub const NIW_ANSWERS_ASKED: u32 = 1;
 pub const NIW_ANSWERS_ANSWERED: u32 = 2;
@@ -102,6 +104,9 @@ pub const NIW_SUBTYPE_LACPDU: u32 = 1;
 pub const NIW_SUBTYPE_MARKER: u32 = 2;
 pub const NIW_MARKER_INFORMATION: u32 = 1;
 pub const NIW_MARKER_RESPONSE: u32 = 2;
+pub const NIW_CHURN_MONITOR: u32 = 0;
+pub const NIW_CHURN_NO_CHURN: u32 = 1;
+pub const NIW_CHURN_CHURN: u32 = 2;
 
 /// `struct niw_system`.
 #[repr(C)]
@@ -379,6 +384,38 @@ pub struct Counts {
     pub refused: u64,
 }
 
+/// `struct niw_churn_machine`.
+#[repr(C)]
+#[derive(Clone, Copy, Debug, Default)]
+pub struct ChurnMachine {
+    pub state: u32,
+    pub waited: u16,
+    pub churns: u64,
+    pub synchronizations: u64,
+}
+
+/// `struct niw_churn`.
+#[repr(C)]
+#[derive(Clone, Copy, Debug, Default)]
+pub struct Churn {
+    pub actor: ChurnMachine,
+    pub partner: ChurnMachine,
+}
+
+/// `struct niw_counters`.
+#[repr(C)]
+#[derive(Clone, Copy, Debug, Default)]
+pub struct Counters {
+    pub lacpdus_received: u64,
+    pub markers_received: u64,
+    pub marker_responses_received: u64,
+    pub unknown_received: u64,
+    pub illegal_received: u64,
+    pub lacpdus_sent: u64,
+    pub markers_sent: u64,
+    pub marker_responses_sent: u64,
+}
+
 extern "C" {
     pub fn lagffi_new(handle: *mut System, config: *const Config, keys: *const u16, key_count: usize, ports: *const Port, port_count: usize) -> Made;
     pub fn lagffi_free(handle: *mut System) -> u32;
@@ -396,6 +433,7 @@ extern "C" {
     pub fn lagffi_offer_conversation(handle: *mut System, agg: u16, conv: u16) -> Number;
     pub fn lagffi_leave_conversation(handle: *mut System, agg: u16, conv: u16) -> u32;
     pub fn lagffi_rest(handle: *mut System, agg: u16, conv: u16) -> u32;
+    pub fn lagffi_adopt(handle: *mut System, agg: u16, conv: u16, port: u16) -> u32;
     pub fn lagffi_probe(handle: *mut System, port: u16, frame: *mut u8, room: usize) -> Sent;
     pub fn lagffi_offer_in_active_aggregator(handle: *mut System, agg: u16, frame: *const u8, length: usize) -> Number;
     pub fn lagffi_offer_conversation_in_active_aggregator(handle: *mut System, agg: u16, conv: u16) -> Number;
@@ -424,6 +462,10 @@ extern "C" {
     pub fn lagffi_ntt(handle: *mut System, port: u16) -> Truth;
     pub fn lagffi_distributing(handle: *mut System, agg: u16, numbers: *mut u16, room: usize) -> Number;
     pub fn lagffi_resume(handle: *mut System, config: *const Config, keys: *const u16, key_count: usize, ports: *const Port, port_count: usize, saved: *const Saved, saved_count: usize) -> Made;
+    pub fn lagffi_hold(handle: *mut System, port: u16, hold: bool) -> u32;
+    pub fn lagffi_set_mode(handle: *mut System, port: u16, active: bool, short_timeout: bool) -> u32;
+    pub fn lagffi_set_max_delay(handle: *mut System, max_delay: u16) -> u32;
+    pub fn lagffi_set_max_links(handle: *mut System, max_links: u16) -> u32;
     pub fn lagffi_active_aggregator(handle: *mut System, now: u16) -> Number;
     pub fn lagffi_conversation(handle: *mut System, frame: *const u8, length: usize) -> Number;
     pub fn lagffi_conversation_state(handle: *mut System, agg: u16, conv: u16) -> Assignment;
@@ -434,6 +476,9 @@ extern "C" {
     pub fn lagffi_decode(payload: *const u8, length: usize, pdu: *mut Pdu) -> Decoded;
     pub fn lagffi_encode(pdu: *const Pdu, payload: *mut u8, room: usize) -> u32;
     pub fn lagffi_next_move(ports: *const u16, port_count: usize, carried: *const Carried, carried_count: usize) -> Move;
+    pub fn lagffi_churn_tick(churn: *mut Churn, up: bool, actor_state: u8, partner_state: u8) -> u32;
+    pub fn lagffi_count_received(counters: *mut Counters, frame: *const u8, length: usize, what: u32) -> u32;
+    pub fn lagffi_count_sent(counters: *mut Counters, frame: *const u8, length: usize) -> u32;
     pub fn lagffi_queue_new(handle: *mut Queue, conversations: u16, in_all: usize, each: usize) -> u32;
     pub fn lagffi_queue_free(handle: *mut Queue) -> u32;
     pub fn lagffi_queue_put(handle: *mut Queue, conv: u16, frame: u64) -> u32;

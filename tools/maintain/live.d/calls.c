@@ -25,8 +25,8 @@ static const struct {
     EXPORT(set_mode), EXPORT(set_max_delay), EXPORT(set_max_links), EXPORT(active_aggregator), EXPORT(conversation),
     EXPORT(conversation_state), EXPORT(conversation_ports), EXPORT(released), EXPORT(next_marker), EXPORT(ticks_until_due),
     EXPORT(decode), EXPORT(encode), EXPORT(next_move), EXPORT(churn_tick), EXPORT(count_received), EXPORT(count_sent),
-    EXPORT(queue_new), EXPORT(queue_free), EXPORT(queue_put), EXPORT(queue_next),
-    EXPORT(queue_drop), EXPORT(queue_oldest), EXPORT(queue_next_released), EXPORT(queue_waiting), EXPORT(queue_counts),
+    EXPORT(queue_new), EXPORT(queue_free), EXPORT(queue_put), EXPORT(queue_next), EXPORT(queue_drop), EXPORT(queue_oldest),
+    EXPORT(queue_next_released), EXPORT(queue_waiting), EXPORT(queue_counts),
 };
 
 const char *const program = "calls";
