@@ -9,7 +9,7 @@ import ctypes
 from enum import IntEnum, IntFlag
 from typing import Any, Callable, Final
 
-VERSION: Final = 9
+VERSION: Final = 11
 VERSION_TEXT: Final = "0.1.0"
 FRAME: Final = 124
 PAYLOAD_LENGTH: Final = 110
