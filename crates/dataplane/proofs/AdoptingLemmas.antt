@@ -1,26 +1,18 @@
 -- Adopting: a free conversation comes onto its port by calls that a system has.
-use Rattle.std.specs.Prelude.{Bool, true, false, ◌&&◌, ◌≡◌, ◌<◌, ◌≤◌, ◌^◌, ◌⊎◌, ℕ, cond, eqb, if◌then◌else◌, is_none, is_some, ltb, nat_lt, List, [], ◌∷◌}
-use Rattle.std.specs.Prelude.{Option, Some, None, Result, Ok, Err, MatchOption, option_map}
-use Rattle.dataplane.proofs.Common.{ap, arith, cases_Bool, eq-eqb, eqb-true, inl, inr, refl, subst, sym, ◌∙◌, nat_tests, AggId, LawfulMoves, Sends_frame, ModelCall}
-use Rattle.dataplane.proofs.Common.{Offer, JoinedByLawfulMoves, model_setup, model_view, conversation_count, distributing, number_of_conversation}
-use Rattle.dataplane.proofs.Common.{CallPromise, SystemState, machines_of, port_index}
-use Rattle.distributor.specs.declared.assignment.Assignment.{Assignment}
-use Rattle.distributor.specs.declared.assignment.Assignment.TheVariants.{Free, On, Wanted}
+use Rattle.dataplane.proofs.Common.{ap, arith, eq-eqb, eqb-true, inl, inr, refl, subst, sym, ◌∙◌, cases_Bool, nat_tests, MatchOption, is_none, ltb}
+use Rattle.dataplane.proofs.Common.{AggId, BelowNext, FlushedByMarker, OnItsCable, serials, LawfulMoves, Sends_frame, ModelCall, View}
+use Rattle.dataplane.proofs.Common.{conversation_port, One, Side, Two, World, WorldSetup, end_at, peer, Assignment, Wanted, Assigns, PicksPort}
+use Rattle.dataplane.proofs.Common.{is_among, preferred_among, SetsAssignment, Table, assignment_of, next_identifier, SystemFault, OffersConversation}
+use Rattle.dataplane.proofs.Common.{OffersIf, TakesPort, frame_of_conversation, Offer, JoinedByLawfulMoves, model_setup, model_view, model_view_at}
+use Rattle.dataplane.proofs.Common.{GivesAssignment, GivesOrRefuses, MayBeOffered, has_aggregator, in_system, system_force_result, system_move_result}
+use Rattle.dataplane.proofs.Common.{conversation_count, distributing, number_of_conversation, CallPromise, SystemState, machines_of, port_index}
+use Rattle.dataplane.proofs.Common.{system_port_at, with_table, framed}
+use Rattle.std.specs.Prelude.{Bool, true, false, ◌&&◌, ◌≡◌, ◌<◌, ◌≤◌, ◌^◌, ◌⊎◌, ℕ, cond, eqb, if◌then◌else◌, is_some, nat_lt, List, []}
+use Rattle.std.specs.Prelude.{◌∷◌, Option, Some, None, Result, Ok, Err, option_map}
+use Rattle.distributor.specs.declared.assignment.Assignment.TheVariants.{Free, On}
 use Rattle.distributor.specs.declared.fault.DistFault.{DistFault}
-use Rattle.distributor.specs.Calls.{Assigns, PicksPort, is_among, preferred_among}
-use Rattle.distributor.specs.Changes.{SetsAssignment}
-use Rattle.distributor.specs.Conversations.{Table, assignment_of, next_identifier}
 use Rattle.distributor.specs.Moves.{model_conversation, model_distributor}
-use Rattle.lagsystem.specs.declared.fault.SystemFault.{SystemFault}
 use Rattle.lagsystem.specs.declared.drive.Reply.TheVariants as reply
-use Rattle.lagsystem.specs.Assigning.{OffersConversation, OffersIf, TakesPort, frame_of_conversation}
-use Rattle.lagsystem.specs.ModelView.{model_view_at}
-use Rattle.lagsystem.specs.Offers.{GivesAssignment, GivesOrRefuses, MayBeOffered, has_aggregator, in_system, system_force_result, system_move_result}
-use Rattle.lagsystem.specs.State.{system_port_at, with_table}
-use Rattle.lagsystem.proofs.AssigningLemmas.{framed}
-use Rattle.lagmodel.specs.Law.{BelowNext, FlushedByMarker, OnItsCable, serials}
-use Rattle.lagmodel.specs.View.{View, conversation_port}
-use Rattle.lagmodel.specs.World.{Side, One, Two, World, WorldSetup, end_at, peer}
 use Rattle.dataplane.specs.Adopting.{IsFreeIn, IsPlaced, RestsOn, TakesOver, adopt_result, adopted, with_view}
 
 -- what there has to be for a free conversation to come onto the port

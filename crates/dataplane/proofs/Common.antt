@@ -12,29 +12,39 @@ pub use Rattle.std.proofs.lemmas.List.{take_more}
 pub use Rattle.std.proofs.lemmas.List.Sums.{sum-map, sum_by-cons, sum_by-le-sum_by, sum_by-set}
 pub use Rattle.std.proofs.lemmas.Option.{none-some, same_Some}
 pub use Rattle.std.specs.List.{AllByRecursion, position_or_len}
-pub use Rattle.std.specs.Prelude.{Contains, IfSome, is_none, option_to_list, sum, sum_by}
+pub use Rattle.std.specs.Prelude.{Contains, IfSome, MatchOption, is_none, ltb, option_to_list, sum, sum_by}
 pub use Rattle.circular_buffer.specs.Buffer.{Buffer, buffer}
 pub use Rattle.lagtypes.specs.declared.identifiers.AggId.{AggId}
 pub use Rattle.slowpdu.specs.Pdus.{ReadsPdu}
 pub use Rattle.slowpdu.proofs.LayoutLemmas.{all-append}
-pub use Rattle.lagmodel.specs.Law.{IsSubsequence as IsSubsequenceOfSerials, OnItsCable}
+pub use Rattle.lagmodel.specs.Law.{BelowNext, FlushedByMarker, IsSubsequence as IsSubsequenceOfSerials, OnItsCable, serials}
 pub use Rattle.lagmodel.specs.Move.{Act, AllAllowed, ConversationMove, ConversationMoveAllowed, DistributorMove, Flow, LawfulMoves, Port, Restart}
 pub use Rattle.lagmodel.specs.Move.{Sends, Sends_frame, Took, act_of_port, acts, conversation_after, flushed, view_after, view_after_all}
-pub use Rattle.lagmodel.specs.View.{Conversation, DistributorFacts, Flushing, Free, ModelCall, On, SystemSetup, View, Wanted, at_conversation}
+pub use Rattle.lagmodel.specs.View.{Conversation, DistributorFacts, Flushing, Free, ModelCall, On, SystemSetup, View, at_conversation}
 pub use Rattle.lagmodel.specs.View.{conversation_port, first_view}
-pub use Rattle.lagmodel.specs.World.{Side, World, WorldSetup}
+pub use Rattle.lagmodel.specs.World.{One, Side, Two, World, WorldSetup, end_at, peer}
 pub use Rattle.portmachines.specs.Machines.{Machines}
+pub use Rattle.distributor.specs.declared.assignment.Assignment.{Assignment}
+pub use Rattle.distributor.specs.declared.assignment.Assignment.TheVariants.{Wanted}
+pub use Rattle.distributor.specs.Calls.{Assigns, PicksIndexes, PicksPort, is_among, preferred_among}
+pub use Rattle.distributor.specs.Changes.{SetsAssignment, after_release, after_tick}
+pub use Rattle.distributor.specs.Conversations.{Table, assignment_of, next_identifier}
 pub use Rattle.lagsystem.specs.declared.config.Config.{Config}
 pub use Rattle.lagsystem.specs.declared.drive.Reply.{Reply}
+pub use Rattle.lagsystem.specs.declared.fault.SystemFault.{SystemFault}
 pub use Rattle.lagsystem.specs.declared.system_ports.SystemPort.{SystemPort}
+pub use Rattle.lagsystem.specs.Assigning.{OffersConversation, OffersIf, TakesPort, frame_of_conversation}
 pub use Rattle.lagsystem.specs.Calls.{Call, Configure, Force, Move_conversation, Offer, OnlyPortChangesBy, ProcessesLacpdu, Receive, Set_link}
 pub use Rattle.lagsystem.specs.Calls.{SetsLink, ThenSettles, Tick, Ticks, Transmit}
 pub use Rattle.lagsystem.specs.Drives.{Drives, call_of}
 pub use Rattle.lagsystem.specs.First.{IsConfigured, IsFirst}
-pub use Rattle.lagsystem.specs.ModelView.{EffectsSeenAs, JoinedByLawfulMoves, model_setup, model_view}
+pub use Rattle.lagsystem.specs.ModelView.{EffectsSeenAs, JoinedByLawfulMoves, model_setup, model_view, model_view_at}
+pub use Rattle.lagsystem.specs.Offers.{GivesAssignment, GivesOrRefuses, MayBeOffered, MayBeOfferedTo, has_aggregator, in_system, is_frame_length}
+pub use Rattle.lagsystem.specs.Offers.{longest_frame, system_force_result, system_move_result}
 pub use Rattle.lagsystem.specs.Readers.{aggregator_numbered, conversation_count, conversation_in, distributing, group_at, number_of_conversation}
 pub use Rattle.lagsystem.specs.Sound.{CallPromise}
-pub use Rattle.lagsystem.specs.State.{SystemState, machines_of, port_index, port_numbers}
+pub use Rattle.lagsystem.specs.State.{SystemState, machines_of, port_index, port_numbers, system_port_at, with_table}
+pub use Rattle.lagsystem.proofs.AssigningLemmas.{framed}
 pub use Rattle.dataplane.specs.declared.active.choosing.Rank.{Rank}
 pub use Rattle.dataplane.specs.declared.balance.moves.Carried.{Carried}
 pub use Rattle.dataplane.specs.declared.balance.moves.Move.{Move}

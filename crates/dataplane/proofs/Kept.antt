@@ -2,23 +2,21 @@
 use Rattle.dataplane.proofs.Common.{Bool, Err, IfOk, List, None, Ok, Option, Result, Some, [], ap, arith, eqb, eqb-true, false, if◌then◌else◌, inl}
 use Rattle.dataplane.proofs.Common.{inr, length, nat_le, nat_lt, refl, slice_get, subst, suc, sym, true, zero, ℕ, ◌-◌, ◌<◌, ◌^◌, ◌∷◌, ◌≡◌, ◌≢◌, ◌⊎◌}
 use Rattle.dataplane.proofs.Common.{and_parts, cases_Bool, eqb-false, nat_tests, none-some, AggId, OnItsCable, Act, LawfulMoves, Sends_frame}
-use Rattle.dataplane.proofs.Common.{Conversation, Flushing, Free, ModelCall, On, SystemSetup, View, Wanted, Side, World, WorldSetup, Reply, Call}
-use Rattle.dataplane.proofs.Common.{Configure, Force, Move_conversation, Offer, Receive, Set_link, Tick, Transmit, IsFirst, EffectsSeenAs}
-use Rattle.dataplane.proofs.Common.{JoinedByLawfulMoves, model_setup, model_view, aggregator_numbered, conversation_count, conversation_in}
-use Rattle.dataplane.proofs.Common.{number_of_conversation, CallPromise, SystemState, IsAggregator, IsElsewhere, IsHeldElsewhere, IsInOneAggregator}
-use Rattle.dataplane.proofs.Common.{IsNoOffer, IsNumberElsewhere, FreeElsewhere, NoneOnItsWayElsewhere, SendsNoFrame}
-use Rattle.lagtypes.specs.declared.identifiers.Key.{Key}
+use Rattle.dataplane.proofs.Common.{Conversation, Flushing, Free, ModelCall, On, SystemSetup, View, Side, World, WorldSetup, Assignment, Reply}
+use Rattle.dataplane.proofs.Common.{SystemFault, OffersConversation, OffersIf, frame_of_conversation, Call, Configure, Force, Move_conversation}
+use Rattle.dataplane.proofs.Common.{Offer, Receive, Set_link, Tick, Transmit, IsFirst, EffectsSeenAs, JoinedByLawfulMoves, model_setup, model_view}
+use Rattle.dataplane.proofs.Common.{GivesOrRefuses, MayBeOffered, MayBeOfferedTo, has_aggregator, is_frame_length, longest_frame, aggregator_numbered}
+use Rattle.dataplane.proofs.Common.{conversation_count, conversation_in, number_of_conversation, CallPromise, SystemState, framed, IsAggregator}
+use Rattle.dataplane.proofs.Common.{IsElsewhere, IsHeldElsewhere, IsInOneAggregator, IsNoOffer, IsNumberElsewhere, FreeElsewhere}
+use Rattle.dataplane.proofs.Common.{NoneOnItsWayElsewhere, SendsNoFrame}
+use Rattle.lagmodel.specs.View.{Wanted}
 use Rattle.lagsystem.specs.Calls.{Restart}
-use Rattle.distributor.specs.declared.assignment.Assignment.{Assignment}
+use Rattle.lagtypes.specs.declared.identifiers.Key.{Key}
 use Rattle.lagsystem.specs.declared.drive.Reply.TheVariants as reply
-use Rattle.lagsystem.specs.declared.fault.SystemFault.{SystemFault}
 use Rattle.lagsystem.specs.declared.received.Received.TheVariants.{Disabled, Dropped, Ignored, TookLacpdu, Respond, Released, Up}
-use Rattle.lagsystem.specs.Assigning.{OffersConversation, OffersIf, frame_of_conversation}
 use Rattle.lagsystem.specs.Forcing.{ForcesFirst, ForcesIfHeld, ForcesIn, ForcesPort}
-use Rattle.lagsystem.specs.Offers.{GivesOrRefuses, MayBeOffered, MayBeOfferedTo, has_aggregator, is_frame_length, longest_frame}
 use Rattle.lagsystem.specs.Probing.{ProbesLawfully}
 use Rattle.lagsystem.specs.Promises.{TablePromise}
-use Rattle.lagsystem.proofs.AssigningLemmas.{framed}
 use Rattle.lagsystem.proofs.FirstView.{first_shows}
 use Rattle.dataplane.proofs.Staying as staying
 

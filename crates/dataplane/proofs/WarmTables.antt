@@ -1,12 +1,11 @@
 -- A warm start leaves every conversation free, and the next marker.
 use Rattle.dataplane.proofs.Common.{Bool, List, None, [], ap, false, length, map, replicate, subst, suc, sym, true, zero, ℕ, ◌∙◌, ◌∷◌, ◌≡◌}
-use Rattle.dataplane.proofs.Common.{AllByRecursion, all-append, Config, Reply, Call, OnlyPortChangesBy, ProcessesLacpdu, Receive, Set_link, SetsLink}
-use Rattle.dataplane.proofs.Common.{ThenSettles, Tick, Ticks, Drives, IsFirst, aggregator_numbered, distributing, SystemState, port_index, SavedPort}
-use Rattle.dataplane.proofs.Common.{IsUnused, IsWarm, hearing, link_up, warm_calls}
+use Rattle.dataplane.proofs.Common.{AllByRecursion, all-append, after_release, after_tick, Table, assignment_of, Config, Reply, Call}
+use Rattle.dataplane.proofs.Common.{OnlyPortChangesBy, ProcessesLacpdu, Receive, Set_link, SetsLink, ThenSettles, Tick, Ticks, Drives, IsFirst}
+use Rattle.dataplane.proofs.Common.{aggregator_numbered, distributing, SystemState, port_index, SavedPort, IsUnused, IsWarm, hearing, link_up}
+use Rattle.dataplane.proofs.Common.{warm_calls}
 use Rattle.distributor.proofs.TableLemmas.{first_free}
 use Rattle.distributor.specs.declared.assignment.Assignment.TheVariants.{Free}
-use Rattle.distributor.specs.Changes.{after_release, after_tick}
-use Rattle.distributor.specs.Conversations.{Table, assignment_of}
 use Rattle.lagsystem.proofs.Keeps.{ports_table, settling_parts}
 use Rattle.lagsystem.proofs.Preserves.{Preserves, Step-preserves}
 use Rattle.lagsystem.specs.Settling.{Settling, held_unless_on}

@@ -1,5 +1,4 @@
-use Rattle.dataplane.proofs.Common.{Ok, subst, sym, ◌∙◌}
-use Rattle.distributor.specs.Calls.{PicksIndexes}
+use Rattle.dataplane.proofs.Common.{Ok, subst, sym, ◌∙◌, PicksIndexes}
 use Rattle.dataplane.proofs.AdoptingLemmas.{first_refused, force_is_accepted, move_is_accepted, offer_is_accepted, placed_at_once, placed_behind}
 use Rattle.dataplane.proofs.adopting.place_on.Goals as goal
 
