@@ -16,6 +16,7 @@ PAYLOAD_LENGTH: Final = 110
 SHORTEST_FRAME: Final = 14
 LONGEST_FRAME: Final = 1518
 MOST_PORTS: Final = 64
+MOST_TICKS: Final = 65535
 FEW_CONVERSATIONS: Final = 256
 MANY_CONVERSATIONS: Final = 4096
 MOST_CONVERSATIONS: Final = 65536
@@ -51,6 +52,7 @@ class Status(IntEnum):
     ALL_FULL = 22
     STALE = 23
     OVER_LIMIT = 24
+    MANY_TICKS = 25
 
 
 class Reason(IntEnum):
@@ -915,6 +917,7 @@ STATUS_TEXTS: Final = (
     "as many frames wait as may in all",
     "the LACPDU that was saved of a port is as old as its timeout",
     "an aggregator has more links than this limit",
+    "more than 65535 ticks in one call",
 )
 REASON_TEXTS: Final = (
     "unknown",

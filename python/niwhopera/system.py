@@ -12,8 +12,6 @@ from .errors import BadConfig, NotResumed, check
 from .values import Assignment, Config, End, Group, Info, Mac, Party, PortId, Received, SavedPort, Sent, SystemId, View, limit, within
 
 Octets = Union[bytes, bytearray, memoryview]
-# The most ticks that one call makes up: an hour and 49 minutes, in some milliseconds.
-MOST_TICKS = 65535
 
 
 def _system(priority: int, mac: Any) -> SystemId:
@@ -111,7 +109,7 @@ class System(Handle):
     def tick(self, count: int = 1) -> None:
         """`count` times 100 ms have passed, with no call between them; 0 to 65535. Send what is due after each, or ask
         `ticks_until_due` how many let no frame wait."""
-        check(self._c.ticks(self._at(), within("the count of ticks", count, MOST_TICKS)))
+        check(self._c.ticks(self._at(), within("the count of ticks", count, c.MOST_TICKS)))
 
     def set_link(self, port: int, up: bool) -> None:
         """The link of a port is up or down now."""

@@ -58,6 +58,8 @@ struct niw_queue {
 #define NIW_LONGEST_FRAME 1518
 /* The most ports and the most aggregators of a system. */
 #define NIW_MOST_PORTS 64
+/* The most ticks of one niw_ticks: 6553.5 s. */
+#define NIW_MOST_TICKS 65535
 /* How many conversations an aggregator may have. */
 #define NIW_FEW_CONVERSATIONS 256
 #define NIW_MANY_CONVERSATIONS 4096
@@ -107,7 +109,8 @@ enum {
     NIW_CONVERSATION_FULL = 21, /* niw_queue_put: as many frames of the conversation wait as may */
     NIW_ALL_FULL = 22,          /* niw_queue_put: as many frames wait as may in all */
     NIW_STALE = 23,             /* niw_resume: the LACPDU that was saved of a port is as old as the port's timeout, or older */
-    NIW_OVER_LIMIT = 24         /* niw_set_max_links: an aggregator has more members whose links are up. Hold ports first */
+    NIW_OVER_LIMIT = 24,        /* niw_set_max_links: an aggregator has more members whose links are up. Hold ports first */
+    NIW_MANY_TICKS = 25         /* niw_ticks: more than NIW_MOST_TICKS */
 };
 
 /* Of NIW_BAD_CONFIG: the reason. */
@@ -564,7 +567,7 @@ static inline uint32_t niw_tick(struct niw_system *handle) {
 
 /* `count` times 100 ms have passed: like `count` calls of niw_tick, with nothing between them. Up to niw_ticks_until_due of them let no
  * frame wait that is due; of more, a host makes up few at once, since nothing is sent between them. The call takes as long as they all
- * do: UINT32_MAX of them take minutes. */
+ * do. */
 static inline uint32_t niw_ticks(struct niw_system *handle, uint32_t count) {
     return handle ? lagffi_ticks(handle, count) : niw_null_status();
 }
@@ -1041,7 +1044,8 @@ static inline const char *niw_status_text(uint32_t status) {
         "as many frames of the conversation wait as may",
         "as many frames wait as may in all",
         "the LACPDU that was saved of a port is as old as its timeout",
-        "an aggregator has more links than this limit"};
+        "an aggregator has more links than this limit",
+        "more than 65535 ticks in one call"};
     return status < sizeof texts / sizeof *texts ? texts[status] : "unknown";
 }
 

@@ -110,6 +110,11 @@ pub extern "C" fn lagffi_tick(alloc: Global, lag: &mut Lag) -> u32
     OK
 }
 
+/// The most ticks of one call: 6553.5 s.
+const MOST_TICKS: u32 = 65535;
+/// The status of more: NIW_MANY_TICKS.
+const MANY_TICKS: u32 = 25;
+
 /// Ticks a system so many times.
 fn tick_times<F: Fn(u16, usize) -> usize + Drop>(system: &mut System<F>, count: u32)
     ensures ticked { TicksInTurn (F.post system.old.algorithm) count system.old.state system.new.state }
@@ -122,13 +127,17 @@ fn tick_times<F: Fn(u16, usize) -> usize + Drop>(system: &mut System<F>, count: 
 
 /// `count` times 100 ms have passed: like `count` calls of niw_tick, with nothing between them. Up to niw_ticks_until_due of them let no
 /// frame wait that is due; of more, a host makes up few at once, since nothing is sent between them. The call takes as long as they all
-/// do: UINT32_MAX of them take minutes.
-/// Refuses: NIW_NO_SYSTEM.
+/// do.
+/// Refuses: NIW_MANY_TICKS, NIW_NO_SYSTEM.
 #[unsafe(no_mangle)]
 pub extern "C" fn lagffi_ticks(alloc: Global, lag: &mut Lag, count: u32) -> u32
-    ensures { CallsHeldSystem (held_value lag.old.held.kept) (held_value lag.new.held.kept)
+    ensures few { count ≤ 65535 → CallsHeldSystem (held_value lag.old.held.kept) (held_value lag.new.held.kept)
         (λ old new. TicksInTurn by_number_gives count old new × (result ≡ 0)) (result ≡ no_system) }
+    ensures many { 65535 < count → (lag.new ≡ lag.old) × (result ≡ 25) }
 {
+    if count > MOST_TICKS {
+        return MANY_TICKS;
+    }
     let Some((mut system, block)) = lag.take(alloc, by_number) else {
         return NO_SYSTEM;
     };

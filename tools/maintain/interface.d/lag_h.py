@@ -14,7 +14,7 @@ from sources import Export, Structs
 # Of each enum, what lagffi has besides the variants: its numbers stand in lag.h, and are compared with lagffi.
 MORE: dict[str, list[str]] = {
     "SystemFault": ["NIW_OK", "NIW_NO_SYSTEM", "NIW_HAS_SYSTEM", "NIW_BUFFER", "NIW_NULL", "NIW_BAD_PAYLOAD", "NIW_NO_PDU",
-                    "NIW_NO_QUEUE", "NIW_HAS_QUEUE", "NIW_CONVERSATION_FULL", "NIW_ALL_FULL", "NIW_STALE"],
+                    "NIW_NO_QUEUE", "NIW_HAS_QUEUE", "NIW_CONVERSATION_FULL", "NIW_ALL_FULL", "NIW_STALE", "NIW_MANY_TICKS"],
     "BadConfig": ["NIW_REASON_ALGORITHM"],
     "PortStatus": [],
     "WireFault": [],
@@ -36,6 +36,7 @@ OWN_TEXTS = {
     "NIW_CONVERSATION_FULL": "as many frames of the conversation wait as may",
     "NIW_ALL_FULL": "as many frames wait as may in all",
     "NIW_STALE": "the LACPDU that was saved of a port is as old as its timeout",
+    "NIW_MANY_TICKS": "more than 65535 ticks in one call",
     "NIW_REASON_PORT_NUMBER": "a port has the number 0 or one that is not above the number before it",
     "NIW_REASON_MAX_LINKS": "the limit of links of an aggregator is above 64",
     "NIW_REASON_ALGORITHM": "the distribution algorithm is not 0 to 2",

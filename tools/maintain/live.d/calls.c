@@ -488,7 +488,11 @@ static void check_ticks(void) {
         CHECK(count != 4 || (niw_current_while(&one, 1).number == 20 && niw_ntt(&one, 1).is));
     }
     CHECK(niw_receive_state(&one, 1).number == NIW_RECEIVE_DEFAULTED);
+    CHECK(niw_ticks(&one, NIW_MOST_TICKS + 1) == NIW_MANY_TICKS && niw_ticks(&one, UINT32_MAX) == NIW_MANY_TICKS);
+    CHECK(niw_ticks_until_due(&one).ticks == niw_ticks_until_due(&other).ticks);
+    CHECK(niw_ticks(&one, NIW_MOST_TICKS) == NIW_OK);
     CHECK(niw_free(&one) == NIW_OK && niw_free(&other) == NIW_OK);
+    CHECK(niw_ticks(&one, NIW_MOST_TICKS + 1) == NIW_MANY_TICKS && niw_ticks(&one, 1) == NIW_NO_SYSTEM);
 }
 
 /* How long a host may wait: until periodic_timer has expired, and then not at all, until the LACPDU is sent. */
@@ -583,7 +587,7 @@ static void check_texts(void) {
     char text[NIW_STATE_TEXT_ROOM + 1];
     for (uint32_t i = 0; i <= NIW_ALL_FULL; i++)
         for (uint32_t j = 0; j < i; j++) CHECK(strcmp(niw_status_text(i), niw_status_text(j)) != 0);
-    CHECK(strcmp(niw_status_text(NIW_OVER_LIMIT + 1), "unknown") == 0 && strcmp(niw_status_text(UINT32_MAX), "unknown") == 0);
+    CHECK(strcmp(niw_status_text(NIW_MANY_TICKS + 1), "unknown") == 0 && strcmp(niw_status_text(UINT32_MAX), "unknown") == 0);
     CHECK(strcmp(niw_status_text(NIW_NO_MEMORY), "out of memory") == 0 && strcmp(niw_reason_text(0), "unknown") == 0);
     CHECK(strstr(niw_reason_text(NIW_REASON_PORT_NUMBER), "number") && strcmp(niw_reason_text(77), "unknown") == 0);
     CHECK(strcmp(niw_port_status_text(NIW_PORT_STATUS_LINK_DOWN), "the link is down") == 0);
