@@ -24,7 +24,7 @@ pub use Rattle.lagffi.specs.Lists.{put_first}
 pub use Rattle.lagffi.specs.Made.{IsMadeOfLagConfig, lag_key, lag_port_config}
 pub use Rattle.lagffi.specs.Masks.{due_on, is_so, mask}
 pub use Rattle.lagffi.specs.Numbers.{number, number_of, number_or_refused, number_refused, truth_or_no_port, wrong_buffer_length}
-pub use Rattle.lagffi.specs.PortViews.{changed, view_if_there, views_of}
+pub use Rattle.lagffi.specs.PortViews.{changed, views_of}
 pub use Rattle.lagffi.specs.ReaderValues.{assignment_or_refused, choice_or_no_port, group_or_no_port, info_or_no_port, lag_marker, lag_wait}
 pub use Rattle.lagffi.specs.ReaderValues.{mux_state_or_no_port, party_or_no_port, port_status_or_no_port, receive_state_or_no_port}
 pub use Rattle.lagffi.specs.ReaderValues.{standby_or_no_port, state_or_no_port}
