@@ -1,11 +1,11 @@
 -- Selected stays what it is in a bundle, once each end knows its partner.
 use Rattle.lagprogress.proofs.Common.{Bool, List, Some, [], ap, arith, false, if◌then◌else◌, inl, inr, not, refl, slice_get, slice_set, subst, suc}
-use Rattle.lagprogress.proofs.Common.{sym, true, zero, ℕ, ◌&&◌, ◌||◌, ◌∙◌, ◌∷◌, ◌≡◌, ◌⊎◌, nat_tests, none-some, AllByRecursion, Choice, is_unselected}
-use Rattle.lagprogress.proofs.Common.{system-itself, Lacpdu, party_of, ReceiveState, Current, Defaulted, PortDisabled, Machines, mux_rows}
-use Rattle.lagprogress.proofs.Common.{RunsPeriodic, lacpdu_rows, receive_rows, same_receive_state, AtRest, RunsToRest, count_down, is_eligible}
-use Rattle.lagprogress.proofs.Common.{SystemPort, ProcessesLacpdu, can_receive, can_receive_in, ChoosesIn, PortsChangeBy, Settling, ready_of, IsSound}
-use Rattle.lagprogress.proofs.Common.{SystemState, aggregators_value, selection_view, views, last_slots, HasRecorded, WantsAggregator}
-use Rattle.lagprogress.proofs.Common.{and_parts, may_choose}
+use Rattle.lagprogress.proofs.Common.{sym, true, zero, ℕ, ◌&&◌, ◌||◌, ◌∙◌, ◌∷◌, ◌≡◌, ◌⊎◌, and_parts, nat_tests, none-some, AllByRecursion, Choice}
+use Rattle.lagprogress.proofs.Common.{is_unselected, system-itself, Lacpdu, party_of, ReceiveState, Current, Defaulted, PortDisabled, Machines}
+use Rattle.lagprogress.proofs.Common.{mux_rows, RunsPeriodic, lacpdu_rows, receive_rows, same_receive_state, AtRest, RunsToRest, count_down}
+use Rattle.lagprogress.proofs.Common.{is_eligible, SystemPort, ProcessesLacpdu, can_receive, can_receive_in, ChoosesIn, PortsChangeBy, Settling}
+use Rattle.lagprogress.proofs.Common.{ready_of, IsSound, SystemState, aggregators_value, may_choose, selection_view, views, last_slots, HasRecorded}
+use Rattle.lagprogress.proofs.Common.{WantsAggregator}
 use Rattle.lagprogress.proofs.Knowing.{recorded, rests_still}
 use Rattle.lagprogress.proofs.Lasting.{all_by_place}
 use Rattle.lagprogress.proofs.Climbing.{keeps_selected}

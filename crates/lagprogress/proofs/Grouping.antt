@@ -9,11 +9,10 @@ use Rattle.lagprogress.proofs.Common.{or_else, AggregatorsValue, has_room, is_el
 use Rattle.lagprogress.proofs.Common.{OnlyPortChangesBy, ProcessesLacpdu, SetsLink, SetsPortEnabled, Step, ThenSettles, Ticks, IsFirst, key_of}
 use Rattle.lagprogress.proofs.Common.{OccupantsAgree, occupied, aggregator_numbered, ChoosesIn, PortsChangeBy, Settling, aggregator_for, choice_for}
 use Rattle.lagprogress.proofs.Common.{choice_if, choice_in, ready_of, with_choice, HasPorts, PortsAgree, SystemState, aggregators_value, port_index}
-use Rattle.lagprogress.proofs.Common.{port_numbers, selection_view, views, first_unselected, Keeps, given_number, keeps_link, keeps_place, keeps_tick}
-use Rattle.lagprogress.proofs.Common.{numbers_set, promoted_numbers, settling_in, settling_keeps, zip_numbers, next_stands, takes_is}
+use Rattle.lagprogress.proofs.Common.{port_numbers, may_choose, selection_view, views, first_unselected, Keeps, given_number, keeps_link, keeps_place}
+use Rattle.lagprogress.proofs.Common.{keeps_tick, numbers_set, promoted_numbers, settling_in, settling_keeps, zip_numbers, next_stands, takes_is}
 use Rattle.lagprogress.proofs.Common.{Step-preserves_ports, choices_keep, promotions_keep, Rises, all-get, ports_rise, RunsReady, set_same}
 use Rattle.lagprogress.proofs.Common.{GroupsAreWhole}
-use Rattle.lagprogress.proofs.Common.{may_choose}
 use Rattle.std.specs.Prelude.{◌||◌}
 use Rattle.lagmodel.proofs.Ports.{group_sym, individual_along}
 use Rattle.selection.specs.Joining.{IsOccupant, MayJoin, ends}

@@ -7,10 +7,9 @@ use Rattle.lagprogress.proofs.Common.{itself, MuxState, Attached, CollectingDist
 use Rattle.lagprogress.proofs.Common.{same_receive_state, PortView, aggregator_of_entry, chosen_if_eligible, has_group_of, has_no_occupant}
 use Rattle.lagprogress.proofs.Common.{has_occupant, is_aggregator, lowest, occupants, occupants_share_group, or_else, ports_that_chose, has_room}
 use Rattle.lagprogress.proofs.Common.{is_below, is_detached, is_eligible, occupies, stands_by, NoneStandsBy, none_is_next, SystemPort, key_of}
-use Rattle.lagprogress.proofs.Common.{MuxIsSettled, OccupantsAgree, WithinLimit, occupied, IsSound, SystemState, aggregators_value, selection_view}
-use Rattle.lagprogress.proofs.Common.{stage_of, views, takes_is, all-get, ports_rise, IsFull, StandsByFull, WantsAggregator, aggregators_with}
-use Rattle.lagprogress.proofs.Common.{ports_with, SharesGroup}
-use Rattle.lagprogress.proofs.Common.{may_choose}
+use Rattle.lagprogress.proofs.Common.{MuxIsSettled, OccupantsAgree, WithinLimit, occupied, IsSound, SystemState, aggregators_value, may_choose}
+use Rattle.lagprogress.proofs.Common.{selection_view, stage_of, views, takes_is, all-get, ports_rise, IsFull, StandsByFull, WantsAggregator}
+use Rattle.lagprogress.proofs.Common.{aggregators_with, ports_with, SharesGroup}
 use Rattle.lagprogress.proofs.Counting.{count, counted, count_less_of, count_more_of}
 
 -- the number of the aggregator that a port occupies; aggregators are numbered from 1

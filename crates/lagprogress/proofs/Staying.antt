@@ -1,12 +1,11 @@
 -- A settling gives no port another value of Selected where what the Selection Logic reads is as it was at rest.
 use Rattle.lagprogress.proofs.Common.{Bool, List, None, Some, [], ap, arith, false, if◌then◌else◌, inl, inr, length, not, option_map, refl, slice_get}
-use Rattle.lagprogress.proofs.Common.{slice_set, subst, suc, sym, true, zero, ℕ, ◌&&◌, ◌∙◌, ◌∷◌, ◌≡◌, nat_tests, none-some, same_Some, list_all}
-use Rattle.lagprogress.proofs.Common.{AggId, Key, Party, party_of, PortView, chosen_if_eligible, has_group_of, has_no_occupant, has_occupant}
-use Rattle.lagprogress.proofs.Common.{is_aggregator, lowest, occupants, occupants_share_group, or_else, ports_that_chose, is_below, is_eligible}
-use Rattle.lagprogress.proofs.Common.{stands_by, is_next, none_is_next, SystemPort, MuxIsSettled, ChoosesIn, PromotesNext, choice_for, choice_in}
-use Rattle.lagprogress.proofs.Common.{with_choice, IsSound, SystemState, aggregators_value, port_numbers, selection_view, views, next_stands}
-use Rattle.lagprogress.proofs.Common.{takes_is, choices_keep, promotions_keep, Rises, all-get, ports_rise, set_same}
-use Rattle.lagprogress.proofs.Common.{and_parts, may_choose}
+use Rattle.lagprogress.proofs.Common.{slice_set, subst, suc, sym, true, zero, ℕ, ◌&&◌, ◌∙◌, ◌∷◌, ◌≡◌, and_parts, nat_tests, none-some, same_Some}
+use Rattle.lagprogress.proofs.Common.{list_all, AggId, Key, Party, party_of, PortView, chosen_if_eligible, has_group_of, has_no_occupant}
+use Rattle.lagprogress.proofs.Common.{has_occupant, is_aggregator, lowest, occupants, occupants_share_group, or_else, ports_that_chose, is_below}
+use Rattle.lagprogress.proofs.Common.{is_eligible, stands_by, is_next, none_is_next, SystemPort, MuxIsSettled, ChoosesIn, PromotesNext, choice_for}
+use Rattle.lagprogress.proofs.Common.{choice_in, with_choice, IsSound, SystemState, aggregators_value, port_numbers, may_choose, selection_view}
+use Rattle.lagprogress.proofs.Common.{views, next_stands, takes_is, choices_keep, promotions_keep, Rises, all-get, ports_rise, set_same}
 use Rattle.lagprogress.proofs.Hearing.{no}
 use Rattle.lagprogress.proofs.Selecting.{clash, seen_stands, stands, when_is}
 
