@@ -412,7 +412,7 @@ fn another_mode_is_told_to_the_partner(rt: HostRuntime) {
         Step::Is(Fact::Ntt(false)),
         Step::Mode(true, false),
         Step::Is(Fact::Ntt(true)),
-        Step::Is(Fact::CurrentWhile(30)),
+        Step::Is(Fact::CurrentWhile(20)),
         Step::Sends(Some(0xc5)),
         Step::Mode(false, false),
         Step::Sends(Some(0xc4)),
