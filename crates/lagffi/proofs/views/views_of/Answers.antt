@@ -1,4 +1,4 @@
-use Rattle.lagffi.specs.PortViews.{view_at}
+use Rattle.lagffi.proofs.Common.{view_at}
 use Rattle.lagffi.proofs.MadeLemmas.{mapped_more}
 use Rattle.lagffi.proofs.views.views_of.Goals as goal
 
