@@ -7,8 +7,8 @@ use Rattle.dataplane.proofs.Common.{OffersIf, TakesPort, frame_of_conversation, 
 use Rattle.dataplane.proofs.Common.{GivesAssignment, GivesOrRefuses, MayBeOffered, has_aggregator, in_system, system_force_result, system_move_result}
 use Rattle.dataplane.proofs.Common.{conversation_count, distributing, number_of_conversation, CallPromise, SystemState, machines_of, port_index}
 use Rattle.dataplane.proofs.Common.{system_port_at, with_table, framed}
-use Rattle.std.specs.Prelude.{Bool, true, false, ◌&&◌, ◌≡◌, ◌<◌, ◌≤◌, ◌^◌, ◌⊎◌, ℕ, cond, eqb, if◌then◌else◌, is_some, nat_lt, List, []}
-use Rattle.std.specs.Prelude.{◌∷◌, Option, Some, None, Result, Ok, Err, option_map}
+use Rattle.std.specs.Prelude.{Bool, true, false, ◌&&◌, ◌≡◌, ◌<◌, ◌≤◌, ◌^◌, ◌⊎◌, ℕ, cond, eqb, if◌then◌else◌, is_some}
+use Rattle.std.specs.Prelude.{nat_lt, List, [], ◌∷◌, Option, Some, None, Result, Ok, Err, option_map}
 use Rattle.distributor.specs.declared.assignment.Assignment.TheVariants.{Free, On}
 use Rattle.distributor.specs.declared.fault.DistFault.{DistFault}
 use Rattle.distributor.specs.Moves.{model_conversation, model_distributor}

@@ -15,7 +15,6 @@ pub use Rattle.lagsystem.specs.declared.fault.SystemFault.TheVariants.{NoAggrega
 pub use Rattle.lagsystem.specs.Calls.{Call, Offer}
 pub use Rattle.lagsystem.specs.Readers.{aggregator_numbered, conversation_count}
 pub use Rattle.lagsystem.specs.Sound.{CallPromise}
-pub use Rattle.lagsystem.specs.State.{SystemState, machines_of}
 pub use Rattle.lagffi.specs.declared.values.LagNumber.{LagNumber}
 pub use Rattle.lagffi.specs.Algorithms.{gives_by, index_by_sum}
 pub use Rattle.lagffi.specs.Asking.{CallsHeldSystem, NotesHeldSystem, OffersToHeldSystem, ReadsHeldSystem, ReadsNotes, by_number_gives}
@@ -24,7 +23,7 @@ pub use Rattle.lagffi.specs.Lists.{put_first}
 pub use Rattle.lagffi.specs.Made.{IsMadeOfLagConfig, lag_key, lag_port_config}
 pub use Rattle.lagffi.specs.Masks.{due_on, is_so, mask}
 pub use Rattle.lagffi.specs.Numbers.{number, number_of, number_or_refused, number_refused, truth_or_no_port, wrong_buffer_length}
-pub use Rattle.lagffi.specs.PortViews.{changed, view_if_there, views_of}
+pub use Rattle.lagffi.specs.PortViews.{changed, view_at, views_of}
 pub use Rattle.lagffi.specs.ReaderValues.{assignment_or_refused, choice_or_no_port, group_or_no_port, info_or_no_port, lag_marker, lag_wait}
 pub use Rattle.lagffi.specs.ReaderValues.{mux_state_or_no_port, party_or_no_port, port_status_or_no_port, receive_state_or_no_port}
 pub use Rattle.lagffi.specs.ReaderValues.{standby_or_no_port, state_or_no_port}

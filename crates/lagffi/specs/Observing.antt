@@ -1,6 +1,5 @@
 -- Churn detection and counters of a port, as a program in C has them (6.4.17, 7.3.3).
 use Rattle.std.specs.Prelude.{ℕ, ◌==◌, replicate, if◌then◌else◌}
-use Rattle.lagtypes.specs.declared.identifiers.AggId.{AggId}
 use Rattle.slowpdu.specs.declared.fault.WireFault.TheVariants.{Short}
 use Rattle.lagsystem.specs.declared.received.Received.{Received}
 use Rattle.lagsystem.specs.declared.received.Received.TheVariants.{Disabled, Dropped, Ignored, TookLacpdu, Respond, Released, Up}

@@ -6,7 +6,8 @@ use Rattle.lagtypes.specs.Same.{same_bit}
 use Rattle.portmachines.specs.Machines.{Machines}
 use Rattle.portmachines.specs.Transmit.{actor_state}
 use Rattle.lagsystem.specs.PortStatus.{status_number, status_of_port}
-use Rattle.lagsystem.specs.State.{SystemState, machines_of}
+use Rattle.lagsystem.specs.State.{SystemState, port_index, system_port_at}
+use Rattle.lagsystem.specs.declared.system_ports.SystemPort.{SystemPort}
 use Rattle.lagffi.specs.ReaderValues.{choice_number, mux_state_number, no_mac, receive_state_number}
 use Rattle.lagffi.specs.declared.views.LagView.{LagView}
 
@@ -31,7 +32,7 @@ no_view n =
       partner_port = 0;
     }
 
--- of the port with this number and these machines
+-- of the port with this number and these machines, but for its status
 abbrev pub view_of_machines : ℕ → Machines → LagView
 view_of_machines n p =
     record {
@@ -43,7 +44,7 @@ view_of_machines n p =
       state = (actor_state p).0;
       receive_state = receive_state_number p.receive;
       mux_state = mux_state_number p.mux;
-      port_status = status_number (status_of_port p);
+      port_status = 0;
       partner_state = p.partner.state.0;
       partner_mac = p.partner.system.mac;
       partner_priority = p.partner.system.priority;
@@ -53,13 +54,17 @@ view_of_machines n p =
     }
 
 -- of the port with this number, if there is one
-abbrev pub view_if_there : ℕ → Option Machines → LagView
+abbrev pub view_if_there : ℕ → Option SystemPort → LagView
 view_if_there n None = no_view n
-view_if_there n (Some p) = view_of_machines n p
+view_if_there n (Some x) = record (view_of_machines n x.port) { port_status = status_number (status_of_port x) }
+
+-- of the port with this number
+abbrev pub view_at : SystemState → ℕ → LagView
+view_at s n = view_if_there n (system_port_at (port_index n s.system_ports) s.system_ports)
 
 -- of each of the ports with these numbers
 abbrev pub views_of : SystemState → List ℕ → List LagView
-views_of s numbers = map (λ n. view_if_there n (machines_of n s)) numbers
+views_of s numbers = map (view_at s) numbers
 
 -- each field is equal
 abbrev pub same_view : LagView → LagView → Bool

@@ -9,7 +9,7 @@ ghost use Rattle.distributor.specs.Conversations.{count_conversations, next_iden
 ghost use Rattle.lagsystem.specs.Forcing.{count_held_on};
 ghost use Rattle.lagsystem.specs.Hosts.{conversation_at, would_transmit_at};
 ghost use Rattle.lagsystem.specs.Offers.{has_aggregator};
-ghost use Rattle.lagsystem.specs.PortStatus.{status_of_port};
+ghost use Rattle.lagsystem.specs.PortStatus.{port_status_at};
 ghost use Rattle.lagsystem.specs.Readers.{aggregator_numbered, conversation_count, conversation_in, distributing, group_at};
 ghost use Rattle.lagsystem.specs.State.{port_numbers, port_index, machines_of};
 ghost use Rattle.lagsystem.specs.Waiting.{ticks_until_due};
@@ -148,7 +148,7 @@ pub extern "C" fn lagffi_mux_state(alloc: Global, lag: &mut Lag, port: u16) -> L
 #[unsafe(no_mangle)]
 pub extern "C" fn lagffi_port_status(alloc: Global, lag: &mut Lag, port: u16) -> LagNumber
     ensures { ReadsHeldSystem (held_value lag.old.held.kept) (held_value lag.new.held.kept)
-        (λ s. result ≡ port_status_or_no_port (option_map status_of_port (machines_of port s))) (result ≡ number_refused no_system) }
+        (λ s. result ≡ port_status_or_no_port (port_status_at port s)) (result ≡ number_refused no_system) }
 {
     ask!(alloc, lag, LagNumber, system, block => port_status_or_no_port(system.port_status(port)))
 }

@@ -1,13 +1,13 @@
 ghost use Rattle.std.specs.Prelude.{◌≡◌, ◌≤◌, IsTrue, length, nat_le};
 ghost use Rattle.std.specs.Bool.{IsFalse};
 ghost use Rattle.lagsystem.specs.PortStatus.{status_number};
-ghost use Rattle.lagsystem.specs.State.{machines_of, port_numbers};
+ghost use Rattle.lagsystem.specs.State.{port_numbers};
 ghost use Rattle.lagffi.specs.Asking.{ReadsHeldSystem};
 ghost use Rattle.lagffi.specs.Holding.{held_value};
 ghost use Rattle.lagffi.specs.Lists.{port_list_length, put_first};
 ghost use Rattle.lagffi.specs.Masks.{mask};
 ghost use Rattle.lagffi.specs.Numbers.{no_system, number, number_refused, wrong_buffer_length};
-ghost use Rattle.lagffi.specs.PortViews.{changed, no_view, same_view, view_if_there, view_of_machines, views_of};
+ghost use Rattle.lagffi.specs.PortViews.{changed, no_view, same_view, view_at, view_of_machines, views_of};
 
 use crate::handle::Lag;
 use crate::masks::mask;
@@ -114,7 +114,7 @@ impl LagView {
 
 /// What there is to show of the port with this number.
 fn view_of<F: Fn(u16, usize) -> usize + Drop>(system: &System<F>, number: u16) -> LagView
-    ensures { result ≡ view_if_there number (machines_of number system.now.state) }
+    ensures { result ≡ view_at system.now.state number }
 {
     let Some(port) = system.machines(number) else {
         return LagView::none(number);

@@ -150,12 +150,11 @@ each_is_calls gives e r old new x s =
 
 pub call_steady : (gives : ℕ → ℕ → ℕ → Type 0) (old new : SystemState) (call : Call) (a : Answer) → Step gives old call a new → IsSteadySystem old
     → IsSteadySystem new
-call_steady gives old new call a h k =
-    (
-      Step-sound gives old call a new h k.0,
-      Step-each TimedAt timed_settles gives old call a new (timed_kept call a) h k.1,
-      Step-free gives old call a new h k.2,
-    )
+call_steady gives old new call a h k = (
+  Step-sound gives old call a new h k.0,
+  Step-each TimedAt timed_settles gives old call a new (timed_kept call a) h k.1,
+  Step-free gives old call a new h k.2,
+)
 
 pub keeps_steady : (gives : Algorithms) (e : Event) (r : Reply) (old new : WorldState) → WorldSteps gives old e r new → IsSteady old
     → IsSteady new

@@ -1,12 +1,12 @@
 -- Ports that know their partners find aggregators, also where there are fewer of them than ports of one group.
-use Rattle.lagprogress.proofs.Common.{Bool, List, Some, ap, arith, false, inl, inr, not, refl, slice_get, subst, sym, true, ℕ, ◌&&◌, ◌==◌, ◌∙◌, ◌≡◌}
-use Rattle.lagprogress.proofs.Common.{◌≢◌, ◌⊎◌, cases_Bool, nat_tests, AggId, Key, SystemId, Standby, Unselected, Party, group_of, individual}
-use Rattle.lagprogress.proofs.Common.{same_group, group-itself, party_of, Side, peer, ReceiveState, Current, Expired, Initialize, PortDisabled}
-use Rattle.lagprogress.proofs.Common.{Machines, mux_rows, selected, RunsPeriodic, receive_rows, same_receive_state, RunsToRest, count_down}
-use Rattle.lagprogress.proofs.Common.{SystemPort, none_enabled, NoneHeld, SystemState, rests, all-get, found_place, ports_rise, Algorithms, LinkState}
-use Rattle.lagprogress.proofs.Common.{WorldState, half, port_at, AllHeard, EnoughAggregators, Clearing, HostRounds, NoneIsLeft, PlayedRounds}
-use Rattle.lagprogress.proofs.Common.{EndKnows, Knows, AtEnd, IsHealthyAt, OfPort, StandsByFull, WantsAggregator, AreOneGroup, DownWereLinkedTo}
-use Rattle.lagprogress.proofs.Common.{HasAggregators, LeadToKey, SharesGroup, IsSteady}
+use Rattle.lagprogress.proofs.Common.{Bool, Some, ap, arith, false, inl, inr, not, refl, slice_get, subst, sym, true, ℕ, ◌&&◌, ◌==◌, ◌∙◌, ◌≡◌, ◌≢◌}
+use Rattle.lagprogress.proofs.Common.{◌⊎◌, cases_Bool, nat_tests, AggId, Key, SystemId, Standby, Unselected, Party, group_of, individual, same_group}
+use Rattle.lagprogress.proofs.Common.{group-itself, party_of, Side, peer, ReceiveState, Current, Expired, Initialize, PortDisabled, Machines}
+use Rattle.lagprogress.proofs.Common.{mux_rows, selected, RunsPeriodic, receive_rows, same_receive_state, RunsToRest, count_down, SystemPort}
+use Rattle.lagprogress.proofs.Common.{none_enabled, NoneHeld, SystemState, rests, all-get, found_place, ports_rise, Algorithms, LinkState, WorldState}
+use Rattle.lagprogress.proofs.Common.{half, port_at, AllHeard, EnoughAggregators, Clearing, HostRounds, NoneIsLeft, PlayedRounds, EndKnows, Knows}
+use Rattle.lagprogress.proofs.Common.{AtEnd, IsHealthyAt, OfPort, StandsByFull, WantsAggregator, AreOneGroup, DownWereLinkedTo, HasAggregators}
+use Rattle.lagprogress.proofs.Common.{LeadToKey, SharesGroup, IsSteady}
 use Rattle.lagprogress.proofs.Choosing.{down_as_read}
 use Rattle.lagprogress.proofs.EachRound.{EachAt, RoundKeeps, host_each, played_keep, played_on, played_steady}
 use Rattle.lagprogress.proofs.Hearing.{EnabledKeep, no, times_keep}

@@ -171,14 +171,15 @@ fn arrivals() -> [([u8; 17], Received); 16] {
 
 #[test]
 fn each_frame_counts_once(rt: HostRuntime) {
-    let slow = [0x88, 0x09];
+    let (slow, other) = ([0x88, 0x09], [0x08, 0x00]);
     let mut counters = Counters::none();
     for (octets, answer) in &arrivals() {
         counters.count_received(octets, answer);
     }
-    counters.count_received(&[0x01, 0x80, 0xc2, 0x00, 0x00, 0x02], &Received::Dropped);
+    counters.count_received(&frame(other, 1, 0)[..13], &Received::Dropped);
+    counters.count_received(&frame(other, 1, 0)[..14], &Received::Dropped);
     counters.count_received(
-        &[0x01, 0x80, 0xc2, 0, 0, 2, 2, 0, 0, 0, 0, 9, 0x88, 0x09],
+        &frame(slow, 3, 0)[..14],
         &Received::Ignored(WireFault::Short { have: 0 }),
     );
     for octets in &[
@@ -194,7 +195,8 @@ fn each_frame_counts_once(rt: HostRuntime) {
     for octets in &[
         frame(slow, 2, 3),
         frame(slow, 3, 1),
-        frame([0x08, 0x00], 1, 1),
+        frame([0x88, 0x00], 1, 1),
+        frame([0x08, 0x09], 2, 1),
     ] {
         counters.count_sent(octets);
     }
@@ -202,7 +204,7 @@ fn each_frame_counts_once(rt: HostRuntime) {
         lacpdus_received: 1,
         markers_received: 2,
         marker_responses_received: 3,
-        unknown_received: 4,
+        unknown_received: 5,
         illegal_received: 5,
         lacpdus_sent: 2,
         markers_sent: 1,
