@@ -54,7 +54,7 @@ ip -n vm link set eth0 mtu 9000 up
 ip -n vm address add 10.20.0.1/24 dev eth0
 for n in 1 2; do
     ip netns add switch$n
-    while ! ip -n far link set far$n netns switch$n 2>/dev/null; do sleep 0.1; done
+    while ! ip -n far link set far$n netns switch$n 2>/dev/null; do sleep 1; done
     ip -n switch$n link set far$n mtu 9000 up
     ip -n switch$n link add br0 type bridge mcast_snooping 0
     ip -n switch$n link set br0 mtu 9000 up
@@ -97,7 +97,7 @@ SWITCHES_UNIT = "[Unit]\nAfter=guest-far.service\nRequires=guest-far.service\n[S
 
 
 def link(mac: str, name: str) -> str:
-    return f"[Match]\nMACAddress={mac}\n[Link]\nName={name}\n"
+    return f"[Match]\nPermanentMACAddress={mac}\n[Link]\nName={name}\n"
 
 
 def switch_files() -> dict[str, str]:
@@ -128,7 +128,7 @@ def reaches(guest: Guest, space: str, to: str, octets: int, what: str) -> str:
 
 def tags(guest: Guest) -> str:
     """A VLAN that the bridge does not have goes nowhere."""
-    guest.run("ip netns exec far ping -c 3 -i 0.2 -W 1 10.30.0.1 & timeout 4 tcpdump -c 1 -i br0 -nn vlan 30 >/run/thirty 2>&1; wait")
+    guest.run("ip netns exec far ping -c 3 -i 0.2 -W 1 10.30.0.1 & timeout 4 ip netns exec vm tcpdump -c 1 -i eth0 -nn 'arp or vlan' >/run/thirty 2>&1; wait")
     seen = "1 packet captured" in guest.text("cat /run/thirty")
     check(not seen, "frames of another VLAN do not pass the bridge", guest.text("bridge vlan"))
     return "none" if not seen else "FAILED"

@@ -7,10 +7,12 @@ import time
 from dataclasses import dataclass
 from typing import Any, Callable
 
-from checking import Failed, within
+from checking import Failed
 from guest import Ended, Guest
 
 COMES_UP, RATE = 60, 500
+# How long the guest is left alone between two looks, in seconds: to look takes its processor.
+LOOKS = 0.5
 NEAR_AT, FAR_AT = "192.0.2.1", "192.0.2.2"
 NEAR = "[Bundle]\nkey=7\nsystem=auto\ncarry=lag0\nhash=layer3+4\n{more}\n[Port eth1]\n[Port eth2]\n"
 FAR = "[Bundle]\nkey=5\nsystem=32768,02:00:00:00:00:bb\ncarry=lag0\nhash=layer3+4\n{more}\n[Port far1]\n[Port far2]\n"
@@ -77,7 +79,11 @@ def carrying(guest: Guest, bundle: str = "uplink") -> int:
 def comes_up(guest: Guest, links: int = 2, bundle: str = "uplink", seconds: float = COMES_UP) -> float | None:
     """Waits until so many links carry for a partner; answers after how many seconds, or None."""
     began = time.monotonic()
-    return time.monotonic() - began if within(seconds, lambda: carrying(guest, bundle) == links) else None
+    while carrying(guest, bundle) != links:
+        if time.monotonic() > began + seconds:
+            return None
+        time.sleep(LOOKS)
+    return time.monotonic() - began
 
 
 def up_again(guest: Guest, links: int = 2, bundle: str = "uplink") -> float:
@@ -90,7 +96,7 @@ def up_again(guest: Guest, links: int = 2, bundle: str = "uplink") -> float:
 
 def journal(guest: Guest) -> str:
     """What the daemons said last."""
-    return guest.text("journalctl --no-pager --lines 40 -o short-monotonic -u 'lagd@*' -u far; lagd --status | head -60")[-6000:]
+    return guest.text("journalctl --no-pager --lines 15 -o short-monotonic -u 'lagd@*' -u far | cut -c 1-160; ip -br address")
 
 
 def direction(guest: Guest, name: str) -> Outcome:

@@ -22,8 +22,8 @@ CARDS = {"virtio": "virtio-net-pci,speed=10000,duplex=full", "e1000e": "e1000e",
 # eth2, so no name that udev gives is taken.
 PLACES = (("far1", 1), ("eth1", 1), ("eth2", 2), ("far2", 2))
 MACS = {name: f"52:54:00:00:{'0b' if name.startswith('far') else '0a'}:0{name[-1]}" for name, _ in PLACES}
-NAMED = "[Match]\nMACAddress={mac}\n[Link]\nName={name}\n"
-BOOTS, ANSWERS, STARTS = 120, 60, 20
+NAMED = "[Match]\nPermanentMACAddress={mac}\n[Link]\nName={name}\n"
+BOOTS, ANSWERS, STARTS = 300, 60, 20
 APPEND = "console=ttyS0 net.ifnames=0 mitigations=off quiet panic=-1 systemd.show_status=0"
 
 

@@ -11,6 +11,8 @@ from guest import Guest
 
 # What a link may lose when it goes: the frames of some seconds, until LACP times out, where one end alone sees it.
 SECONDS, LINK_GOES, ONE_END = 5, RATE, 5 * RATE
+# What a daemon may have in hand as it is killed.
+IN_HAND = 256
 # For how long cards that were plugged in are looked for.
 APPEARS = 40
 
@@ -102,6 +104,14 @@ def peer_is_killed(guest: Guest) -> str:
     return f"{took:.1f} s"
 
 
+def patient(guest: Guest) -> str:
+    """Both ends wait for 90 s for an LACPDU: this processor may take longer than 3 s to start a daemon."""
+    if use(guest, "timeout=long").status:
+        raise Failed("both ends start with timeout=long", journal(guest))
+    up_again(guest)
+    return "90 s"
+
+
 def restarts(guest: Guest) -> str:
     before = guest.text("cat /sys/class/net/lag0/ifindex; ip -br address show lag0")
     outcomes = traffic(guest, SECONDS, lambda: guest.run("systemctl restart lagd@uplink"))
@@ -113,7 +123,9 @@ def restarts(guest: Guest) -> str:
 
 def is_killed(guest: Guest) -> str:
     outcomes = traffic(guest, SECONDS, lambda: guest.run("systemctl kill --kill-whom=main --signal=SIGKILL lagd@uplink"))
-    text = orderly(guest, "the daemon is killed", outcomes, 256)
+    text = orderly(guest, "the daemon is killed", outcomes, IN_HAND)
+    said = guest.text("journalctl --no-pager -u lagd@uplink -o cat | grep 'go on where' | tail -1")
+    check(said.startswith("2 of 2 links"), "the next one goes on where it was", said)
     up_again(guest)
     return text
 
@@ -138,7 +150,7 @@ def is_upgraded(guest: Guest) -> str:
 
 def other_way(guest: Guest, way: str) -> str:
     """Both ends pass data on in another way, or the kernel has none."""
-    ended = use(guest, f"{way}=yes")
+    ended = use(guest, f"timeout=long\n{way}=yes")
     if ended.status == 0:
         up_again(guest)
         told = status(guest)["carry"]
@@ -189,6 +201,7 @@ ROWS: dict[str, Callable[[Guest], str]] = {
     "a card is pulled": card_is_pulled,
     "the peer is stopped: up again after": peer_is_stopped,
     "the peer is killed: up again after": peer_is_killed,
+    "then with timeout=long": patient,
     "systemctl restart": restarts,
     "SIGKILL": is_killed,
     "an upgrade, and a restart": is_upgraded,

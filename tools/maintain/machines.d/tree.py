@@ -39,7 +39,7 @@ WantedBy=multi-user.target
 FAR = """#!/bin/sh
 ip netns add far
 for n in 1 2; do
-    while ! ip link set far$n netns far 2>/dev/null; do sleep 0.1; done
+    while ! ip link set far$n netns far 2>/dev/null; do sleep 1; done
     ip -n far link set far$n up
 done
 ip -n far link set lo up
