@@ -16,7 +16,7 @@
 #include <sys/timerfd.h>
 #include <unistd.h>
 
-#include "team.h"
+#include "lagd.h"
 
 /* The most events of a turn. */
 #define MOST_EVENTS TAGS
@@ -214,6 +214,6 @@ int main(int argc, char **argv) {
     keep_standard_files();
     options = read_options(argc, argv);
     if (options->action == RUN) return run_daemon(options);
-    if (options->action == CHECK) return check_kernel(options);
+    if (options->action == CHECK) return check_machine(options);
     return ask_daemons(options);
 }

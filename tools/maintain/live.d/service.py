@@ -108,6 +108,19 @@ class Filed(Daemon):
         part.running.append(self)
 
 
+def check_of_machine(part: Part, path: str) -> None:
+    """What a file wants of the kernel, asked by root, by a user who may not, and where there is no /dev/net/tun."""
+    write(path, FILE.replace("[Port", "carry=lag0\nfast=yes\n[Port", 1))
+    asked = {"": [], "not known without CAP_BPF": ["setpriv", "--reuid=65534", "--clear-groups", "--bounding-set=-all", "--inh-caps=-all"]}
+    for told, words in asked.items():
+        ended = inside(OURS, *words, part.program, "--check", path)
+        holds = ended.returncode == 0 and told in ended.stderr and (told or not ended.stderr)
+        check(holds, f"a file with fast=yes is right here: {told or 'nothing is said'}", ended.returncode, ended.stderr)
+    lacking = inside(OURS, "unshare", "--mount", "sh", "-c", 'mount -t tmpfs none /dev && exec "$@"', "sh", part.program, "--check", path)
+    holds = lacking.returncode == 1 and "carry: there is no /dev/net/tun" in lacking.stderr
+    check(holds, "without /dev/net/tun it is told that carry lacks it", lacking.returncode, lacking.stderr)
+
+
 def files(part: Part) -> None:
     """A file is checked, and a bundle runs of it."""
     path = os.path.join(part.folder, "uplink.conf")
@@ -125,6 +138,8 @@ def files(part: Part) -> None:
         write(path, FILE.replace(SYSTEM, address))
         right = inside(OURS, part.program, "--check", path)
         check((right.returncode, right.stderr) == (0, ""), f"a right one is not, with the address {address}", right.stderr)
+    check_of_machine(part, path)
+    write(path, FILE.replace(SYSTEM, NOTATIONS[-1]))
     mixed = inside(OURS, part.program, "--config", path, "--min-links", "2")
     check(mixed.returncode == 2, "a file and options of a bundle do not go together", mixed.stderr)
     ours, theirs = Filed(part, path), part.theirs()
