@@ -119,6 +119,16 @@ def check_of_machine(part: Part, path: str) -> None:
     lacking = inside(OURS, "unshare", "--mount", "sh", "-c", 'mount -t tmpfs none /dev && exec "$@"', "sh", part.program, "--check", path)
     holds = lacking.returncode == 1 and "carry: there is no /dev/net/tun" in lacking.stderr
     check(holds, "without /dev/net/tun it is told that carry lacks it", lacking.returncode, lacking.stderr)
+    write(path, FILE.replace("[Port", "carry=lag0\nplane=team\n[Port", 1))
+    has_driver = inside(OURS, "ip", "link", "add", "team9", "type", "team").returncode == 0
+    inside(OURS, "ip", "link", "del", "team9")
+    refused = "this kernel has no team driver"
+    asked = inside(OURS, part.program, "--check", path)
+    holds = asked.returncode == 0 if has_driver else asked.returncode == 1 and f"plane: {refused}" in asked.stderr
+    check(holds, f"a file with plane=team is {'right here' if has_driver else 'told that this kernel has no such driver'}", asked.returncode, asked.stderr)
+    if not has_driver:
+        started = inside(OURS, part.program, "--config", path)
+        check(started.returncode == 1 and f"plane=team: {refused}" in started.stderr, "so is a start", started.returncode, started.stderr)
 
 
 def files(part: Part) -> None:
