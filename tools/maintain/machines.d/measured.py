@@ -194,4 +194,4 @@ def tables(told: dict[str, dict[str, str]]) -> str:
     return "\n".join(lines)
 
 
-TASKS = {"6.12/e1000e": Task("6.12", "e1000e", OVER, measure)}
+TASKS = {"measured on 6.12/e1000e": Task("6.12", "e1000e", OVER, measure)}
