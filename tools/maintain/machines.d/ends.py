@@ -54,10 +54,6 @@ class Outcome:
     def lost(self) -> int:
         return self.sent - self.received
 
-    @property
-    def in_order(self) -> bool:
-        return self.overtaken == self.twice == 0 < self.received
-
 
 def status(guest: Guest, bundle: str = "uplink") -> dict[str, Any]:
     """What lagd --status --json says of a bundle; nothing while none answers."""

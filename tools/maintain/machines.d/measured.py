@@ -13,7 +13,7 @@ from deployments import Task
 from ends import BOND, COMES_UP, FAR_AT, NEAR_AT, NO_BOND, OVER, journal, stream, traffic, up_again, use
 from guest import Guest
 
-ROUNDS, SECONDS = 3, 3
+ROUNDS, SECONDS = 2, 3
 MTUS, STREAMS = (1500, 9000), (1, 4)
 SPEEDS = tuple((mtu, streams) for mtu in MTUS for streams in STREAMS)
 RUNNER = {"name": "lacp", "active": True, "fast_rate": True, "tx_hash": ["eth", "ip", "l4"]}
