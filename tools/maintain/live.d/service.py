@@ -423,7 +423,7 @@ def unit(part: Part) -> None:
     check(level and float(level[1]) <= EXPOSED, f"systemd-analyze security: at most {EXPOSED}", level and level[0])
     with open(UNIT, encoding="utf-8") as text, open(os.path.join(TOP, "lagd", "carry.conf"), encoding="utf-8") as more:
         whole = re.sub(r"^Documentation=.*\n", "", text.read(), flags=re.M).replace("/usr/sbin/lagd", part.program)
-        write(os.path.join(part.folder, "lagd@uplink.service"), whole.replace("[Install]", more.read().replace("#ExecStartPre", "ExecStartPre") + "[Install]"))
+        write(os.path.join(part.folder, "lagd@uplink.service"), whole.replace("[Install]", more.read() + "[Install]"))
     verified = command("systemd-analyze", "verify", os.path.join(part.folder, "lagd@uplink.service"))
     check((verified.returncode, verified.stderr) == (0, ""), "systemd-analyze verify has no fault to find, with carry.conf either", verified.stderr)
     if not shutil.which("setpriv"):

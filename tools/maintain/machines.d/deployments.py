@@ -3,11 +3,13 @@ a router with a partner that is named. Their files are those that an administrat
 
 from __future__ import annotations
 
+import os
 from typing import Callable, NamedTuple
 
 from checking import check, within
-from ends import COMES_UP, FAST, OVER, comes_up, journal, ping, status, traffic, up_again
+from ends import COMES_UP, OVER, comes_up, journal, ping, status, traffic, up_again
 from guest import Guest, MACS
+from repository import TOP
 from rows import boots, orderly, tried
 
 
@@ -23,7 +25,6 @@ class Task(NamedTuple):
 PAIR = OVER
 LINKS = "etc/systemd/network/10-{}.link"
 WANTED = "etc/systemd/system/multi-user.target.wants/"
-DROP_INS = "etc/systemd/system/lagd@{}.service.d/"
 JUMBO, JUMBO_PING = 9000, 8972
 
 # The server: two links of 9,000 octets to a pair of switches, and lag0 as a port of a bridge that knows VLANs. br0 has the VLAN 10 for the
@@ -46,7 +47,8 @@ VLAN = "[NetDev]\nName=br0.10\nKind=vlan\nMTUBytes=9000\n[VLAN]\nId=10\n"
 VLAN_NETWORK = "[Match]\nName=br0.10\n[Network]\nAddress=10.10.0.1/24\n"
 MACHINE = "[Match]\nName=vm0\n[Link]\nMTUBytes=9000\n[Network]\nBridge=br0\nLinkLocalAddressing=no\n[BridgeVLAN]\nVLAN=20\nPVID=20\nEgressUntagged=20\n"
 # The virtual machine; and two switches in namespaces, each with one link, whose daemons are one system. A host is behind the first one, and
-# frames go from switch to switch by a link of their own: those that come by it go out to no server, as MLAG has it while both links carry.
+# frames go from switch to switch by a link of their own: those that come by it go out to no server, as MLAG has it while both links carry, and
+# nothing is learned of them.
 SWITCHES = """#!/bin/sh -e
 ip netns add vm
 ip link add vm0 type veth peer name eth0 netns vm
@@ -63,6 +65,7 @@ ip -n switch1 link add other netns switch1 type veth peer name other netns switc
 ip -n switch1 link add host type veth peer name eth0 netns far
 for n in 1 2; do
     ip -n switch$n link set other mtu 9000 master br0 up
+    bridge -n switch$n link set dev other learning off
     ip netns exec switch$n tc qdisc add dev other clsact
     ip netns exec switch$n tc filter add dev other ingress matchall action skbedit mark 7 continue
 done
@@ -76,6 +79,7 @@ done
 """
 SWITCH = """[Bundle]
 key=9
+timeout=long
 system=4096,02:00:00:00:00:cc
 carry=lag0
 hash=layer3+4
@@ -100,6 +104,12 @@ def link(mac: str, name: str) -> str:
     return f"[Match]\nPermanentMACAddress={mac}\n[Link]\nName={name}\n"
 
 
+def rules_for(names: str) -> str:
+    """The rule of the package for udev, with these names in it."""
+    with open(os.path.join(TOP, "lagd", "boot", "90-lagd.rules"), encoding="utf-8") as it:
+        return it.read().replace("eth1|eth2", names)
+
+
 def switch_files() -> dict[str, str]:
     """Both switches; they start at boot."""
     files = {"usr/local/sbin/switches": SWITCHES, "etc/systemd/system/switches.service": SWITCHES_UNIT}
@@ -116,8 +126,7 @@ def server_files() -> dict[str, str]:
     files = {f"etc/systemd/network/{name}": text for name, text in networks.items()}
     names = {"eth1": "ens1f0", "eth2": "ens1f1"}
     files |= {LINKS.format(old): link(MACS[old], new) for old, new in names.items()}
-    fast = FAST.replace("eth1", "ens1f0").replace("eth2", "ens1f1")
-    return {**files, "etc/lagd/uplink.conf": SERVER, DROP_INS.format("uplink") + "fast.conf": fast}
+    return {**files, "etc/lagd/uplink.conf": SERVER, "etc/udev/rules.d/90-lagd.rules": rules_for("ens1f0|ens1f1")}
 
 
 def reaches(guest: Guest, space: str, to: str, octets: int, what: str) -> str:
@@ -128,15 +137,16 @@ def reaches(guest: Guest, space: str, to: str, octets: int, what: str) -> str:
 
 def tags(guest: Guest) -> str:
     """A VLAN that the bridge does not have goes nowhere."""
-    guest.run("ip netns exec far ping -c 3 -i 0.2 -W 1 10.30.0.1 & timeout 4 ip netns exec vm tcpdump -c 1 -i eth0 -nn 'arp or vlan' >/run/thirty 2>&1; wait")
+    guest.run("ip netns exec far ping -c 3 -i 0.2 -W 1 10.30.0.1 & timeout 4 ip netns exec vm tcpdump -c 1 -i eth0 -nn 'arp host 10.30.0.1 or vlan 30' >/run/thirty 2>&1; wait")
     seen = "1 packet captured" in guest.text("cat /run/thirty")
     check(not seen, "frames of another VLAN do not pass the bridge", guest.text("bridge vlan"))
     return "none" if not seen else "FAILED"
 
 
 def server_moves(guest: Guest, event: Callable[[], object], what: str, most: int) -> str:
-    """Frames between the virtual machine and the host behind the switches, while something happens."""
-    return orderly(guest, what, traffic(guest, 6, event, ("eth0", "eth0.20"), near_space="vm"), most)
+    """Frames between the virtual machine and the host behind the switches, while something happens. Which of both switches a conversation goes
+    by may change: a marker keeps its order on the way to the first one alone."""
+    return orderly(guest, what, traffic(guest, 6, event, ("eth0", "eth0.20"), near_space="vm"), most, to_next_alone=True)
 
 
 def switch_goes(guest: Guest) -> str:
@@ -149,8 +159,21 @@ def switch_goes(guest: Guest) -> str:
     return text
 
 
+def patient(guest: Guest) -> None:
+    """The near end waits for 90 s for an LACPDU, as the far one does: this processor takes some 3 s to start a unit."""
+    guest.run("sed -i '/^timeout=/d; s/^\\[Bundle\\]/&\\ntimeout=long/' /etc/lagd/uplink.conf; systemctl restart lagd@uplink")
+    up_again(guest)
+
+
+def left_alone(guest: Guest) -> None:
+    """No member is left to the daemon."""
+    text = guest.text("journalctl --no-pager -b -u lagd@uplink -o cat | grep -E 'stays with the daemon|markers may'")
+    check(text == "", "the kernel passes on the data of each member", text)
+
+
 def server_stays(guest: Guest) -> str:
     """What stands above lag0 stays at a restart."""
+    patient(guest)
     look = "bridge vlan show dev lag0; ip -o link show lag0 | grep -o 'master br0'; ip -br address show br0.10; cat /sys/class/net/lag0/mtu"
     before = guest.text(look)
     text = server_moves(guest, lambda: guest.run("systemctl restart lagd@uplink"), "the server's bundle is restarted", 0)
@@ -164,11 +187,12 @@ def server_boots(guest: Guest) -> str:
     up = comes_up(guest, seconds=2 * COMES_UP)
     check(up is not None, "both links carry to the pair of switches at boot", "" if up is not None else journal(guest))
     way = status(guest).get("carry", {}).get("way")
-    check(way == "fast", "the kernel passes data on", way)
+    check(way == "fast", "the way is fast", way)
+    left_alone(guest)
     mtu = guest.text("cat /sys/class/net/lag0/mtu")
     check(within(10, lambda: guest.text("cat /sys/class/net/lag0/mtu") == "9000"), "lag0 has the MTU of its members", mtu)
-    member = within(COMES_UP, lambda: "br0" in guest.text("ip -o link show lag0"))
-    check(member, "lag0 is a port of the bridge", guest.text("bridge link; bridge vlan"))
+    laid = within(COMES_UP, lambda: guest.run("ip -o link show lag0 | grep -q br0 && ip -br address show br0.10 | grep -q 10.10.0.1").status == 0)
+    check(laid, "lag0 is a port of the bridge, which has a VLAN", "" if laid else guest.text("networkctl --no-pager; journalctl --no-pager -b -u systemd-networkd | tail -25"))
     failed = guest.text("systemctl --failed --plain --no-legend")
     check(failed == "", "no unit failed", failed)
     return f"{took:.0f} s"
@@ -180,7 +204,7 @@ SERVER_ROWS: dict[str, Callable[[Guest], str]] = {
     "pings of 8,972 octets in VLAN 20, from a virtual machine": lambda guest: reaches(guest, "vm", "10.20.0.2", JUMBO_PING, "a virtual machine reaches a host"),
     "frames of another VLAN": tags,
     "frames lost, and longest gap": lambda guest: server_moves(guest, lambda: None, "frames of the virtual machine", 0),
-    "systemctl restart": server_stays,
+    "systemctl restart, with timeout=long": server_stays,
     "a switch of the pair goes": switch_goes,
 }
 
@@ -233,7 +257,7 @@ def router_files() -> dict[str, str]:
     """What the administrator of the router wrote, and its provider."""
     networks = {"10-members.network": ROUTER_MEMBERS, "20-lag0.network": "", "20-isp0.network": ROUTER_ISP, "30-lan0.network": ROUTER_LAN}
     return {**{f"etc/systemd/network/{name}": text for name, text in networks.items()}, "etc/lagd/uplink.conf": ROUTER,
-            DROP_INS.format("uplink") + "fast.conf": FAST, "usr/local/sbin/provider": PROVIDER, "etc/systemd/system/provider.service": PROVIDER_UNIT,
+            "usr/local/sbin/provider": PROVIDER, "etc/systemd/system/provider.service": PROVIDER_UNIT,
             f"{WANTED}provider.service": "../provider.service"}  # fmt: skip
 
 
@@ -242,7 +266,8 @@ def router_boots(guest: Guest) -> str:
     up = comes_up(guest, seconds=2 * COMES_UP)
     check(up is not None, "both links carry to the named partner at boot", "" if up is not None else journal(guest))
     way = status(guest).get("carry", {}).get("way")
-    check(way == "fast", "the kernel passes data on", way)
+    check(way == "fast", "the way is fast", way)
+    left_alone(guest)
     failed = guest.text("systemctl --failed --plain --no-legend")
     check(failed == "", "no unit failed", failed)
     return f"{took:.0f} s"
@@ -260,6 +285,9 @@ def two_tags(guest: Guest) -> str:
 
 
 def router_restarts(guest: Guest) -> str:
+    guest.run("ip -n far link set bond0 down; ip -n far link set bond0 type bond lacp_rate slow; ip -n far link set bond0 up")
+    patient(guest)
+    ping(guest)
     before = guest.text(LOOK)
     outcomes = traffic(guest, 6, lambda: guest.run("systemctl restart lagd@uplink"), ("isp0", "bond0"))
     text = orderly(guest, "the router's bundle is restarted", outcomes, 0)
@@ -296,9 +324,9 @@ ROUTER_ROWS: dict[str, Callable[[Guest], str]] = {
     "boots, with both links": router_boots,
     "pings through the router": routes,
     "pings of 1,472 octets with two tags": two_tags,
-    "systemctl restart": router_restarts,
     "one link, then none: up again after": one_link,
     "another system at the other end": stranger,
+    "systemctl restart, with timeout=long": router_restarts,
 }
 
 

@@ -29,8 +29,6 @@ ExecStartPost=/bin/sh -c 'ip -n far link set lag0 up; ip -n far address add {FAR
 [Install]
 WantedBy=multi-user.target
 """
-# What carry.conf says of `fast`, for both members.
-FAST = "[Service]\n" + "".join(f"ExecStartPre=-+/bin/sh -c 'echo 1 >/sys/class/net/{it}/queues/rx-0/rps_cpus'\n" for it in ("eth1", "eth2"))
 # The files of LAGD, "At boot", for systemd-networkd stand in the tree already.
 OVER = {"etc/lagd/uplink.conf": NEAR.format(more=""), "etc/lagd/far.conf": FAR.format(more=""), "etc/systemd/system/far.service": FAR_UNIT,
         "etc/systemd/system/multi-user.target.wants/far.service": "../far.service"}  # fmt: skip
@@ -55,10 +53,6 @@ class Outcome:
     @property
     def lost(self) -> int:
         return self.sent - self.received
-
-    @property
-    def in_order(self) -> bool:
-        return self.overtaken == self.twice == 0 < self.received
 
 
 def status(guest: Guest, bundle: str = "uplink") -> dict[str, Any]:
@@ -143,9 +137,6 @@ def stream(guest: Guest, seconds: int = 4, streams: int = 1, to: str = FAR_AT) -
 
 def use(guest: Guest, more: str) -> Ended:
     """Both ends are started anew with these lines in their files."""
-    guest.run("mkdir -p /etc/systemd/system/lagd@uplink.service.d")
     for path, text in ("lagd/uplink.conf", NEAR.format(more=more)), ("lagd/far.conf", FAR.format(more=more)):
         guest.run(f"cat >/etc/{path} <<'END'\n{text}END")
-    drop = "/etc/systemd/system/lagd@uplink.service.d/fast.conf"
-    guest.run(f"cat >{drop} <<'END'\n{FAST}END" if "fast" in more else f"rm -f {drop}")
-    return guest.run("systemctl daemon-reload; systemctl restart far & systemctl restart lagd@uplink; status=$?; wait; exit $status")
+    return guest.run("systemctl restart far & systemctl restart lagd@uplink; status=$?; wait; exit $status")

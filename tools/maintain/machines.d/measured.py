@@ -13,7 +13,7 @@ from deployments import Task
 from ends import BOND, COMES_UP, FAR_AT, NEAR_AT, NO_BOND, OVER, journal, stream, traffic, up_again, use
 from guest import Guest
 
-ROUNDS, SECONDS = 3, 3
+ROUNDS, SECONDS = 2, 3
 MTUS, STREAMS = (1500, 9000), (1, 4)
 SPEEDS = tuple((mtu, streams) for mtu in MTUS for streams in STREAMS)
 RUNNER = {"name": "lacp", "active": True, "fast_rate": True, "tx_hash": ["eth", "ip", "l4"]}
@@ -194,4 +194,4 @@ def tables(told: dict[str, dict[str, str]]) -> str:
     return "\n".join(lines)
 
 
-TASKS = {"6.12/e1000e": Task("6.12", "e1000e", OVER, measure)}
+TASKS = {"measured on 6.12/e1000e": Task("6.12", "e1000e", OVER, measure)}

@@ -11,6 +11,8 @@ from guest import Guest
 
 # What a link may lose when it goes: the frames of some seconds, until LACP times out, where one end alone sees it.
 SECONDS, LINK_GOES, ONE_END = 5, RATE, 5 * RATE
+# The rate while there is no daemon, for some 3 s of this processor: sockets have room for what comes then.
+SLOW = 100
 # What a daemon may have in hand as it is killed.
 IN_HAND = 256
 # For how long cards that were plugged in are looked for.
@@ -19,14 +21,16 @@ APPEARS = 40
 
 def cell(outcomes: list[Outcome]) -> str:
     """What the table has of frames to the far end, and from it."""
-    return " / ".join(f"{it.lost} of {it.sent}, {it.gap_ms} ms" for it in outcomes)
+    strange = [f", {it.overtaken} overtaken, {it.twice} twice" if it.overtaken or it.twice else "" for it in outcomes]
+    return " / ".join(f"{it.lost} of {it.sent}, {it.gap_ms} ms{more}" for it, more in zip(outcomes, strange))
 
 
-def orderly(guest: Guest, what: str, outcomes: list[Outcome], most: int) -> str:
-    """No frame was overtaken, and no more are lost than may be."""
+def orderly(guest: Guest, what: str, outcomes: list[Outcome], most: int, to_next_alone: bool = False) -> str:
+    """No frame comes twice, none is overtaken unless there is a way of several links, and no more are lost than may be."""
     text = cell(outcomes)
-    holds = all(it.in_order and it.lost <= most for it in outcomes)
-    check(holds, f"{what}: no frame is overtaken, and at most {most} are lost ({text})", "" if holds else journal(guest))
+    holds = all(it.received and not it.twice and (to_next_alone or not it.overtaken) and it.lost <= most for it in outcomes)
+    order = "no frame comes twice" if to_next_alone else "no frame is overtaken"
+    check(holds, f"{what}: {order}, and at most {most} are lost ({text})", "" if holds else journal(guest))
     return text
 
 
@@ -114,7 +118,7 @@ def patient(guest: Guest) -> str:
 
 def restarts(guest: Guest) -> str:
     before = guest.text("cat /sys/class/net/lag0/ifindex; ip -br address show lag0")
-    outcomes = traffic(guest, SECONDS, lambda: guest.run("systemctl restart lagd@uplink"))
+    outcomes = traffic(guest, SECONDS, lambda: guest.run("systemctl restart lagd@uplink"), rate=SLOW)
     text = orderly(guest, "systemctl restart", outcomes, 0)
     after = guest.text("cat /sys/class/net/lag0/ifindex; ip -br address show lag0")
     check(after == before, "lag0 is the same device, with its addresses", before, after)
@@ -122,7 +126,7 @@ def restarts(guest: Guest) -> str:
 
 
 def is_killed(guest: Guest) -> str:
-    outcomes = traffic(guest, SECONDS, lambda: guest.run("systemctl kill --kill-whom=main --signal=SIGKILL lagd@uplink"))
+    outcomes = traffic(guest, SECONDS, lambda: guest.run("systemctl kill --kill-whom=main --signal=SIGKILL lagd@uplink"), rate=SLOW)
     text = orderly(guest, "the daemon is killed", outcomes, IN_HAND)
     said = guest.text("journalctl --no-pager -u lagd@uplink -o cat | grep 'go on where' | tail -1")
     check(said.startswith("2 of 2 links"), "the next one goes on where it was", said)
@@ -141,7 +145,7 @@ def is_upgraded(guest: Guest) -> str:
         check(after == process, "dpkg restarts no daemon", process, after)
         ended.append(guest.run("systemctl restart lagd@uplink"))
 
-    outcomes = traffic(guest, SECONDS + 25, upgrade, rate=RATE // 5)
+    outcomes = traffic(guest, SECONDS + 25, upgrade, rate=SLOW)
     check([it.status for it in ended] == [0, 0], "the packages are upgraded", *ended)
     runs = guest.text("readlink /proc/$(systemctl show --value -p MainPID lagd@uplink)/exe; dpkg-query -Wf '${Version} ' lagd liblag0")
     check(runs.startswith("/usr/sbin/lagd\n") and runs.count("+1") == 2, "the new version runs", runs)

@@ -125,6 +125,7 @@ def image(packages: Packages, debs: str, newer: str, folder: str) -> str:
     examples = "/usr/share/doc/lagd/examples"
     in_tree(tree, "cp", f"{examples}/members.network", "/etc/systemd/network/10-members.network")
     in_tree(tree, "cp", f"{examples}/lag0.network", "/etc/systemd/network/20-lag0.network")
+    in_tree(tree, "cp", f"{examples}/90-lagd.rules", "/etc/udev/rules.d/90-lagd.rules")
     in_tree(tree, "install", "-D", "-m", "644", f"{examples}/carry.conf", "/etc/systemd/system/lagd@uplink.service.d/carry.conf")
     in_tree(tree, "systemctl", "enable", "-q", "guest-shell", "guest-far", "systemd-networkd", "lagd@uplink")
     for unit in MASKED:
