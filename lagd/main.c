@@ -5,7 +5,7 @@
  *     lagd --status
  *
  * It ticks every 100 ms, carries the control frames of the interfaces, follows what the kernel tells of them, and prints each
- * change of a port in one line. Data frames stay with the kernel, or go by a TAP device (carry). `lagd --help` tells the options. */
+ * change of a port in one line. Data frames stay with the kernel, or go by a device of its own (carry). `lagd --help` tells the options. */
 #define _GNU_SOURCE
 #include <errno.h>
 #include <fcntl.h>
