@@ -111,6 +111,7 @@ WAYS = {
     "`lagd`": Way(begin_daemon(""), end_daemon, ("lag0", "lag0"), "lagd", DAEMON),
     "`offload`": Way(begin_daemon("offload=yes"), end_daemon, ("lag0", "lag0"), "lagd", DAEMON),
     "`fast`": Way(begin_daemon("fast=yes"), end_daemon, ("lag0", "lag0"), "lagd", DAEMON),
+    "`plane=team`": Way(begin_daemon("plane=team"), end_daemon, ("lag0", "lag0"), "lagd", DAEMON),
     "bonding": Way(begin_bond, end_bond, ("bond0", "bond0")),
     "teamd": Way(begin_team, end_team, ("team0", "team1"), "teamd", TEAM),
 }
