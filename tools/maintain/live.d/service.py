@@ -123,11 +123,11 @@ def check_of_machine(part: Part, path: str) -> None:
     has_driver = inside(OURS, "ip", "link", "add", "team9", "type", "team").returncode == 0
     inside(OURS, "ip", "link", "del", "team9")
     refused = "this kernel has no team driver"
-    asked = inside(OURS, part.program, "--check", path)
-    holds = asked.returncode == 0 if has_driver else asked.returncode == 1 and f"plane: {refused}" in asked.stderr
-    check(holds, f"a file with plane=team is {'right here' if has_driver else 'told that this kernel has no such driver'}", asked.returncode, asked.stderr)
+    answer = inside(OURS, part.program, "--check", path)
+    holds = answer.returncode == 0 if has_driver else answer.returncode == 1 and f"plane: {refused}" in answer.stderr
+    check(holds, f"a file with plane=team is {'right here' if has_driver else 'told that this kernel has no such driver'}", answer.returncode, answer.stderr)
     if not has_driver:
-        started = inside(OURS, part.program, "--config", path)
+        started = inside(OURS, part.program, "--folder", os.path.join(part.folder, "run"), "--config", path)
         check(started.returncode == 1 and f"plane=team: {refused}" in started.stderr, "so is a start", started.returncode, started.stderr)
 
 
