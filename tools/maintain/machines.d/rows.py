@@ -153,16 +153,18 @@ def is_upgraded(guest: Guest) -> str:
 
 
 def other_way(guest: Guest, way: str) -> str:
-    """Both ends pass data on in another way, or the kernel has none."""
+    """Both ends pass data on in another way, or the kernel has none: lagd --check tells it before."""
     ended = use(guest, f"timeout=long\n{way}=yes")
+    told = guest.run("lagd --check /etc/lagd/uplink.conf")
+    check((told.status == 0) == (ended.status == 0), f"{way}: lagd --check says whether it starts", told, ended)
     if ended.status == 0:
         up_again(guest)
-        told = status(guest)["carry"]
-        check(told["way"] == way, f"the way is {way}", told)
+        carry = status(guest)["carry"]
+        check(carry["way"] == way, f"the way is {way}", carry)
         text = guest.text("journalctl --no-pager -b -u lagd@uplink -o cat | grep -E 'port .*(stays with|left to|markers may)' | sort -u")
         check(text == "", f"{way}: no member is left to the daemon", text)
         return "yes"
-    return f"no: {guest.text('journalctl --no-pager -u lagd@uplink -o cat | grep ^lagd: | tail -1')}"
+    return f"no: {told.text.rpartition(': ')[2]}"
 
 
 def bonding(guest: Guest) -> str:
