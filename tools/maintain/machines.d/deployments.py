@@ -41,8 +41,9 @@ fast=yes
 """
 SERVER_MEMBERS = "[Match]\nName=ens1f0 ens1f1\n[Link]\nMTUBytes=9000\nRequiredForOnline=no\n[Network]\nLinkLocalAddressing=no\nIPv6AcceptRA=no\n"
 SERVER_LAG = "[Match]\nName=lag0\n[Network]\nBridge=br0\n[BridgeVLAN]\nVLAN=10-20\n"
-BRIDGE = "[NetDev]\nName=br0\nKind=bridge\nMTUBytes=9000\n[Bridge]\nVLANFiltering=yes\nDefaultPVID=none\nSTP=no\n"
-BRIDGE_NETWORK = "[Match]\nName=br0\n[Network]\nVLAN=br0.10\nLinkLocalAddressing=no\nConfigureWithoutCarrier=yes\n[BridgeVLAN]\nVLAN=10\n"
+BRIDGE = "[NetDev]\nName=br0\nKind=bridge\n[Bridge]\nVLANFiltering=yes\nDefaultPVID=none\nSTP=no\n"
+# What the .netdev file sets goes with the first port of 1,500 octets, which lag0 is until it has members.
+BRIDGE_NETWORK = "[Match]\nName=br0\n[Link]\nMTUBytes=9000\n[Network]\nVLAN=br0.10\nLinkLocalAddressing=no\nConfigureWithoutCarrier=yes\n[BridgeVLAN]\nVLAN=10\n"
 VLAN = "[NetDev]\nName=br0.10\nKind=vlan\nMTUBytes=9000\n[VLAN]\nId=10\n"
 VLAN_NETWORK = "[Match]\nName=br0.10\n[Network]\nAddress=10.10.0.1/24\n"
 MACHINE = "[Match]\nName=vm0\n[Link]\nMTUBytes=9000\n[Network]\nBridge=br0\nLinkLocalAddressing=no\n[BridgeVLAN]\nVLAN=20\nPVID=20\nEgressUntagged=20\n"
