@@ -10,7 +10,7 @@ from checking import check, within
 from ends import COMES_UP, OVER, comes_up, journal, ping, status, traffic, up_again
 from guest import Guest, MACS
 from repository import TOP
-from rows import boots, orderly, tried
+from rows import BRIEF, handed_over, orderly, tried
 
 
 class Task(NamedTuple):
@@ -177,7 +177,8 @@ def server_stays(guest: Guest) -> str:
     patient(guest)
     look = "bridge vlan show dev lag0; ip -o link show lag0 | grep -o 'master br0'; ip -br address show br0.10; cat /sys/class/net/lag0/mtu"
     before = guest.text(look)
-    text = server_moves(guest, lambda: guest.run("systemctl restart lagd@uplink"), "the server's bundle is restarted", 0)
+    outcomes = traffic(guest, 6, lambda: guest.run("systemctl restart lagd@uplink"), ("eth0", "eth0.20"), near_space="vm")
+    text = handed_over(guest, "the server's bundle is restarted", outcomes, 0, BRIEF, to_next_alone=True)
     after = guest.text(look)
     check(before == after and "master br0" in after, "lag0 stays in the bridge, with its VLANs", before, after)
     return text
@@ -291,7 +292,7 @@ def router_restarts(guest: Guest) -> str:
     ping(guest)
     before = guest.text(LOOK)
     outcomes = traffic(guest, 6, lambda: guest.run("systemctl restart lagd@uplink"), ("isp0", "bond0"))
-    text = orderly(guest, "the router's bundle is restarted", outcomes, 0)
+    text = handed_over(guest, "the router's bundle is restarted", outcomes, 0, BRIEF)
     after = guest.text(LOOK)
     check(before == after, "isp0 keeps its addresses, routes and neighbours", before, after)
     return text
