@@ -7,7 +7,8 @@
 
 #include "team.h"
 
-/* How often all is looked at while no bucket waits for its stillness, in milliseconds. */
+/* How often all is looked at, in milliseconds: while a bucket waits for its stillness, at ticks that are not made up, and else. */
+#define LOOKED_WAITING 50
 #define LOOKED_EVERY 1000
 
 /* What the driver has for a port. */
@@ -218,7 +219,7 @@ unsigned count_waiting_buckets(void) {
 /* 100 ms passed. */
 void pass_bucket_tick(void) {
     unsigned waiting = count_waiting_buckets();
-    if (waiting > 0 || carry.time - looked_at >= LOOKED_EVERY) look();
+    if (carry.time - looked_at >= (waiting > 0 ? LOOKED_WAITING : LOOKED_EVERY)) look();
     if (waiting > 0) rest_still();
     if (ticks_passed() % SECOND == 0) give_team_addresses();
 }

@@ -176,13 +176,6 @@ static uint64_t heard(void) {
     return carry.counts[HANDED_UP] + carry.counts[HOST_UNTAKEN];
 }
 
-/* The last daemon carried in this aggregator, and the peer does, too. */
-void go_on_in(uint16_t aggregator) {
-    carry.time = heard_at = milliseconds();
-    carry.active = previous = aggregator;
-    settle_carry();
-}
-
 /* Another aggregator is active: nothing has come in it yet. */
 static void forget_heard(void) {
     if (is_fast()) take_fast_counts();
@@ -269,6 +262,19 @@ static void choose_active(void) {
     if (carries_by_team()) return; /* the driver tells its speed, and the carrier comes once it passes data */
     set_speed(sum_speeds());
     set_carrier(carry.active != 0);
+}
+
+/* The last daemon carried in this aggregator, and the peer does, too. The team driver has each bucket where it was: it is told of none before
+ * it is known where its conversation goes on. */
+void go_on_in(uint16_t aggregator) {
+    carry.time = heard_at = milliseconds();
+    carry.active = previous = aggregator;
+    if (!carries_by_team()) {
+        settle_carry();
+        return;
+    }
+    take_views();
+    choose_active();
 }
 
 /* Another aggregator is active: what is on a port of the previous one leaves it, behind a marker. Its frames wait until it is free there.

@@ -212,6 +212,9 @@ enum journaled tell_journal(int level, const char *text);
 /* options.c */
 struct options *read_options(int argc, char **argv);
 
+/* possible.c */
+int check_machine(const struct options *options);
+
 /* address.c */
 void take_own_address(void);
 

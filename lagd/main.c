@@ -5,7 +5,7 @@
  *     lagd --status
  *
  * It ticks every 100 ms, carries the control frames of the interfaces, follows what the kernel tells of them, and prints each
- * change of a port in one line. Data frames stay with the kernel, or go by a TAP device (carry). `lagd --help` tells the options. */
+ * change of a port in one line. Data frames stay with the kernel, or go by a device of its own (carry). `lagd --help` tells the options. */
 #define _GNU_SOURCE
 #include <errno.h>
 #include <fcntl.h>
@@ -16,7 +16,7 @@
 #include <sys/timerfd.h>
 #include <unistd.h>
 
-#include "team.h"
+#include "lagd.h"
 
 /* The most events of a turn. */
 #define MOST_EVENTS TAGS
@@ -214,6 +214,6 @@ int main(int argc, char **argv) {
     keep_standard_files();
     options = read_options(argc, argv);
     if (options->action == RUN) return run_daemon(options);
-    if (options->action == CHECK) return check_kernel(options);
+    if (options->action == CHECK) return check_machine(options);
     return ask_daemons(options);
 }

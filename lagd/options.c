@@ -34,7 +34,7 @@ struct row {
 
 static const struct row BEFORE_KEYS[] = {
     {'c', "config", "FILE", "runs the bundle of this file"},
-    {'k', "check", "FILE", "says what is wrong with a file"},
+    {'k', "check", "FILE", "says what is wrong with a file, or what this machine lacks for it"},
 };
 
 static const struct row BEHIND_KEYS[] = {

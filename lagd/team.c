@@ -206,10 +206,3 @@ void end_team(void) {
     if (made && tap_index() != 0) (void)remove_device(tap_index());
     opened = false;
 }
-
-/* Whether this kernel has what carries the data of a file: answers how the program ends. */
-int check_kernel(const struct options *options) {
-    if (options->settings.plane != PLANE_TEAM || find_team_driver()) return DONE;
-    complain("%s:%u: plane=team: this kernel has no team driver: %s", options->file, line_of(&options->settings, "plane"), strerror(errno));
-    return REFUSED;
-}

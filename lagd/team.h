@@ -63,7 +63,6 @@ bool is_still_team_port(const struct link *link, int master);
 void give_team_addresses(void);
 void leave_team(int index, bool with_device);
 void leave_team_port(int index);
-int check_kernel(const struct options *options);
 
 /* buckets.c */
 void start_buckets(void);

@@ -341,8 +341,10 @@ static void note_option(struct team_now *now, const struct option *option) {
 static void read_options_message(struct attributes told, void *into) {
     struct attribute list, item;
     while (take(&told, &list))
-        while (list.type == TEAM_ATTR_LIST_OPTION && take(&list.value, &item))
-            if (item.type == TEAM_ATTR_ITEM_OPTION) note_option(into, &(struct option[]){read_option(item.value)}[0]);
+        while (list.type == TEAM_ATTR_LIST_OPTION && take(&list.value, &item)) {
+            struct option option = read_option(item.value);
+            if (item.type == TEAM_ATTR_ITEM_OPTION) note_option(into, &option);
+        }
 }
 
 /* Reads the options of a device; answers whether it could. */

@@ -14,7 +14,7 @@ import time
 from typing import Callable
 
 from bonds import COMES_UP, DEVICE, End, Programs, cables
-from checking import Failed, Skipped, check, within
+from checking import Failed, Skipped, check, command, within
 from daemon import SYSTEM
 from spaces import OURS, THEIRS, inside, ip, octets, packet_socket, within_space
 from streams import ADDRESSES, give_addresses, run_stream
@@ -54,6 +54,17 @@ def filters(name: str) -> tuple[int, bool]:
     """How many filters look at what an interface receives, and whether they have a place there."""
     shown = inside(OURS, "tc", "filter", "show", "dev", name, "ingress").stdout
     return shown.count(" handle "), "clsact" in inside(OURS, "tc", "qdisc", "show", "dev", name).stdout
+
+
+def asks_kernel(programs: Programs) -> None:
+    """lagd --check tells what a file wants and the kernel lacks."""
+    path = os.path.join(programs.folder, "asked.conf")
+    with open(path, "w", encoding="utf-8") as it:
+        it.write("[Bundle]\nkey=1\nsystem=1,02:00:00:00:00:01\ncarry=lag0\nfast=yes\n[Port a0]\n")
+    lacks = f"lagd: {path}:5: fast: the kernel has no program of an interface, which Linux has from 6.6 on\n"
+    for program, wanted in (programs.old_kernel, (1, lacks)), (programs.daemon, (0, "")):
+        ended = command(program, "--check", path)
+        check((ended.returncode, ended.stderr) == wanted, f"a kernel {'with' if program == programs.daemon else 'without'} TCX: --check says so", ended)
 
 
 def stacks(programs: Programs) -> None:
@@ -247,4 +258,4 @@ def rooms(programs: Programs) -> None:
             ours.stop()
 
 
-PARTS: dict[str, Callable[[Programs], None]] = {it.__name__: it for it in (stacks, sums, uncut, disciplines, rooms)}
+PARTS: dict[str, Callable[[Programs], None]] = {it.__name__: it for it in (asks_kernel, stacks, sums, uncut, disciplines, rooms)}

@@ -109,6 +109,29 @@ class Filed(Daemon):
         part.running.append(self)
 
 
+def check_of_machine(part: Part, path: str) -> None:
+    """What a file wants of the kernel, asked by root, by a user who may not, and where there is no /dev/net/tun."""
+    write(path, FILE.replace("[Port", "carry=lag0\nfast=yes\n[Port", 1))
+    asked = {"": [], "not known without CAP_BPF": ["setpriv", "--reuid=65534", "--clear-groups", "--bounding-set=-all", "--inh-caps=-all"]}
+    for told, words in asked.items():
+        ended = inside(OURS, *words, part.program, "--check", path)
+        holds = ended.returncode == 0 and told in ended.stderr and (told or not ended.stderr)
+        check(holds, f"a file with fast=yes is right here: {told or 'nothing is said'}", ended.returncode, ended.stderr)
+    lacking = inside(OURS, "unshare", "--mount", "sh", "-c", 'mount -t tmpfs none /dev && exec "$@"', "sh", part.program, "--check", path)
+    holds = lacking.returncode == 1 and "carry: there is no /dev/net/tun" in lacking.stderr
+    check(holds, "without /dev/net/tun it is told that carry lacks it", lacking.returncode, lacking.stderr)
+    write(path, FILE.replace("[Port", "carry=lag0\nplane=team\n[Port", 1))
+    has_driver = inside(OURS, "ip", "link", "add", "team9", "type", "team").returncode == 0
+    inside(OURS, "ip", "link", "del", "team9")
+    refused = "this kernel has no team driver"
+    answer = inside(OURS, part.program, "--check", path)
+    holds = answer.returncode == 0 if has_driver else answer.returncode == 1 and f"plane: {refused}" in answer.stderr
+    check(holds, f"a file with plane=team is {'right here' if has_driver else 'told that this kernel has no such driver'}", answer.returncode, answer.stderr)
+    if not has_driver:
+        started = inside(OURS, part.program, "--folder", os.path.join(part.folder, "run"), "--config", path)
+        check(started.returncode == 1 and f"plane=team: {refused}" in started.stderr, "so is a start", started.returncode, started.stderr)
+
+
 def files(part: Part) -> None:
     """A file is checked, and a bundle runs of it."""
     path = os.path.join(part.folder, "uplink.conf")
@@ -126,6 +149,8 @@ def files(part: Part) -> None:
         write(path, FILE.replace(SYSTEM, address))
         right = inside(OURS, part.program, "--check", path)
         check((right.returncode, right.stderr) == (0, ""), f"a right one is not, with the address {address}", right.stderr)
+    check_of_machine(part, path)
+    write(path, FILE.replace(SYSTEM, NOTATIONS[-1]))
     mixed = inside(OURS, part.program, "--config", path, "--min-links", "2")
     check(mixed.returncode == 2, "a file and options of a bundle do not go together", mixed.stderr)
     ours, theirs = Filed(part, path), part.theirs()
@@ -442,7 +467,7 @@ def unit(part: Part) -> None:
     check(level and float(level[1]) <= EXPOSED, f"systemd-analyze security: at most {EXPOSED}", level and level[0])
     with open(UNIT, encoding="utf-8") as text, open(os.path.join(TOP, "lagd", "carry.conf"), encoding="utf-8") as more:
         whole = re.sub(r"^Documentation=.*\n", "", text.read(), flags=re.M).replace("/usr/sbin/lagd", part.program)
-        write(os.path.join(part.folder, "lagd@uplink.service"), whole.replace("[Install]", more.read().replace("#ExecStartPre", "ExecStartPre") + "[Install]"))
+        write(os.path.join(part.folder, "lagd@uplink.service"), whole.replace("[Install]", more.read() + "[Install]"))
     verified = command("systemd-analyze", "verify", os.path.join(part.folder, "lagd@uplink.service"))
     check((verified.returncode, verified.stderr) == (0, ""), "systemd-analyze verify has no fault to find, with carry.conf either", verified.stderr)
     if not shutil.which("setpriv"):

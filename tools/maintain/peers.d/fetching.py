@@ -14,14 +14,17 @@ from checking import Skipped, command
 class Packages:
     """What is unpacked, and the commands and versions in it. What the machine has is taken first."""
 
-    def __init__(self, cache: str, may_fetch: bool) -> None:
+    def __init__(self, cache: str, may_fetch: bool, sources: str = "") -> None:
         self.cache, self.may_fetch, self.known = os.path.abspath(cache), may_fetch, False
         self.root = os.path.join(self.cache, "root")
+        self.sources = sources  # the lines of a sources.list; those of the machine, where there are none
 
     def apt(self, name: str, *words: str) -> subprocess.CompletedProcess[str]:
-        """One of apt's commands, over lists and archives of our own and the sources and installed packages of the machine."""
+        """One of apt's commands, over lists and archives of our own and the installed packages of the machine, and its sources if none are given."""
         state = [f"Dir::State::Lists={self.cache}/lists", f"Dir::Cache={self.cache}/packages", "Debug::NoLocking=1"]
         state += ["APT::Sandbox::User=root", "APT::Install-Recommends=0"]
+        if self.sources:
+            state += [f"Dir::Etc::SourceList={self.cache}/sources.list", "Dir::Etc::SourceParts=-"]
         return command(name, *(word for it in state for word in ("-o", it)), *words, cwd=f"{self.cache}/packages/archives")
 
     def learn(self) -> None:
@@ -33,6 +36,8 @@ class Packages:
             raise Skipped(f"not installed, and {why}")
         for folder in "lists/partial", "packages/archives/partial", "root":
             os.makedirs(f"{self.cache}/{folder}", exist_ok=True)
+        with open(f"{self.cache}/sources.list", "w", encoding="utf-8") as it:
+            it.write(self.sources)
         told = self.apt("apt-get", "update")
         if told.returncode:
             raise Skipped(f"apt-get update: {told.stderr.strip()[-200:]}")

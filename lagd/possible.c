@@ -1,0 +1,64 @@
+/* Whether this machine has what carries the data of a file, as far as whoever asks may know. */
+#define _GNU_SOURCE
+#include <errno.h>
+#include <limits.h>
+#include <linux/membarrier.h>
+#include <string.h>
+#include <sys/syscall.h>
+#include <unistd.h>
+
+#include "team.h"
+
+/* No interface has this index. */
+#define NO_INDEX INT_MAX
+
+/* Tells what is lacking, or not known, for a key of the file. */
+static void tell(const struct options *options, const char *key, const char *what) {
+    complain("%s:%u: %s: %s", options->file, line_of(&options->settings, key), key, what);
+}
+
+/* Whether the kernel has a program run at an interface, as Linux does from 6.6 on: then it misses the interface alone. 0, or errno. */
+static int fault_of_programs(void) {
+    int program = load_dropper(), fault = errno;
+    if (program < 0) return fault;
+    fault = attach_program(program, NO_INDEX, false) < 0 && errno != ENODEV ? errno : 0;
+    close(program);
+    return fault;
+}
+
+/* Whether the kernel can pass data on by itself: answers how the program ends. */
+static int check_fast(const struct options *options) {
+    int fault = fault_of_programs();
+    if (fault == EPERM) {
+        tell(options, "fast", "not known without CAP_BPF and CAP_NET_ADMIN");
+        return DONE;
+    }
+    if (fault != 0) {
+        tell(options, "fast", "the kernel has no program of an interface, which Linux has from 6.6 on");
+        return REFUSED;
+    }
+    if (syscall(SYS_membarrier, MEMBARRIER_CMD_GLOBAL, 0, 0) == 0) return DONE;
+    tell(options, "fast", "the kernel cannot wait for its programs (membarrier)");
+    return REFUSED;
+}
+
+/* Whether the kernel has the team driver: answers how the program ends. */
+static int check_team(const struct options *options) {
+    if (find_team_driver()) return DONE;
+    if (errno == EPERM) {
+        tell(options, "plane", "not known without CAP_NET_ADMIN");
+        return DONE;
+    }
+    tell(options, "plane", "this kernel has no team driver");
+    return REFUSED;
+}
+
+/* Says what this machine lacks for a file that is right: answers how the program ends. */
+int check_machine(const struct options *options) {
+    if (options->settings.plane == PLANE_TEAM) return check_team(options);
+    if (options->settings.carry[0] && access("/dev/net/tun", F_OK) < 0) {
+        tell(options, "carry", "there is no /dev/net/tun");
+        return REFUSED;
+    }
+    return options->settings.fast ? check_fast(options) : DONE;
+}

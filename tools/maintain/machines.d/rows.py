@@ -1,0 +1,263 @@
+"""What is tried in each guest, a row of the table each. A row answers what the table has of it, and says in its checks what has to hold."""
+
+from __future__ import annotations
+
+import time
+from typing import Callable
+
+from checking import Failed, check, within
+from ends import BOND, COMES_UP, FAR_AT, NO_BOND, RATE, Outcome, comes_up, journal, ping, status, stream, traffic, up_again, use
+from guest import Guest
+
+# What a link may lose when it goes: the frames of some seconds, until LACP times out, where one end alone sees it.
+SECONDS, LINK_GOES, ONE_END = 5, RATE, 5 * RATE
+# The rate while there is no daemon, for some 3 s of this processor: sockets have room for what comes then.
+SLOW = 100
+# For how many seconds what waits for a daemon is kept, and how old the state may be of one that is killed.
+BRIEF, STATE = 3.0, 1.0
+# What a daemon may have in hand as it is killed.
+IN_HAND = 256
+# For how long cards that were plugged in are looked for.
+APPEARS = 40
+
+
+def cell(outcomes: list[Outcome]) -> str:
+    """What the table has of frames to the far end, and from it."""
+    strange = [f", {it.overtaken} overtaken, {it.twice} twice" if it.overtaken or it.twice else "" for it in outcomes]
+    return " / ".join(f"{it.lost} of {it.sent}, {it.gap_ms} ms{more}" for it, more in zip(outcomes, strange))
+
+
+def orderly(guest: Guest, what: str, outcomes: list[Outcome], most: int, to_next_alone: bool = False) -> str:
+    """No frame comes twice, none is overtaken unless there is a way of several links, and no more are lost than may be."""
+    text = cell(outcomes)
+    holds = all(it.received and not it.twice and (to_next_alone or not it.overtaken) and it.lost <= most for it in outcomes)
+    order = "no frame comes twice" if to_next_alone else "no frame is overtaken"
+    check(holds, f"{what}: {order}, and at most {most} are lost ({text})", "" if holds else journal(guest))
+    return text
+
+
+def without_daemon(guest: Guest) -> float:
+    """For how many seconds the bundle had no daemon last."""
+    ends = "may go on from here|Sent signal SIGKILL|go on where the last"
+    told = guest.text(f"journalctl --no-pager -b -u lagd@uplink -o short-monotonic | grep -E '{ends}' | tail -2 | grep -oE '^. *[0-9.]+' | tr -d '[ '")
+    times = [float(it) for it in told.split()]
+    return times[1] - times[0] if len(times) == 2 else 0.0
+
+
+def handed_over(guest: Guest, what: str, outcomes: list[Outcome], most: int, brief: float, to_next_alone: bool = False) -> str:
+    """The same where another daemon goes on: what waits for longer than `brief` seconds, as it may on this processor, is of no use to it."""
+    away = without_daemon(guest)
+    lost = most if away < brief else max(it.sent for it in outcomes)
+    return f"{orderly(guest, what, outcomes, lost, to_next_alone)}, {away:.1f} s without a daemon"
+
+
+def boots(guest: Guest) -> str:
+    took = guest.boots()
+    up = comes_up(guest, seconds=2 * COMES_UP)
+    check(up is not None, "the unit brings the bundle up at boot", "" if up is not None else journal(guest))
+    said = guest.text("systemctl show --value -p StatusText lagd@uplink")
+    check(said == "up, 2 of 2 links carry", "systemctl status says so", said)
+    addressed = within(COMES_UP, lambda: "192.0.2.1/24" in guest.text("ip -br address show lag0"))
+    check(addressed, "lag0 has its address", guest.text("ip -br address"))
+    failed = guest.text("systemctl --failed --plain --no-legend")
+    check(failed == "", "no unit failed", failed)
+    return f"{took:.0f} s"
+
+
+def pings(guest: Guest) -> str:
+    ended = ping(guest)
+    check(ended.status == 0, "each of ten pings is answered", ended.text, "" if ended.status == 0 else journal(guest))
+    return "10 of 10" if ended.status == 0 else "FAILED"
+
+
+def steady(guest: Guest) -> str:
+    return orderly(guest, "numbered frames", traffic(guest, SECONDS), 0)
+
+
+def streams(guest: Guest) -> str:
+    speed = stream(guest)
+    check(speed > 1, f"a stream of TCP goes ({speed:.0f} Mbit/s)", "" if speed > 1 else journal(guest))
+    return f"{speed:.0f} Mbit/s"
+
+
+def cable_is_pulled(guest: Guest, device: str = "lag0") -> str:
+    """Both ends of a cable lose their carrier."""
+    outcomes = traffic(guest, SECONDS, lambda: guest.set_link(False, "eth1", "far1"), ("lag0", device))
+    guest.set_link(True, "eth1", "far1")
+    text = orderly(guest, "a cable is pulled", outcomes, LINK_GOES)
+    up_again(guest)
+    return text
+
+
+def near_carrier_goes(guest: Guest) -> str:
+    """The near end alone loses its carrier; the far one finds out as LACP times out."""
+    outcomes = traffic(guest, SECONDS + 3, lambda: guest.set_link(False, "eth2"))
+    guest.set_link(True, "eth2")
+    text = orderly(guest, "the near end alone loses a carrier", outcomes, ONE_END)
+    up_again(guest)
+    return text
+
+
+def card_is_pulled(guest: Guest) -> str:
+    """The first member is pulled out of the machine, and plugged in again."""
+    outcomes = traffic(guest, SECONDS + 6, lambda: guest.remove("eth1"))
+    text = orderly(guest, "a card is pulled", outcomes, ONE_END)
+    gone = "eth1" not in guest.text("ls /sys/class/net")
+    check(gone and status(guest).get("state") == "degraded", "its port is missing, and the other one carries", journal(guest))
+    guest.insert("eth1")
+    check(within(APPEARS, lambda: "eth1" in guest.text("ls /sys/class/net")), "the card is back", guest.text("dmesg | tail -20"))
+    up_again(guest)
+    return text
+
+
+def peer_is_stopped(guest: Guest) -> str:
+    """The far daemon ends in order, and is started again."""
+    guest.run("systemctl stop far")
+    check(within(COMES_UP, lambda: comes_up(guest, 0, seconds=1) is not None), "no link carries for a peer that stopped", journal(guest))
+    guest.run("systemctl start far")
+    return f"{up_again(guest):.1f} s"
+
+
+def peer_is_killed(guest: Guest) -> str:
+    guest.run("systemctl kill --signal=SIGKILL far; sleep 1; systemctl reset-failed far; systemctl start far")
+    took = up_again(guest)
+    check(ping(guest).status == 0, "a peer that was killed and started carries again", journal(guest))
+    return f"{took:.1f} s"
+
+
+def patient(guest: Guest) -> str:
+    """Both ends wait for 90 s for an LACPDU: this processor may take longer than 3 s to start a daemon."""
+    if use(guest, "timeout=long").status:
+        raise Failed("both ends start with timeout=long", journal(guest))
+    up_again(guest)
+    return "90 s"
+
+
+def restarts(guest: Guest) -> str:
+    before = guest.text("cat /sys/class/net/lag0/ifindex; ip -br address show lag0")
+    outcomes = traffic(guest, SECONDS, lambda: guest.run("systemctl restart lagd@uplink"), rate=SLOW)
+    text = handed_over(guest, "systemctl restart", outcomes, 0, BRIEF)
+    after = guest.text("cat /sys/class/net/lag0/ifindex; ip -br address show lag0")
+    check(after == before, "lag0 is the same device, with its addresses", before, after)
+    return text
+
+
+def is_killed(guest: Guest) -> str:
+    outcomes = traffic(guest, SECONDS, lambda: guest.run("systemctl kill --kill-whom=main --signal=SIGKILL lagd@uplink"), rate=SLOW)
+    text = handed_over(guest, "the daemon is killed", outcomes, IN_HAND, BRIEF - STATE)
+    said = guest.text("journalctl --no-pager -u lagd@uplink -o cat | grep 'go on where' | tail -1")
+    check(said.startswith("2 of 2 links"), "the next one goes on where it was", said)
+    up_again(guest)
+    return text
+
+
+def is_upgraded(guest: Guest) -> str:
+    """Packages of a higher version are installed, and the bundle is restarted."""
+    process = guest.text("systemctl show --value -p MainPID lagd@uplink")
+    ended = []
+
+    def upgrade() -> None:
+        ended.append(guest.run("dpkg -i /newer/*.deb", 240))
+        after = guest.text("systemctl show --value -p MainPID lagd@uplink")
+        check(after == process, "dpkg restarts no daemon", process, after)
+        ended.append(guest.run("systemctl restart lagd@uplink"))
+
+    outcomes = traffic(guest, SECONDS + 25, upgrade, rate=SLOW)
+    check([it.status for it in ended] == [0, 0], "the packages are upgraded", *ended)
+    runs = guest.text("readlink /proc/$(systemctl show --value -p MainPID lagd@uplink)/exe; dpkg-query -Wf '${Version} ' lagd liblag0")
+    check(runs.startswith("/usr/sbin/lagd\n") and runs.count("+1") == 2, "the new version runs", runs)
+    return handed_over(guest, "an upgrade", outcomes, 0, BRIEF)
+
+
+def other_way(guest: Guest, way: str) -> str:
+    """Both ends pass data on in another way, or the kernel has none: lagd --check tells it before."""
+    ended = use(guest, f"timeout=long\n{way}=yes")
+    told = guest.run("lagd --check /etc/lagd/uplink.conf")
+    check((told.status == 0) == (ended.status == 0), f"{way}: lagd --check says whether it starts", told, ended)
+    if ended.status == 0:
+        up_again(guest)
+        carry = status(guest)["carry"]
+        check(carry["way"] == way, f"the way is {way}", carry)
+        text = guest.text("journalctl --no-pager -b -u lagd@uplink -o cat | grep -E 'port .*(stays with|left to|markers may)' | sort -u")
+        check(text == "", f"{way}: no member is left to the daemon", text)
+        return "yes"
+    return f"no: {told.text.rpartition(': ')[2]}"
+
+
+def bonding(guest: Guest) -> str:
+    """The far end is the kernel's bonding."""
+    use(guest, "")
+    guest.run("systemctl stop far")
+    ended = guest.run(BOND)
+    if ended.status:
+        raise Failed("the far end is a bond", ended.text)
+    took = up_again(guest)
+    pings(guest)
+    orderly(guest, "frames to and from bonding", traffic(guest, SECONDS, devices=("lag0", "bond0")), 0)
+    return f"{took:.1f} s"
+
+
+def bonding_cable(guest: Guest) -> str:
+    text = cable_is_pulled(guest, "bond0")
+    guest.run(f"{NO_BOND}; systemctl start far")
+    return text
+
+
+def stops(guest: Guest) -> str:
+    """The bundle is stopped: what it changed is as before."""
+    guest.run("systemctl stop lagd@uplink", 60)
+    left = guest.text("ls /sys/class/net | grep lag0; tc filter show dev eth1 ingress; tc qdisc show dev eth1 | grep -E '6c61|clsact'; ls /run/lagd/uplink 2>/dev/null")
+    check(left == "", "after a stop nothing of it is left", left)
+    guest.run("systemctl start lagd@uplink")
+    up_again(guest)
+    return "yes"
+
+
+# Where `fast` or `offload` could not be started, its rows say nothing.
+ROWS: dict[str, Callable[[Guest], str]] = {
+    "boots, and the unit brings the bundle up": boots,
+    "pings of 1,472 octets": pings,
+    "frames lost, and longest gap": steady,
+    "a stream of TCP": streams,
+    "a cable is pulled": cable_is_pulled,
+    "the near end alone loses a carrier": near_carrier_goes,
+    "a card is pulled": card_is_pulled,
+    "the peer is stopped: up again after": peer_is_stopped,
+    "the peer is killed: up again after": peer_is_killed,
+    "then with timeout=long": patient,
+    "systemctl restart": restarts,
+    "SIGKILL": is_killed,
+    "an upgrade, and a restart": is_upgraded,
+    "a stop leaves nothing": stops,
+    "bonding is the peer: up after": bonding,
+    "its cable is pulled": bonding_cable,
+}
+WAYS = ("offload", "fast")
+WAY_ROWS: dict[str, Callable[[Guest], str]] = {"frames lost, and longest gap": steady, "a stream of TCP": streams, "a cable is pulled": cable_is_pulled,
+                                               "systemctl restart": restarts}  # fmt: skip
+
+
+def tried(guest: Guest, name: str, row: Callable[[Guest], str]) -> str:
+    """One row; what fails in it is a check that failed."""
+    print(f"{name}:", flush=True)
+    began = time.monotonic()
+    try:
+        text = row(guest)
+    except Failed as why:
+        check(False, f"{name}: {why.args[0]}", *why.args[1:])
+        text = "FAILED"
+    except (LookupError, TypeError, ValueError, OSError) as why:
+        check(False, f"{name} runs to its end", f"{type(why).__name__}: {why}")
+        text = "FAILED"
+    print(f"  {text}; {time.monotonic() - began:.0f} s", flush=True)
+    return text
+
+
+def all_rows(guest: Guest) -> dict[str, str]:
+    """Each row of a guest, with what the table has of it."""
+    cells = {name: tried(guest, name, row) for name, row in ROWS.items()}
+    for way in WAYS:
+        cells[way] = tried(guest, way, lambda guest: other_way(guest, way))
+        for name, row in WAY_ROWS.items():
+            cells[f"{way}: {name}"] = tried(guest, f"{way}: {name}", row) if cells[way] == "yes" else "-"
+    return cells

@@ -1,0 +1,39 @@
+"""What the guests of tools/maintain/machines are made of, and how their tables look."""
+
+from __future__ import annotations
+
+import subprocess
+from pathlib import Path
+
+import pytest
+
+import loading
+from repository import Missing
+
+machines = loading.program("machines")
+filing = loading.module("machines.d", "filing")
+
+
+def test_an_archive_has_files_links_and_the_folders_that_they_stand_in(tmp_path: Path) -> None:
+    entries = [filing.Entry("a/b/text", b"one\n"), filing.Entry("run", b"#!/bin/sh\n", filing.FILE | 0o755), filing.Entry("a/to", b"b/text", filing.LINK)]
+    made = filing.archive([*entries, filing.Entry("proc", None)])
+    assert len(made) % 512 == 0 and made.startswith(b"070701")
+    names = [it.partition(b"\0")[0] for it in made.split(b"070701")[1:]]
+    assert [it[104:].decode() for it in names] == ["a", "a/b", "a/b/text", "run", "a/to", "proc", "TRAILER!!!"]
+    if subprocess.run(["sh", "-c", "command -v cpio"], capture_output=True).returncode:
+        pytest.skip("there is no cpio")
+    subprocess.run(["cpio", "-i", "--quiet"], input=made, cwd=tmp_path, check=True)
+    assert (tmp_path / "a/to").read_text() == "one\n" and (tmp_path / "run").stat().st_mode & 0o777 == 0o755
+
+
+def test_words_name_guests() -> None:
+    assert machines.chosen(["6.12/igb", "router"]) == ["6.12/igb", "router"]
+    assert machines.chosen(["6.1/all"]) == ["6.1/virtio", "6.1/e1000e", "6.1/igb", "6.1/vmxnet3"]
+    assert machines.chosen([]) == list(machines.TASKS)
+    with pytest.raises(Missing, match="no guest 5.10/igb"):
+        machines.chosen(["5.10/igb"])
+
+
+def test_a_table_has_a_column_for_each_guest() -> None:
+    told = {"6.1/igb": machines.Told({"a": "1", "b": "2"}, 2, 0, ""), "6.12/igb": machines.Told({"a": "3"}, 1, 0, "")}
+    assert machines.table(told) == "||6.1/igb|6.12/igb|\n|---|---|---|\n|a|1|3|\n|b|2|-|"
