@@ -6,7 +6,7 @@ import time
 from typing import Callable
 
 from checking import Failed, check, within
-from ends import BOND, COMES_UP, FAR_AT, NO_BOND, RATE, Outcome, comes_up, journal, ping, status, stream, traffic, up_again, use
+from ends import BOND, COMES_UP, NO_BOND, RATE, Outcome, comes_up, journal, ping, status, stream, traffic, up_again, use
 from guest import Guest
 
 # What a link may lose when it goes: the frames of some seconds, until LACP times out, where one end alone sees it.
