@@ -147,7 +147,7 @@ def tags(guest: Guest) -> str:
 def server_moves(guest: Guest, event: Callable[[], object], what: str, most: int) -> str:
     """Frames between the virtual machine and the host behind the switches, while something happens. Which of both switches a conversation goes
     by may change: a marker keeps its order on the way to the first one alone."""
-    return orderly(guest, what, traffic(guest, 6, event, ("eth0", "eth0.20"), near_space="vm"), most, to_next_alone=True)
+    return orderly(guest, what, traffic(guest, 6, event, ("eth0", "eth0.20"), near_space="vm"), most, ordered=False)
 
 
 def switch_goes(guest: Guest) -> str:
@@ -178,7 +178,7 @@ def server_stays(guest: Guest) -> str:
     look = "bridge vlan show dev lag0; ip -o link show lag0 | grep -o 'master br0'; ip -br address show br0.10; cat /sys/class/net/lag0/mtu"
     before = guest.text(look)
     outcomes = traffic(guest, 6, lambda: guest.run("systemctl restart lagd@uplink"), ("eth0", "eth0.20"), near_space="vm")
-    text = handed_over(guest, "the server's bundle is restarted", outcomes, 0, BRIEF, to_next_alone=True)
+    text = handed_over(guest, "the server's bundle is restarted", outcomes, 0, BRIEF, ordered=False)
     after = guest.text(look)
     check(before == after and "master br0" in after, "lag0 stays in the bridge, with its VLANs", before, after)
     return text

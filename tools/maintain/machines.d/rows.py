@@ -9,7 +9,8 @@ from checking import Failed, check, within
 from ends import BOND, COMES_UP, NO_BOND, RATE, Outcome, comes_up, journal, ping, status, stream, traffic, up_again, use
 from guest import Guest
 
-# What a link may lose when it goes: the frames of some seconds, until LACP times out, where one end alone sees it.
+# What a link may lose when it goes: the frames of some seconds, until LACP times out, where one end alone sees it. What the other end still
+# hands up of it may be overtaken (LAGD, "Order").
 SECONDS, LINK_GOES, ONE_END = 5, RATE, 5 * RATE
 # The rate while there is no daemon, for some 3 s of this processor: sockets have room for what comes then.
 SLOW = 100
@@ -29,11 +30,11 @@ def cell(outcomes: list[Outcome]) -> str:
     return " / ".join(f"{it.lost} of {it.sent}, {it.gap_ms} ms{more}" for it, more in zip(outcomes, strange))
 
 
-def orderly(guest: Guest, what: str, outcomes: list[Outcome], most: int, to_next_alone: bool = False) -> str:
-    """No frame comes twice, none is overtaken unless there is a way of several links, and no more are lost than may be."""
+def orderly(guest: Guest, what: str, outcomes: list[Outcome], most: int, ordered: bool = True) -> str:
+    """No frame comes twice, none is overtaken if that is promised, and no more are lost than may be."""
     text = cell(outcomes)
-    holds = all(it.received and not it.twice and (to_next_alone or not it.overtaken) and it.lost <= most for it in outcomes)
-    order = "no frame comes twice" if to_next_alone else "no frame is overtaken"
+    holds = all(it.received and not it.twice and not (ordered and it.overtaken) and it.lost <= most for it in outcomes)
+    order = "no frame is overtaken" if ordered else "no frame comes twice"
     check(holds, f"{what}: {order}, and at most {most} are lost ({text})", "" if holds else journal(guest))
     return text
 
@@ -46,11 +47,11 @@ def without_daemon(guest: Guest) -> float:
     return times[1] - times[0] if len(times) == 2 else 0.0
 
 
-def handed_over(guest: Guest, what: str, outcomes: list[Outcome], most: int, brief: float, to_next_alone: bool = False) -> str:
+def handed_over(guest: Guest, what: str, outcomes: list[Outcome], most: int, brief: float, ordered: bool = True) -> str:
     """The same where another daemon goes on: what waits for longer than `brief` seconds, as it may on this processor, is of no use to it."""
     away = without_daemon(guest)
     lost = most if away < brief else max(it.sent for it in outcomes)
-    return f"{orderly(guest, what, outcomes, lost, to_next_alone)}, {away:.1f} s without a daemon"
+    return f"{orderly(guest, what, outcomes, lost, ordered)}, {away:.1f} s without a daemon"
 
 
 def boots(guest: Guest) -> str:
@@ -86,7 +87,7 @@ def cable_is_pulled(guest: Guest, device: str = "lag0") -> str:
     """Both ends of a cable lose their carrier."""
     outcomes = traffic(guest, SECONDS, lambda: guest.set_link(False, "eth1", "far1"), ("lag0", device))
     guest.set_link(True, "eth1", "far1")
-    text = orderly(guest, "a cable is pulled", outcomes, LINK_GOES)
+    text = orderly(guest, "a cable is pulled", outcomes, LINK_GOES, ordered=False)
     up_again(guest)
     return text
 
@@ -95,7 +96,7 @@ def near_carrier_goes(guest: Guest) -> str:
     """The near end alone loses its carrier; the far one finds out as LACP times out."""
     outcomes = traffic(guest, SECONDS + 3, lambda: guest.set_link(False, "eth2"))
     guest.set_link(True, "eth2")
-    text = orderly(guest, "the near end alone loses a carrier", outcomes, ONE_END)
+    text = orderly(guest, "the near end alone loses a carrier", outcomes, ONE_END, ordered=False)
     up_again(guest)
     return text
 
@@ -103,7 +104,7 @@ def near_carrier_goes(guest: Guest) -> str:
 def card_is_pulled(guest: Guest) -> str:
     """The first member is pulled out of the machine, and plugged in again."""
     outcomes = traffic(guest, SECONDS + 6, lambda: guest.remove("eth1"))
-    text = orderly(guest, "a card is pulled", outcomes, ONE_END)
+    text = orderly(guest, "a card is pulled", outcomes, ONE_END, ordered=False)
     gone = "eth1" not in guest.text("ls /sys/class/net")
     check(gone and status(guest).get("state") == "degraded", "its port is missing, and the other one carries", journal(guest))
     guest.insert("eth1")
