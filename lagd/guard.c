@@ -248,6 +248,15 @@ static bool steer_back(int index, const char *mask) {
     return write_processors(path, mask) || (read_processors(path, now, sizeof now) && strcmp(now, mask) == 0);
 }
 
+/* Gives an interface its queues back; answers whether it has them now. A driver that could not change them, as vmxnet3, has them still. */
+static bool part_queues(int index, struct ethtool_channels *wanted) {
+    struct ethtool_channels now;
+    wanted->cmd = ETHTOOL_SCHANNELS;
+    if (wanted->combined_count + wanted->rx_count + wanted->tx_count == 0 || ask_driver(index, wanted)) return true;
+    (void)queues_of(index, &now);
+    return now.combined_count == wanted->combined_count && now.rx_count == wanted->rx_count && now.tx_count == wanted->tx_count;
+}
+
 /* The interface is no member any more. What cannot be set back stays kept, as without CAP_NET_ADMIN. */
 void close_guard(const struct link *link, struct guard *guard) {
     struct kept *before = &guard->before;
@@ -256,9 +265,7 @@ void close_guard(const struct link *link, struct guard *guard) {
     stop_programs(link, guard);
     if (before->joins != 0) set_joins(link->index, before->joins);
     if (before->joins != 0) done = (before->joins & ~read_joins(link->index).wanted) == 0;
-    before->queues.cmd = ETHTOOL_SCHANNELS;
-    if (before->queues.combined_count + before->queues.rx_count + before->queues.tx_count > 0)
-        done = ask_driver(link->index, &before->queues) && done;
+    done = part_queues(link->index, &before->queues) && done;
     take_fifo(link->index); /* with all its queues the kernel gives each of them what it chooses */
     if (before->steered[0]) done = steer_back(link->index, before->steered) && done;
     if (done || !if_indextoname((unsigned)link->index, name)) forget_settings(link);

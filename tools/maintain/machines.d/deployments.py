@@ -138,8 +138,8 @@ def reaches(guest: Guest, space: str, to: str, octets: int, what: str) -> str:
 
 def tags(guest: Guest) -> str:
     """A VLAN that the bridge does not have goes nowhere."""
-    guest.run("ip netns exec far ping -c 3 -i 0.2 -W 1 10.30.0.1 & timeout 4 ip netns exec vm tcpdump -c 1 -i eth0 -nn 'arp host 10.30.0.1 or vlan 30' >/run/thirty 2>&1; wait")
-    seen = "1 packet captured" in guest.text("cat /run/thirty")
+    listens = "timeout 4 ip netns exec vm tcpdump -c 1 -i eth0 -nn 'arp host 10.30.0.1 or vlan 30' 2>&1"
+    seen = "1 packet captured" in guest.text(f"ip netns exec far ping -c 3 -i 0.2 -W 1 10.30.0.1 >/dev/null & {listens}; wait")
     check(not seen, "frames of another VLAN do not pass the bridge", guest.text("bridge vlan"))
     return "none" if not seen else "FAILED"
 
@@ -147,7 +147,7 @@ def tags(guest: Guest) -> str:
 def server_moves(guest: Guest, event: Callable[[], object], what: str, most: int) -> str:
     """Frames between the virtual machine and the host behind the switches, while something happens. Which of both switches a conversation goes
     by may change: a marker keeps its order on the way to the first one alone."""
-    return orderly(guest, what, traffic(guest, 6, event, ("eth0", "eth0.20"), near_space="vm"), most, to_next_alone=True)
+    return orderly(guest, what, traffic(guest, 6, event, ("eth0", "eth0.20"), near_space="vm"), most, ordered=False)
 
 
 def switch_goes(guest: Guest) -> str:
@@ -178,7 +178,7 @@ def server_stays(guest: Guest) -> str:
     look = "bridge vlan show dev lag0; ip -o link show lag0 | grep -o 'master br0'; ip -br address show br0.10; cat /sys/class/net/lag0/mtu"
     before = guest.text(look)
     outcomes = traffic(guest, 6, lambda: guest.run("systemctl restart lagd@uplink"), ("eth0", "eth0.20"), near_space="vm")
-    text = handed_over(guest, "the server's bundle is restarted", outcomes, 0, BRIEF, to_next_alone=True)
+    text = handed_over(guest, "the server's bundle is restarted", outcomes, 0, BRIEF, ordered=False)
     after = guest.text(look)
     check(before == after and "master br0" in after, "lag0 stays in the bridge, with its VLANs", before, after)
     return text
@@ -193,8 +193,10 @@ def server_boots(guest: Guest) -> str:
     left_alone(guest)
     mtu = guest.text("cat /sys/class/net/lag0/mtu")
     check(within(10, lambda: guest.text("cat /sys/class/net/lag0/mtu") == "9000"), "lag0 has the MTU of its members", mtu)
-    laid = within(COMES_UP, lambda: guest.run("ip -o link show lag0 | grep -q br0 && ip -br address show br0.10 | grep -q 10.10.0.1").status == 0)
-    check(laid, "lag0 is a port of the bridge, which has a VLAN", "" if laid else guest.text("networkctl --no-pager; journalctl --no-pager -b -u systemd-networkd | tail -25"))
+    look = "ip -o link show lag0 | grep -q br0 && ip -br address show br0.10 | grep -q 10.10.0.1"
+    laid = within(COMES_UP, lambda: guest.run(look).status == 0)
+    told = "" if laid else guest.text("networkctl --no-pager; journalctl --no-pager -b -u systemd-networkd | tail -25")
+    check(laid, "lag0 is a port of the bridge, which has a VLAN", told)
     failed = guest.text("systemctl --failed --plain --no-legend")
     check(failed == "", "no unit failed", failed)
     return f"{took:.0f} s"

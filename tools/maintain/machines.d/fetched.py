@@ -58,9 +58,9 @@ def packages_in(cache: str, may_fetch: bool) -> Packages:
     return Packages(cache, may_fetch, SOURCES)
 
 
-def done(*words: str, **more: str) -> str:
+def done(*words: str, **environment: str) -> str:
     """What a command prints; fails where it does."""
-    ended = subprocess.run(words, stdin=subprocess.DEVNULL, capture_output=True, text=True, cwd=more.pop("cwd", None), env={**os.environ, **more})
+    ended = subprocess.run(words, stdin=subprocess.DEVNULL, capture_output=True, text=True, env={**os.environ, **environment})
     if ended.returncode:
         raise Failed(f"{' '.join(words)[:120]} ends well", (ended.stderr or ended.stdout)[-800:])
     return ended.stdout

@@ -63,7 +63,7 @@ def end_bare(guest: Guest) -> None:
 def begin_daemon(way: str) -> Callable[[Guest], None]:
     def begin(guest: Guest) -> None:
         links(guest, "up")
-        ended = use(guest, way)
+        ended = use(guest, f"timeout=long\n{way}")
         if ended.status:
             raise Failed(f"lagd starts with {way or 'nothing else'}", journal(guest))
         up_again(guest)
@@ -101,7 +101,7 @@ def end_team(guest: Guest) -> None:
 def mtu_of(guest: Guest, way: Way, mtu: int) -> None:
     """Both ends take packets of this size."""
     guest.run(f"for n in 1 2; do ip link set eth$n mtu {mtu}; ip -n far link set far$n mtu {mtu}; done")
-    guest.run(f"sleep 1; ip link set {way.devices[0]} mtu {mtu}; ip -n far link set {way.devices[1]} mtu {mtu}; sleep 1")
+    guest.run(f"sleep 0.5; ip link set {way.devices[0]} mtu {mtu}; ip -n far link set {way.devices[1]} mtu {mtu}; sleep 1")
 
 
 DAEMON = "systemctl restart lagd@uplink"
