@@ -73,7 +73,7 @@ static void show(const char *what) {
 /* Takes a port out of use: its buckets leave it behind a marker, new ones go elsewhere, and its peer stops. A peer that answers no marker
  * does not hold it up for longer than frames can be on their way. */
 static void drain(uint16_t port) {
-    int ticks = 10;
+    int ticks = 30;
     niw_hold(&here, port, true);
     clear_rows();
     show("port 1 is held");
