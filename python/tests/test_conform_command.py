@@ -392,4 +392,4 @@ def test_the_module_runs_by_its_name() -> None:
 def test_the_page_has_each_group_and_its_count() -> None:
     page = Path(__file__).parents[2] / "docs" / "CONFORM.md"
     text = page.read_text() if page.exists() else ""
-    assert not text or all(f"\n| {it.name} | {len(it.tests)} | " in text for it in GROUPS)
+    assert not text or all(f"\n|{it.name}|{len(it.tests)}|" in text for it in GROUPS)
