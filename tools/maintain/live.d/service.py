@@ -112,7 +112,7 @@ class Filed(Daemon):
 def check_of_machine(part: Part, path: str) -> None:
     """What a file wants of the kernel, asked by root, by a user who may not, and where there is no /dev/net/tun."""
     write(path, FILE.replace("[Port", "carry=lag0\nfast=yes\n[Port", 1))
-    asked = {"": [], "not known without CAP_BPF": ["setpriv", "--reuid=65534", "--clear-groups", "--bounding-set=-all", "--inh-caps=-all"]}
+    asked: dict[str, list[str]] = {"": [], "not known without CAP_BPF": ["setpriv", "--reuid=65534", "--clear-groups", "--bounding-set=-all", "--inh-caps=-all"]}
     for told, words in asked.items():
         ended = inside(OURS, *words, part.program, "--check", path)
         holds = ended.returncode == 0 and told in ended.stderr and (told or not ended.stderr)
