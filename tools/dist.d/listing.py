@@ -34,7 +34,8 @@ def sums(files: list[str]) -> str:
 
 def identifier(name: str) -> str:
     """A name as an identifier of SPDX has it: another one for each name. What it may not have is its number between hyphens, and a hyphen is two."""
-    return "SPDXRef-" + re.sub(r"[^A-Za-z0-9.]", lambda it: "--" if it.group() == "-" else f"-{ord(it.group()):x}-", name)
+    marks = (it if re.match(r"[A-Za-z0-9.]", it) else "--" if it == "-" else f"-{ord(it):x}-" for it in name)
+    return "SPDXRef-" + "".join(marks)
 
 
 def checksums(octets: bytes) -> list[dict[str, str]]:
