@@ -10,6 +10,11 @@
 /* How often all is looked at, in milliseconds: while a bucket waits for its stillness, at ticks that are not made up, and else. */
 #define LOOKED_WAITING 50
 #define LOOKED_EVERY 1000
+/* How long the driver may take to count, in milliseconds: what no bucket has then went without one, by the queue that a frame asks for. */
+#define MOST_UNCOUNTED 2000
+/* How often in turn the driver may have no memory for what it is told, at each tick, and tell nothing, at each look. */
+#define MOST_SHORTAGES 10
+#define MOST_UNSEEN 5
 
 /* What the driver has for a port. */
 enum passes { UNKNOWN, PASSES, PASSES_NOT };
@@ -26,6 +31,8 @@ static uint16_t previous;                   /* the aggregator that was active be
 static uint64_t frames_received;            /* by the device */
 /* The driver counts now and then: so many octets the device had sent at a time, and once the buckets have as many, all is counted up to then. */
 static uint64_t to_count, to_count_at, counted_until, looked_at;
+static uint64_t without_bucket;     /* octets that went by none */
+static unsigned shortages, unseen;  /* in turn */
 
 uint64_t team_frames_received(void) {
     return frames_received;
@@ -68,18 +75,27 @@ static void note_changes(const struct team_now *now) {
 static void note_counted(const struct team_now *now, uint64_t sent) {
     uint64_t counted = 0;
     for (uint16_t number = 0; number < CONVERSATIONS; number++) counted += now->octets[number];
-    if (counted < to_count) return;
+    if (counted + without_bucket < to_count) {
+        if (carry.time - to_count_at < MOST_UNCOUNTED) return;
+        without_bucket = to_count - counted;
+    }
     counted_until = to_count_at;
     to_count = sent;
     to_count_at = carry.time;
 }
 
-/* Looks at what the driver has: at the device before its buckets. */
-static void look(void) {
+/* Looks at what the driver has: at the device before its buckets. Where the device is gone, the kernel tells, too. */
+void look_at_driver(void) {
     static struct team_now now;
     struct device device;
     looked_at = carry.time;
-    if (!read_device(tap_index(), NULL, &device) || !read_team(tap_index(), &now)) return; /* where it is gone, the kernel tells */
+    if (!read_device(tap_index(), NULL, &device) || !read_team(tap_index(), &now)) {
+        if (++unseen == MOST_UNSEEN)
+            (void)say(LOG_WARNING | ABOUT_DATA, "carry %s: the team driver does not tell what it has, so no bucket goes back to its own port: %s",
+                settings.carry, strerror(errno));
+        return;
+    }
+    unseen = 0;
     frames_received = device.frames_received;
     note_octets(&now);
     note_changes(&now);
@@ -137,12 +153,21 @@ static void lose_port(uint16_t port) {
     look_again();
 }
 
+/* The driver refused what it was told of a port. Where the kernel has no memory, the next tick tells it again. */
+static void take_refusal(uint16_t port) {
+    bool is_short = errno == ENOBUFS || errno == ENOMEM;
+    shortages = is_short ? shortages + 1 : 0;
+    if (is_short && shortages < MOST_SHORTAGES) return;
+    shortages = 0;
+    lose_port(port);
+}
+
 /* Has the driver pass data on a port, or none; answers whether it does so. */
 static bool set_passes(uint16_t port, bool wanted) {
     enum passes now = wanted ? PASSES : PASSES_NOT;
     if (passes[port - 1] == now) return true;
     if (!set_port_enabled(tap_index(), links[port - 1].index, wanted)) {
-        lose_port(port);
+        take_refusal(port);
         return false;
     }
     passes[port - 1] = now;
@@ -155,7 +180,7 @@ static bool place_buckets(void) {
         uint16_t port = place(number);
         if (port == 0 || port == buckets[number].port) continue;
         if (!set_bucket(tap_index(), number, links[port - 1].index)) {
-            lose_port(port);
+            take_refusal(port);
             return false;
         }
         if (buckets[number].port != 0) carry.counts[MOVES]++;
@@ -183,6 +208,7 @@ void settle_buckets(void) {
         if (!is_team_port(port) || is_active(port)) continue;
         if (!set_passes(port, false)) return;
     }
+    shortages = 0;
     for (uint16_t number = 0; carry.active == 0 && number < CONVERSATIONS; number++) buckets[number].port = 0;
     if (carry.active != 0) set_carrier(true);
 }
@@ -219,7 +245,7 @@ unsigned count_waiting_buckets(void) {
 /* 100 ms passed. */
 void pass_bucket_tick(void) {
     unsigned waiting = count_waiting_buckets();
-    if (carry.time - looked_at >= (waiting > 0 ? LOOKED_WAITING : LOOKED_EVERY)) look();
+    if (carry.time - looked_at >= (waiting > 0 ? LOOKED_WAITING : LOOKED_EVERY)) look_at_driver();
     if (waiting > 0) rest_still();
     if (ticks_passed() % SECOND == 0) give_team_addresses();
 }

@@ -179,6 +179,7 @@ static uint64_t heard(void) {
 /* Another aggregator is active: nothing has come in it yet. */
 static void forget_heard(void) {
     if (is_fast()) take_fast_counts();
+    if (carries_by_team()) look_at_driver();
     heard_at = 0;
     heard_before = heard();
 }
@@ -312,14 +313,17 @@ static void settle_tap(void) {
 
 /* After calls that may have changed something: the active aggregator, and what goes on in it. */
 void settle_carry(void) {
+    uint16_t before = carry.active;
     if (!carries_data() || broken || !carry.changed) return;
     carry.changed = false;
     take_views();
     choose_active();
-    if (carries_by_team())
-        settle_buckets();
-    else
+    if (!carries_by_team()) {
         settle_tap();
+        return;
+    }
+    settle_buckets();
+    if (carry.active != before) forget_heard(); /* until now frames came by the ports of the last one */
 }
 
 /* 100 ms passed. */

@@ -222,7 +222,7 @@ static void take_present(const struct interface *interface) {
         struct link *link = &links[i];
         bool named = is_named(interface, link->name), same = link->socket >= 0 && link->index == interface->index;
         if (link->socket >= 0 && (same != named || (same && !is_bound(link)))) lose_link(link);
-        if (link->socket >= 0 && !is_still_team_port(link, interface->master)) lose_link(link);
+        if (same && link->socket >= 0 && !is_still_team_port(link, interface->master)) lose_link(link);
         if (!named || (link->socket < 0 && !take_up(link, interface))) continue;
         link->present = true;
         follow(link, interface);

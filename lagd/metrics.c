@@ -78,11 +78,11 @@ static uint64_t change_time(const struct link *link) {
     return (uint64_t)link->changed_at;
 }
 
-static uint64_t actor_churns(const struct link *link) {
+static uint64_t is_actor_churning(const struct link *link) {
     return link->churn.actor.state == NIW_CHURN_CHURN;
 }
 
-static uint64_t partner_churns(const struct link *link) {
+static uint64_t is_partner_churning(const struct link *link) {
     return link->churn.partner.state == NIW_CHURN_CHURN;
 }
 
@@ -95,8 +95,8 @@ static const struct {
     {"port_has_partner", "whether the port has a partner, and does not run on defaults", has_partner},
     {"port_status", "why the port does not distribute: 0 where it does", status_number},
     {"port_aggregator", "the aggregator of the port, or 0", aggregator_number},
-    {"port_actor_churn", "whether the link has been up for 60 s, and the own side not synchronized", actor_churns},
-    {"port_partner_churn", "whether the link has been up for 60 s, and the partner not synchronized", partner_churns},
+    {"port_actor_churn", "whether the link has been up for 60 s, and the own side not synchronized", is_actor_churning},
+    {"port_partner_churn", "whether the link has been up for 60 s, and the partner not synchronized", is_partner_churning},
     {"port_last_change_timestamp_seconds", "when the port changed last", change_time},
 };
 

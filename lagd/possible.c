@@ -3,6 +3,7 @@
 #include <errno.h>
 #include <limits.h>
 #include <linux/membarrier.h>
+#include <sched.h>
 #include <string.h>
 #include <sys/syscall.h>
 #include <unistd.h>
@@ -42,14 +43,16 @@ static int check_fast(const struct options *options) {
     return REFUSED;
 }
 
-/* Whether the kernel has the team driver: answers how the program ends. */
+/* Whether the kernel has the team driver, and its mode, which is another module: answers how the program ends. The mode is tried in a network
+ * namespace that ends with the program, where that may be made. */
 static int check_team(const struct options *options) {
-    if (find_team_driver()) return DONE;
-    if (errno == EPERM) {
+    bool is_apart = unshare(CLONE_NEWNET) == 0, has_driver = find_team_driver();
+    if (!has_driver && errno == EPERM) {
         tell(options, "plane", "not known without CAP_NET_ADMIN");
         return DONE;
     }
-    tell(options, "plane", "this kernel has no team driver");
+    if (has_driver && (!is_apart || has_team_mode())) return DONE;
+    tell(options, "plane", has_driver ? "the team driver of this kernel has no mode loadbalance" : "this kernel has no team driver");
     return REFUSED;
 }
 

@@ -35,7 +35,7 @@
 
 static int tap = -1, asker = -1; /* `asker`: a socket for questions about interfaces */
 static int number;               /* of the device, its index; 0: there is none */
-static bool carrier;             /* which it is to have */
+static bool carrier;             /* which was set last */
 static bool carrier_told;        /* which it had, as the kernel told last */
 static unsigned carrier_ticks;   /* for how long it was up and had none, and was to have one */
 static uint32_t most_mtu = ETH_DATA_LEN; /* the longest payload that each member takes, and the device may */
@@ -64,14 +64,19 @@ static bool give_carrier(bool on) {
     return carries_by_team() ? set_device_carrier(number, on) : ioctl(tap, TUNSETCARRIER, &(int){on}) == 0;
 }
 
-/* The carrier of the device, which is on while data is carried. */
+/* The carrier of the device, which is on while data is carried. What the kernel refuses has one line, and is tried again at each tick. */
 void set_carrier(bool on) {
+    static bool refused;
     if (carrier == on || number == 0) return;
-    carrier = on;
-    carrier_ticks = 0;
     if (!on) open_host(false);
-    if (!give_carrier(on))
-        (void)say(LOG_ERR | ABOUT_CARRIER, "carry %s: no carrier: %s", settings.carry, strerror(errno));
+    if (give_carrier(on)) {
+        carrier = on;
+        carrier_ticks = 0;
+        refused = false;
+    } else if (!refused) {
+        refused = true;
+        (void)say(LOG_ERR | ABOUT_CARRIER, "carry %s: its carrier cannot be set %s: %s", settings.carry, on ? "on" : "off", strerror(errno));
+    }
 }
 
 /* The device has this speed from now on, in Mb/s, or none that is known. A kernel that does not take it has one line. */

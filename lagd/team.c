@@ -39,6 +39,13 @@ static void need(bool done, const char *what) {
     if (!done) stop(REFUSED, what, strerror(errno));
 }
 
+/* Whether the driver takes the mode: at a device of its own, which stays. */
+bool has_team_mode(void) {
+    static const uint8_t mac[ETH_ALEN] = {2, 0, 0, 0, 0, 1};
+    struct device device;
+    return make_team_device("team0", mac, ETH_DATA_LEN) && read_device(0, "team0", &device) && set_team_text(device.index, "mode", MODE);
+}
+
 /* The lowest MTU of the interfaces that are there: the driver gives its ports that of the device. */
 static uint32_t least_mtu(void) {
     uint32_t least = 0;
@@ -56,18 +63,20 @@ static bool is_unlocked(int index) {
     return lock >= 0;
 }
 
-/* Whether each port of a device is an interface of this bundle. */
+/* Whether each port of a device is an interface of this bundle. No other lagd may have one of them, whatever bundle it is of. */
 static bool has_own_ports(const struct team_now *now) {
+    bool all = true;
     for (unsigned at = 0; at < now->port_count; at++) {
+        char name[IF_NAMESIZE];
         bool own = false;
+        if (if_indextoname((unsigned)now->ports[at], name) && !is_unlocked(now->ports[at])) stop(REFUSED, "another lagd has the interface", name);
         for (uint16_t i = 0; i < settings.port_count && !own; i++) {
             struct device member;
             own = read_device(0, settings.ports[i].name, &member) && member.index == now->ports[at];
-            if (own && !is_unlocked(member.index)) stop(REFUSED, "another lagd has the interface", settings.ports[i].name);
         }
-        if (!own) return false;
+        all = all && own;
     }
-    return true;
+    return all;
 }
 
 /* Takes a device that is there: that of the last daemon, or one that is of no use to others. */
@@ -126,18 +135,29 @@ void open_team(const char *name, const uint8_t *mac) {
 }
 
 /* Gives a port the address of the device: frames to that would be of another host for the network stack. The driver puts back what it had. Some
- * cards take an address only while they are down. */
+ * cards take an address only while they are down; one that takes none even then is up again. */
 static bool give_address(int index, const uint8_t *mac) {
+    int fault = 0;
     if (set_address(index, mac)) return true;
-    return errno == EBUSY && set_interface_up(index, false) && set_address(index, mac) && set_interface_up(index, true);
+    if (errno != EBUSY || !set_interface_up(index, false)) return false;
+    if (!set_address(index, mac)) fault = errno;
+    if (!set_interface_up(index, true) && fault == 0) fault = errno;
+    errno = fault;
+    return fault == 0;
 }
 
-/* The device has another address than some ports: who administers it may change it. */
+/* The device has another address than some ports: who administers it may change it. A port that does not take it would lose what comes: it is
+ * taken up anew. */
 void give_team_addresses(void) {
     uint8_t mac[ETH_ALEN];
     if (!read_tap_mac(mac)) return;
-    for (uint16_t i = 0; i < link_count; i++)
-        if (taken[i] && memcmp(links[i].mac, mac, sizeof mac) != 0) (void)give_address(links[i].index, mac);
+    for (uint16_t i = 0; i < link_count; i++) {
+        if (!taken[i] || memcmp(links[i].mac, mac, sizeof mac) == 0 || give_address(links[i].index, mac)) continue;
+        (void)say(LOG_WARNING | ABOUT_DATA, "port %u %s: it does not take the address of %s: %s", links[i].settings.number, links[i].name,
+            settings.carry, strerror(errno));
+        lose_link(&links[i]);
+        look_again();
+    }
 }
 
 /* Takes an interface out of the device, by which it goes down: also where the device is gone, or somebody else took it out. */
@@ -149,8 +169,14 @@ void leave_team_port(int index) {
     if ((port.master == 0 || set_master(index, 0)) && up) (void)set_interface_up(index, true);
 }
 
-/* Makes an interface a port of the device, which takes it while it is down; answers whether it is one, and else errno tells why not. One that
- * belongs to another device stays there. */
+/* Makes an interface a new port of the device, which takes it while it is down, and passes no data on it until it is told to: the driver would
+ * at once. */
+static bool make_port(int index, bool up) {
+    return (!up || set_interface_up(index, false)) && set_master(index, tap_index()) && set_port_enabled(tap_index(), index, false);
+}
+
+/* Makes an interface a port of the device; answers whether it is one, and else errno tells why not. One that belongs to another device stays
+ * there. */
 bool open_team_port(struct link *link) {
     struct device port;
     uint8_t mac[ETH_ALEN];
@@ -159,13 +185,13 @@ bool open_team_port(struct link *link) {
     up = (port.flags & IFF_UP) != 0;
     errno = EBUSY;
     if (port.master != 0 && port.master != tap_index()) return false;
-    done = port.master != 0 || ((!up || set_interface_up(link->index, false)) && set_master(link->index, tap_index()));
+    done = port.master != 0 || make_port(link->index, up);
     taken[link - links] = done && (memcmp(port.mac, mac, sizeof mac) == 0 || give_address(link->index, mac));
     forget_port(link->settings.number);
     if (!taken[link - links]) {
         int fault = errno;
         leave_team_port(link->index);
-        if (!done && up) (void)set_interface_up(link->index, true);
+        if (up) (void)set_interface_up(link->index, true);
         errno = fault;
     }
     return taken[link - links];
@@ -189,20 +215,37 @@ bool is_still_team_port(const struct link *link, int master) {
     return false;
 }
 
-/* By other settings nothing goes on: the ports of the device are free, and it goes if the last daemon made it. */
-void leave_team(int index, bool with_device) {
-    struct device device, port;
-    if (!find_team_driver() || !read_device(index, NULL, &device) || strcmp(device.kind, TEAM_KIND) != 0) return;
+/* The ports that a device has of the last daemon are free. */
+static void free_inherited_ports(int index) {
+    struct device port;
     for (unsigned i = 0; i < inherited.link_count; i++)
         if (read_device(inherited.links[i].index, NULL, &port) && port.master == index && set_master(port.index, 0))
             (void)set_interface_up(port.index, true);
-    if (with_device) (void)remove_device(index);
 }
 
-/* The program ends, and no other one goes on: its ports are free, and the device goes if a daemon made it. */
+/* By other settings nothing goes on: the ports of the device are free, and it goes if the last daemon made it. Where another one has a port, it
+ * runs, and all stays as it is. */
+void leave_team(int index, bool with_device) {
+    struct device device;
+    int locks[NIW_MOST_PORTS];
+    bool runs = false;
+    if (!find_team_driver() || !read_device(index, NULL, &device) || strcmp(device.kind, TEAM_KIND) != 0) return;
+    for (unsigned i = 0; i < inherited.link_count; i++) {
+        locks[i] = lock_interface(inherited.links[i].index);
+        runs = runs || (locks[i] < 0 && errno != ENODEV);
+    }
+    if (!runs) free_inherited_ports(index);
+    if (!runs && with_device) (void)remove_device(index);
+    for (unsigned i = 0; i < inherited.link_count; i++)
+        if (locks[i] >= 0) return_stored("lock", inherited.links[i].index, locks[i]);
+}
+
+/* The program ends, and no other one goes on: its ports are free, also those that a start did not come to, and the device goes if a daemon made
+ * it. */
 void end_team(void) {
     if (!opened || has_left) return;
     for (uint16_t i = 0; i < link_count; i++) close_team_port(&links[i]);
+    if (tap_index() != 0) free_inherited_ports(tap_index());
     if (made && tap_index() != 0) (void)remove_device(tap_index());
     opened = false;
 }

@@ -54,6 +54,7 @@ size_t make_team_hash(struct sock_filter steps[static MOST_HASH_STEPS]);
 /* team.c */
 bool carries_by_team(void);
 bool has_made_team(void);
+bool has_team_mode(void);
 void open_team(const char *name, const uint8_t *mac);
 void end_team(void);
 bool open_team_port(struct link *link);
@@ -67,6 +68,7 @@ void leave_team_port(int index);
 /* buckets.c */
 void start_buckets(void);
 void settle_buckets(void);
+void look_at_driver(void);
 void pass_bucket_tick(void);
 void forget_port(uint16_t port);
 int bucket_member_of(uint16_t number);

@@ -21,7 +21,7 @@
 #define MOST_PARTS 256
 /* Beside the type of an attribute: it has others in it. Older kernels want it here and there. */
 #define NESTED NLA_F_NESTED
-/* The type of a flag among options, of linux/netlink.h since 2.6.20; if_team.h has no names for them. */
+/* The types of options that are of use here, as include/net/netlink.h of the kernel has them; no header for programs does. */
 enum { TYPE_U32 = 3, TYPE_STRING = 5, TYPE_FLAG = 6, TYPE_BINARY = 11 };
 
 struct message {
@@ -194,19 +194,19 @@ static void read_device_message(struct attributes told, void *into) {
 /* Reads what the kernel has of an interface now; answers whether there is one of this number, or of this name, where the number is 0. */
 bool read_device(int index, const char *name, struct device *device) {
     struct message question = message_of_interface(RTM_GETLINK, NLM_F_ACK, index);
-    if (index == 0) (void)put(&question, IFLA_IFNAME, name, strlen(name) + 1);
+    if (index == 0) (void)put(&question, strlen(name) < IFNAMSIZ ? IFLA_IFNAME : IFLA_ALT_IFNAME, name, strlen(name) + 1);
     *device = (struct device){0};
     return ask(route, &question, sizeof(struct ifinfomsg), read_device_message, device) && device->index != 0;
 }
 
 /* Finds the driver; answers whether this kernel has one, and else errno tells why not. The kernel loads it for who may ask for a device: with
- * an address that none may have there is none. */
+ * an address that none may have there is none, and by a name that it is to complete none is taken. */
 bool find_team_driver(void) {
     static const uint8_t no_address[ETH_ALEN];
     if (route < 0) route = open_netlink(NETLINK_ROUTE);
     if (generic < 0) generic = open_netlink(NETLINK_GENERIC);
     if (route < 0 || generic < 0) return false;
-    return find_family() || (!make_team_device("team", no_address, ETH_DATA_LEN) && errno == EADDRNOTAVAIL && find_family());
+    return find_family() || (!make_team_device("team%d", no_address, ETH_DATA_LEN) && errno == EADDRNOTAVAIL && find_family());
 }
 
 /* Makes a device of the driver; answers whether it did. */
@@ -217,7 +217,7 @@ bool make_team_device(const char *name, const uint8_t *mac, uint32_t mtu) {
     (void)put(&wanted, IFLA_ADDRESS, mac, ETH_ALEN);
     put_number(&wanted, IFLA_MTU, mtu);
     nest = put(&wanted, IFLA_LINKINFO, NULL, 0);
-    (void)put(&wanted, IFLA_INFO_KIND, TEAM_GENL_NAME, sizeof TEAM_GENL_NAME);
+    (void)put(&wanted, IFLA_INFO_KIND, TEAM_KIND, sizeof TEAM_KIND);
     close_nest(&wanted, nest, IFLA_LINKINFO);
     return order(route, &wanted);
 }

@@ -33,8 +33,15 @@ def sums(files: list[str]) -> str:
 
 
 def identifier(name: str) -> str:
-    """A name as an identifier of SPDX has it."""
-    return "SPDXRef-" + re.sub(r"[^A-Za-z0-9.]+", "-", name)
+    """A name as an identifier of SPDX has it: another one for each name. What it may not have is its number between hyphens, and a hyphen is two."""
+    marks = (it if re.match(r"[A-Za-z0-9.]", it) else "--" if it == "-" else f"-{ord(it):x}-" for it in name)
+    return "SPDXRef-" + "".join(marks)
+
+
+def checksums(octets: bytes) -> list[dict[str, str]]:
+    """The checksums of a file: SPDX 2.3 (8.4) wants the SHA-1 of each."""
+    sums_of = {"SHA1": hashlib.sha1(octets).hexdigest(), "SHA256": sum_of(octets)}
+    return [{"algorithm": name, "checksumValue": it} for name, it in sums_of.items()]
 
 
 def package(name: str, of: str) -> dict[str, object]:
@@ -69,7 +76,7 @@ def materials(parts: Parts, folder: str) -> str:
     name, tool = f"niwhopera-{parts.processor.machine}", printed(RT, "version").split("\n")[0].strip()
     inside, others = of_toolchain(), loaded(parts, folder)
     files = [
-        {"SPDXID": identifier(f"file-{part.path}"), "fileName": f"./{part.path}", "checksums": [{"algorithm": "SHA256", "checksumValue": sum_of(part.octets)}]}
+        {"SPDXID": identifier(f"file-{part.path}"), "fileName": f"./{part.path}", "checksums": checksums(part.octets)}
         for part in parts.archive
         if not part.link
     ]
@@ -106,11 +113,11 @@ def listed(parts: Parts, out: str, folder: str, files: list[str]) -> list[str]:
 
 
 def dangling(text: str) -> list[str]:
-    """The ends of relations that the list does not have."""
+    """The ends of relations that the list does not have, or has more than once."""
     told = json.loads(text)
-    there = {told["SPDXID"], *(it["SPDXID"] for kind in ("packages", "files") for it in told[kind])}
+    there = [told["SPDXID"], *(it["SPDXID"] for kind in ("packages", "files") for it in told[kind])]
     ends = {it[end] for it in told["relationships"] for end in ("spdxElementId", "relatedSpdxElement")}
-    return sorted(ends - there)
+    return sorted(it for it in ends if there.count(it) != 1)
 
 
 def tried(count: Count, files: list[str]) -> None:
@@ -122,4 +129,4 @@ def tried(count: Count, files: list[str]) -> None:
         named, text = {line.split()[1] for line in sums_file}, materials_file.read()
     missing = {os.path.basename(it) for it in files[:-1]} ^ named
     count.add(f"{os.path.basename(checked)} has each file", " ".join(sorted(missing)))
-    count.add(f"each part that {os.path.basename(inside)} relates is in it", "; ".join(dangling(text)[:9]))
+    count.add(f"each part that {os.path.basename(inside)} relates is in it once", "; ".join(dangling(text)[:9]))

@@ -34,13 +34,15 @@ static int member_of[CONVERSATIONS];
 static uint64_t sent[CONVERSATIONS], counted[CONVERSATIONS], last_counted[CONVERSATIONS]; /* the last: the time of the last frame that is counted */
 static uint64_t last_sent[CONVERSATIONS], all_sent, counted_at;
 static uint16_t placed_in; /* the aggregator that was active last */
-static unsigned refusals; /* how many orders are refused from now on */
+static unsigned refusals, shortages; /* how many orders are refused from now on, and for how many the kernel has no memory */
+static unsigned unread;              /* how often what the driver has cannot be read from now on */
 static bool is_port[PORTS + 1];
 
 /* The library: which ports distribute, in which of two aggregators, and the port of each conversation in either. */
 static bool distributes[PORTS + 1];
 static uint16_t aggregator = 1, on[3][CONVERSATIONS];
 static bool carrier;
+static unsigned lost, unread_told; /* how many links were lost, and how often it was told that nothing can be read */
 static bool early, stranded; /* whether a bucket left a port too early, or was left on one that is disabled */
 
 static unsigned random_below(unsigned bound) {
@@ -93,6 +95,8 @@ bool is_done(uint32_t status, const char *call) {
 }
 
 static bool refuses(void) {
+    errno = ENOBUFS;
+    if (shortages > 0 && shortages-- > 0) return true;
     errno = ENODEV;
     return refusals > 0 && refusals-- > 0;
 }
@@ -126,6 +130,8 @@ bool read_device(int index, const char *name, struct device *device) {
 
 bool read_team(int index, struct team_now *now) {
     *now = (struct team_now){0};
+    errno = ENOBUFS;
+    if (unread > 0 && unread-- > 0) return false;
     memcpy(now->members, member_of, sizeof now->members);
     memcpy(now->octets, counted, sizeof now->octets);
     for (uint16_t port = 1; port <= PORTS; port++) {
@@ -161,7 +167,8 @@ void set_carrier(bool on) {
 }
 bool say(int level, const char *format, ...) {
     (void)level;
-    return format != NULL;
+    unread_told += strstr(format, "does not tell") != NULL;
+    return true;
 }
 
 static void choose_ports(void) {
@@ -174,6 +181,7 @@ static void choose_ports(void) {
 /* The driver refused something of a port: its link is lost, and so is its place. */
 void lose_link(struct link *link) {
     uint16_t port = (uint16_t)(link - links + 1);
+    lost++;
     distributes[port] = is_port[port] = enabled[port] = false;
     for (uint16_t bucket = 0; bucket < CONVERSATIONS; bucket++)
         if (member_of[bucket] == port + INDEX) member_of[bucket] = 0;
@@ -199,6 +207,7 @@ static void send_some(void) {
     static bool sends[CONVERSATIONS];
     for (uint16_t number = 0; number < CONVERSATIONS; number++) {
         if (random_below(8) == 0) sends[number] = random_below(3) == 0;
+        if (random_below(1000) == 0) all_sent += 60; /* by the queue that the frame asks for, and so by no bucket */
         if (!sends[number] || carry.port_count == 0) continue;
         sent[number] += 60;
         all_sent += 60;
@@ -255,6 +264,42 @@ static bool are_spread(void) {
     return true;
 }
 
+/* The kernel has no memory for a while: no link is lost, and all is told again. One that never has any loses a link. */
+static void check_shortages(void) {
+    unsigned before = lost;
+    for (uint16_t port = 1; port <= PORTS; port++) {
+        take_port(port);
+        distributes[port] = true;
+    }
+    for (unsigned turn = 0; turn < CALM; turn++) pass(false);
+    distributes[1] = false;
+    shortages = 4;
+    pass(false);
+    CHECK(!are_placed() && lost == before);
+    for (unsigned turn = 0; turn < 5; turn++) pass(false);
+    CHECK(are_placed() && lost == before);
+    distributes[1] = true;
+    shortages = 1000;
+    for (unsigned turn = 0; turn < CALM; turn++) pass(false);
+    CHECK(lost > before);
+    shortages = 0;
+}
+
+/* What the driver has cannot be read: that has one line, and goes on once it can. */
+static void check_unread(void) {
+    unsigned before = unread_told;
+    unread = 1000;
+    for (unsigned turn = 0; turn < 10 * CALM; turn++) pass(false);
+    CHECK(unread_told == before + 1);
+    unread = 0;
+    for (uint16_t port = 1; port <= PORTS; port++) {
+        take_port(port);
+        distributes[port] = true;
+    }
+    for (unsigned turn = 0; turn < 2 * CALM; turn++) pass(false);
+    CHECK(are_placed() && are_spread());
+}
+
 int main(void) {
     unsigned wrong = 0, unspread = 0, calms = 0;
     srandom(1);
@@ -278,5 +323,7 @@ int main(void) {
     CHECK(!early);
     CHECK(calms == TURNS / 200 && unspread == 0);
     CHECK(carry.counts[MOVES] > 1000 && carry.counts[RESTED] > 1000 && carry.counts[FORCED] > 1000);
+    check_shortages();
+    check_unread();
     return tell_checks();
 }

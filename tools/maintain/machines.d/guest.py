@@ -72,7 +72,7 @@ class Guest:
     """A guest that runs. `over` has files that are laid over its tree, by their paths."""
 
     def __init__(self, qemu: list[str], kernel: Kernel, image: str, card: str, folder: str, over: dict[str, str]) -> None:
-        self.folder, self.card = folder, card
+        self.folder, self.card, self.scripts = folder, card, 0
         os.makedirs(folder)
         given = {**{f"etc/systemd/network/10-{name}.link": NAMED.format(name=name, mac=mac) for name, mac in MACS.items()}, **over}
         entries = [entry_of(path, text) for path, text in given.items()]
@@ -138,10 +138,14 @@ class Guest:
         return float(self.run("cut -d ' ' -f 1 /proc/uptime").text)
 
     def run(self, script: str, seconds: float = ANSWERS) -> Ended:
-        """Runs a script of the shell in the guest."""
-        self.shell.send(base64.b64encode(script.encode()).decode())
-        status, _, text = self.shell.receive(seconds).partition(" ")
-        return Ended(int(status), base64.b64decode(text).decode(errors="replace").strip())
+        """Runs a script of the shell in the guest. What one before it answers, for which nobody waits any more, is not taken for its own."""
+        self.scripts += 1
+        self.shell.send(f"{self.scripts} {base64.b64encode(script.encode()).decode()}")
+        until = time.monotonic() + seconds
+        while True:
+            number, status, text = self.shell.receive(max(until - time.monotonic(), 0)).split(" ", 2)
+            if int(number) == self.scripts:
+                return Ended(int(status), base64.b64decode(text).decode(errors="replace").strip())
 
     def text(self, script: str, seconds: float = ANSWERS) -> str:
         """What a script prints."""

@@ -16,14 +16,14 @@ from repository import MAINTAIN
 NEEDED = ("systemd-sysv", "udev", "dbus", "iproute2", "ethtool", "iputils-ping", "iperf3", "libteam-utils", "kmod", "procps", "tcpdump", "bridge-utils",
           "libinih1", "libcap-ng0")  # fmt: skip
 MEGABYTES = 1000
-# Takes scripts from the port and runs them, one after the other.
+# Takes scripts from the port and runs them, one after the other; an answer has the number of its script.
 SHELL = """#!/bin/bash
 exec 3<>/dev/virtio-ports/shell
 echo ready >&3
-while read -r script <&3; do
+while read -r number script <&3; do
     base64 -d <<<"$script" >/run/shell.script
     bash /run/shell.script >/run/shell.told 2>&1 </dev/null
-    echo "$? $(base64 -w0 /run/shell.told)" >&3
+    echo "$number $? $(base64 -w0 /run/shell.told)" >&3
 done
 """
 SHELL_UNIT = """[Unit]

@@ -2,6 +2,7 @@
 
 from __future__ import annotations
 
+import socket
 import subprocess
 from pathlib import Path
 
@@ -12,6 +13,8 @@ from repository import Missing
 
 machines = loading.program("machines")
 filing = loading.module("machines.d", "filing")
+guests = loading.module("machines.d", "guest")
+tree = loading.module("machines.d", "tree")
 
 
 def test_an_archive_has_files_links_and_the_folders_that_they_stand_in(tmp_path: Path) -> None:
@@ -24,6 +27,19 @@ def test_an_archive_has_files_links_and_the_folders_that_they_stand_in(tmp_path:
         pytest.skip("there is no cpio")
     subprocess.run(["cpio", "-i", "--quiet"], input=made, cwd=tmp_path, check=True)
     assert (tmp_path / "a/to").read_text() == "one\n" and (tmp_path / "run").stat().st_mode & 0o777 == 0o755
+
+
+def test_a_late_answer_is_not_that_of_the_next_script(tmp_path: Path) -> None:
+    near, far = socket.socketpair()
+    shell = tree.SHELL.replace("3<>/dev/virtio-ports/shell", f"3<&{far.fileno()}").replace("/run/", f"{tmp_path}/")
+    guest, line = guests.Guest.__new__(guests.Guest), guests.Line.__new__(guests.Line)
+    guest.shell, guest.scripts, line.socket, line.left = line, 0, near, b""
+    with subprocess.Popen(["bash", "-c", shell], pass_fds=[far.fileno()]) as process:
+        assert line.receive(10) == "ready"
+        with pytest.raises(guests.Failed):
+            guest.run("sleep 1; echo first", 0.3)
+        assert guest.run("echo second; exit 3") == (3, "second") and guest.text("echo third") == "third"
+        process.kill()
 
 
 def test_words_name_guests() -> None:
