@@ -105,6 +105,10 @@ class World:
         yield from (pick((self.empty, self.ends[0])), config, (ctypes.c_uint16 * 1)(), 1, (lag.NiwPort * 1)(lag.NiwPort(1)), 1)
         yield from ((lag.NiwSaved * 1)(lag.NiwSaved(1, pick((0, 900)))), 1)
 
+    def ticking(self) -> Iterator[Any]:
+        """Arguments of some ticks, or of too many."""
+        yield from (self.chance.choice((self.empty, self.ends[0])), self.chance.choice((0, 1, 5, lag.MOST_TICKS + 1)))
+
 
 def status_of(answer: Any) -> str:
     return lag.Status(answer if isinstance(answer, int) else answer.status).name
@@ -120,7 +124,8 @@ def test_functions_refuse_what_the_page_says_and_nothing_else() -> None:
     rest = [name for name in calls if name not in ENDS]
     for count in range(CALLS):
         name = chance.choice(sorted(ENDS) if count % 40 == 39 else rest if count % 4 == 0 else often)
-        arguments = world.resuming() if name == "resume" else world.arguments(calls[name].argtypes)  # type: ignore[attr-defined]
+        own = {"resume": world.resuming, "ticks": world.ticking}.get(name)
+        arguments = own() if own else world.arguments(calls[name].argtypes)  # type: ignore[attr-defined]
         found[name].add(status_of(calls[name](*arguments)))
         if name in ENDS:
             world = World(chance)

@@ -208,8 +208,9 @@ def test_a_held_port_is_in_no_aggregator(world: TwoSystems) -> None:
     assert (one.port_status(2), one.choice(2), one.distributing(1), one.held(2)) == (PortStatus.HELD, None, (1,), 1)
     play(world, "emit 1 2 -> lacpdu 05 sent; emit 1 2 -> marker 1 sent; deliver 2 2 -> took; deliver 2 2 -> responded sent; deliver 2 1 -> released 1")
     assert two.distributing(1) == (1,) and one.offer_conversation(1, 9) == 1
+    due = one.due()
     one.hold(2)
-    assert one.due() == ()
+    assert one.due() == due == (1,)
     one.hold(2, False)
     assert one.choice(2) == 1 and one.port_status(2) is not PortStatus.HELD
 
@@ -218,9 +219,9 @@ def test_settings_of_a_running_system(world: TwoSystems) -> None:
     one = world.systems[1]
     one.set_mode(1, active=False, short_timeout=True)
     one.set_max_delay(77)
-    [(port, sent)] = [*one.transmissions()]
-    lacpdu = decode(sent.frame[14:])
-    assert isinstance(lacpdu, Lacpdu) and (port, lacpdu.max_delay) == (1, 77)
+    sent = {port: decode(it.frame[14:]) for port, it in one.transmissions()}
+    lacpdu = sent[1]
+    assert isinstance(lacpdu, Lacpdu) and lacpdu.max_delay == 77 and [*sent] == [1, 2]
     assert lacpdu.actor.state & (State.ACTIVITY | State.TIMEOUT) == State.TIMEOUT
     with pytest.raises(LagError) as told:
         one.set_max_links(1)
