@@ -151,6 +151,15 @@ static void fuzz_state(const uint8_t *octets, size_t length) {
     resume_data(resume());
 }
 
+/* Messages of the kernel, which begin where a number of 32 bits may, and end with their last octet. */
+static void fuzz_messages(const uint8_t *octets, size_t length) {
+    uint8_t *messages = malloc(length);
+    if (!messages) return;
+    memcpy(messages, octets, length);
+    take_messages(messages, length);
+    free(messages);
+}
+
 int LLVMFuzzerTestOneInput(const uint8_t *octets, size_t length) {
     static bool made;
     if (!made) {
@@ -165,7 +174,7 @@ int LLVMFuzzerTestOneInput(const uint8_t *octets, size_t length) {
     case 2: fuzz_auxiliary(octets + 1, length - 1); break;
     case 3: fuzz_caller(octets + 1, length - 1); break;
     case 4: fuzz_state(octets + 1, length - 1); break;
-    default: take_messages(octets + 1, length - 1); break;
+    default: fuzz_messages(octets + 1, length - 1); break;
     }
     return 0;
 }
