@@ -14,7 +14,7 @@
 #define MOST_PARTS 65536
 
 union message message_of(uint16_t type, unsigned flags, const void *about, size_t length) {
-    union message message;
+    union message message = {.octets = {0}}; /* libmnl leaves what pads an attribute as it is */
     struct nlmsghdr *head = mnl_nlmsg_put_header(&message);
     head->nlmsg_type = type;
     head->nlmsg_flags = (uint16_t)(NLM_F_REQUEST | flags);
