@@ -3,7 +3,6 @@
  * for such a device. */
 #define _GNU_SOURCE
 #include <errno.h>
-#include <linux/if_link.h>
 #include <linux/if_packet.h>
 #include <linux/netconf.h>
 #include <linux/rtnetlink.h>
@@ -13,8 +12,8 @@
 #include <unistd.h>
 
 #include "carry.h"
+#include "netlink.h"
 
-#define ROOM 65536
 /* The most frames of an announcement: so many fit into what a socket may send at once. */
 #define MOST_ANNOUNCED 256
 /* How often it is announced, once a second: the peer may not collect yet. */
@@ -27,6 +26,8 @@ enum { ADVERTISED_OCTETS = 32, HOP_LIMIT = 255, ADVERTISEMENT = 136, FROM_ROUTER
 #define MOST_ABOVE 64
 /* How many of these stand one above the other at most. */
 #define MOST_LEVELS 4
+/* The types of attributes that are of use here are no higher: NETCONFA_IFINDEX, NETCONFA_FORWARDING, IFA_ADDRESS, IFA_LOCAL. */
+#define MOST_TYPE 2
 
 /* An interface whose addresses are announced. The first one is the device. */
 struct place {
@@ -99,41 +100,6 @@ static void announce_ipv6(const struct place *place, const uint8_t *address) {
     send_from(place, frame, sizeof frame);
 }
 
-/* The value of an attribute among `length` octets, and in `octets` how many it has; or NULL. */
-static const uint8_t *find(const uint8_t *attributes, size_t length, unsigned type, size_t *octets) {
-    struct rtattr head;
-    for (size_t at = 0; at + sizeof head <= length; at += RTA_ALIGN((size_t)head.rta_len)) {
-        memcpy(&head, attributes + at, sizeof head);
-        if (head.rta_len < sizeof head || head.rta_len > length - at) break;
-        *octets = head.rta_len - sizeof head;
-        if ((head.rta_type & (unsigned)NLA_TYPE_MASK) == type) return attributes + at + sizeof head;
-    }
-    return NULL;
-}
-
-/* The value of an attribute of a message, of so many octets, behind `before` octets; or NULL. */
-static const uint8_t *attribute(const uint8_t *message, size_t length, size_t before, unsigned type, size_t octets) {
-    size_t begin = NLMSG_LENGTH(NLMSG_ALIGN(before)), found = 0;
-    const uint8_t *value = length > begin ? find(message + begin, length - begin, type, &found) : NULL;
-    return found == octets ? value : NULL;
-}
-
-/* A number of an interface that a message of one tells, or 0. */
-static int number_of(const uint8_t *message, size_t length, unsigned type) {
-    int number = 0;
-    const uint8_t *value = attribute(message, length, sizeof(struct ifinfomsg), type, sizeof number);
-    if (value) memcpy(&number, value, sizeof number);
-    return number;
-}
-
-/* Whether an interface is of a kind that the kernel makes. */
-static bool is_kind(const uint8_t *message, size_t length, const char *kind) {
-    size_t begin = NLMSG_LENGTH(NLMSG_ALIGN(sizeof(struct ifinfomsg))), octets = 0, letters = 0;
-    const uint8_t *about = find(message + begin, length - begin, IFLA_LINKINFO, &octets);
-    const uint8_t *found = about ? find(about, octets, IFLA_INFO_KIND, &letters) : NULL;
-    return found && letters > strlen(kind) && memcmp(found, kind, strlen(kind) + 1) == 0;
-}
-
 static struct place *place_of(int index) {
     for (unsigned i = 0; i < place_count; i++)
         if (places[i].index == index) return &places[i];
@@ -141,128 +107,104 @@ static struct place *place_of(int index) {
 }
 
 /* Whether an interface stands on one that is announced: what it sends goes by that. One of another namespace does not count. */
-static bool is_above(const uint8_t *message, size_t length, int index) {
-    bool on_one = is_kind(message, length, "vlan") || is_kind(message, length, "macvlan");
-    bool elsewhere = attribute(message, length, sizeof(struct ifinfomsg), IFLA_LINK_NETNSID, sizeof(int)) != NULL;
-    if (on_one) return !elsewhere && place_of(number_of(message, length, IFLA_LINK));
+static bool is_above(const struct interface *interface) {
+    bool on_one = strcmp(interface->kind, "vlan") == 0 || strcmp(interface->kind, "macvlan") == 0;
+    if (on_one) return !interface->elsewhere && place_of(interface->below);
     for (unsigned i = 0; i < place_count; i++)
-        if (places[i].bridge == index && is_kind(message, length, "bridge")) return true;
+        if (places[i].bridge == interface->index && strcmp(interface->kind, "bridge") == 0) return true;
     return false;
 }
 
 /* The kernel told of an interface, which may stand on those that are known. */
-static void take_place(const uint8_t *message, size_t length) {
-    struct ifinfomsg about;
-    const uint8_t *mac;
-    struct place *place;
-    if (length < NLMSG_LENGTH(sizeof about)) return;
-    memcpy(&about, message + NLMSG_HDRLEN, sizeof about);
-    mac = attribute(message, length, sizeof about, IFLA_ADDRESS, ETH_ALEN);
-    place = place_of(about.ifi_index);
-    if (!place && mac && place_count < 1 + MOST_ABOVE && is_above(message, length, about.ifi_index)) {
+static void take_place(const struct nlmsghdr *message) {
+    struct interface interface = read_interface(message);
+    struct place *place = place_of(interface.index);
+    if (!place && interface.has_mac && place_count < 1 + MOST_ABOVE && is_above(&interface)) {
         place = &places[place_count++];
-        *place = (struct place){.index = about.ifi_index};
+        *place = (struct place){.index = interface.index};
     }
     if (!place) return;
-    place->bridge = number_of(message, length, IFLA_MASTER);
-    if (mac) memcpy(place->mac, mac, ETH_ALEN);
+    place->bridge = interface.master;
+    if (interface.has_mac) memcpy(place->mac, interface.mac, sizeof place->mac);
+}
+
+/* Notes an attribute by its type, in a table of MOST_TYPE + 1. */
+static int note_attribute(const struct nlattr *attribute, void *into) {
+    const struct nlattr **table = into;
+    if (mnl_attr_type_valid(attribute, MOST_TYPE) > 0) table[mnl_attr_get_type(attribute)] = attribute;
+    return MNL_CB_OK;
 }
 
 /* The kernel told whether an interface is one of a router: hosts forget a router whose advertisement says that it is none. */
-static void take_forwarding(const uint8_t *message, size_t length) {
-    int index = 0, forwarding = 0;
+static void take_forwarding(const struct nlmsghdr *message) {
+    const struct nlattr *told[MOST_TYPE + 1] = {0};
+    const int *index, *forwarding;
     struct place *place;
-    const uint8_t *which = attribute(message, length, sizeof(struct netconfmsg), NETCONFA_IFINDEX, sizeof index);
-    const uint8_t *what = attribute(message, length, sizeof(struct netconfmsg), NETCONFA_FORWARDING, sizeof forwarding);
-    if (!which || !what) return;
-    memcpy(&index, which, sizeof index);
-    memcpy(&forwarding, what, sizeof forwarding);
-    place = place_of(index);
+    read_attributes(message, sizeof(struct netconfmsg), note_attribute, told);
+    index = value_of(told[NETCONFA_IFINDEX], sizeof *index);
+    forwarding = value_of(told[NETCONFA_FORWARDING], sizeof *forwarding);
+    place = index && forwarding ? place_of(*index) : NULL;
     if (!place) return;
     place->is_known = true;
-    place->is_router = forwarding != 0;
+    place->is_router = *forwarding != 0;
 }
 
 /* The kernel told of an address. One of IPv6 that may be another host's is not announced. */
-static void take_address(const uint8_t *message, size_t length) {
-    struct ifaddrmsg about;
+static void take_address(const struct nlmsghdr *message) {
+    const struct nlattr *told[MOST_TYPE + 1] = {0};
+    const struct ifaddrmsg *about = mnl_nlmsg_get_payload(message);
     const struct place *place;
     const uint8_t *address;
     size_t octets;
-    if (length < NLMSG_LENGTH(sizeof about)) return;
-    memcpy(&about, message + NLMSG_HDRLEN, sizeof about);
-    octets = about.ifa_family == AF_INET ? 4 : 16;
-    address = attribute(message, length, sizeof about, IFA_LOCAL, octets);
-    if (!address && about.ifa_family == AF_INET6) address = attribute(message, length, sizeof about, IFA_ADDRESS, octets);
-    place = place_of((int)about.ifa_index);
+    if (mnl_nlmsg_get_payload_len(message) < sizeof *about) return;
+    read_attributes(message, sizeof *about, note_attribute, told);
+    octets = about->ifa_family == AF_INET ? 4 : 16;
+    address = value_of(told[IFA_LOCAL], octets);
+    if (!address && about->ifa_family == AF_INET6) address = value_of(told[IFA_ADDRESS], octets);
+    place = place_of((int)about->ifa_index);
     if (!address || !place) return;
-    if (about.ifa_family == AF_INET) announce_ipv4(place, address);
-    if (about.ifa_family == AF_INET6 && place->is_known && !(about.ifa_flags & (IFA_F_TENTATIVE | IFA_F_DADFAILED)))
+    if (about->ifa_family == AF_INET) announce_ipv4(place, address);
+    if (about->ifa_family == AF_INET6 && place->is_known && !(about->ifa_flags & (IFA_F_TENTATIVE | IFA_F_DADFAILED)))
         announce_ipv6(place, address);
 }
 
-/* Takes messages; answers whether more come. Else `told` has whether the kernel told all. */
-static bool take_some(const uint8_t *messages, size_t length, bool *told) {
-    struct nlmsghdr head;
-    errno = EPROTO; /* where it does not */
-    for (size_t at = 0; at + sizeof head <= length; at += NLMSG_ALIGN((size_t)head.nlmsg_len)) {
-        memcpy(&head, messages + at, sizeof head);
-        if (head.nlmsg_len < sizeof head || head.nlmsg_len > length - at) return false;
-        *told = head.nlmsg_type == NLMSG_DONE;
-        if (*told || head.nlmsg_type == NLMSG_ERROR) return false;
-        if (head.nlmsg_type == RTM_NEWNETCONF) take_forwarding(messages + at, head.nlmsg_len);
-        if (head.nlmsg_type == RTM_NEWADDR) take_address(messages + at, head.nlmsg_len);
-        if (head.nlmsg_type == RTM_NEWLINK) take_place(messages + at, head.nlmsg_len);
-    }
-    return true;
+static void take_told(const struct nlmsghdr *message, void *into) {
+    (void)into;
+    if (message->nlmsg_type == RTM_NEWNETCONF) take_forwarding(message);
+    if (message->nlmsg_type == RTM_NEWADDR) take_address(message);
+    if (message->nlmsg_type == RTM_NEWLINK) take_place(message);
 }
 
-/* Has the kernel tell all that it has of a kind, which it does at once; answers whether it did. */
-static bool ask_all(int route, uint16_t what, uint8_t family) {
-    static uint8_t room[ROOM];
-    struct {
-        struct nlmsghdr head;
-        struct ifinfomsg about; /* longer than what the other kinds want */
-    } question = {.head = {.nlmsg_type = what, .nlmsg_flags = NLM_F_REQUEST | NLM_F_DUMP}, .about = {.ifi_family = family}};
-    bool told = false, more = true;
-    question.head.nlmsg_len = sizeof question;
-    if (send(route, &question, sizeof question, 0) != sizeof question) return false;
-    while (more) {
-        struct sockaddr_nl from = {0};
-        socklen_t length = sizeof from;
-        ssize_t got = recvfrom(route, room, sizeof room, 0, (struct sockaddr *)&from, &length);
-        if (got >= 0 && from.nl_pid != 0) continue; /* another program's */
-        more = got >= 0 && take_some(room, (size_t)got, &told);
-    }
-    return told;
+/* Has the kernel tell all that it has of a kind; answers whether it did. The head of an interface is longer than what other kinds want. */
+static bool ask_all(uint16_t what, uint8_t family) {
+    union message question = message_of(what, NLM_F_DUMP, &(struct ifinfomsg){.ifi_family = family}, sizeof(struct ifinfomsg));
+    return ask_netlink(NETLINK_ROUTE, &question, take_told, NULL);
 }
 
 /* Finds the device, and what stands above it, level by level. */
-static void find_places(int route) {
+static void find_places(void) {
     unsigned before = 0;
     memset(places, 0, sizeof places);
     places[0].index = tap_index();
     place_count = read_tap_mac(places[0].mac) ? 1 : 0;
     for (unsigned level = 0; level < MOST_LEVELS && before != place_count; level++) {
         before = level == 0 ? 0 : place_count; /* the first one tells the bridge of the device alone, where that has a lower number */
-        (void)ask_all(route, RTM_GETLINK, AF_UNSPEC);
+        (void)ask_all(RTM_GETLINK, AF_UNSPEC);
     }
 }
 
 /* Announces the addresses of the device, and of what stands above it. Where the kernel has no IPv6, it does not tell who is a router, and has
  * no address. */
 static void announce(void) {
-    int route = socket(AF_NETLINK, SOCK_RAW | SOCK_NONBLOCK | SOCK_CLOEXEC, NETLINK_ROUTE);
     bool done = false;
     sender = socket(AF_PACKET, SOCK_RAW | SOCK_NONBLOCK | SOCK_CLOEXEC, 0);
     announced = place_count = 0;
-    if (route >= 0 && sender >= 0) find_places(route);
+    if (sender >= 0) find_places();
     if (place_count > 0) {
-        (void)ask_all(route, RTM_GETNETCONF, AF_INET6);
-        done = ask_all(route, RTM_GETADDR, AF_UNSPEC);
+        (void)ask_all(RTM_GETNETCONF, AF_INET6);
+        done = ask_all(RTM_GETADDR, AF_UNSPEC);
     }
     if (!done) (void)say(LOG_WARNING | ABOUT_CARRIER, "carry %s: its addresses were not announced: %s", settings.carry, strerror(errno));
-    if (route >= 0) close(route);
     if (sender >= 0) close(sender);
     sender = -1;
 }

@@ -5,6 +5,7 @@
 #include <net/if.h>
 #include <string.h>
 
+#include "netlink.h"
 #include "team.h"
 
 /* How often all is looked at, in milliseconds: while a bucket waits for its stillness, at ticks that are not made up, and else. */
@@ -87,9 +88,9 @@ static void note_counted(const struct team_now *now, uint64_t sent) {
 /* Looks at what the driver has: at the device before its buckets. Where the device is gone, the kernel tells, too. */
 void look_at_driver(void) {
     static struct team_now now;
-    struct device device;
+    struct interface device;
     looked_at = carry.time;
-    if (!read_device(tap_index(), NULL, &device) || !read_team(tap_index(), &now)) {
+    if (!ask_interface(tap_index(), NULL, &device) || !read_team(tap_index(), &now)) {
         if (++unseen == MOST_UNSEEN)
             (void)say(LOG_WARNING | ABOUT_DATA, "carry %s: the team driver does not tell what it has, so no bucket goes back to its own port: %s",
                 settings.carry, strerror(errno));

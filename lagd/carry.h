@@ -211,6 +211,7 @@ bool read_discipline(int index, char name[static DISCIPLINE_ROOM]);
 bool give_fifo(int index, uint32_t megabits);
 void fit_fifo(int index, uint32_t megabits);
 void take_fifo(int index);
+void give_no_queue(int index);
 enum classifier set_classifier(int program, int index);
 void drop_classifier(int index);
 

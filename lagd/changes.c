@@ -2,7 +2,6 @@
 #define _GNU_SOURCE
 #include <errno.h>
 #include <linux/if.h>
-#include <linux/netlink.h>
 #include <linux/pkt_sched.h>
 #include <linux/rtnetlink.h>
 #include <net/if_arp.h>
@@ -10,8 +9,8 @@
 #include <stdio.h>
 #include <string.h>
 #include <sys/socket.h>
-#include <unistd.h>
 
+#include "netlink.h"
 #include "team.h"
 
 #define ROOM 65536
@@ -19,27 +18,8 @@
 #define PATIENCE 10000
 #define MOST_ASKED 1000
 
-/* What a message tells of an interface. */
-struct interface {
-    int index;
-    unsigned flags, type;
-    char name[IFNAMSIZ];
-    const uint8_t *others; /* its other names, as attributes */
-    size_t others_length;
-    uint8_t mac[6];
-    bool has_mac, counts_losses;
-    uint32_t losses;
-    uint32_t mtu; /* 0: not told */
-    bool carrier;
-    int below;     /* the interface by which it sends, or 0 */
-    int master;    /* that of which it is a port, or 0 */
-    char kind[16]; /* of those that are made by the kernel; else empty */
-    char discipline[DISCIPLINE_ROOM]; /* of its queues */
-};
-
-static int route = -1;
+static struct mnl_socket *route; /* NULL: none is open yet */
 static uint32_t asked;   /* the number of the last question */
-static uint32_t own_id;  /* the number of this socket, which stands in answers */
 static bool asking;      /* whether the answer is not whole yet */
 static bool interrupted; /* whether interfaces changed while the kernel answered */
 static bool ask_again;   /* whether something was missed */
@@ -48,17 +28,10 @@ static bool tap_named;   /* whether the answer that is being read named the TAP 
 
 /* Asks for an interface, or with 0 for all of them; answers whether the kernel took the question. The answer comes as changes do. */
 static bool ask_for(int index, uint32_t number) {
-    struct {
-        struct nlmsghdr head;
-        struct ifinfomsg info;
-        struct rtattr mask_head;
-        uint32_t mask;
-    } question = {.head = {.nlmsg_type = RTM_GETLINK, .nlmsg_flags = NLM_F_REQUEST, .nlmsg_seq = number}, .info = {.ifi_index = index}};
-    if (index == 0) question.head.nlmsg_flags |= NLM_F_DUMP;
-    question.head.nlmsg_len = sizeof question;
-    question.mask_head = (struct rtattr){.rta_len = sizeof question.mask_head + sizeof question.mask, .rta_type = IFLA_EXT_MASK};
-    question.mask = RTEXT_FILTER_SKIP_STATS;
-    return send(route, &question, sizeof question, 0) == sizeof question;
+    union message question = message_of_interface(RTM_GETLINK, index == 0 ? NLM_F_DUMP : 0, index);
+    question.head.nlmsg_seq = number;
+    mnl_attr_put_u32(&question.head, IFLA_EXT_MASK, RTEXT_FILTER_SKIP_STATS);
+    return route && mnl_socket_sendto(route, &question, question.head.nlmsg_len) == (ssize_t)question.head.nlmsg_len;
 }
 
 /* Asks for all interfaces. */
@@ -71,41 +44,6 @@ static void ask(void) {
     interrupted = false;
 }
 
-/* Takes the kind of an interface out of what the kernel tells of those that it makes. */
-static void take_kind(struct interface *interface, const uint8_t *told, size_t length) {
-    struct rtattr head;
-    for (size_t at = 0; at + sizeof head <= length; at += RTA_ALIGN((size_t)head.rta_len)) {
-        memcpy(&head, told + at, sizeof head);
-        if (head.rta_len < sizeof head || head.rta_len > length - at) return;
-        if ((head.rta_type & (unsigned)NLA_TYPE_MASK) != IFLA_INFO_KIND || head.rta_len - sizeof head > sizeof interface->kind) continue;
-        memcpy(interface->kind, told + at + sizeof head, head.rta_len - sizeof head);
-        interface->kind[sizeof interface->kind - 1] = 0;
-    }
-}
-
-/* Takes one attribute of an interface. */
-static void take_attribute(struct interface *interface, unsigned type, const uint8_t *value, size_t length) {
-    if (type == IFLA_IFNAME && length <= sizeof interface->name) memcpy(interface->name, value, length);
-    if (type == IFLA_ADDRESS && length == sizeof interface->mac) {
-        memcpy(interface->mac, value, length);
-        interface->has_mac = true;
-    }
-    if (type == IFLA_CARRIER_DOWN_COUNT && length == sizeof interface->losses) {
-        memcpy(&interface->losses, value, length);
-        interface->counts_losses = true;
-    }
-    if (type == IFLA_QDISC && length <= sizeof interface->discipline) memcpy(interface->discipline, value, length);
-    if (type == IFLA_MTU && length == sizeof interface->mtu) memcpy(&interface->mtu, value, length);
-    if (type == IFLA_CARRIER && length == 1) interface->carrier = *value != 0;
-    if (type == IFLA_LINK && length == sizeof interface->below) memcpy(&interface->below, value, length);
-    if (type == IFLA_MASTER && length == sizeof interface->master) memcpy(&interface->master, value, length);
-    if (type == IFLA_LINKINFO) take_kind(interface, value, length);
-    if (type == IFLA_PROP_LIST) {
-        interface->others = value;
-        interface->others_length = length;
-    }
-}
-
 /* Whether what an interface sends goes by another one of this machine. The other end of a veth pair receives it. */
 static bool is_stacked(const struct interface *interface) {
     static const char *const kinds[] = {"bond", "team", "bridge"};
@@ -114,37 +52,16 @@ static bool is_stacked(const struct interface *interface) {
     return interface->below != 0 && interface->below != interface->index && strcmp(interface->kind, "veth") != 0;
 }
 
-/* Whether an interface has a name, as its own or as one of its other names. */
-static bool is_named(const struct interface *interface, const char *name) {
-    struct rtattr head;
-    size_t length = strlen(name) + 1;
-    if (strcmp(interface->name, name) == 0) return true;
-    for (size_t at = 0; at + sizeof head <= interface->others_length; at += RTA_ALIGN((size_t)head.rta_len)) {
-        memcpy(&head, interface->others + at, sizeof head);
-        if (head.rta_len < sizeof head || head.rta_len > interface->others_length - at) return false;
-        if ((head.rta_type & (unsigned)NLA_TYPE_MASK) == IFLA_ALT_IFNAME && head.rta_len == sizeof head + length
-            && memcmp(interface->others + at + sizeof head, name, length) == 0)
-            return true;
-    }
-    return false;
+/* Looks for a name among the other names of an interface, and stops there. */
+static int seek(const struct nlattr *attribute, void *into) {
+    const char *const *name = into;
+    return mnl_attr_get_type(attribute) == IFLA_ALT_IFNAME && is_text(attribute, *name) ? MNL_CB_STOP : MNL_CB_OK;
 }
 
-/* Reads a message of `length` octets, which tells of an interface. */
-static struct interface read_interface(const uint8_t *message, size_t length) {
-    struct interface interface = {0};
-    struct ifinfomsg info;
-    struct rtattr head;
-    memcpy(&info, message + NLMSG_HDRLEN, sizeof info);
-    interface.index = info.ifi_index;
-    interface.flags = info.ifi_flags;
-    interface.type = info.ifi_type;
-    for (size_t at = NLMSG_LENGTH(NLMSG_ALIGN(sizeof info)); at + sizeof head <= length; at += RTA_ALIGN((size_t)head.rta_len)) {
-        memcpy(&head, message + at, sizeof head);
-        if (head.rta_len < sizeof head || head.rta_len > length - at) break;
-        take_attribute(&interface, head.rta_type & (unsigned)NLA_TYPE_MASK, message + at + sizeof head, head.rta_len - sizeof head);
-    }
-    interface.name[IFNAMSIZ - 1] = interface.discipline[sizeof interface.discipline - 1] = 0;
-    return interface;
+/* Whether an interface has a name, as its own or as one of its other names. */
+static bool is_named(const struct interface *interface, const char *name) {
+    if (strcmp(interface->name, name) == 0) return true;
+    return interface->others && mnl_attr_parse_nested(interface->others, seek, &name) == MNL_CB_STOP;
 }
 
 /* At the start an interface cannot be taken up. */
@@ -242,13 +159,6 @@ static void take_discipline(const struct tcmsg *info) {
     if (ours && info->tcm_parent == TC_H_ROOT && !ask_for(info->tcm_ifindex, 0)) ask_again = true;
 }
 
-/* What the last message of an answer tells: 0, or an error, below 0. */
-static int error_of(const uint8_t *message, const struct nlmsghdr *head) {
-    int error = 0;
-    if (head->nlmsg_len >= NLMSG_LENGTH(sizeof error)) memcpy(&error, message + NLMSG_HDRLEN, sizeof error);
-    return error;
-}
-
 /* The answer to the last question has ended. What a whole one did not name is gone. One that ends with an error ends the program at
  * the start; later the kernel is asked again. */
 static void end_answer(int error) {
@@ -262,43 +172,37 @@ static void end_answer(int error) {
 }
 
 /* Takes one message. A bridge tells of its ports in messages of its own family, which say nothing of their links. */
-static void take_message(const uint8_t *message, const struct nlmsghdr *head) {
-    struct ifinfomsg info;
-    struct tcmsg discipline;
-    bool answers = asking && head->nlmsg_seq == asked && head->nlmsg_pid == own_id;
-    if (answers && (head->nlmsg_flags & NLM_F_DUMP_INTR)) interrupted = true;
-    if (answers && (head->nlmsg_type == NLMSG_DONE || head->nlmsg_type == NLMSG_ERROR)) end_answer(error_of(message, head));
-    if (head->nlmsg_len < NLMSG_LENGTH(sizeof info)) return;
-    memcpy(&info, message + NLMSG_HDRLEN, sizeof info);
-    if (head->nlmsg_type == RTM_NEWLINK && info.ifi_family == AF_UNSPEC) {
-        struct interface interface = read_interface(message, head->nlmsg_len);
+static void take_message(const struct nlmsghdr *message) {
+    const struct ifinfomsg *info = mnl_nlmsg_get_payload(message);
+    const struct tcmsg *discipline = mnl_nlmsg_get_payload(message);
+    size_t length = mnl_nlmsg_get_payload_len(message);
+    uint16_t type = message->nlmsg_type;
+    bool answers = asking && message->nlmsg_seq == asked && message->nlmsg_pid == mnl_socket_get_portid(route);
+    if (answers && (message->nlmsg_flags & NLM_F_DUMP_INTR)) interrupted = true;
+    if (answers && (type == NLMSG_DONE || type == NLMSG_ERROR)) end_answer(error_of(message));
+    if ((type == RTM_NEWQDISC || type == RTM_DELQDISC) && length >= sizeof *discipline) take_discipline(discipline);
+    if ((type != RTM_NEWLINK && type != RTM_DELLINK) || length < sizeof *info || info->ifi_family != AF_UNSPEC) return;
+    if (type == RTM_NEWLINK) {
+        struct interface interface = read_interface(message);
         if (interface.name[0]) take_present(&interface);
-    }
-    if ((head->nlmsg_type == RTM_NEWQDISC || head->nlmsg_type == RTM_DELQDISC) && head->nlmsg_len >= NLMSG_LENGTH(sizeof discipline)) {
-        memcpy(&discipline, message + NLMSG_HDRLEN, sizeof discipline);
-        take_discipline(&discipline);
-    }
-    if (head->nlmsg_type == RTM_DELLINK && info.ifi_family == AF_UNSPEC) take_absent(info.ifi_index);
+    } else
+        take_absent(info->ifi_index);
 }
 
 /* Takes the messages of `length` octets, in their order. */
-void take_messages(const uint8_t *messages, size_t length) {
-    struct nlmsghdr head;
-    for (size_t at = 0; at + sizeof head <= length; at += NLMSG_ALIGN((size_t)head.nlmsg_len)) {
-        memcpy(&head, messages + at, sizeof head);
-        if (head.nlmsg_len < sizeof head || head.nlmsg_len > length - at) return;
-        take_message(messages + at, &head);
-    }
+void take_messages(const void *messages, size_t length) {
+    int left = (int)length;
+    for (const struct nlmsghdr *message = messages; is_whole(message, left); message = mnl_nlmsg_next(message, &left)) take_message(message);
 }
 
 /* Takes what the kernel told. Where it had no room for some, it says so, and all is asked again. Any program of the machine may
  * send to this socket, too: what does not come from the kernel is not looked at. */
 void take_changes(void) {
-    static uint8_t room[ROOM];
+    static _Alignas(struct nlmsghdr) uint8_t room[ROOM];
     for (int turn = 0; turn < MOST_TAKEN; turn++) {
         struct sockaddr_nl from = {0};
         socklen_t length = sizeof from;
-        ssize_t got = recvfrom(route, room, sizeof room, MSG_TRUNC, (struct sockaddr *)&from, &length);
+        ssize_t got = recvfrom(mnl_socket_get_fd(route), room, sizeof room, MSG_TRUNC, (struct sockaddr *)&from, &length);
         if (got < 0 && errno != ENOBUFS) return;
         if (got >= 0 && from.nl_pid != 0) continue;
         if (got < 0 || got > (ssize_t)sizeof room)
@@ -336,17 +240,13 @@ void watch_carriers(bool all) {
 
 /* Opens the changes of interfaces, and takes up those that are there. */
 int open_changes(void) {
-    struct sockaddr_nl address = {.nl_family = AF_NETLINK, .nl_groups = RTMGRP_LINK | RTMGRP_TC};
-    socklen_t length = sizeof address;
-    route = socket(AF_NETLINK, SOCK_RAW | SOCK_NONBLOCK | SOCK_CLOEXEC, NETLINK_ROUTE);
-    if (route < 0 || bind(route, (struct sockaddr *)&address, sizeof address) < 0
-        || getsockname(route, (struct sockaddr *)&address, &length) < 0)
+    route = mnl_socket_open2(NETLINK_ROUTE, SOCK_NONBLOCK | SOCK_CLOEXEC);
+    if (!route || mnl_socket_bind(route, RTMGRP_LINK | RTMGRP_TC, MNL_SOCKET_AUTOPID) < 0)
         stop(REFUSED, "no changes of interfaces", strerror(errno));
-    own_id = address.nl_pid;
     for (ask(); asking || ask_again; watch_changes()) {
-        if (poll(&(struct pollfd){route, POLLIN, 0}, 1, PATIENCE) != 1) stop(REFUSED, "no answer", "interfaces");
+        if (poll(&(struct pollfd){mnl_socket_get_fd(route), POLLIN, 0}, 1, PATIENCE) != 1) stop(REFUSED, "no answer", "interfaces");
         if (asked > MOST_ASKED) stop(REFUSED, "no whole answer", "interfaces");
         take_changes();
     }
-    return route;
+    return mnl_socket_get_fd(route);
 }

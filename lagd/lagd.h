@@ -278,7 +278,7 @@ void limit_links(uint16_t most);
 /* changes.c */
 int open_changes(void);
 void take_changes(void);
-void take_messages(const uint8_t *messages, size_t length);
+void take_messages(const void *messages, size_t length);
 void watch_changes(void);
 void look_again(void);
 void suspect_carriers(void);

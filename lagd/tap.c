@@ -3,9 +3,6 @@
 #include <errno.h>
 #include <fcntl.h>
 #include <linux/if_tun.h>
-#include <linux/netlink.h>
-#include <linux/pkt_sched.h>
-#include <linux/rtnetlink.h>
 #include <net/if.h>
 #include <net/if_arp.h>
 #include <string.h>
@@ -170,23 +167,6 @@ static void choose_segments(void) {
         stop(REFUSED, "no frames of several segments", strerror(errno));
 }
 
-/* The device gets no queueing discipline, unless an administrator gave it one: the usual one of a machine may hold frames. */
-static void set_no_queue(void) {
-    struct {
-        struct nlmsghdr head;
-        struct tcmsg info;
-        struct rtattr kind_head;
-        char kind[8];
-    } wanted = {.head = {.nlmsg_type = RTM_NEWQDISC, .nlmsg_flags = NLM_F_REQUEST | NLM_F_CREATE | NLM_F_EXCL},
-        .info = {.tcm_family = AF_UNSPEC, .tcm_ifindex = number, .tcm_parent = TC_H_ROOT}, .kind = "noqueue"};
-    int route = socket(AF_NETLINK, SOCK_RAW | SOCK_CLOEXEC, NETLINK_ROUTE);
-    wanted.head.nlmsg_len = sizeof wanted;
-    wanted.kind_head = (struct rtattr){.rta_len = sizeof wanted.kind_head + sizeof wanted.kind, .rta_type = TCA_KIND};
-    if (route < 0) return;
-    (void)send(route, &wanted, sizeof wanted, 0); /* which discipline it has then is told with all interfaces */
-    close(route);
-}
-
 /* Whether a file still has a device of this network namespace, under the name that is told. */
 static bool is_here(int fd, struct ifreq *device) {
     int space = ioctl(fd, TUNGETDEVNETNS);
@@ -224,7 +204,7 @@ static void set_up(const uint8_t *mac) {
     queue.ifr_qlen = HOST_QUEUE;
     (void)ask_tap(SIOCSIFTXQLEN, &queue);
     settle_mtu();
-    if (settings.fast) set_no_queue();
+    if (settings.fast) give_no_queue(number); /* the usual one of a machine may hold frames */
 }
 
 /* What waits in the device is lost. */

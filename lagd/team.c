@@ -7,6 +7,7 @@
 #include <stdlib.h>
 #include <string.h>
 
+#include "netlink.h"
 #include "state.h"
 #include "team.h"
 
@@ -42,16 +43,16 @@ static void need(bool done, const char *what) {
 /* Whether the driver takes the mode: at a device of its own, which stays. */
 bool has_team_mode(void) {
     static const uint8_t mac[ETH_ALEN] = {2, 0, 0, 0, 0, 1};
-    struct device device;
-    return make_team_device("team0", mac, ETH_DATA_LEN) && read_device(0, "team0", &device) && set_team_text(device.index, "mode", MODE);
+    struct interface device;
+    return make_team_device("team0", mac, ETH_DATA_LEN) && ask_interface(0, "team0", &device) && set_team_text(device.index, "mode", MODE);
 }
 
 /* The lowest MTU of the interfaces that are there: the driver gives its ports that of the device. */
 static uint32_t least_mtu(void) {
     uint32_t least = 0;
     for (uint16_t i = 0; i < settings.port_count; i++) {
-        struct device member;
-        if (read_device(0, settings.ports[i].name, &member) && member.mtu != 0 && (least == 0 || member.mtu < least)) least = member.mtu;
+        struct interface member;
+        if (ask_interface(0, settings.ports[i].name, &member) && member.mtu != 0 && (least == 0 || member.mtu < least)) least = member.mtu;
     }
     return least == 0 ? ETH_DATA_LEN : least;
 }
@@ -71,8 +72,8 @@ static bool has_own_ports(const struct team_now *now) {
         bool own = false;
         if (if_indextoname((unsigned)now->ports[at], name) && !is_unlocked(now->ports[at])) stop(REFUSED, "another lagd has the interface", name);
         for (uint16_t i = 0; i < settings.port_count && !own; i++) {
-            struct device member;
-            own = read_device(0, settings.ports[i].name, &member) && member.index == now->ports[at];
+            struct interface member;
+            own = ask_interface(0, settings.ports[i].name, &member) && member.index == now->ports[at];
         }
         all = all && own;
     }
@@ -80,7 +81,7 @@ static bool has_own_ports(const struct team_now *now) {
 }
 
 /* Takes a device that is there: that of the last daemon, or one that is of no use to others. */
-static void take_device(const struct device *device, const uint8_t *mac) {
+static void take_device(const struct interface *device, const uint8_t *mac) {
     struct team_now now;
     bool known = device->index == inherited.tap;
     if (strcmp(device->kind, TEAM_KIND) != 0) stop(REFUSED, settings.carry, "an interface of this name is there, and is no team device");
@@ -94,11 +95,11 @@ static void take_device(const struct device *device, const uint8_t *mac) {
 
 /* Finds the device of the last daemon, whatever an administrator named it since, or else one of this name; answers whether there is one. A
  * TAP device of the last daemon goes. */
-static bool find_device(const char *name, struct device *device) {
+static bool find_device(const char *name, struct interface *device) {
     int tap = take_stored("tap", 0);
     if (tap >= 0) close_stored("tap", 0, tap);
-    if (inherited.tap != 0 && read_device(inherited.tap, NULL, device) && strcmp(device->kind, TEAM_KIND) == 0) return true;
-    for (int tries = 0; read_device(0, name, device); tries++) {
+    if (inherited.tap != 0 && ask_interface(inherited.tap, NULL, device) && strcmp(device->kind, TEAM_KIND) == 0) return true;
+    for (int tries = 0; ask_interface(0, name, device); tries++) {
         if (strcmp(device->kind, "tun") != 0 || tries == MOST_TRIES) return true;
         (void)poll(NULL, 0, NIW_TICK_MILLISECONDS);
     }
@@ -117,7 +118,7 @@ static void set_options(const char *mode_now) {
 
 /* Opens the device: it has no carrier, unless the data of the last daemon goes on. */
 void open_team(const char *name, const uint8_t *mac) {
-    struct device device;
+    struct interface device;
     struct team_now now;
     need(find_team_driver(), "plane=team: this kernel has no team driver");
     if (atexit(end_team) != 0) stop(REFUSED, "no memory", "for the team device");
@@ -125,7 +126,7 @@ void open_team(const char *name, const uint8_t *mac) {
     if (find_device(name, &device)) {
         take_device(&device, mac);
     } else {
-        need(make_team_device(name, mac, least_mtu()) && read_device(0, name, &device), name);
+        need(make_team_device(name, mac, least_mtu()) && ask_interface(0, name, &device), name);
         made = true;
         use_team_device(device.index);
     }
@@ -162,9 +163,9 @@ void give_team_addresses(void) {
 
 /* Takes an interface out of the device, by which it goes down: also where the device is gone, or somebody else took it out. */
 void leave_team_port(int index) {
-    struct device port;
+    struct interface port;
     bool up;
-    if (!opened || !read_device(index, NULL, &port) || (port.master != 0 && port.master != tap_index())) return;
+    if (!opened || !ask_interface(index, NULL, &port) || (port.master != 0 && port.master != tap_index())) return;
     up = port.master == 0 || (port.flags & IFF_UP);
     if ((port.master == 0 || set_master(index, 0)) && up) (void)set_interface_up(index, true);
 }
@@ -178,10 +179,10 @@ static bool make_port(int index, bool up) {
 /* Makes an interface a port of the device; answers whether it is one, and else errno tells why not. One that belongs to another device stays
  * there. */
 bool open_team_port(struct link *link) {
-    struct device port;
+    struct interface port;
     uint8_t mac[ETH_ALEN];
     bool up, done;
-    if (!read_device(link->index, NULL, &port) || !read_tap_mac(mac)) return false;
+    if (!ask_interface(link->index, NULL, &port) || !read_tap_mac(mac)) return false;
     up = (port.flags & IFF_UP) != 0;
     errno = EBUSY;
     if (port.master != 0 && port.master != tap_index()) return false;
@@ -208,8 +209,8 @@ void close_team_port(struct link *link) {
 /* Whether an interface is still a port of the device, as the kernel tells another master, or none: that may be older than what the daemon
  * did. */
 bool is_still_team_port(const struct link *link, int master) {
-    struct device now;
-    if (!opened || !taken[link - links] || master == tap_index() || !read_device(link->index, NULL, &now)) return true;
+    struct interface now;
+    if (!opened || !taken[link - links] || master == tap_index() || !ask_interface(link->index, NULL, &now)) return true;
     if (now.master == tap_index()) return true;
     (void)say(LOG_WARNING | ABOUT_DATA, "port %u %s: it was taken out of %s", link->settings.number, link->name, settings.carry);
     return false;
@@ -217,19 +218,19 @@ bool is_still_team_port(const struct link *link, int master) {
 
 /* The ports that a device has of the last daemon are free. */
 static void free_inherited_ports(int index) {
-    struct device port;
+    struct interface port;
     for (unsigned i = 0; i < inherited.link_count; i++)
-        if (read_device(inherited.links[i].index, NULL, &port) && port.master == index && set_master(port.index, 0))
+        if (ask_interface(inherited.links[i].index, NULL, &port) && port.master == index && set_master(port.index, 0))
             (void)set_interface_up(port.index, true);
 }
 
 /* By other settings nothing goes on: the ports of the device are free, and it goes if the last daemon made it. Where another one has a port, it
  * runs, and all stays as it is. */
 void leave_team(int index, bool with_device) {
-    struct device device;
+    struct interface device;
     int locks[NIW_MOST_PORTS];
     bool runs = false;
-    if (!find_team_driver() || !read_device(index, NULL, &device) || strcmp(device.kind, TEAM_KIND) != 0) return;
+    if (!find_team_driver() || !ask_interface(index, NULL, &device) || strcmp(device.kind, TEAM_KIND) != 0) return;
     for (unsigned i = 0; i < inherited.link_count; i++) {
         locks[i] = lock_interface(inherited.links[i].index);
         runs = runs || (locks[i] < 0 && errno != ENODEV);

@@ -11,16 +11,6 @@
 /* The most ports of a device that are told: its own, and some that others put there. */
 #define MOST_TEAM_PORTS (2 * NIW_MOST_PORTS)
 
-/* What the kernel has of an interface. */
-struct device {
-    int index, master; /* `master`: the interface of which it is a port, or 0 */
-    unsigned flags;
-    char kind[16]; /* of those that the kernel makes; else empty */
-    uint8_t mac[ETH_ALEN];
-    uint32_t mtu;
-    uint64_t octets_sent, frames_received;
-};
-
 /* What the driver has of a device. */
 struct team_now {
     char mode[32];
@@ -33,7 +23,6 @@ struct team_now {
 
 /* team_netlink.c */
 bool find_team_driver(void);
-bool read_device(int index, const char *name, struct device *device);
 bool make_team_device(const char *name, const uint8_t *mac, uint32_t mtu);
 bool remove_device(int index);
 bool set_interface_up(int index, bool up);

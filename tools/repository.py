@@ -51,11 +51,11 @@ def kit() -> str:
 
 
 def daemon_words() -> tuple[list[str], list[str]]:
-    """With which words the daemon is compiled, and with which it is linked: those of libinih and libcap-ng, and of libsystemd
-    where that is here."""
+    """With which words the daemon is compiled, and with which it is linked: those of libinih, libmnl and libcap-ng, and of
+    libsystemd where that is here."""
     want("pkg-config")
-    found = [name for name in ("inih", "libsystemd", "libcap-ng") if not subprocess.run(["pkg-config", "--exists", name]).returncode]
-    for name, package in ("inih", "libinih-dev"), ("libcap-ng", "libcap-ng-dev"):
+    found = [name for name in ("inih", "libmnl", "libsystemd", "libcap-ng") if not subprocess.run(["pkg-config", "--exists", name]).returncode]
+    for name, package in ("inih", "libinih-dev"), ("libmnl", "libmnl-dev"), ("libcap-ng", "libcap-ng-dev"):
         if name not in found:
             raise Missing(f"the daemon needs {name}, and pkg-config finds none (Debian: {package})")
     defined = {"libsystemd": "-DHAVE_SYSTEMD"}

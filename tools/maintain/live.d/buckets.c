@@ -9,6 +9,7 @@
 #include <string.h>
 
 #include "checks.h"
+#include "netlink.h"
 #include "team.h"
 
 #define PORTS 3
@@ -122,9 +123,9 @@ bool set_bucket(int index, uint16_t bucket, int port) {
     return true;
 }
 
-bool read_device(int index, const char *name, struct device *device) {
+bool ask_interface(int index, const char *name, struct interface *device) {
     (void)name;
-    *device = (struct device){.index = index, .octets_sent = all_sent};
+    *device = (struct interface){.index = index, .octets_sent = all_sent};
     return true;
 }
 

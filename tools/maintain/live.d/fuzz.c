@@ -1,8 +1,9 @@
 /* Gives octets to the parsers of the daemon, for libFuzzer: the first octet says which one. Linked with the files of the daemon but for
- * main.c, and with --wrap=recvmsg. */
+ * main.c, and with --wrap of recvmsg, mnl_socket_sendto and mnl_socket_recvfrom. */
 #define _GNU_SOURCE
 #include <errno.h>
 #include <linux/if_packet.h>
+#include <sanitizer/asan_interface.h>
 #include <stdio.h>
 #include <stdlib.h>
 #include <string.h>
@@ -11,15 +12,19 @@
 #include <sys/un.h>
 #include <unistd.h>
 
+#include "netlink.h"
 #include "state.h"
+#include "team.h"
 
 int LLVMFuzzerTestOneInput(const uint8_t *octets, size_t length);
 ssize_t __real_recvmsg(int fd, struct msghdr *message, int flags);
 ssize_t __wrap_recvmsg(int fd, struct msghdr *message, int flags);
+ssize_t __wrap_mnl_socket_sendto(const struct mnl_socket *asked, const void *question, size_t length);
+ssize_t __wrap_mnl_socket_recvfrom(const struct mnl_socket *asked, void *part, size_t room);
 
 static char folder[] = "/tmp/lagd-fuzz-XXXXXX"; /* of the status socket */
 static int wire[2];                             /* the packet socket of the first port, and its other end */
-static const uint8_t *waiting;                  /* what waits there, or NULL */
+static const uint8_t *waiting;                  /* what waits there, or is the answer of the kernel; or NULL */
 static size_t waiting_length;
 
 bool await_input(int fd, uint32_t tag) {
@@ -151,6 +156,49 @@ static void fuzz_state(const uint8_t *octets, size_t length) {
     resume_data(resume());
 }
 
+/* The kernel gets no question. */
+ssize_t __wrap_mnl_socket_sendto(const struct mnl_socket *asked, const void *question, size_t length) {
+    (void)asked;
+    (void)question;
+    return (ssize_t)length;
+}
+
+/* The one part of an answer. What the last one left behind it may not be read. */
+ssize_t __wrap_mnl_socket_recvfrom(const struct mnl_socket *asked, void *part, size_t room) {
+    size_t length = least(waiting_length, room);
+    (void)asked;
+    errno = EAGAIN;
+    if (!waiting) return -1;
+    ASAN_UNPOISON_MEMORY_REGION(part, room);
+    memcpy(part, waiting, length);
+    ASAN_POISON_MEMORY_REGION((uint8_t *)part + length, room - length);
+    waiting = NULL;
+    return (ssize_t)length;
+}
+
+/* What the kernel answers to a question: of an interface, of the team driver and of classifiers. */
+static void fuzz_answers(const uint8_t *octets, size_t length) {
+    struct interface interface;
+    static struct team_now now;
+    waiting_length = length;
+    waiting = octets;
+    (void)ask_interface(1, NULL, &interface);
+    waiting = octets;
+    (void)read_team(1, &now);
+    waiting = octets;
+    drop_classifier(1);
+    waiting = NULL;
+}
+
+/* Messages of the kernel, which begin where a number of 32 bits may, and end with their last octet. */
+static void fuzz_messages(const uint8_t *octets, size_t length) {
+    uint8_t *messages = malloc(length);
+    if (!messages) return;
+    memcpy(messages, octets, length);
+    take_messages(messages, length);
+    free(messages);
+}
+
 int LLVMFuzzerTestOneInput(const uint8_t *octets, size_t length) {
     static bool made;
     if (!made) {
@@ -159,13 +207,14 @@ int LLVMFuzzerTestOneInput(const uint8_t *octets, size_t length) {
     }
     made = true;
     if (length == 0) return 0;
-    switch (octets[0] % 6) {
+    switch (octets[0] % 7) {
     case 0: fuzz_file(octets + 1, length - 1); break;
     case 1: fuzz_frame(octets + 1, length - 1); break;
     case 2: fuzz_auxiliary(octets + 1, length - 1); break;
     case 3: fuzz_caller(octets + 1, length - 1); break;
     case 4: fuzz_state(octets + 1, length - 1); break;
-    default: take_messages(octets + 1, length - 1); break;
+    case 5: fuzz_messages(octets + 1, length - 1); break;
+    default: fuzz_answers(octets + 1, length - 1); break;
     }
     return 0;
 }
