@@ -10,6 +10,7 @@
 #include <getopt.h>
 #include <signal.h>
 #include <stdio.h>
+#include <stdlib.h>
 
 #include "lag.h"
 #include "snmp.h"
@@ -57,8 +58,9 @@ static int read_words(int count, char **words) {
     return optind < count ? WRONG_WORD : -1;
 }
 
-/* Makes it a subagent, which reads and keeps no file. */
+/* Makes it a subagent, which reads and keeps no file: no names of objects either. */
 static void set_up(void) {
+    (void)setenv("MIBS", "", 1);
     netsnmp_ds_set_boolean(NETSNMP_DS_APPLICATION_ID, NETSNMP_DS_AGENT_ROLE, 1);
     netsnmp_ds_set_boolean(NETSNMP_DS_LIBRARY_ID, NETSNMP_DS_LIB_DONT_READ_CONFIGS, 1);
     netsnmp_ds_set_boolean(NETSNMP_DS_LIBRARY_ID, NETSNMP_DS_LIB_DONT_PERSIST_STATE, 1);
@@ -77,6 +79,7 @@ int main(int count, char **words) {
     init_snmp("lagd-snmp");
     (void)sigaction(SIGTERM, &on_end, NULL);
     (void)sigaction(SIGINT, &on_end, NULL);
+    (void)signal(SIGPIPE, SIG_IGN); /* snmpd may go at any time */
     (void)snmp_alarm_register(EVERY, SA_REPEAT, look, NULL);
     refresh();
     while (!ended) (void)agent_check_and_process(1);

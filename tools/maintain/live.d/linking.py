@@ -85,6 +85,15 @@ def build_daemon(folder: str, libraries: Sequence[str], name: str = "lagd", more
     return build(os.path.join(folder, name), [*daemon_sources(), *more], [*libraries, *linked], *STRICT, *compiled, *words)
 
 
+def subagent_sources() -> list[str]:
+    return sorted(glob.glob(f"{DAEMON}/snmp/*.c"))
+
+
+def build_subagent(folder: str) -> str:
+    """Builds the subagent of snmpd, with ASan and UBSan; answers its path."""
+    return build(os.path.join(folder, "lagd-snmp"), subagent_sources(), ["-lnetsnmpagent", "-lnetsnmp", "-ljansson"], *STRICT, *SANITIZED)
+
+
 def build_planes(folder: str, libraries: Sequence[str]) -> str:
     """Builds the hosts that carry data; answers the path of the program."""
     return build(os.path.join(folder, "planes"), [f"{MAINTAIN}/live.d/planes.c"], libraries, *STRICT)
