@@ -20,14 +20,28 @@
 #define WRONG_WORD 2
 
 static const char HELP[] =
-    "lagd-snmp: tells an SNMP manager of the bundles of lagd, by IEEE8023-LAG-MIB\n"
+    "usage: lagd-snmp [--agentx ADDRESS] [--folder FOLDER]\n"
     "\n"
-    "  lagd-snmp [--agentx ADDRESS] [--folder FOLDER]\n"
+    "Tells SNMP managers of the bundles of this network namespace, by IEEE8023-LAG-MIB (IEEE 802.1AX-2014, annex D). It is a subagent of\n"
+    "snmpd (AgentX), and asks each daemon for its status, as lagd --status does. Nothing can be written. What is answered is a second old at\n"
+    "most; a daemon that does not answer within 0.7 s has no rows.\n"
     "\n"
-    "  -x, --agentx ADDRESS   of snmpd, as unix:/var/agentx/master or tcp:localhost:705; its own default if not given\n"
-    "  -f, --folder FOLDER    of status sockets; /run/lagd if not given\n"
-    "  -h, --help\n"
-    "  -V, --version\n";
+    "There are dot3adAggTable, dot3adAggPortListTable, dot3adAggPortTable, dot3adAggPortStatsTable and dot3adTablesLastChanged. An index is\n"
+    "the ifIndex of the kernel, and so is a bit of a list. The aggregator of a bundle is the device of its key carry, which stands for the\n"
+    "active aggregator, or else for the lowest one that a port has chosen. A bundle without carry has rows of ports alone, which are\n"
+    "attached to none. A port whose link is down stays attached, and neither collects nor distributes.\n"
+    "\n"
+    "With lagd-snmp.service, snmpd needs these lines in /etc/snmp/snmpd.conf, and a view with the last object:\n"
+    "\n"
+    "    master agentx\n"
+    "    agentXPerms 0660 0755 root lagd\n"
+    "    view systemonly included .1.2.840.10006.300.43\n"
+    "\n"
+    "options:\n"
+    "  -x, --agentx ADDRESS  of snmpd, as tcp:localhost:705; /var/agentx/master if not given\n"
+    "  -f, --folder FOLDER   of status sockets; /run/lagd if not given\n"
+    "  -h, --help            prints this\n"
+    "  -V, --version         prints the version\n";
 
 static volatile sig_atomic_t ended;
 
