@@ -105,7 +105,7 @@ void write_json(void) {
     add_bundle();
     add(",\"system_priority\":%u,", settings.config.priority);
     add_mac("system", settings.config.mac);
-    add(",\"key\":%u,\"max_delay\":%u", settings.key, settings.config.max_delay);
+    add(",\"key\":%u,\"collector_max_delay\":%u", settings.key, settings.config.max_delay);
     add(",\"min_links\":%u,\"max_links\":%u,\"seconds\":%" PRIu64 ",", settings.min_links, settings.config.max_links, seconds_passed());
     write_carry_json();
     add("\"ports\":[");

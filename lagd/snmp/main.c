@@ -1,5 +1,5 @@
 /* lagd-snmp: a subagent of snmpd (AgentX, RFC 2741) that tells of the bundles of this network namespace by IEEE8023-LAG-MIB. It asks each
- * daemon as `lagd --status --json` does. */
+ * daemon as `lagd --status --json` does. In C, since Debian 12 has no AgentX library for Python. */
 #define _GNU_SOURCE
 #include <net-snmp/net-snmp-config.h>
 

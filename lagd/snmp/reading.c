@@ -147,7 +147,7 @@ static bool is_bundle(const json_t *root, struct bundle *bundle) {
     const char *device = json_string_value(json_object_get(carry, "device"));
     char name[IFNAMSIZ] = {0};
     bundle->ports = json_object_get(root, "ports");
-    if (!is_number(root, "key", UINT16_MAX, &bundle->key) || !is_number(root, "max_delay", UINT16_MAX, &bundle->max_delay)
+    if (!is_number(root, "key", UINT16_MAX, &bundle->key) || !is_number(root, "collector_max_delay", UINT16_MAX, &bundle->max_delay)
         || !is_number(root, "system_priority", UINT16_MAX, &bundle->system_priority) || !is_mac(root, "system", bundle->system)
         || !is_number(root, "aggregator", UINT16_MAX, &bundle->aggregator) || !json_is_array(bundle->ports))
         return false;

@@ -50,6 +50,7 @@ class Runs:
 
 def lldpd(part: Part, space: str, names: str) -> Runs:
     """An lldpd that sends each second."""
+    os.chmod(part.folder, 0o711)  # its user looks whether somebody else has the socket
     at = os.path.join(part.folder, f"lldpd-{space}")
     started = Runs(part, space, f"{os.path.basename(at)}.log", *OWN_RUN, "lldpd", "-d", "-u", at, "-I", names)
     asked = lambda: inside(space, "lldpcli", "-u", at, "configure", "lldp", "tx-interval", "1").returncode == 0

@@ -17,7 +17,7 @@ from typing import Any
 from checking import Skipped, check, within
 from daemon import KEY, SYSTEM, Daemon, Part
 from daemons import COMES_UP
-from linking import build_subagent
+from linking import build_subagent, has_subagent
 from spaces import OURS, THEIRS, inside, ip, within_space
 
 # lagMIBObjects of IEEE8023-LAG-MIB, and its tables below it (IEEE 802.1AX-2014, annex D).
@@ -38,15 +38,20 @@ HANGS, ENDLESS = b"..hangs", b"..endless"
 Told = dict[str, str]
 
 
+def want_subagent() -> None:
+    """Skips a part where snmpd, its commands or what the subagent is built with are not here."""
+    for word, package in ("snmpd", "snmpd"), ("snmpbulkwalk", "snmp"):
+        if not shutil.which(word, path=f"{os.environ['PATH']}:/usr/sbin"):
+            raise Skipped(f"no command {word} (Debian: {package})")
+    if not has_subagent():
+        raise Skipped("no libnetsnmpagent or no jansson (Debian: libsnmp-dev, libjansson-dev)")
+
+
 class Agent:
     """snmpd, and the subagent of it."""
 
     def __init__(self, part: Part, folder: str) -> None:
-        for word, package in ("snmpd", "snmpd"), ("snmpbulkwalk", "snmp"):
-            if not shutil.which(word, path=f"{os.environ['PATH']}:/usr/sbin"):
-                raise Skipped(f"no command {word} (Debian: {package})")
-        if not os.path.exists("/usr/include/net-snmp/agent/table.h") or not os.path.exists("/usr/include/jansson.h"):
-            raise Skipped("no libnetsnmpagent or no jansson (Debian: libsnmp-dev, libjansson-dev)")
+        want_subagent()
         self.part, self.socket = part, os.path.join(part.folder, "agentx")
         self.file, self.log = (os.path.join(part.folder, name) for name in ("snmpd.conf", "subagent"))
         with open(self.file, "w", encoding="utf-8") as it:
@@ -291,7 +296,7 @@ def false_answers(good: bytes) -> dict[str, bytes | None]:
     """What false daemons answer to each question; None: nothing, while they keep the connection."""
     status = json.loads(good)
     port = status["ports"][0]
-    wrong = [dict(status, **more) for more in ({"key": "7"}, {"key": 65536}, {"system": "02:00:00:00:00:zz"}, {"ports": {}}, {"ports": [1]}, {"aggregator": -1}, {"max_delay": 1.5})]
+    wrong = [dict(status, **more) for more in ({"key": "7"}, {"key": 65536}, {"system": "02:00:00:00:00:zz"}, {"ports": {}}, {"ports": [1]}, {"aggregator": -1}, {"collector_max_delay": 1.5})]
     wrong += [dict(status, carry={"device": name}) for name in ("", "x" * 16, "\u20ac", None)]
     ports: list[dict[str, Any]] = [{"index": 0}, {"index": 2**40}, {"mux": 7}, {"mux": "LOST"}, {"counters": {}}, {"partner": None}, {"actor": dict(port["actor"], state=["nonsense"])}]
     wrong += [dict(status, ports=[dict(port, **more)]) for more in ports]
