@@ -178,7 +178,7 @@ void ask_all(const char *folder, take_answer *take_whole, struct told *told) {
     take_answers();
     note_slow();
     for (unsigned i = 0; i < count; i++) {
-        if (daemons[i].whole) take_whole(told, daemons[i].path, daemons[i].text, daemons[i].length);
+        if (daemons[i].whole && daemons[i].length > 0) take_whole(told, daemons[i].path, daemons[i].text, daemons[i].length);
         free(daemons[i].text);
         daemons[i].text = NULL;
     }

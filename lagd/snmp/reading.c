@@ -23,6 +23,10 @@ enum { ACTIVITY = 0x80, TIMEOUT = 0x40, AGGREGATION = 0x20 };
 static const char *const COUNT_NAMES[COUNTS] = {"lacpdus_received", "markers_received", "marker_responses_received", "unknown_received",
     "illegal_received", "lacpdus_sent", "markers_sent", "marker_responses_sent"};
 
+/* How an answer begins to who gets none, in a line of so many octets at most. */
+#define REFUSAL "refused: "
+#define LONGEST_REFUSAL 128
+
 /* A bundle, as its daemon tells it. */
 struct bundle {
     const char *path;
@@ -240,8 +244,9 @@ static bool read_bundle(struct told *told, const json_t *root, const char *path)
 void read_status(struct told *told, const char *path, const char *text, size_t length) {
     json_error_t why;
     json_t *root = json_loadb(text, length, JSON_REJECT_DUPLICATES, &why);
-    if (!root && length > 9 && strncmp(text, "refused: ", 9) == 0)
-        complain("%s: %.*s", path, (int)strcspn(text, "\n"), text);
+    const char *end = memchr(text, '\n', length);
+    if (!root && end && end - text < LONGEST_REFUSAL && strncmp(text, REFUSAL, strlen(REFUSAL)) == 0)
+        complain("%s: %.*s", path, (int)(end - text), text);
     else if (!root || !read_bundle(told, root, path))
         complain("%s: no status of lagd: %s", path, root ? "a field is missing or wrong" : why.text);
     json_decref(root);

@@ -292,6 +292,22 @@ def odd_name(part: Part) -> None:
     agent.ends()
 
 
+def high_indexes(part: Part) -> None:
+    """A port whose bit is far in the list, and one that has no place there."""
+    for name, other, index in ("e0", "f0", 200000), ("e1", "f1", 3000000):
+        ip(OURS, "link", "add", name, "index", str(index), "type", "veth", "peer", "name", other, "netns", THEIRS)
+        ip(OURS, "link", "set", name, "up")
+        ip(THEIRS, "link", "set", other, "up")
+    ours, theirs = part.ours("a0", "e0", options=["--carry", "lag0"]), part.theirs("b0", "f0", "f1", options=["--carry", "lag0"])
+    agent = Agent(part, ours.folder)
+    both = lambda: ours.distributes("a0", "e0") and agent.walk("1.2").get(f"{LISTS}.1.{index_of('lag0')}") == port_list([index_of("a0"), 200000])
+    check(within(COMES_UP, both), "the list has the bit of ifIndex 200000 in its octet 25000", ours.text(), sorted(agent.walk("1.2")))
+    ours.ends("the daemon")
+    again = part.ours("a0", "e1", options=["--carry", "lag0"])
+    check(within(COMES_UP, lambda: again.distributes("a0", "e1") and len(agent.rows()) == 72), "a list that has no place for 3000000 is left out, and nothing else", sorted(agent.rows()), again.text())
+    agent.ends()
+
+
 def false_answers(good: bytes) -> dict[str, bytes | None]:
     """What false daemons answer to each question; None: nothing, while they keep the connection."""
     status = json.loads(good)
@@ -386,5 +402,6 @@ PARTS = {
     "SNMP: snmpd goes": master_again,
     "SNMP: many ports": many,
     "SNMP: odd names": odd_name,
+    "SNMP: high indexes": high_indexes,
     "SNMP: false daemons": false_daemons,
 }
