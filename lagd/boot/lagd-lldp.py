@@ -3,8 +3,8 @@
 lagd-lldp.service runs.
 
 Each two seconds it compares what lldpd has with what the daemons tell, and changes what differs: so it stays right when a port joins or
-leaves, a daemon is gone, or lldpd starts again. The TLV is its own on all ports of lldpd. It wants lldpcli (Debian: lldpd), and the rights
-of the groups lagd and _lldpd.
+leaves, a daemon is gone, or lldpd starts again. The TLV is its own on all ports of lldpd. It wants lldpcli (Debian: lldpd), as the
+user _lldpd, and the rights of the group lagd.
 """
 
 from __future__ import annotations
@@ -27,17 +27,24 @@ EVERY, PATIENCE = 2, 10
 FAULTS = (AttributeError, LookupError, OverflowError, TypeError, ValueError)
 # lldpcli reads the name of a port as a pattern.
 PLAIN = re.compile(r"[\w.:@-]+", re.ASCII)
+# Lines that were printed.
+told: set[str] = set()
 
 
 def complain(why: Exception) -> None:
-    print(f"lagd-lldp: {type(why).__name__}: {why}", file=sys.stderr, flush=True)
+    """Prints what went wrong, once."""
+    line = f"lagd-lldp: {type(why).__name__}: {why}"
+    if line not in told:
+        print(line, file=sys.stderr, flush=True)
+        told.add(line)
 
 
 def printed(*words: str) -> str:
     """What a command prints; nothing where it fails."""
     try:
         ended = subprocess.run(words, stdin=subprocess.DEVNULL, stdout=subprocess.PIPE, stderr=subprocess.DEVNULL, timeout=PATIENCE)
-    except (OSError, subprocess.TimeoutExpired):
+    except (OSError, subprocess.TimeoutExpired) as why:
+        complain(why)
         return ""
     return ended.stdout.decode(errors="replace") if ended.returncode == 0 else ""
 
