@@ -78,6 +78,8 @@ static void add_member(const struct link *link) {
     if (!view_of(link, &view)) return;
     add("{\"port\":%u,\"interface\":", link->settings.number);
     add_string(link->name);
+    add(link->socket < 0 ? ",\"index\":null" : ",\"index\":%d", link->index);
+    add(",\"key\":%u", link->key);
     add(",\"link\":\"%s\",\"status\":\"%s\",\"carries\":%s,", link_name(link), status_text(view.facts.status),
         carries(link) ? "true" : "false");
     add_mac("address", link->mac);
@@ -103,6 +105,7 @@ void write_json(void) {
     add_bundle();
     add(",\"system_priority\":%u,", settings.config.priority);
     add_mac("system", settings.config.mac);
+    add(",\"key\":%u,\"collector_max_delay\":%u", settings.key, settings.config.max_delay);
     add(",\"min_links\":%u,\"max_links\":%u,\"seconds\":%" PRIu64 ",", settings.min_links, settings.config.max_links, seconds_passed());
     write_carry_json();
     add("\"ports\":[");

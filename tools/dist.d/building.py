@@ -5,6 +5,7 @@ from __future__ import annotations
 import os
 import re
 import shutil
+import subprocess
 from functools import partial
 from typing import NamedTuple
 
@@ -35,6 +36,8 @@ class Parts(NamedTuple):
 
 
 DAEMON = os.path.join(TOP, "lagd")
+# Where examples of its configuration are installed.
+EXAMPLES = "share/doc/lagd/examples"
 # The folder in which the daemon is built for a package, whose name gdb and valgrind would show.
 BUILD = os.path.join(TOP, "out", "dist")
 # What the programs are for, as the man pages say it.
@@ -47,6 +50,9 @@ SCRIPTS = {
     "lagframes": ("frames", ["frames.d/captures.py"], "write the slow protocols frames of a capture as lines"),
     "lagdraw": ("draw", ["draw.d/captured.py", "draw.d/report.py"], "draw the report of lagtool replay, or a link of a capture, as a picture"),
 }
+# The subagent of snmpd, which is built for the processor of this machine alone; and what it is built with, by its package of Debian.
+SUBAGENT = "tell SNMP managers of the bundles of lagd"
+SUBAGENT_LIBRARIES = {"netsnmp-agent": "libsnmp-dev", "jansson": "libjansson-dev"}
 CONFORM = "test the LACP and the Marker protocol of any device at the end of its cable"
 # Where the scripts stand.
 SHARE = "share/niwhopera-tools"
@@ -87,6 +93,27 @@ def daemon(folder: str, lag: str, processor: Processor = AMD64) -> str:
     words = [f"CRATE={CRATES}/lagffi", f"LIBRARY={lag}", "RUNTIME=", f"CFLAGS={flags}", "LDFLAGS=-pie -Wl,-z,relro,-z,now"]
     printed("make", "-s", "-C", folder, f"CC={processor.compiler}", *words, env={**os.environ, **processor.finds})
     return os.path.join(folder, "out", "lagd")
+
+
+def subagent(folder: str) -> str:
+    """The subagent of snmpd, by its own Makefile in a copy of its folder."""
+    lacks = [package for name, package in SUBAGENT_LIBRARIES.items() if subprocess.run(["pkg-config", "--exists", name]).returncode]
+    if lacks:
+        raise Missing(f"lagd-snmp wants more (Debian: apt install {' '.join(lacks)})")
+    shutil.rmtree(folder, ignore_errors=True)
+    shutil.copytree(os.path.join(DAEMON, "snmp"), folder, ignore=shutil.ignore_patterns("out"))
+    flags = f"-O2 -fPIE -fstack-protector-strong -D_FORTIFY_SOURCE=2 -ffile-prefix-map={folder}=lagd/snmp -ffile-prefix-map={TOP}=."
+    words = [f"CRATE={CRATES}/lagffi", f"CFLAGS={flags}", "LDFLAGS=-pie -Wl,-z,relro,-z,now"]
+    printed("make", "-s", "-C", folder, f"CC={AMD64.compiler}", *words)
+    return os.path.join(folder, "out", "lagd-snmp")
+
+
+def of_subagent() -> list[File]:
+    """The subagent, and its man page of what it says of itself."""
+    made = subagent(os.path.join(BUILD, "snmp"))
+    check_versions({"sbin/lagd-snmp": made}, AMD64)
+    page = manual.of_help("lagd-snmp", 8, SUBAGENT, version(), printed(made, "--help"))
+    return [File("sbin/lagd-snmp", read(made), True), File("share/man/man8/lagd-snmp.8", page.encode())]
 
 
 def verdict() -> str:
@@ -144,12 +171,13 @@ def module() -> list[File]:
 def units() -> list[File]:
     """What systemd reads of the daemon, and examples of its configuration, as far as the daemon's folder has them."""
     places = {".service": "lib/systemd/system", ".sysusers": "lib/sysusers.d"}
-    places.update(dict.fromkeys((".conf", ".network", ".interfaces", ".nmconnection", ".rules"), "share/doc/lagd/examples"))
+    places.update(dict.fromkeys((".conf", ".network", ".interfaces", ".nmconnection", ".rules"), EXAMPLES))
     found = []
     for path in texts("lagd"):
         name, ending = os.path.splitext(os.path.basename(path))
-        if ending in places:
-            found.append(File(f"{places[ending]}/{name}{'.conf' if ending == '.sysusers' else ending}", read(path)))
+        place = EXAMPLES if path.startswith("lagd/boot/") else places.get(ending)
+        if place:
+            found.append(File(f"{place}/{name}{'.conf' if ending == '.sysusers' else ending}", read(path)))
     return found
 
 
@@ -188,6 +216,7 @@ def parts(processor: Processor = AMD64) -> Parts:
         made[f"share/bash-completion/completions/{name}"] = completion.text(name, partial(printed, *processor.runs, file))
     made.update(documents.installed(texts("README.md", "CHANGELOG.md", "docs", "examples")))
     found += [File(to, text.encode()) for to, text in made.items()]
+    found += [] if processor.prefix else of_subagent()
     found += [*scripts(), *module(), *units(), *pictures(), File("share/doc/niwhopera/try.html", b"", link="docs/try.html")]
     instead = [File("sbin/lagd", read(loading), True), File("lib/pkgconfig/lag.pc", pkg_config("/usr", processor.libraries).encode())]
     return Parts(sorted(found), instead, processor)

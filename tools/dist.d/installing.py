@@ -39,6 +39,7 @@ RUNS = [
     (["sh", "-c", "lagframes /usr/share/doc/niwhopera-tools/examples/captures/bonding.pcap | lagtool check -"], "", "1 lacpdu\n"),
     (["sh", "-c", "cd /usr/share/doc/niwhopera-tools/examples && lagtool replay two-ports-come-up.toml | lagdraw"], "", "<svg "),
     (["lagd", "--version"], "", "lagd "),
+    (["lagd-snmp", "--version"], "", "lagd-snmp "),
     (["python3", "-W", "error", "-"], "import niwhopera as n\nprint(n.System.__name__, n._library.functions().new.__name__)\n", "System lagffi_new\n"),
     (["lagconform", "--version"], "", "lagconform "),
     (["dpkg", "--verify"], "", ""),

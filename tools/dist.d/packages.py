@@ -26,7 +26,7 @@ PLACES = {
     "lib/pkgconfig/": "usr/LIBRARIES/pkgconfig/",
 }
 # The package that has optional files of the daemon, and where they stand.
-OPTIONAL = ("lib/systemd/system", "usr/share/doc/lagd/examples")
+OPTIONAL = ("lib/systemd/system/lagd@.service", "usr/share/doc/lagd/examples")
 # The users that the unit of the daemon runs as.
 USERS = "usr/lib/sysusers.d/lagd.conf"
 
@@ -80,7 +80,7 @@ def tree_of(parts: Parts, folder: str, more: str) -> str:
     if os.path.exists(users):
         # debhelper installs it, and makes the users when the package is installed.
         shutil.move(users, os.path.join(files, "lagd.sysusers"))
-    there = [path for path in OPTIONAL if os.path.isdir(os.path.join(stage, path))]
+    there = [path for path in OPTIONAL if os.path.exists(os.path.join(stage, path))]
     with open(os.path.join(files, "lagd.install"), "a", encoding="utf-8") as it:
         it.write("".join(f"{path}\n" for path in there))
     return top

@@ -85,9 +85,23 @@ def build_daemon(folder: str, libraries: Sequence[str], name: str = "lagd", more
     return build(os.path.join(folder, name), [*daemon_sources(), *more], [*libraries, *linked], *STRICT, *compiled, *words)
 
 
+def has_subagent() -> bool:
+    """Whether what the subagent of snmpd is built with is here (Debian: libsnmp-dev, libjansson-dev)."""
+    return not command("pkg-config", "--exists", "netsnmp-agent", "jansson").returncode
+
+
+def subagent_sources() -> list[str]:
+    return sorted(glob.glob(f"{DAEMON}/snmp/*.c"))
+
+
 def build_planes(folder: str, libraries: Sequence[str]) -> str:
     """Builds the hosts that carry data; answers the path of the program."""
     return build(os.path.join(folder, "planes"), [f"{MAINTAIN}/live.d/planes.c"], libraries, *STRICT)
+
+
+def build_subagent(folder: str, words: Sequence[str] = FAULTS) -> str:
+    """Builds the subagent of snmpd, with ASan and UBSan if nothing else is said; answers its path."""
+    return build(os.path.join(folder, "lagd-snmp"), subagent_sources(), ["-lnetsnmpagent", "-lnetsnmp", "-ljansson"], *STRICT, *words)
 
 
 def build_held(folder: str, libraries: Sequence[str]) -> str:
@@ -163,8 +177,9 @@ def check_header_alone(folder: str) -> None:
 
 
 def check_warnings() -> None:
-    """gcc and clang, where they are here, find no fault with the daemon and the examples."""
-    checked = {"files of the daemon": daemon_sources(), "examples in C": sorted(glob.glob(f"{EXAMPLES}/*.c"))}
+    """gcc and clang, where they are here, find no fault with the daemon, its subagent if what that wants is here, and the examples."""
+    subagents = subagent_sources() if has_subagent() else []
+    checked = {"files of the daemon": [*daemon_sources(), *subagents], "examples in C": sorted(glob.glob(f"{EXAMPLES}/*.c"))}
     for compiler in filter(shutil.which, ("gcc", "clang")):
         for what, sources in checked.items():
             read = command(compiler, *STRICT, "-O2", INCLUDE, *daemon_words()[0], "-fsyntax-only", *sources)
