@@ -144,7 +144,7 @@ def module() -> list[File]:
 def units() -> list[File]:
     """What systemd reads of the daemon, and examples of its configuration, as far as the daemon's folder has them."""
     places = {".service": "lib/systemd/system", ".sysusers": "lib/sysusers.d"}
-    places.update(dict.fromkeys((".conf", ".network", ".interfaces", ".nmconnection", ".rules"), "share/doc/lagd/examples"))
+    places.update(dict.fromkeys((".conf", ".network", ".interfaces", ".nmconnection", ".rules", ".yaml"), "share/doc/lagd/examples"))
     found = []
     for path in texts("lagd"):
         name, ending = os.path.splitext(os.path.basename(path))

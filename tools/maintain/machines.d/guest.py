@@ -1,5 +1,8 @@
 """A guest: qemu without a processor of its own (TCG), whose systemd boots, and a shell in it. Its near end has the links eth1 and eth2, whose
-far ends are far1 and far2 in the network namespace `far` of the same guest."""
+far ends are far1 and far2 in the network namespace `far` of the same guest.
+
+Its clock goes on with what it does: by a nanosecond, or 2 to the power of SHIFT, for each instruction, and by real time while it has nothing
+to do. So it has as much time for its work on a machine that is slow or busy, and what it measures is of that clock."""
 
 from __future__ import annotations
 
@@ -10,7 +13,7 @@ import shutil
 import socket
 import subprocess
 import time
-from typing import Any, NamedTuple
+from typing import Any, Callable, NamedTuple
 
 from checking import Failed, within
 from fetched import Kernel
@@ -23,8 +26,11 @@ CARDS = {"virtio": "virtio-net-pci,speed=10000,duplex=full", "e1000e": "e1000e",
 PLACES = (("far1", 1), ("eth1", 1), ("eth2", 2), ("far2", 2))
 MACS = {name: f"52:54:00:00:{'0b' if name.startswith('far') else '0a'}:0{name[-1]}" for name, _ in PLACES}
 NAMED = "[Match]\nPermanentMACAddress={mac}\n[Link]\nName={name}\n"
-BOOTS, ANSWERS, STARTS = 300, 60, 20
-APPEND = "console=ttyS0 net.ifnames=0 mitigations=off quiet panic=-1 systemd.show_status=0"
+# For how many seconds of this machine a boot, a script and qemu may take at most.
+BOOTS, ANSWERS, STARTS = 3600, 1800, 120
+# How long the guest is left alone between two looks, in seconds: to look takes its processor.
+LOOKS = 0.5
+APPEND = "console=ttyS0 clocksource=tsc tsc=reliable net.ifnames=0 mitigations=off quiet panic=-1 systemd.show_status=0"
 
 
 def entry_of(path: str, text: str) -> Entry:
@@ -93,7 +99,7 @@ class Guest:
         """What qemu is called with."""
         memory = os.environ.get("MEMORY", "512")
         words = ["-M", "q35,accel=tcg", "-cpu", os.environ.get("CPU", "max"), "-smp", os.environ.get("PROCESSORS", "2"), "-m", memory]
-        words += ["-nodefaults", "-display", "none", "-no-reboot", "-kernel", kernel.image, "-initrd", f"{self.folder}/initramfs", "-append", APPEND]
+        words += ["-icount", f"shift={os.environ.get('SHIFT', '0')},sleep=on", "-nodefaults", "-display", "none", "-no-reboot", "-kernel", kernel.image, "-initrd", f"{self.folder}/initramfs", "-append", APPEND]
         for file in image, kernel.modules:
             words += ["-drive", f"file={file},if=virtio,format=raw,snapshot=on"]
         words += ["-serial", f"file:{self.folder}/console", "-device", "virtio-rng-pci", "-device", "virtio-serial-pci"]
@@ -135,7 +141,23 @@ class Guest:
         """Waits for the shell; answers how many seconds passed since its kernel began."""
         if self.shell.receive(BOOTS) != "ready":
             raise Failed("the guest boots", self.told())
-        return float(self.run("cut -d ' ' -f 1 /proc/uptime").text)
+        return self.clock()
+
+    def clock(self) -> float:
+        """How many seconds passed in the guest since its kernel began."""
+        return float(self.text("cut -d ' ' -f 1 /proc/uptime"))
+
+    def sleep(self, seconds: float) -> None:
+        self.run(f"sleep {seconds}")
+
+    def within(self, seconds: float, holds: Callable[[], object]) -> bool:
+        """Waits for a sign, for so many seconds of the guest at most."""
+        until = self.clock() + seconds
+        while not holds():
+            if self.clock() > until:
+                return bool(holds())
+            self.sleep(LOOKS)
+        return True
 
     def run(self, script: str, seconds: float = ANSWERS) -> Ended:
         """Runs a script of the shell in the guest. What one before it answers, for which nobody waits any more, is not taken for its own."""
