@@ -131,7 +131,7 @@ def server_files() -> dict[str, str]:
 
 def reaches(guest: Guest, space: str, to: str, octets: int, what: str) -> str:
     ended = ping(guest, to, octets, space=space)
-    check(ended.status == 0, what, ended.text, "" if ended.status == 0 else journal(guest))
+    check(ended.status == 0, what, ended.text, journal(guest))
     return "10 of 10" if ended.status == 0 else "FAILED"
 
 
@@ -179,7 +179,7 @@ def server_stays(guest: Guest) -> str:
 def server_boots(guest: Guest) -> str:
     took = guest.boots()
     up = comes_up(guest, seconds=2 * COMES_UP)
-    check(up is not None, "both links carry to the pair of switches at boot", "" if up is not None else journal(guest))
+    check(up is not None, "both links carry to the pair of switches at boot", journal(guest))
     way = status(guest).get("carry", {}).get("way")
     check(way == "fast", "the way is fast", way)
     left_alone(guest)
@@ -260,7 +260,7 @@ def router_files() -> dict[str, str]:
 def router_boots(guest: Guest) -> str:
     took = guest.boots()
     up = comes_up(guest, seconds=2 * COMES_UP)
-    check(up is not None, "both links carry to the named partner at boot", "" if up is not None else journal(guest))
+    check(up is not None, "both links carry to the named partner at boot", journal(guest))
     way = status(guest).get("carry", {}).get("way")
     check(way == "fast", "the way is fast", way)
     left_alone(guest)

@@ -4,7 +4,7 @@ from __future__ import annotations
 
 import json
 from dataclasses import dataclass
-from typing import Any, Callable
+from typing import Any, Callable, NamedTuple
 
 from checking import Failed
 from guest import Ended, Guest
@@ -82,9 +82,20 @@ def up_again(guest: Guest, links: int = 2, bundle: str = "uplink") -> float:
     return took
 
 
-def journal(guest: Guest) -> str:
-    """What the daemons said last."""
-    return guest.text("journalctl --no-pager --lines 15 -o short-monotonic -u 'lagd@*' -u far | cut -c 1-160; ip -br address")
+class Journal(NamedTuple):
+    """What the daemons said last; the guest is asked where it is printed."""
+
+    guest: Guest
+
+    def __str__(self) -> str:
+        try:
+            return self.guest.text("journalctl --no-pager --lines 15 -o short-monotonic -u 'lagd@*' -u far | cut -c 1-160; ip -br address")
+        except (Failed, OSError) as why:
+            return f"the guest does not tell: {why}"
+
+
+def journal(guest: Guest) -> Journal:
+    return Journal(guest)
 
 
 def direction(guest: Guest, name: str) -> Outcome:
@@ -119,7 +130,7 @@ def ping(guest: Guest, to: str = FAR_AT, octets: int = 1472, count: int = 10, sp
     return Ended(0 if f"{count} received" in ended.text else 1, ended.text)
 
 
-def stream(guest: Guest, seconds: int = 2, streams: int = 1, to: str = FAR_AT) -> float:
+def stream(guest: Guest, seconds: int = 1, streams: int = 1, to: str = FAR_AT) -> float:
     """Streams of TCP to the far end, in Mbit/s as that had them."""
     guest.run("setsid ip netns exec far iperf3 -s -1 >/dev/null 2>&1 & sleep 1")
     told = guest.text(f"iperf3 -c {to} -t {seconds} -P {streams} -J")

@@ -21,6 +21,8 @@ from filing import FILE, LINK, Entry, archive
 
 # What qemu calls a card, and what it is told of it.
 CARDS = {"virtio": "virtio-net-pci,speed=10000,duplex=full", "e1000e": "e1000e", "igb": "igb", "vmxnet3": "vmxnet3"}
+# A card that has a queue for each processor gets two. Others get one: of more each waits for the others, for most of qemu's time.
+CARD_PROCESSORS = {"vmxnet3": "2"}
 # The cards in the order in which the guest finds them, with the hub that each is at. The kernel calls the second and the third eth1 and
 # eth2, so no name that udev gives is taken.
 PLACES = (("far1", 1), ("eth1", 1), ("eth2", 2), ("far2", 2))
@@ -98,7 +100,7 @@ class Guest:
     def words(self, kernel: Kernel, image: str) -> list[str]:
         """What qemu is called with."""
         memory = os.environ.get("MEMORY", "512")
-        words = ["-M", "q35,accel=tcg", "-cpu", os.environ.get("CPU", "max"), "-smp", os.environ.get("PROCESSORS", "2"), "-m", memory]
+        words = ["-M", "q35,accel=tcg", "-cpu", os.environ.get("CPU", "max"), "-smp", os.environ.get("PROCESSORS", CARD_PROCESSORS.get(self.card, "1")), "-m", memory]
         words += ["-icount", f"shift={os.environ.get('SHIFT', '0')},sleep=on", "-nodefaults", "-display", "none", "-no-reboot", "-kernel", kernel.image, "-initrd", f"{self.folder}/initramfs", "-append", APPEND]
         for file in image, kernel.modules:
             words += ["-drive", f"file={file},if=virtio,format=raw,snapshot=on"]

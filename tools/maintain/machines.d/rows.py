@@ -31,7 +31,7 @@ def orderly(guest: Guest, what: str, outcomes: list[Outcome], most: int, ordered
     text = cell(outcomes)
     holds = all(it.received and not it.twice and not (ordered and it.overtaken) and it.lost <= most for it in outcomes)
     order = "no frame is overtaken" if ordered else "no frame comes twice"
-    check(holds, f"{what}: {order}, and at most {most} are lost ({text})", "" if holds else journal(guest))
+    check(holds, f"{what}: {order}, and at most {most} are lost ({text})", journal(guest))
     return text
 
 
@@ -52,7 +52,7 @@ def handed_over(guest: Guest, what: str, outcomes: list[Outcome], most: int, ord
 def boots(guest: Guest) -> str:
     took = guest.boots()
     up = comes_up(guest, seconds=2 * COMES_UP)
-    check(up is not None, "the unit brings the bundle up at boot", "" if up is not None else journal(guest))
+    check(up is not None, "the unit brings the bundle up at boot", journal(guest))
     said = guest.text("systemctl show --value -p StatusText lagd@uplink")
     check(said == "up, 2 of 2 links carry", "systemctl status says so", said)
     addressed = guest.within(COMES_UP, lambda: "192.0.2.1/24" in guest.text("ip -br address show lag0"))
@@ -64,7 +64,7 @@ def boots(guest: Guest) -> str:
 
 def pings(guest: Guest) -> str:
     ended = ping(guest)
-    check(ended.status == 0, "each of ten pings is answered", ended.text, "" if ended.status == 0 else journal(guest))
+    check(ended.status == 0, "each of ten pings is answered", ended.text, journal(guest))
     return "10 of 10" if ended.status == 0 else "FAILED"
 
 
@@ -74,7 +74,7 @@ def steady(guest: Guest) -> str:
 
 def streams(guest: Guest) -> str:
     speed = stream(guest)
-    check(speed > 1, f"a stream of TCP goes ({speed:.0f} Mbit/s)", "" if speed > 1 else journal(guest))
+    check(speed > 1, f"a stream of TCP goes ({speed:.0f} Mbit/s)", journal(guest))
     return f"{speed:.0f} Mbit/s"
 
 

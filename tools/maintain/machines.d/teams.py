@@ -52,7 +52,7 @@ def comes_up_by_team(guest: Guest) -> str:
 
 def pings(guest: Guest, octets: int = 1472, to: str = FAR_AT) -> str:
     ended = ping(guest, to, octets)
-    check(ended.status == 0, f"each of ten pings of {octets} octets is answered", ended.text, "" if ended.status == 0 else journal(guest))
+    check(ended.status == 0, f"each of ten pings of {octets} octets is answered", ended.text, journal(guest))
     return "10 of 10" if ended.status == 0 else "FAILED"
 
 
