@@ -7,7 +7,9 @@ from typing import Callable
 from checking import Failed, check
 from deployments import Task, run_rows
 from ends import BOND, COMES_UP, FAR, FAR_AT, NEAR, OVER, carrying, comes_up, journal, ping, status, traffic, up_again, use
+from fetched import USER_MODE
 from guest import Guest
+from native import CARD
 from rows import (SECONDS, bonding_cable, boots, cable_is_pulled, card_is_pulled, is_killed, is_upgraded, near_carrier_goes, orderly, peer_is_killed,
                   peer_is_stopped, restarts, steady, streams)
 
@@ -212,4 +214,5 @@ ROWS: dict[str, Callable[[Guest], str]] = {
     "bonding is the peer: up after": bonding,
     "its cable is pulled": bonding_cable,
 }
-TASKS = {f"team-{kernel}": Task(kernel, "e1000e", FILES, run_rows(ROWS)) for kernel in ("6.1", "6.12")}
+CARDS = {USER_MODE: CARD, "6.1": "e1000e", "6.12": "e1000e"}
+TASKS = {f"team-{kernel}": Task(kernel, card, FILES, run_rows(ROWS)) for kernel, card in CARDS.items()}
