@@ -4,6 +4,7 @@
 #include <errno.h>
 #include <net/if.h>
 #include <poll.h>
+#include <stdio.h>
 #include <stdlib.h>
 #include <string.h>
 
@@ -22,6 +23,7 @@
 static bool opened;
 static bool made;                   /* whether a daemon made the device, so that it goes at the end */
 static bool taken[NIW_MOST_PORTS]; /* whether the interface of a port is a port of the device */
+static int lock = -1, locked;       /* by which no other lagd has the device, whatever members are there; and its index */
 
 bool carries_by_team(void) {
     return opened;
@@ -57,20 +59,24 @@ static uint32_t least_mtu(void) {
     return least == 0 ? ETH_DATA_LEN : least;
 }
 
-/* Whether no other lagd has an interface. */
-static bool is_unlocked(int index) {
-    int lock = lock_interface(index);
-    if (lock >= 0) return_stored("lock", index, lock);
-    return lock >= 0;
+/* Takes the lock of a device. */
+static void lock_device(int index) {
+    char what[128];
+    lock = lock_interface(index);
+    if (lock < 0 && errno == EADDRINUSE) {
+        snprintf(what, sizeof what, "another lagd has the interface, %s", holder_of(index));
+        stop(REFUSED, what, settings.carry);
+    }
+    need(lock >= 0, settings.carry);
+    locked = index;
+    put_stored("lock", index, lock);
 }
 
-/* Whether each port of a device is an interface of this bundle. No other lagd may have one of them, whatever bundle it is of. */
+/* Whether each port of a device is an interface of this bundle. */
 static bool has_own_ports(const struct team_now *now) {
     bool all = true;
     for (unsigned at = 0; at < now->port_count; at++) {
-        char name[IF_NAMESIZE];
         bool own = false;
-        if (if_indextoname((unsigned)now->ports[at], name) && !is_unlocked(now->ports[at])) stop(REFUSED, "another lagd has the interface", name);
         for (uint16_t i = 0; i < settings.port_count && !own; i++) {
             struct interface member;
             own = ask_interface(0, settings.ports[i].name, &member) && member.index == now->ports[at];
@@ -85,6 +91,7 @@ static void take_device(const struct interface *device, const uint8_t *mac) {
     struct team_now now;
     bool known = device->index == inherited.tap;
     if (strcmp(device->kind, TEAM_KIND) != 0) stop(REFUSED, settings.carry, "an interface of this name is there, and is no team device");
+    lock_device(device->index);
     need(read_team(device->index, &now), settings.carry);
     if (strcmp(now.mode, MODE) != 0 && strcmp(now.mode, NO_MODE) != 0) stop(REFUSED, settings.carry, "a team device of another mode is there");
     if (!has_own_ports(&now) && !known) stop(REFUSED, settings.carry, "a team device with ports of others is there");
@@ -129,6 +136,7 @@ void open_team(const char *name, const uint8_t *mac) {
         need(make_team_device(name, mac, least_mtu()) && ask_interface(0, name, &device), name);
         made = true;
         use_team_device(device.index);
+        lock_device(device.index);
     }
     need(read_team(tap_index(), &now), "team");
     set_options(now.mode);
@@ -224,21 +232,17 @@ static void free_inherited_ports(int index) {
             (void)set_interface_up(port.index, true);
 }
 
-/* By other settings nothing goes on: the ports of the device are free, and it goes if the last daemon made it. Where another one has a port, it
- * runs, and all stays as it is. */
+/* By other settings nothing goes on: the ports of the device are free, and it goes if the last daemon made it. Where another daemon has it,
+ * all stays as it is. */
 void leave_team(int index, bool with_device) {
     struct interface device;
-    int locks[NIW_MOST_PORTS];
-    bool runs = false;
+    int held;
     if (!find_team_driver() || !ask_interface(index, NULL, &device) || strcmp(device.kind, TEAM_KIND) != 0) return;
-    for (unsigned i = 0; i < inherited.link_count; i++) {
-        locks[i] = lock_interface(inherited.links[i].index);
-        runs = runs || (locks[i] < 0 && errno != ENODEV);
-    }
-    if (!runs) free_inherited_ports(index);
-    if (!runs && with_device) (void)remove_device(index);
-    for (unsigned i = 0; i < inherited.link_count; i++)
-        if (locks[i] >= 0) return_stored("lock", inherited.links[i].index, locks[i]);
+    held = lock_interface(index);
+    if (held < 0) return;
+    free_inherited_ports(index);
+    if (with_device) (void)remove_device(index);
+    close_stored("lock", index, held);
 }
 
 /* The program ends, and no other one goes on: its ports are free, also those that a start did not come to, and the device goes if a daemon made
@@ -248,5 +252,6 @@ void end_team(void) {
     for (uint16_t i = 0; i < link_count; i++) close_team_port(&links[i]);
     if (tap_index() != 0) free_inherited_ports(tap_index());
     if (made && tap_index() != 0) (void)remove_device(tap_index());
+    if (lock >= 0) close_stored("lock", locked, lock);
     opened = false;
 }

@@ -171,7 +171,7 @@ def module() -> list[File]:
 def units() -> list[File]:
     """What systemd reads of the daemon, and examples of its configuration, as far as the daemon's folder has them."""
     places = {".service": "lib/systemd/system", ".sysusers": "lib/sysusers.d"}
-    places.update(dict.fromkeys((".conf", ".network", ".interfaces", ".nmconnection", ".rules"), EXAMPLES))
+    places.update(dict.fromkeys((".conf", ".network", ".interfaces", ".nmconnection", ".rules", ".yaml"), EXAMPLES))
     found = []
     for path in texts("lagd"):
         name, ending = os.path.splitext(os.path.basename(path))

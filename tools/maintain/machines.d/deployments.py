@@ -6,11 +6,11 @@ from __future__ import annotations
 import os
 from typing import Callable, NamedTuple
 
-from checking import check, within
+from checking import check
 from ends import COMES_UP, OVER, comes_up, journal, ping, status, traffic, up_again
 from guest import Guest, MACS
 from repository import TOP
-from rows import BRIEF, handed_over, orderly, tried
+from rows import boots, handed_over, orderly, pings, tried
 
 
 class Task(NamedTuple):
@@ -80,7 +80,6 @@ done
 """
 SWITCH = """[Bundle]
 key=9
-timeout=long
 system=4096,02:00:00:00:00:cc
 carry=lag0
 hash=layer3+4
@@ -105,10 +104,10 @@ def link(mac: str, name: str) -> str:
     return f"[Match]\nPermanentMACAddress={mac}\n[Link]\nName={name}\n"
 
 
-def rules_for(names: str) -> str:
-    """The rule of the package for udev, with these names in it."""
-    with open(os.path.join(TOP, "lagd", "boot", "90-lagd.rules"), encoding="utf-8") as it:
-        return it.read().replace("eth1|eth2", names)
+def example(name: str) -> str:
+    """A file of the package that is read at boot."""
+    with open(os.path.join(TOP, "lagd", "boot", name), encoding="utf-8") as it:
+        return it.read()
 
 
 def switch_files() -> dict[str, str]:
@@ -127,12 +126,12 @@ def server_files() -> dict[str, str]:
     files = {f"etc/systemd/network/{name}": text for name, text in networks.items()}
     names = {"eth1": "ens1f0", "eth2": "ens1f1"}
     files |= {LINKS.format(old): link(MACS[old], new) for old, new in names.items()}
-    return {**files, "etc/lagd/uplink.conf": SERVER, "etc/udev/rules.d/90-lagd.rules": rules_for("ens1f0|ens1f1")}
+    return {**files, "etc/lagd/uplink.conf": SERVER, "etc/udev/rules.d/90-lagd.rules": example("90-lagd.rules").replace("eth1|eth2", "ens1f0|ens1f1")}
 
 
 def reaches(guest: Guest, space: str, to: str, octets: int, what: str) -> str:
     ended = ping(guest, to, octets, space=space)
-    check(ended.status == 0, what, ended.text, "" if ended.status == 0 else journal(guest))
+    check(ended.status == 0, what, ended.text, journal(guest))
     return "10 of 10" if ended.status == 0 else "FAILED"
 
 
@@ -160,12 +159,6 @@ def switch_goes(guest: Guest) -> str:
     return text
 
 
-def patient(guest: Guest) -> None:
-    """The near end waits for 90 s for an LACPDU, as the far one does: this processor takes some 3 s to start a unit."""
-    guest.run("sed -i '/^timeout=/d; s/^\\[Bundle\\]/&\\ntimeout=long/' /etc/lagd/uplink.conf; systemctl restart lagd@uplink")
-    up_again(guest)
-
-
 def left_alone(guest: Guest) -> None:
     """No member is left to the daemon."""
     text = guest.text("journalctl --no-pager -b -u lagd@uplink -o cat | grep -E 'stays with the daemon|markers may'")
@@ -174,11 +167,10 @@ def left_alone(guest: Guest) -> None:
 
 def server_stays(guest: Guest) -> str:
     """What stands above lag0 stays at a restart."""
-    patient(guest)
     look = "bridge vlan show dev lag0; ip -o link show lag0 | grep -o 'master br0'; ip -br address show br0.10; cat /sys/class/net/lag0/mtu"
     before = guest.text(look)
     outcomes = traffic(guest, 6, lambda: guest.run("systemctl restart lagd@uplink"), ("eth0", "eth0.20"), near_space="vm")
-    text = handed_over(guest, "the server's bundle is restarted", outcomes, 0, BRIEF, ordered=False)
+    text = handed_over(guest, "the server's bundle is restarted", outcomes, 0, ordered=False)
     after = guest.text(look)
     check(before == after and "master br0" in after, "lag0 stays in the bridge, with its VLANs", before, after)
     return text
@@ -187,14 +179,14 @@ def server_stays(guest: Guest) -> str:
 def server_boots(guest: Guest) -> str:
     took = guest.boots()
     up = comes_up(guest, seconds=2 * COMES_UP)
-    check(up is not None, "both links carry to the pair of switches at boot", "" if up is not None else journal(guest))
+    check(up is not None, "both links carry to the pair of switches at boot", journal(guest))
     way = status(guest).get("carry", {}).get("way")
     check(way == "fast", "the way is fast", way)
     left_alone(guest)
     mtu = guest.text("cat /sys/class/net/lag0/mtu")
-    check(within(10, lambda: guest.text("cat /sys/class/net/lag0/mtu") == "9000"), "lag0 has the MTU of its members", mtu)
+    check(guest.within(10, lambda: guest.text("cat /sys/class/net/lag0/mtu") == "9000"), "lag0 has the MTU of its members", mtu)
     look = "ip -o link show lag0 | grep -q br0 && ip -br address show br0.10 | grep -q 10.10.0.1"
-    laid = within(COMES_UP, lambda: guest.run(look).status == 0)
+    laid = guest.within(COMES_UP, lambda: guest.run(look).status == 0)
     told = "" if laid else guest.text("networkctl --no-pager; journalctl --no-pager -b -u systemd-networkd | tail -25")
     check(laid, "lag0 is a port of the bridge, which has a VLAN", told)
     failed = guest.text("systemctl --failed --plain --no-legend")
@@ -208,7 +200,7 @@ SERVER_ROWS: dict[str, Callable[[Guest], str]] = {
     "pings of 8,972 octets in VLAN 20, from a virtual machine": lambda guest: reaches(guest, "vm", "10.20.0.2", JUMBO_PING, "a virtual machine reaches a host"),
     "frames of another VLAN": tags,
     "frames lost, and longest gap": lambda guest: server_moves(guest, lambda: None, "frames of the virtual machine", 0),
-    "systemctl restart, with timeout=long": server_stays,
+    "systemctl restart": server_stays,
     "a switch of the pair goes": switch_goes,
 }
 
@@ -268,7 +260,7 @@ def router_files() -> dict[str, str]:
 def router_boots(guest: Guest) -> str:
     took = guest.boots()
     up = comes_up(guest, seconds=2 * COMES_UP)
-    check(up is not None, "both links carry to the named partner at boot", "" if up is not None else journal(guest))
+    check(up is not None, "both links carry to the named partner at boot", journal(guest))
     way = status(guest).get("carry", {}).get("way")
     check(way == "fast", "the way is fast", way)
     left_alone(guest)
@@ -289,12 +281,10 @@ def two_tags(guest: Guest) -> str:
 
 
 def router_restarts(guest: Guest) -> str:
-    guest.run("ip -n far link set bond0 down; ip -n far link set bond0 type bond lacp_rate slow; ip -n far link set bond0 up")
-    patient(guest)
     ping(guest)
     before = guest.text(LOOK)
     outcomes = traffic(guest, 6, lambda: guest.run("systemctl restart lagd@uplink"), ("isp0", "bond0"))
-    text = handed_over(guest, "the router's bundle is restarted", outcomes, 0, BRIEF)
+    text = handed_over(guest, "the router's bundle is restarted", outcomes, 0)
     after = guest.text(LOOK)
     check(before == after, "isp0 keeps its addresses, routes and neighbours", before, after)
     return text
@@ -306,7 +296,7 @@ def one_link(guest: Guest) -> str:
     up_again(guest, 1)
     reaches(guest, "lan", "203.0.113.1", 1472, "with one link packets pass")
     guest.set_link(False, "eth2", "far2")
-    down = within(COMES_UP, lambda: guest.text("cat /sys/class/net/isp0/carrier") == "0")
+    down = guest.within(COMES_UP, lambda: guest.text("cat /sys/class/net/isp0/carrier") == "0")
     check(down, "with none isp0 has no carrier, which routing sees", journal(guest))
     guest.set_link(True, "eth1", "far1", "eth2", "far2")
     return f"{up_again(guest):.1f} s"
@@ -316,7 +306,7 @@ def stranger(guest: Guest) -> str:
     """The other end has another system: it is not the partner."""
     guest.run("ip -n far link set bond0 type bond ad_actor_system 02:00:00:00:00:ee 2>&1 || { ip -n far link set bond0 down; "
               "ip -n far link set bond0 type bond ad_actor_system 02:00:00:00:00:ee; ip -n far link set bond0 up; }")
-    left = within(COMES_UP, lambda: guest.text("cat /sys/class/net/isp0/carrier") == "0")
+    left = guest.within(COMES_UP, lambda: guest.text("cat /sys/class/net/isp0/carrier") == "0")
     told = guest.text("ip -n far -d link show bond0 | grep -o 'ad_actor_system [^ ]*'")
     check(left, "no link carries for another system", told, journal(guest))
     guest.run(f"ip -n far link set bond0 down; ip -n far link set bond0 type bond ad_actor_system {ISP}; ip -n far link set bond0 up")
@@ -330,8 +320,34 @@ ROUTER_ROWS: dict[str, Callable[[Guest], str]] = {
     "pings of 1,472 octets with two tags": two_tags,
     "one link, then none: up again after": one_link,
     "another system at the other end": stranger,
-    "systemctl restart, with timeout=long": router_restarts,
+    "systemctl restart": router_restarts,
 }
+
+
+# A machine whose network netplan configures: its file has the members, and the address of lag0.
+NETPLAN = {**PAIR, "etc/systemd/network/10-members.network": "", "etc/systemd/network/20-lag0.network": "", "etc/netplan/lag0.yaml": example("lag0.yaml")}
+
+
+def netplan_boots(guest: Guest) -> str:
+    text = boots(guest)
+    told = guest.text("networkctl --no-pager status lag0 | grep 'Network File'; ls /run/systemd/network")
+    check("netplan-lag0" in told, "lag0 has its address by the file of netplan", told)
+    return text
+
+
+def netplan_starts(guest: Guest) -> str:
+    """Each time that the device appears it gets its address, also where no link carries."""
+    guest.set_link(False, "eth1", "eth2", "far1", "far2")
+    guest.run("systemctl stop lagd@uplink; systemctl start lagd@uplink")
+    addressed = guest.within(COMES_UP, lambda: "192.0.2.1/24" in guest.text("ip -br address show lag0"))
+    check(addressed, "after a stop and a start lag0 has its address, without a link", guest.text("ip -br address"))
+    guest.set_link(True, "eth1", "eth2", "far1", "far2")
+    up_again(guest)
+    return "yes" if addressed else "FAILED"
+
+
+NETPLAN_ROWS: dict[str, Callable[[Guest], str]] = {
+    "boots, and the unit brings the bundle up": netplan_boots, "pings of 1,472 octets": pings, "a stop and a start": netplan_starts}  # fmt: skip
 
 
 def run_rows(rows: dict[str, Callable[[Guest], str]]) -> Callable[[Guest], dict[str, str]]:
@@ -339,4 +355,5 @@ def run_rows(rows: dict[str, Callable[[Guest], str]]) -> Callable[[Guest], dict[
 
 
 TASKS = {"server": Task("6.12", "e1000e", {**server_files(), **switch_files()}, run_rows(SERVER_ROWS)),
-         "router": Task("6.12", "e1000e", router_files(), run_rows(ROUTER_ROWS))}  # fmt: skip
+         "router": Task("6.12", "e1000e", router_files(), run_rows(ROUTER_ROWS)),
+         "netplan": Task("6.12", "e1000e", NETPLAN, run_rows(NETPLAN_ROWS))}  # fmt: skip

@@ -3,16 +3,13 @@
 from __future__ import annotations
 
 import json
-import time
 from dataclasses import dataclass
-from typing import Any, Callable
+from typing import Any, Callable, NamedTuple
 
 from checking import Failed
 from guest import Ended, Guest
 
 COMES_UP, RATE = 60, 500
-# How long the guest is left alone between two looks, in seconds: to look takes its processor.
-LOOKS = 0.5
 NEAR_AT, FAR_AT = "192.0.2.1", "192.0.2.2"
 NEAR = "[Bundle]\nkey=7\nsystem=auto\ncarry=lag0\nhash=layer3+4\n{more}\n[Port eth1]\n[Port eth2]\n"
 FAR = "[Bundle]\nkey=5\nsystem=32768,02:00:00:00:00:bb\ncarry=lag0\nhash=layer3+4\n{more}\n[Port far1]\n[Port far2]\n"
@@ -71,13 +68,10 @@ def carrying(guest: Guest, bundle: str = "uplink") -> int:
 
 
 def comes_up(guest: Guest, links: int = 2, bundle: str = "uplink", seconds: float = COMES_UP) -> float | None:
-    """Waits until so many links carry for a partner; answers after how many seconds, or None."""
-    began = time.monotonic()
-    while carrying(guest, bundle) != links:
-        if time.monotonic() > began + seconds:
-            return None
-        time.sleep(LOOKS)
-    return time.monotonic() - began
+    """Waits until so many links carry for a partner; answers after how many seconds of the guest, or None."""
+    began = guest.clock()
+    up = guest.within(seconds, lambda: carrying(guest, bundle) == links)
+    return guest.clock() - began if up else None
 
 
 def up_again(guest: Guest, links: int = 2, bundle: str = "uplink") -> float:
@@ -88,9 +82,20 @@ def up_again(guest: Guest, links: int = 2, bundle: str = "uplink") -> float:
     return took
 
 
-def journal(guest: Guest) -> str:
-    """What the daemons said last."""
-    return guest.text("journalctl --no-pager --lines 15 -o short-monotonic -u 'lagd@*' -u far | cut -c 1-160; ip -br address")
+class Journal(NamedTuple):
+    """What the daemons said last; the guest is asked where it is printed."""
+
+    guest: Guest
+
+    def __str__(self) -> str:
+        try:
+            return self.guest.text("journalctl --no-pager --lines 15 -o short-monotonic -u 'lagd@*' -u far | cut -c 1-160; ip -br address")
+        except (Failed, OSError) as why:
+            return f"the guest does not tell: {why}"
+
+
+def journal(guest: Guest) -> Journal:
+    return Journal(guest)
 
 
 def direction(guest: Guest, name: str) -> Outcome:
@@ -110,9 +115,9 @@ def traffic(guest: Guest, seconds: int, event: Callable[[], object] = lambda: No
     guest.run(f"setsid traffic {seconds} {rate} {' '.join(devices)} {near_space} >/dev/null 2>&1 &")
     if guest.run("for n in $(seq 100); do [ -e /run/traffic/begun ] && exit; sleep 0.1; done; exit 1").status:
         raise Failed("numbered frames begin")
-    time.sleep(1)
+    guest.sleep(1)
     event()
-    if guest.run(f"for n in $(seq {10 * (seconds + 30)}); do [ -e /run/traffic/done ] && exit; sleep 0.1; done; exit 1", seconds + 90).status:
+    if guest.run(f"for n in $(seq {10 * (seconds + 30)}); do [ -e /run/traffic/done ] && exit; sleep 0.1; done; exit 1").status:
         raise Failed("numbered frames end")
     return [direction(guest, name) for name in ("to", "from")]
 
@@ -125,10 +130,10 @@ def ping(guest: Guest, to: str = FAR_AT, octets: int = 1472, count: int = 10, sp
     return Ended(0 if f"{count} received" in ended.text else 1, ended.text)
 
 
-def stream(guest: Guest, seconds: int = 4, streams: int = 1, to: str = FAR_AT) -> float:
+def stream(guest: Guest, seconds: int = 1, streams: int = 1, to: str = FAR_AT) -> float:
     """Streams of TCP to the far end, in Mbit/s as that had them."""
     guest.run("setsid ip netns exec far iperf3 -s -1 >/dev/null 2>&1 & sleep 1")
-    told = guest.run(f"iperf3 -c {to} -t {seconds} -P {streams} -J", 30 * seconds).text
+    told = guest.text(f"iperf3 -c {to} -t {seconds} -P {streams} -J")
     try:
         return float(json.loads(told)["end"]["sum_received"]["bits_per_second"]) / 1e6
     except (ValueError, KeyError) as why:

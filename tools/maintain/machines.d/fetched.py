@@ -20,6 +20,8 @@ SOURCES = "".join(f"deb [arch=amd64 signed-by={KEYRING}] http://deb.debian.org/d
 # The kernels, with the release of Debian that has each.
 KERNELS = {"6.1": RELEASE, "6.12": BACKPORTS, "newest": NEWEST}
 # From qemu 8.0 on there is igb, so it is that of the backports.
+# A Linux for user mode, of the first one.
+USER_MODE = "user-mode"
 QEMU = ("qemu-system-x86", "qemu-system-common", "qemu-system-data", "seabios")
 # The modules that a guest may want, below the folder `kernel` of a kernel; the others are left out.
 MODULES = """lib crypto arch/x86/crypto net drivers/virtio drivers/block drivers/char drivers/net/bonding drivers/net/team drivers/net/veth drivers/net/tun
@@ -166,8 +168,28 @@ def disk(folder: str, path: str, megabytes: int) -> None:
     os.rename(f"{path}.part", path)
 
 
+def user_mode(packages: Packages, tree: str) -> Kernel:
+    """The Linux for user mode: its program, and the folder of its modules; it is fetched where it is not here yet."""
+    place = f"{packages.cache}/kernels/{USER_MODE}"
+    if not os.path.exists(f"{place}/made"):
+        shutil.rmtree(place, ignore_errors=True)
+        unpack(packages, (f"user-mode-linux/{RELEASE}",), f"{place}/files")
+        os.rename(f"{place}/files/usr/lib/uml/modules", f"{place}/files/usr/lib/modules")
+        version = os.listdir(f"{place}/files/usr/lib/modules")[0]
+        shutil.copytree(module_files(f"{place}/files", version, tree), f"{place}/modules/{version}")
+        shutil.copy(f"{place}/files/usr/bin/linux.uml", place)
+        shutil.rmtree(f"{place}/files")
+        shutil.rmtree(f"{tree}/tmp/modules")
+        with open(f"{place}/made", "w", encoding="utf-8") as out:
+            out.write(version)
+    with open(f"{place}/made", encoding="utf-8") as it:
+        return Kernel(it.read(), f"{place}/linux.uml", "", f"{place}/modules")
+
+
 def kernel(packages: Packages, name: str, tree: str) -> Kernel:
-    """A kernel of KERNELS; it is fetched where it is not here yet."""
+    """A kernel of KERNELS, or that for user mode; it is fetched where it is not here yet."""
+    if name == USER_MODE:
+        return user_mode(packages, tree)
     place = f"{packages.cache}/kernels/{name}"
     if not os.path.exists(f"{place}/made"):
         shutil.rmtree(place, ignore_errors=True)

@@ -5,10 +5,9 @@ The processor is emulated, so speeds say something beside each other alone: each
 from __future__ import annotations
 
 import json
-import time
 from typing import Callable, NamedTuple
 
-from checking import Failed, check, within
+from checking import Failed, check
 from deployments import Task
 from ends import BOND, COMES_UP, FAR_AT, NEAR_AT, NO_BOND, OVER, journal, stream, traffic, up_again, use
 from guest import Guest
@@ -42,9 +41,9 @@ def team(device: str, *ports: str) -> str:
 def address(guest: Guest, near: str, far: str) -> None:
     """Both devices are up with their addresses, and packets go."""
     guest.run(f"ip link set {near} up; ip address replace {NEAR_AT}/24 dev {near}; ip -n far link set {far} up; ip -n far address replace {FAR_AT}/24 dev {far}")
-    if not within(COMES_UP, lambda: guest.run(f"ping -q -c 1 -W 1 {FAR_AT}").status == 0):
+    if not guest.within(COMES_UP, lambda: guest.run(f"ping -q -c 1 -W 1 {FAR_AT}").status == 0):
         raise Failed(f"packets go by {near}", guest.text("ip -br address; ip -n far -br address"))
-    time.sleep(SETTLES)
+    guest.sleep(SETTLES)
 
 
 def links(guest: Guest, word: str) -> None:
@@ -63,7 +62,7 @@ def end_bare(guest: Guest) -> None:
 def begin_daemon(way: str) -> Callable[[Guest], None]:
     def begin(guest: Guest) -> None:
         links(guest, "up")
-        ended = use(guest, f"timeout=long\n{way}")
+        ended = use(guest, way)
         if ended.status:
             raise Failed(f"lagd starts with {way or 'nothing else'}", journal(guest))
         up_again(guest)
@@ -153,7 +152,7 @@ def failures(guest: Guest, way: Way) -> list[str]:
         to, _ = traffic(guest, 8, event, way.devices, RATE)
         cells += [f"{to.lost:,}", f"{to.gap_ms:,}"]
         guest.set_link(True, "eth1", "far1")
-        time.sleep(SETTLES)
+        guest.sleep(SETTLES)
     return cells
 
 

@@ -5,17 +5,13 @@ from __future__ import annotations
 import time
 from typing import Callable
 
-from checking import Failed, check, within
+from checking import Failed, check
 from ends import BOND, COMES_UP, NO_BOND, RATE, Outcome, comes_up, journal, ping, status, stream, traffic, up_again, use
 from guest import Guest
 
 # What a link may lose when it goes: the frames of some seconds, until LACP times out, where one end alone sees it. What the other end still
 # hands up of it may be overtaken (LAGD, "Order").
 SECONDS, LINK_GOES, ONE_END = 5, RATE, 5 * RATE
-# The rate while there is no daemon, for some 3 s of this processor: sockets have room for what comes then.
-SLOW = 100
-# For how many seconds what waits for a daemon is kept, and how old the state may be of one that is killed.
-BRIEF, STATE = 3.0, 1.0
 # What a daemon may have in hand as it is killed.
 IN_HAND = 256
 # Cards whose driver cannot be set to one queue: each processor has one.
@@ -35,7 +31,7 @@ def orderly(guest: Guest, what: str, outcomes: list[Outcome], most: int, ordered
     text = cell(outcomes)
     holds = all(it.received and not it.twice and not (ordered and it.overtaken) and it.lost <= most for it in outcomes)
     order = "no frame is overtaken" if ordered else "no frame comes twice"
-    check(holds, f"{what}: {order}, and at most {most} are lost ({text})", "" if holds else journal(guest))
+    check(holds, f"{what}: {order}, and at most {most} are lost ({text})", journal(guest))
     return text
 
 
@@ -47,20 +43,19 @@ def without_daemon(guest: Guest) -> float:
     return times[1] - times[0] if len(times) == 2 else 0.0
 
 
-def handed_over(guest: Guest, what: str, outcomes: list[Outcome], most: int, brief: float, ordered: bool = True) -> str:
-    """The same where another daemon goes on: what waits for longer than `brief` seconds, as it may on this processor, is of no use to it."""
+def handed_over(guest: Guest, what: str, outcomes: list[Outcome], most: int, ordered: bool = True) -> str:
+    """The same where another daemon goes on."""
     away = without_daemon(guest)
-    lost = most if away < brief else max(it.sent for it in outcomes)
-    return f"{orderly(guest, what, outcomes, lost, ordered)}, {away:.1f} s without a daemon"
+    return f"{orderly(guest, what, outcomes, most, ordered)}, {away:.1f} s without a daemon"
 
 
 def boots(guest: Guest) -> str:
     took = guest.boots()
     up = comes_up(guest, seconds=2 * COMES_UP)
-    check(up is not None, "the unit brings the bundle up at boot", "" if up is not None else journal(guest))
+    check(up is not None, "the unit brings the bundle up at boot", journal(guest))
     said = guest.text("systemctl show --value -p StatusText lagd@uplink")
     check(said == "up, 2 of 2 links carry", "systemctl status says so", said)
-    addressed = within(COMES_UP, lambda: "192.0.2.1/24" in guest.text("ip -br address show lag0"))
+    addressed = guest.within(COMES_UP, lambda: "192.0.2.1/24" in guest.text("ip -br address show lag0"))
     check(addressed, "lag0 has its address", guest.text("ip -br address"))
     failed = guest.text("systemctl --failed --plain --no-legend")
     check(failed == "", "no unit failed", failed)
@@ -69,7 +64,7 @@ def boots(guest: Guest) -> str:
 
 def pings(guest: Guest) -> str:
     ended = ping(guest)
-    check(ended.status == 0, "each of ten pings is answered", ended.text, "" if ended.status == 0 else journal(guest))
+    check(ended.status == 0, "each of ten pings is answered", ended.text, journal(guest))
     return "10 of 10" if ended.status == 0 else "FAILED"
 
 
@@ -79,7 +74,7 @@ def steady(guest: Guest) -> str:
 
 def streams(guest: Guest) -> str:
     speed = stream(guest)
-    check(speed > 1, f"a stream of TCP goes ({speed:.0f} Mbit/s)", "" if speed > 1 else journal(guest))
+    check(speed > 1, f"a stream of TCP goes ({speed:.0f} Mbit/s)", journal(guest))
     return f"{speed:.0f} Mbit/s"
 
 
@@ -108,7 +103,7 @@ def card_is_pulled(guest: Guest) -> str:
     gone = "eth1" not in guest.text("ls /sys/class/net")
     check(gone and status(guest).get("state") == "degraded", "its port is missing, and the other one carries", journal(guest))
     guest.insert("eth1")
-    check(within(APPEARS, lambda: "eth1" in guest.text("ls /sys/class/net")), "the card is back", guest.text("dmesg | tail -20"))
+    check(guest.within(APPEARS, lambda: "eth1" in guest.text("ls /sys/class/net")), "the card is back", guest.text("dmesg | tail -20"))
     up_again(guest)
     return text
 
@@ -116,7 +111,7 @@ def card_is_pulled(guest: Guest) -> str:
 def peer_is_stopped(guest: Guest) -> str:
     """The far daemon ends in order, and is started again."""
     guest.run("systemctl stop far")
-    check(within(COMES_UP, lambda: comes_up(guest, 0, seconds=1) is not None), "no link carries for a peer that stopped", journal(guest))
+    check(guest.within(COMES_UP, lambda: comes_up(guest, 0, seconds=1) is not None), "no link carries for a peer that stopped", journal(guest))
     guest.run("systemctl start far")
     return f"{up_again(guest):.1f} s"
 
@@ -128,26 +123,18 @@ def peer_is_killed(guest: Guest) -> str:
     return f"{took:.1f} s"
 
 
-def patient(guest: Guest) -> str:
-    """Both ends wait for 90 s for an LACPDU: this processor may take longer than 3 s to start a daemon."""
-    if use(guest, "timeout=long").status:
-        raise Failed("both ends start with timeout=long", journal(guest))
-    up_again(guest)
-    return "90 s"
-
-
 def restarts(guest: Guest) -> str:
     before = guest.text("cat /sys/class/net/lag0/ifindex; ip -br address show lag0")
-    outcomes = traffic(guest, SECONDS, lambda: guest.run("systemctl restart lagd@uplink"), rate=SLOW)
-    text = handed_over(guest, "systemctl restart", outcomes, 0, BRIEF)
+    outcomes = traffic(guest, SECONDS, lambda: guest.run("systemctl restart lagd@uplink"))
+    text = handed_over(guest, "systemctl restart", outcomes, 0)
     after = guest.text("cat /sys/class/net/lag0/ifindex; ip -br address show lag0")
     check(after == before, "lag0 is the same device, with its addresses", before, after)
     return text
 
 
 def is_killed(guest: Guest) -> str:
-    outcomes = traffic(guest, SECONDS, lambda: guest.run("systemctl kill --kill-whom=main --signal=SIGKILL lagd@uplink"), rate=SLOW)
-    text = handed_over(guest, "the daemon is killed", outcomes, IN_HAND, BRIEF - STATE)
+    outcomes = traffic(guest, SECONDS, lambda: guest.run("systemctl kill --kill-whom=main --signal=SIGKILL lagd@uplink"))
+    text = handed_over(guest, "the daemon is killed", outcomes, IN_HAND)
     said = guest.text("journalctl --no-pager -u lagd@uplink -o cat | grep 'go on where' | tail -1")
     check(said.startswith("2 of 2 links"), "the next one goes on where it was", said)
     up_again(guest)
@@ -160,21 +147,21 @@ def is_upgraded(guest: Guest) -> str:
     ended = []
 
     def upgrade() -> None:
-        ended.append(guest.run("dpkg -i /newer/*.deb", 240))
+        ended.append(guest.run("dpkg -i /newer/*.deb"))
         after = guest.text("systemctl show --value -p MainPID lagd@uplink")
         check(after == process, "dpkg restarts no daemon", process, after)
         ended.append(guest.run("systemctl restart lagd@uplink"))
 
-    outcomes = traffic(guest, SECONDS + 25, upgrade, rate=SLOW)
+    outcomes = traffic(guest, SECONDS + 25, upgrade)
     check([it.status for it in ended] == [0, 0], "the packages are upgraded", *ended)
     runs = guest.text("readlink /proc/$(systemctl show --value -p MainPID lagd@uplink)/exe; dpkg-query -Wf '${Version} ' lagd liblag0")
     check(runs.startswith("/usr/sbin/lagd\n") and runs.count("+1") == 2, "the new version runs", runs)
-    return handed_over(guest, "an upgrade", outcomes, 0, BRIEF)
+    return handed_over(guest, "an upgrade", outcomes, 0)
 
 
 def other_way(guest: Guest, way: str) -> str:
     """Both ends pass data on in another way, or the kernel has none: lagd --check tells it before."""
-    ended = use(guest, f"timeout=long\n{way}=yes")
+    ended = use(guest, f"{way}=yes")
     told = guest.run("lagd --check /etc/lagd/uplink.conf")
     check((told.status == 0) == (ended.status == 0), f"{way}: lagd --check says whether it starts", told, ended)
     if ended.status == 0:
@@ -208,7 +195,7 @@ def bonding_cable(guest: Guest) -> str:
 
 def stops(guest: Guest) -> str:
     """The bundle is stopped: what it changed is as before."""
-    guest.run("systemctl stop lagd@uplink", 60)
+    guest.run("systemctl stop lagd@uplink")
     left = guest.text("ls /sys/class/net | grep lag0; tc filter show dev eth1 ingress; tc qdisc show dev eth1 | grep -E '6c61|clsact'; ls /run/lagd/uplink 2>/dev/null")
     check(left == "", "after a stop nothing of it is left", left)
     guest.run("systemctl start lagd@uplink")
@@ -227,7 +214,6 @@ ROWS: dict[str, Callable[[Guest], str]] = {
     "a card is pulled": card_is_pulled,
     "the peer is stopped: up again after": peer_is_stopped,
     "the peer is killed: up again after": peer_is_killed,
-    "then with timeout=long": patient,
     "systemctl restart": restarts,
     "SIGKILL": is_killed,
     "an upgrade, and a restart": is_upgraded,

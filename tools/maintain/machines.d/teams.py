@@ -2,13 +2,14 @@
 
 from __future__ import annotations
 
-import time
 from typing import Callable
 
-from checking import Failed, check, within
+from checking import Failed, check
 from deployments import Task, run_rows
 from ends import BOND, COMES_UP, FAR, FAR_AT, NEAR, OVER, carrying, comes_up, journal, ping, status, traffic, up_again, use
+from fetched import USER_MODE
 from guest import Guest
+from native import CARD
 from rows import (SECONDS, bonding_cable, boots, cable_is_pulled, card_is_pulled, is_killed, is_upgraded, near_carrier_goes, orderly, peer_is_killed,
                   peer_is_stopped, restarts, steady, streams)
 
@@ -53,7 +54,7 @@ def comes_up_by_team(guest: Guest) -> str:
 
 def pings(guest: Guest, octets: int = 1472, to: str = FAR_AT) -> str:
     ended = ping(guest, to, octets)
-    check(ended.status == 0, f"each of ten pings of {octets} octets is answered", ended.text, "" if ended.status == 0 else journal(guest))
+    check(ended.status == 0, f"each of ten pings of {octets} octets is answered", ended.text, journal(guest))
     return "10 of 10" if ended.status == 0 else "FAILED"
 
 
@@ -91,7 +92,7 @@ def stays_down(guest: Guest) -> str:
 
 def taken_out(guest: Guest) -> str:
     guest.run("ip link set eth2 nomaster")
-    time.sleep(2)
+    guest.sleep(2)
     check(comes_up(guest, seconds=BACK) is not None and guest.run("ip -o link show eth2 | grep 'master lag0'").status == 0,
           "a member that is taken out comes back", journal(guest))  # fmt: skip
     return pings(guest)
@@ -115,7 +116,7 @@ def device_goes(guest: Guest) -> str:
     guest.run("ip link del lag0; sleep 1")
     took = comes_up(guest)
     check(took is not None, "after lag0 was deleted both links carry again", journal(guest))
-    check(within(COMES_UP, lambda: ping(guest).status == 0), "and data goes", journal(guest))
+    check(guest.within(COMES_UP, lambda: ping(guest).status == 0), "and data goes", journal(guest))
     return f"{took:.1f} s" if took is not None else "FAILED"
 
 
@@ -128,8 +129,21 @@ def name_is_taken(guest: Guest) -> str:
     return "refused"
 
 
+def second_start(guest: Guest) -> str:
+    """While no member is there, a second start by other settings leaves the device to the daemon that has it."""
+    guest.run("ip netns add away; for n in 1 2; do ip link set eth$n netns away; done")
+    before = guest.text("cat /sys/class/net/lag0/ifindex")
+    guest.run("mkdir -p /run/other; sed 's/^hash=.*/hash=layer2/' /etc/lagd/uplink.conf >/run/other/uplink.conf")
+    told = guest.text("lagd --config /run/other/uplink.conf --folder /run/lagd/uplink")
+    after = guest.text("cat /sys/class/net/lag0/ifindex")
+    guest.run("for n in 1 2; do ip -n away link set eth$n netns 1; ip link set eth$n up; done; ip netns del away")
+    check("lag0" in told and "another lagd has the interface" in told and before == after, "it is refused, and the device stays", told, before, after)
+    check(comes_up(guest) is not None, "the members are back in the device", journal(guest))
+    return pings(guest)
+
+
 def without_driver(guest: Guest) -> str:
-    told = guest.text(WITHOUT, 120)
+    told = guest.text(WITHOUT)
     refused = told.count("this kernel has no team driver") == 2 and told.count("status 1") == 2
     check(refused, "without the driver a check and a start are refused by name", told)
     up_again(guest)
@@ -144,13 +158,13 @@ def other_plane(guest: Guest) -> str:
             raise Failed(f"the bundle starts by {way}", ended.text, journal(guest))
         up_again(guest)
         check(status(guest)["carry"]["way"] == way, f"data goes by {way}", status(guest)["carry"])
-        check(within(COMES_UP, lambda: ping(guest).status == 0), f"pings are answered by {way}", journal(guest))
+        check(guest.within(COMES_UP, lambda: ping(guest).status == 0), f"pings are answered by {way}", journal(guest))
     return "yes"
 
 
 def stops(guest: Guest) -> str:
     """A stop takes the device away, and members are as before."""
-    guest.run("systemctl stop lagd@uplink", 60)
+    guest.run("systemctl stop lagd@uplink")
     left = guest.text("ls /sys/class/net | grep lag0; ip -o link show type bridge_slave; ip -o link show eth1 | grep -o 'master .*'")
     macs = guest.text("cat /sys/class/net/eth[12]/address").split()
     up = guest.text("cat /sys/class/net/eth[12]/flags").split()
@@ -193,10 +207,12 @@ ROWS: dict[str, Callable[[Guest], str]] = {
     "others change the driver": changed,
     "lag0 is deleted: up again after": device_goes,
     "the name is taken": name_is_taken,
+    "no member, and a second start": second_start,
     "the driver is missing": without_driver,
     "by a TAP device, and back": other_plane,
     "a stop": stops,
     "bonding is the peer: up after": bonding,
     "its cable is pulled": bonding_cable,
 }
-TASKS = {f"team-{kernel}": Task(kernel, "e1000e", FILES, run_rows(ROWS)) for kernel in ("6.1", "6.12")}
+CARDS = {USER_MODE: CARD, "6.1": "e1000e", "6.12": "e1000e"}
+TASKS = {f"team-{kernel}": Task(kernel, card, FILES, run_rows(ROWS)) for kernel, card in CARDS.items()}

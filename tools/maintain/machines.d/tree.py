@@ -14,17 +14,35 @@ from repository import MAINTAIN
 
 # What the tree has beside a minimal Debian; the libraries are those that lagd needs, so that packages are installed without a network.
 NEEDED = ("systemd-sysv", "udev", "dbus", "iproute2", "ethtool", "iputils-ping", "iperf3", "libteam-utils", "kmod", "procps", "tcpdump", "bridge-utils",
-          "libinih1", "libmnl0", "libcap-ng0")  # fmt: skip
+          "libinih1", "libmnl0", "libcap-ng0", "netplan.io")  # fmt: skip
 MEGABYTES = 1000
 # Takes scripts from the port and runs them, one after the other; an answer has the number of its script.
 SHELL = """#!/bin/bash
 exec 3<>/dev/virtio-ports/shell
+stty raw -echo <&3 2>/dev/null
 echo ready >&3
 while read -r number script <&3; do
     base64 -d <<<"$script" >/run/shell.script
     bash /run/shell.script >/run/shell.told 2>&1 </dev/null
     echo "$number $? $(base64 -w0 /run/shell.told)" >&3
 done
+"""
+# The first program of a guest in user mode: the shell has its second serial line.
+NATIVE = """#!/bin/sh
+mount -t proc proc /proc
+mount -t sysfs sys /sys
+mount -t tmpfs -o mode=755 run /run
+place() { sed "s/.* $1=\\([^ ]*\\).*/\\1/" /proc/cmdline; }
+mount -r -t hostfs -o $(place modules) none /usr/lib/modules
+mount -r -t hostfs -o $(place over) none /mnt
+cp -r --preserve=mode,links /mnt/. /
+umount /mnt
+mkdir -p /dev/virtio-ports
+ln -s ../ttyS1 /dev/virtio-ports/shell
+modprobe -a veth sch_ingress cls_matchall act_mirred
+ip netns add cables
+cables
+exec /lib/systemd/systemd
 """
 SHELL_UNIT = """[Unit]
 After=multi-user.target
@@ -69,7 +87,7 @@ wait
 touch done
 """
 FILES = {"usr/local/sbin/guest-shell": SHELL, "etc/systemd/system/guest-shell.service": SHELL_UNIT, "usr/local/sbin/guest-far": FAR,
-         "etc/systemd/system/guest-far.service": FAR_UNIT, "usr/local/bin/traffic": TRAFFIC, "usr/sbin/policy-rc.d": "#!/bin/sh\nexit 101\n",
+         "etc/systemd/system/guest-far.service": FAR_UNIT, "usr/local/bin/traffic": TRAFFIC, "usr/local/sbin/native-init": NATIVE, "usr/sbin/policy-rc.d": "#!/bin/sh\nexit 101\n",
          "etc/hostname": "guest\n", "etc/machine-id": "0123456789abcdef0123456789abcdef\n"}  # fmt: skip
 MASKED = ("getty.target", "apt-daily.timer", "apt-daily-upgrade.timer", "e2scrub_all.timer", "e2scrub_reap.service", "dpkg-db-backup.timer",
           "systemd-timesyncd.service", "serial-getty@ttyS0.service", "systemd-update-utmp.service", "fstrim.timer", "systemd-random-seed.service",
