@@ -40,13 +40,16 @@ def complain(why: Exception) -> None:
 
 
 def printed(*words: str) -> str:
-    """What a command prints; nothing where it fails."""
+    """What a command prints; nothing where it fails, as a line says."""
     try:
-        ended = subprocess.run(words, stdin=subprocess.DEVNULL, stdout=subprocess.PIPE, stderr=subprocess.DEVNULL, timeout=PATIENCE)
+        ended = subprocess.run(words, stdin=subprocess.DEVNULL, capture_output=True, timeout=PATIENCE)
     except (OSError, subprocess.TimeoutExpired) as why:
         complain(why)
         return ""
-    return ended.stdout.decode(errors="replace") if ended.returncode == 0 else ""
+    if ended.returncode:  # behind the time and the place of the line
+        complain(ChildProcessError(f"{words[0]}: {ended.stderr.decode(errors='replace').strip().rpartition('] ')[2]}"))
+        return ""
+    return ended.stdout.decode(errors="replace")
 
 
 def index_of(device: str) -> int:

@@ -52,8 +52,9 @@ def lldpd(part: Part, space: str, names: str) -> Runs:
     """An lldpd that sends each second."""
     os.chmod(part.folder, 0o711)  # its user looks whether somebody else has the socket
     at = os.path.join(part.folder, f"lldpd-{space}")
-    started = Runs(part, space, f"{os.path.basename(at)}.log", *OWN_RUN, "lldpd", "-d", "-u", at, "-I", names)
     asked = lambda: inside(space, "lldpcli", "-u", at, "configure", "lldp", "tx-interval", "1").returncode == 0
+    within(TELLS, lambda: not asked())  # one that was killed has a child that ends after it
+    started = Runs(part, space, f"{os.path.basename(at)}.log", *OWN_RUN, "lldpd", "-d", "-u", at, "-I", names)
     if not within(TELLS, asked):
         raise Skipped(f"lldpd does not run: {started.printed()}")
     return started

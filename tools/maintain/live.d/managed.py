@@ -77,7 +77,7 @@ class Agent:
         """What a command answers: values by the objects, without those that are not there."""
         told = inside(OURS, command, "-m", "", "-v2c", "-c", "public", "-On", "-Oe", "-Ox", "-OU", "-OQ", "-Ot", "-t", "2", "127.0.0.1:1161", *objects, timeout=60)
         rows = re.findall(r"^\.([\d.]+) = (.*(?:\n(?!\.).*)*)$", told.stdout, re.M)
-        return {name: " ".join(value.strip('" ').split()) for name, value in rows if not value.startswith("No ")}
+        return {name: " ".join(value.replace('"', ' ').split()) for name, value in rows if not value.startswith("No ")}
 
     def walk(self, below: str = "", command: str = "snmpbulkwalk") -> Told:
         """All below an object, by what stands behind that of the MIB."""
