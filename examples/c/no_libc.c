@@ -33,7 +33,7 @@ void *realloc(void *at, size_t size) {
     return memcpy(made, at, old < size ? old : size);
 }
 
-/* The room is given back as a whole, when no system is left. */
+/* What is freed is not used again. */
 void free(void *at) {
     (void)at;
 }
