@@ -58,7 +58,8 @@ ARM64 = Processor("arm64", "aarch64", "aarch64-linux-gnu-", ("--target", "aarch6
 PROCESSORS = {it.name: it for it in (AMD64, ARM64)}
 # What an arm64 build wants besides, with its package of Debian.
 CROSS = {"aarch64-linux-gnu-gcc": "gcc-aarch64-linux-gnu", "qemu-aarch64": "qemu-user"}
-LIBRARIES = {"inih": "libinih-dev:arm64", "libcap-ng": "libcap-ng-dev:arm64", "libsystemd": "libsystemd-dev:arm64"}
+LIBRARIES = {"inih": "libinih-dev:arm64", "libcap-ng": "libcap-ng-dev:arm64", "libbpf": "libbpf-dev:arm64",
+             "libsystemd": "libsystemd-dev:arm64"}
 
 
 def want_tools(processor: Processor) -> None:
