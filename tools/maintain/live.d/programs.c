@@ -58,17 +58,15 @@ static int run(int tried, const uint8_t *frame, size_t length) {
     return (int)options.retval;
 }
 
-/* The same for a frame whose outer tag stands beside it. */
-static int run_beside(int tried, const uint8_t *frame, size_t length) {
+/* Has the sender run for a frame whose outer tag stands beside it. */
+static int run_beside(const uint8_t *frame, size_t length) {
     static uint8_t rest[ROOM];
-    int fd = bpf_program__fd(tagging->progs.tagging), verdict;
-    const uint32_t first = 0;
-    if (bpf_map_update_elem(bpf_map__fd(tagging->maps.tried), &first, &tried, BPF_ANY) != 0) return REFUSED_FRAME;
+    int verdict;
     memcpy(rest, frame, 2 * ETH_ALEN);
     memcpy(rest + 2 * ETH_ALEN, frame + 2 * ETH_ALEN + TAG_OCTETS, length - 2 * ETH_ALEN - TAG_OCTETS);
     context.cb[0] = (uint32_t)(frame[14] << 8 | frame[15]);
     context.cb[1] = htons((uint16_t)(frame[12] << 8 | frame[13]));
-    verdict = run(fd, rest, length - TAG_OCTETS);
+    verdict = run(bpf_program__fd(tagging->progs.tagging), rest, length - TAG_OCTETS);
     memset(context.cb, 0, sizeof context.cb);
     return verdict;
 }
@@ -89,7 +87,7 @@ static int counted_row(void) {
 static void print_conversations(const uint8_t *frame, size_t length) {
     bool is_tagged = length >= ETH_HLEN + TAG_OCTETS && ((frame[12] == 0x81 && frame[13] == 0) || (frame[12] == 0x88 && frame[13] == 0xa8));
     int found = run(sender, frame, length) == REFUSED_FRAME ? -1 : counted_row();
-    if (is_tagged && run_beside(sender, frame, length) != REFUSED_FRAME && counted_row() != found && found >= 0) found = -2;
+    if (is_tagged && run_beside(frame, length) != REFUSED_FRAME && counted_row() != found && found >= 0) found = -2;
     printf("%u %d\n", (unsigned)conversation_of(frame, length).number, found);
 }
 
@@ -184,7 +182,7 @@ static void check_beside(uint64_t member) {
     frame[16] = ETH_P_SLOW >> 8;
     frame[17] = ETH_P_SLOW & 0xff;
     clear(member);
-    CHECK(run_beside(sender, frame, 64) == ELSEWHERE && rows[0].passed == 1 && host->unfit == 0);
+    CHECK(run_beside(frame, 64) == ELSEWHERE && rows[0].passed == 1 && host->unfit == 0);
 }
 
 /* The member of PORT receives a frame to an address, of a type, with an octet behind that. */
@@ -285,12 +283,13 @@ static bool make_own_system(void) {
 }
 
 static bool load_all(void) {
+    const uint32_t first = 0;
     rows = make_map(sizeof *rows, CONVERSATIONS, &maps.rows);
     members = make_map(sizeof *members, NIW_MOST_PORTS, &maps.members);
     host = make_map(sizeof *host, 1, &maps.host);
     sender = rows && members && host ? loaded("sender", &maps) : -1;
     tagging = tagging__open_and_load();
-    return sender >= 0 && tagging;
+    return sender >= 0 && tagging && bpf_map_update_elem(bpf_map__fd(tagging->maps.sender), &first, &sender, BPF_ANY) == 0;
 }
 
 int main(int argc, char **argv) {
