@@ -13,7 +13,7 @@ struct frame {
 
 _Static_assert(CONVERSATIONS == NIW_FEW_CONVERSATIONS && MOST_MEMBERS == NIW_MOST_PORTS, "the tables have room for what the library has");
 
-static inline bool read_octets(const struct frame *frame, uint32_t at, void *octets, uint32_t count) {
+static __always_inline bool read_octets(const struct frame *frame, uint32_t at, void *octets, uint32_t count) {
     if (count > frame->length || at > frame->length - count) return false;
     memcpy(octets, frame->octets + at, count);
     return true;

@@ -1,5 +1,6 @@
 /* The hash of a frame, for hash.c and for the program of the kernel. Each of them says what a `struct frame` is, how its octets are read, and
- * includes the numbers of protocols of IP. */
+ * includes the numbers of protocols of IP. There it is one function: Linux 6.1 takes no loop and no part of a word on the stack from a daemon
+ * without CAP_PERFMON. */
 #ifndef LAGD_HASH_H
 #define LAGD_HASH_H
 
@@ -8,7 +9,7 @@
 #include "shared.h"
 
 /* Copies octets of a frame; answers whether it has them. */
-static inline bool read_octets(const struct frame *frame, uint32_t at, void *octets, uint32_t count);
+static __always_inline bool read_octets(const struct frame *frame, uint32_t at, void *octets, uint32_t count);
 
 /* The beginning of a frame, or a header in it: as octets, and as words of this processor. */
 union header {
@@ -21,40 +22,45 @@ struct place {
     uint32_t at, type;
 };
 
-static inline uint16_t number_at(const uint8_t *octets) {
+static __always_inline uint16_t number_at(const uint8_t *octets) {
     return (uint16_t)(octets[0] << 8 | octets[1]);
 }
 
-static inline uint32_t add_words(uint32_t hash, const uint32_t *words, unsigned count) {
+static __always_inline uint32_t add_words(uint32_t hash, const uint32_t *words, unsigned count) {
     for (unsigned i = 0; i < count; i++) hash = (hash ^ words[i]) * (uint32_t)HASH_FACTOR;
     return hash;
 }
 
-static inline bool is_tag(uint32_t type) {
+static __always_inline bool is_tag(uint32_t type) {
     return type == ETH_P_8021Q || type == ETH_P_8021AD;
 }
 
-/* Goes on behind so many VLAN tags at most. */
-static inline void skip_tags(const struct frame *frame, struct place *place, unsigned most) {
-    uint8_t tag[TAG_OCTETS];
-    for (unsigned i = 0; i < most && is_tag(place->type) && read_octets(frame, place->at, tag, sizeof tag); i++) {
-        place->at += TAG_OCTETS;
-        place->type = number_at(tag + 2);
-    }
+/* Goes on behind a VLAN tag; answers whether there is one. */
+static __always_inline bool skip_tag(const struct frame *frame, struct place *place) {
+    uint8_t type[2];
+    if (!is_tag(place->type) || !read_octets(frame, place->at + 2, type, sizeof type)) return false;
+    place->at += TAG_OCTETS;
+    place->type = number_at(type);
+    return true;
+}
+
+/* Goes on behind MOST_TAGS VLAN tags at most; `beside`: one of them is not in the frame. */
+static __always_inline void skip_tags(const struct frame *frame, struct place *place, bool beside) {
+    (void)(skip_tag(frame, place) && skip_tag(frame, place) && skip_tag(frame, place) && !beside && skip_tag(frame, place));
 }
 
 /* Goes on from an Ethernet header to the network header, if there is one. */
-static inline void enter_ethernet(const struct frame *frame, struct place *place) {
+static __always_inline void enter_ethernet(const struct frame *frame, struct place *place) {
     uint8_t type[2];
     if (!read_octets(frame, place->at + 2 * ETH_ALEN, type, sizeof type)) return;
     place->at += ETH_HLEN;
     place->type = number_at(type);
-    skip_tags(frame, place, MOST_TAGS);
+    skip_tags(frame, place, false);
 }
 
 /* Adds the addresses of IP, if there are some; answers whether. What the packet carries is `carried`: of a fragment of IPv4 that is not
  * told, since those behind the first one have no ports. */
-static inline bool add_addresses(const struct frame *frame, const struct place *place, uint32_t *hash, struct place *carried) {
+static __always_inline bool add_addresses(const struct frame *frame, const struct place *place, uint32_t *hash, struct place *carried) {
     union header ip;
     if (place->type == ETH_P_IP && read_octets(frame, place->at, &ip, IPV4_OCTETS) && ip.octets[0] >> 4 == 4) {
         *hash = add_words(*hash, ip.words + IPV4_ADDRESSES / 4, 2);
@@ -72,7 +78,7 @@ static inline bool add_addresses(const struct frame *frame, const struct place *
 }
 
 /* Goes on from a header of UDP to what VXLAN carries, if it does. */
-static inline void enter_vxlan(const struct frame *frame, struct place *place) {
+static __always_inline void enter_vxlan(const struct frame *frame, struct place *place) {
     uint8_t udp[VXLAN_FLAGS + 1];
     uint16_t port;
     place->type = 0;
@@ -84,7 +90,7 @@ static inline void enter_vxlan(const struct frame *frame, struct place *place) {
 }
 
 /* Goes on from a header of GRE to what it carries, if it is of the kind that is known. */
-static inline void enter_gre(const struct frame *frame, struct place *place) {
+static __always_inline void enter_gre(const struct frame *frame, struct place *place) {
     uint8_t gre[GRE_OCTETS];
     uint16_t flags;
     place->type = 0;
@@ -97,7 +103,7 @@ static inline void enter_gre(const struct frame *frame, struct place *place) {
 }
 
 /* Goes on from what a packet carries to the network header of the packet in it, if it is a tunnel. */
-static inline void enter_tunnel(const struct frame *frame, struct place *place) {
+static __always_inline void enter_tunnel(const struct frame *frame, struct place *place) {
     switch (place->type) {
     case IPPROTO_IPIP: place->type = ETH_P_IP; break;
     case IPPROTO_IPV6: place->type = ETH_P_IPV6; break;
@@ -107,12 +113,12 @@ static inline void enter_tunnel(const struct frame *frame, struct place *place) 
     }
 }
 
-static inline bool has_ports(uint32_t protocol) {
+static __always_inline bool has_ports(uint32_t protocol) {
     return protocol == IPPROTO_TCP || protocol == IPPROTO_UDP || protocol == IPPROTO_SCTP;
 }
 
 /* Addresses, and ports where the hash has them. Frames without IP have their MAC addresses, of `ethernet`. */
-static inline uint32_t add_headers(const struct frame *frame, const uint32_t *ethernet, const struct place *place, enum hash way, uint32_t start) {
+static __always_inline uint32_t add_headers(const struct frame *frame, const uint32_t *ethernet, const struct place *place, enum hash way, uint32_t start) {
     uint32_t hash = start, inner_hash = start, ports;
     struct place carried = {0, 0}, inner, in_inner = {0, 0};
     bool has_addresses = add_addresses(frame, place, &hash, &carried);
@@ -131,7 +137,7 @@ static inline uint32_t add_headers(const struct frame *frame, const uint32_t *et
 }
 
 /* The VLAN of the outer tag, or 0, and the source. */
-static inline uint32_t add_vlan_and_source(const union header *ethernet, uint16_t tag, uint32_t hash) {
+static __always_inline uint32_t add_vlan_and_source(const union header *ethernet, uint16_t tag, uint32_t hash) {
     union header first;
     first.octets[0] = ethernet->octets[SOURCE];
     first.octets[1] = ethernet->octets[SOURCE + 1];
@@ -142,7 +148,7 @@ static inline uint32_t add_vlan_and_source(const union header *ethernet, uint16_
 }
 
 /* The number of a conversation that a hash has. */
-static inline uint32_t conversation_in(uint32_t hash) {
+static __always_inline uint32_t conversation_in(uint32_t hash) {
     hash ^= hash >> 16;
     hash ^= hash >> 8;
     return hash % CONVERSATIONS;

@@ -51,29 +51,29 @@ struct {
     __type(value, struct fast_host);
 } hosts SEC(".maps");
 
-static inline bool read_octets(const struct frame *frame, uint32_t at, void *octets, uint32_t count) {
+static __always_inline bool read_octets(const struct frame *frame, uint32_t at, void *octets, uint32_t count) {
     return bpf_skb_load_bytes(frame->skb, at, octets, count) == 0;
 }
 
 /* What is kept for the host, or NULL. */
-static inline struct fast_host *find_host(void) {
+static __always_inline struct fast_host *find_host(void) {
     const uint32_t key = 0;
     return bpf_map_lookup_elem(&hosts, &key);
 }
 
 /* What the tables have, read once: the daemon writes there, too. */
-static inline uint64_t now_in(const uint64_t *at) {
+static __always_inline uint64_t now_in(const uint64_t *at) {
     return *(const volatile uint64_t *)at;
 }
 
 /* The compiler may not join two of these into one whose place it computes: without CAP_PERFMON the kernel takes no such program. */
-static inline void add_to(uint64_t *at, uint64_t more) {
+static __always_inline void add_to(uint64_t *at, uint64_t more) {
     __sync_fetch_and_add(at, more);
     barrier();
 }
 
 /* The hash of a frame, as hash.c has it. A tag that the kernel keeps beside the frame is the first one. */
-static inline uint32_t hash_of(const struct frame *frame, const union header *ethernet) {
+static __always_inline uint32_t hash_of(const struct frame *frame, const union header *ethernet) {
     const uint32_t start = HASH_START ^ hash_seed, type = number_at(ethernet->octets + 2 * ETH_ALEN);
     const bool beside = frame->skb->vlan_present;
     struct place place = {ETH_HLEN, type};
@@ -82,11 +82,11 @@ static inline uint32_t hash_of(const struct frame *frame, const union header *et
         if (!beside && is_tag(type)) (void)read_octets(frame, ETH_HLEN, tag, sizeof tag);
         return add_vlan_and_source(ethernet, beside ? (uint16_t)frame->skb->vlan_tci : number_at(tag), start);
     }
-    skip_tags(frame, &place, beside ? MOST_TAGS - 1 : MOST_TAGS);
+    skip_tags(frame, &place, beside);
     return add_headers(frame, ethernet->words, &place, way, start);
 }
 
-static inline struct fast_row *find_row(const struct frame *frame, const union header *ethernet) {
+static __always_inline struct fast_row *find_row(const struct frame *frame, const union header *ethernet) {
     uint32_t conversation;
     if (way == HASH_LAYER2)
         conversation = ethernet->octets[ETH_ALEN - 1] ^ ethernet->octets[2 * ETH_ALEN - 1];
@@ -97,13 +97,13 @@ static inline struct fast_row *find_row(const struct frame *frame, const union h
 
 /* Whether the frame, or with `how` a segment of it with its headers, is too long for an interface, or for that where it came in if this is
  * 0. A tag that stands in it, behind a type of it, does not count. */
-static inline bool is_too_long(struct __sk_buff *skb, uint32_t interface, uint16_t type, uint64_t how) {
+static __always_inline bool is_too_long(struct __sk_buff *skb, uint32_t interface, uint16_t type, uint64_t how) {
     uint32_t mtu = 0;
     return bpf_check_mtu(skb, interface, &mtu, is_tag(type) ? -TAG_OCTETS : 0, how) != 0;
 }
 
 /* Whether the frame is of the slow protocols, or too long for a member, or one of its segments is. */
-static inline bool is_unfit(struct __sk_buff *skb, uint32_t member, uint16_t type) {
+static __always_inline bool is_unfit(struct __sk_buff *skb, uint32_t member, uint16_t type) {
     if (!skb->vlan_present && type == ETH_P_SLOW) return true;
     if (skb->gso_size != 0) return is_too_long(skb, member, 0, BPF_MTU_CHK_SEGS);
     return is_too_long(skb, member, type, 0);
@@ -116,13 +116,13 @@ struct counted {
 };
 
 /* Takes back what the row counted, where that names a member. */
-static inline void uncount(struct fast_row *row, const struct counted *counted) {
+static __always_inline void uncount(struct fast_row *row, const struct counted *counted) {
     add_to(&row->word, -counted->segments);
     if (counted->opaque) add_to(&row->opaque, -1ull);
 }
 
 /* The frame is left to the daemon, if that has room. */
-static inline int leave(struct fast_row *row, struct fast_host *host, const struct counted *counted) {
+static __always_inline int leave(struct fast_row *row, struct fast_host *host, const struct counted *counted) {
     if (__sync_fetch_and_add(&host->left, 1) < MOST_LEFT) return GO_ON;
     __sync_fetch_and_add(&host->left, -1);
     add_to(&host->overflowed, 1);
@@ -164,7 +164,7 @@ int sender(struct __sk_buff *skb) {
 }
 
 /* Whether a frame is to a group of the link: it goes on to the stack of its member. */
-static inline bool is_local(struct __sk_buff *skb) {
+static __always_inline bool is_local(struct __sk_buff *skb) {
     const struct frame frame = {skb};
     union header to;
     uint16_t group;
@@ -174,7 +174,7 @@ static inline bool is_local(struct __sk_buff *skb) {
 }
 
 /* A frame of the slow protocols: a marker goes up behind the data, marked with the port, while data goes up. All else goes on. */
-static inline int take_control(struct __sk_buff *skb, const struct fast_member *member) {
+static __always_inline int take_control(struct __sk_buff *skb, const struct fast_member *member) {
     const struct frame frame = {skb};
     uint8_t subtype;
     uint64_t up_to;
