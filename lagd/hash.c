@@ -13,15 +13,15 @@ struct frame {
 
 _Static_assert(CONVERSATIONS == NIW_FEW_CONVERSATIONS && MOST_MEMBERS == NIW_MOST_PORTS, "the tables have room for what the library has");
 
-static __always_inline bool read_octets(const struct frame *frame, uint32_t at, void *octets, uint32_t count) {
+static __always_inline bool read_octets(const struct frame *frame, uint64_t at, void *octets, uint32_t count) {
     if (count > frame->length || at > frame->length - count) return false;
     memcpy(octets, frame->octets + at, count);
     return true;
 }
 
 /* The hash of a frame, all of whose tags stand in it. */
-static uint32_t hash_of(const struct frame *frame) {
-    const uint32_t start = HASH_START ^ settings.hash_seed;
+static uint64_t hash_of(const struct frame *frame) {
+    const uint64_t start = HASH_START ^ settings.hash_seed;
     struct place place = {0, 0};
     union header ethernet;
     uint8_t tag[2] = {0};

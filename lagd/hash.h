@@ -1,6 +1,6 @@
 /* The hash of a frame, for hash.c and for the program of the kernel. Each of them says what a `struct frame` is, how its octets are read, and
- * includes the numbers of protocols of IP. There it is one function: Linux 6.1 takes no loop and no part of a word on the stack from a daemon
- * without CAP_PERFMON. */
+ * includes the numbers of protocols of IP. There it is one function, and its values have 64 bits, since without CAP_PERFMON Linux 6.1 takes
+ * no loop, and no half of a word that the compiler keeps on the stack. */
 #ifndef LAGD_HASH_H
 #define LAGD_HASH_H
 
@@ -9,7 +9,7 @@
 #include "shared.h"
 
 /* Copies octets of a frame; answers whether it has them. */
-static __always_inline bool read_octets(const struct frame *frame, uint32_t at, void *octets, uint32_t count);
+static __always_inline bool read_octets(const struct frame *frame, uint64_t at, void *octets, uint32_t count);
 
 /* The beginning of a frame, or a header in it: as octets, and as words of this processor. */
 union header {
@@ -19,19 +19,19 @@ union header {
 
 /* Where a network header stands, and its type; or what it carries, and the protocol of that. */
 struct place {
-    uint32_t at, type;
+    uint64_t at, type;
 };
 
 static __always_inline uint16_t number_at(const uint8_t *octets) {
     return (uint16_t)(octets[0] << 8 | octets[1]);
 }
 
-static __always_inline uint32_t add_words(uint32_t hash, const uint32_t *words, unsigned count) {
-    for (unsigned i = 0; i < count; i++) hash = (hash ^ words[i]) * (uint32_t)HASH_FACTOR;
+static __always_inline uint64_t add_words(uint64_t hash, const uint32_t *words, unsigned count) {
+    for (unsigned i = 0; i < count; i++) hash = ((hash ^ words[i]) * HASH_FACTOR) & UINT32_MAX;
     return hash;
 }
 
-static __always_inline bool is_tag(uint32_t type) {
+static __always_inline bool is_tag(uint64_t type) {
     return type == ETH_P_8021Q || type == ETH_P_8021AD;
 }
 
@@ -60,7 +60,7 @@ static __always_inline void enter_ethernet(const struct frame *frame, struct pla
 
 /* Adds the addresses of IP, if there are some; answers whether. What the packet carries is `carried`: of a fragment of IPv4 that is not
  * told, since those behind the first one have no ports. */
-static __always_inline bool add_addresses(const struct frame *frame, const struct place *place, uint32_t *hash, struct place *carried) {
+static __always_inline bool add_addresses(const struct frame *frame, const struct place *place, uint64_t *hash, struct place *carried) {
     union header ip;
     if (place->type == ETH_P_IP && read_octets(frame, place->at, &ip, IPV4_OCTETS) && ip.octets[0] >> 4 == 4) {
         *hash = add_words(*hash, ip.words + IPV4_ADDRESSES / 4, 2);
@@ -113,13 +113,14 @@ static __always_inline void enter_tunnel(const struct frame *frame, struct place
     }
 }
 
-static __always_inline bool has_ports(uint32_t protocol) {
+static __always_inline bool has_ports(uint64_t protocol) {
     return protocol == IPPROTO_TCP || protocol == IPPROTO_UDP || protocol == IPPROTO_SCTP;
 }
 
 /* Addresses, and ports where the hash has them. Frames without IP have their MAC addresses, of `ethernet`. */
-static __always_inline uint32_t add_headers(const struct frame *frame, const uint32_t *ethernet, const struct place *place, enum hash way, uint32_t start) {
-    uint32_t hash = start, inner_hash = start, ports;
+static __always_inline uint64_t add_headers(const struct frame *frame, const uint32_t *ethernet, const struct place *place, enum hash way, uint64_t start) {
+    uint64_t hash = start, inner_hash = start;
+    uint32_t ports;
     struct place carried = {0, 0}, inner, in_inner = {0, 0};
     bool has_addresses = add_addresses(frame, place, &hash, &carried);
     if (way == HASH_ENCAP3_4 && carried.type != 0) {
@@ -137,7 +138,7 @@ static __always_inline uint32_t add_headers(const struct frame *frame, const uin
 }
 
 /* The VLAN of the outer tag, or 0, and the source. */
-static __always_inline uint32_t add_vlan_and_source(const union header *ethernet, uint16_t tag, uint32_t hash) {
+static __always_inline uint64_t add_vlan_and_source(const union header *ethernet, uint16_t tag, uint64_t hash) {
     union header first;
     first.octets[0] = ethernet->octets[SOURCE];
     first.octets[1] = ethernet->octets[SOURCE + 1];
@@ -148,10 +149,10 @@ static __always_inline uint32_t add_vlan_and_source(const union header *ethernet
 }
 
 /* The number of a conversation that a hash has. */
-static __always_inline uint32_t conversation_in(uint32_t hash) {
+static __always_inline uint32_t conversation_in(uint64_t hash) {
     hash ^= hash >> 16;
     hash ^= hash >> 8;
-    return hash % CONVERSATIONS;
+    return (uint32_t)hash % CONVERSATIONS;
 }
 
 #endif

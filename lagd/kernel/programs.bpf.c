@@ -23,9 +23,9 @@ struct frame {
 #define MOST_LEFT (HOST_QUEUE - 96)
 
 /* What the daemon sets before a program is loaded. */
-const volatile uint32_t way = HASH_LAYER2; /* of enum hash */
-const volatile uint32_t hash_seed = 0;
-const volatile uint32_t port = 0; /* of the receiver */
+const volatile uint64_t way = HASH_LAYER2; /* of enum hash */
+const volatile uint64_t hash_seed = 0;
+const volatile uint64_t port = 0; /* of the receiver */
 
 struct {
     __uint(type, BPF_MAP_TYPE_ARRAY);
@@ -51,8 +51,8 @@ struct {
     __type(value, struct fast_host);
 } hosts SEC(".maps");
 
-static __always_inline bool read_octets(const struct frame *frame, uint32_t at, void *octets, uint32_t count) {
-    return bpf_skb_load_bytes(frame->skb, at, octets, count) == 0;
+static __always_inline bool read_octets(const struct frame *frame, uint64_t at, void *octets, uint32_t count) {
+    return bpf_skb_load_bytes(frame->skb, (uint32_t)at, octets, count) == 0;
 }
 
 /* What is kept for the host, or NULL. */
@@ -73,8 +73,8 @@ static __always_inline void add_to(uint64_t *at, uint64_t more) {
 }
 
 /* The hash of a frame, as hash.c has it. A tag that the kernel keeps beside the frame is the first one. */
-static __always_inline uint32_t hash_of(const struct frame *frame, const union header *ethernet) {
-    const uint32_t start = HASH_START ^ hash_seed, type = number_at(ethernet->octets + 2 * ETH_ALEN);
+static __always_inline uint64_t hash_of(const struct frame *frame, const union header *ethernet) {
+    const uint64_t start = HASH_START ^ hash_seed, type = number_at(ethernet->octets + 2 * ETH_ALEN);
     const bool beside = frame->skb->vlan_present;
     struct place place = {ETH_HLEN, type};
     uint8_t tag[2] = {0};
@@ -83,7 +83,7 @@ static __always_inline uint32_t hash_of(const struct frame *frame, const union h
         return add_vlan_and_source(ethernet, beside ? (uint16_t)frame->skb->vlan_tci : number_at(tag), start);
     }
     skip_tags(frame, &place, beside);
-    return add_headers(frame, ethernet->words, &place, way, start);
+    return add_headers(frame, ethernet->words, &place, (enum hash)way, start);
 }
 
 static __always_inline struct fast_row *find_row(const struct frame *frame, const union header *ethernet) {
@@ -181,7 +181,7 @@ static __always_inline int take_control(struct __sk_buff *skb, const struct fast
     if (!read_octets(&frame, SUBTYPE_AT, &subtype, sizeof subtype) || subtype != SUBTYPE_MARKER || !member) return GO_ON;
     up_to = now_in(&member->up_to);
     if (up_to == 0) return GO_ON;
-    skb->mark = port;
+    skb->mark = (uint32_t)port;
     return (int)bpf_redirect((uint32_t)up_to, BPF_F_INGRESS);
 }
 
@@ -190,7 +190,7 @@ static __always_inline int take_control(struct __sk_buff *skb, const struct fast
 SEC("tc")
 int receiver(struct __sk_buff *skb) {
     const uint16_t type = bpf_ntohs((uint16_t)skb->protocol);
-    const uint32_t key = port - 1;
+    const uint32_t key = (uint32_t)port - 1;
     struct fast_member *member = bpf_map_lookup_elem(&members, &key);
     uint64_t up_to;
     if (!skb->vlan_present && type == ETH_P_SLOW) return take_control(skb, member);
