@@ -118,7 +118,8 @@ static __always_inline bool has_ports(uint64_t protocol) {
 }
 
 /* Addresses, and ports where the hash has them. Frames without IP have their MAC addresses, of `ethernet`. */
-static __always_inline uint64_t add_headers(const struct frame *frame, const uint32_t *ethernet, const struct place *place, enum hash way, uint64_t start) {
+static __always_inline uint64_t add_headers(const struct frame *frame, const uint32_t *ethernet, const struct place *place, enum hash way,
+                                            uint64_t start) {
     uint64_t hash = start, inner_hash = start;
     uint32_t ports;
     struct place carried = {0, 0}, inner, in_inner = {0, 0};
