@@ -7,18 +7,11 @@
 
 #include "lagd.h"
 
-/* The octets of a VLAN tag. */
-#define TAG_OCTETS 4
 /* The library takes a frame of so many octets at most: of a longer one it is shown the beginning. */
 #define LONGEST_SHOWN (ETH_HLEN + ETH_DATA_LEN + TAG_OCTETS)
-/* How many VLAN tags are skipped to find the network header. */
-#define MOST_TAGS 4
-/* Frames of the host that wait for the daemon, which other programs may keep from a processor for a while. */
-#define HOST_QUEUE 4096
 /* Frames that are sent or taken by one call of the kernel, and how many batches are taken of a socket in a turn. */
 #define BATCH 64
 #define MOST_BATCHES 4
-#define CONVERSATIONS NIW_FEW_CONVERSATIONS
 /* A conversation is busy that had a frame within so many milliseconds. */
 #define BUSY 5000
 
@@ -73,25 +66,7 @@ bool is_busy(const struct conversation *conversation);
 void suspect_aggregator(uint32_t aggregator);
 void hand_up(uint32_t aggregator, const uint8_t *packet, size_t length);
 
-/* The groups 01-80-C2-00-00-00 to -0F, which no bridge passes on: frames to them concern the member alone, as those of 802.1X, MKA, LLDP
- * and PTP do, but for the groups by which bridges speak with each other, a bit for each: their ports are above the aggregator. */
-#define LINK_GROUPS 0x0180c200
-#define MOST_LINK_GROUP 0x0f
-#define BRIDGE_GROUPS (1 << 0x00 | 1 << 0x08 | 1 << 0x0d)
-
-/* hash.c: FNV-1a, of words of 32 bits; and where the headers have what is hashed. The program of the kernel has the same numbers. */
-#define HASH_START 2166136261u
-#define HASH_FACTOR 16777619
-enum {
-    SOURCE = ETH_ALEN, VLAN = 0x0fff, /* the bits of a tag that tell the VLAN */
-    IPV4_OCTETS = 20, IPV4_FRAGMENT = 6, IPV4_PROTOCOL = 9, IPV4_ADDRESSES = 12,
-    IPV6_OCTETS = 40, IPV6_NEXT = 6, IPV6_ADDRESSES = 8,
-    FRAGMENTED = 0x3fff, /* the bits of a fragment: more of them, and its place */
-    /* VXLAN (RFC 7348), at its own port of UDP and at the usual one of Linux; and GRE (RFC 2784, 2890). */
-    UDP_TO = 2, VXLAN_PORT = 4789, VXLAN_USUAL_PORT = 8472, VXLAN_FLAGS = 8, VXLAN_IS_VALID = 0x08, VXLAN_ETHERNET = 16,
-    GRE_OCTETS = 4, GRE_TYPE = 2, GRE_SUM = 0x8000, GRE_KEY = 0x2000, GRE_SEQUENCE = 0x1000,
-    GRE_OTHER = 0x4c07, /* another version, or bits with which the header may have another form */
-};
+/* hash.c */
 struct niw_number conversation_of(const uint8_t *frame, size_t length);
 
 /* packets.c: a packet is a frame, and what the kernel tells before it */
@@ -126,11 +101,7 @@ void announce_soon(void);
 void pass_announcing_tick(void);
 
 /* bpf.c */
-struct bpf_insn;
 void *make_map(uint32_t size, uint32_t count, int *map);
-int load_program(const struct bpf_insn *steps, size_t count);
-int refuse_program(int fault);
-const char *program_fault(void);
 int attach_program(int program, int index, bool egress);
 bool exchange_program(int attached, int program, int index);
 void *take_map(uint32_t size, uint32_t count, int map);
@@ -140,32 +111,12 @@ void detach_program(int attached);
 int attach_stored(const char *kind, int program, int index, bool egress);
 void detach_stored(const char *kind, int index, int attached);
 
-/* fast_programs.c: what the kernel runs for frames, and what it shares with the daemon */
-struct row {
-    uint64_t word;   /* below: the interface that the kernel sends on, or 0; above: segments that were left to the daemon, beyond which
-                        a count runs over into nothing */
-    uint64_t passed; /* frames that the kernel sent */
-    uint64_t opaque; /* frames left to the daemon, of segments that nobody has counted */
-    uint64_t overflowed; /* of the segments that were left to the daemon, those that were lost since too many waited */
-};
-struct fast_member {
-    uint64_t up_to; /* the interface to which frames go up, or 0 */
-    uint64_t passed_up, uncollected, wrong_length;
-};
-struct fast_host {
-    int64_t left;        /* frames that were left to the daemon, and not taken yet */
-    uint64_t overflowed; /* frames that were lost, since there were too many of these */
-    uint64_t unfit;      /* frames that were lost, since they were unfit for the member of their row */
-    uint64_t mac;        /* of the TAP device, as the octets stand in memory, and zeros */
-    uint64_t open_until; /* the time in nanoseconds, by CLOCK_MONOTONIC, from which on no frame of the host is taken */
-};
+/* programs.c: what the kernel runs for frames */
 struct fast_maps {
     int rows, members, host;
 };
-int load_sender(const struct fast_maps *maps);
-int load_receiver(const struct fast_maps *maps, uint16_t port);
-int load_handover(const struct fast_maps *maps);
-int load_dropper(void);
+int load_program(const char *name, const struct fast_maps *maps, uint16_t port);
+const char *program_fault(void);
 
 /* fast.c */
 bool is_fast(void);

@@ -1,5 +1,5 @@
 /* Data that the kernel passes on by itself, by what the library answered. Each conversation has a row in a table that the programs of
- * fast_programs.c read: the member on which its frames go, or none, and how many are on their way to the daemon. The daemon names a
+ * kernel/programs.bpf.c read: the member on which its frames go, or none, and how many are on their way to the daemon. The daemon names a
  * member only while none is, and takes the name back before a marker goes: then it waits until each frame for which the old row was
  * read is with the member. All that the kernel runs is held by files of this process, and ends with it. */
 #define _GNU_SOURCE
@@ -18,7 +18,7 @@
 /* For how long frames of the host are taken without a word of the daemon, in nanoseconds: as long as the peer waits for an LACPDU. */
 #define OPEN_FOR 3000000000u
 
-static struct row *rows;
+static struct fast_row *rows;
 static struct fast_member *entries;
 static struct fast_host *host;
 static int receivers[NIW_MOST_PORTS];     /* the programs of the members */
@@ -92,9 +92,9 @@ void start_fast(void) {
     begin_counts();
     if (host->mac == 0) memcpy(&host->mac, settings.config.mac, ETH_ALEN);
     for (uint16_t i = 0; i < link_count; i++)
-        receivers[i] = needed(load_receiver(&maps, (uint16_t)(i + 1)));
-    handover = keep_program("handover", needed(load_handover(&maps)), false);
-    sender = keep_program("sender", needed(load_sender(&maps)), true);
+        receivers[i] = needed(load_program("receiver", &maps, (uint16_t)(i + 1)));
+    handover = keep_program("handover", needed(load_program("handover", &maps, 0)), false);
+    sender = keep_program("sender", needed(load_program("sender", &maps, 0)), true);
 }
 
 /* Nothing is passed on any more, from the first line on. */
@@ -318,7 +318,7 @@ void note_taken(struct conversation *conversation, uint32_t segments) {
 
 /* Lets the kernel pass on a conversation of which nothing waits here, and nothing is on its way here. */
 static void pass(struct conversation *conversation) {
-    struct row *row = &rows[number_in(conversation)];
+    struct fast_row *row = &rows[number_in(conversation)];
     uint16_t port = conversation->port;
     uint64_t none = 0, member = (uint32_t)links[port - 1].index;
     if (__atomic_load_n(&row->opaque, __ATOMIC_SEQ_CST) != 0) return;
@@ -343,7 +343,7 @@ void pass_on(void) {
 /* Counts no more what was lost on its way to the daemon: since it was suspected, no frame of it came and none was left (programs only ever
  * raise the count of a row without a member), all programs ended, and the TAP device had nothing more. */
 static void confirm_loss(struct conversation *conversation) {
-    struct row *row = &rows[number_in(conversation)];
+    struct fast_row *row = &rows[number_in(conversation)];
     uint64_t word = conversation->fast.suspected_word, overflowed = __atomic_load_n(&row->overflowed, __ATOMIC_SEQ_CST);
     conversation->fast.suspected = false;
     if (__atomic_load_n(&row->opaque, __ATOMIC_SEQ_CST) != conversation->fast.suspected_opaque) return;
@@ -370,7 +370,7 @@ void note_read(unsigned packets, bool drained) {
 
 /* Suspects rows with frames that do not come: none came since the last tick. */
 static bool suspect(struct conversation *conversation) {
-    struct row *row = &rows[number_in(conversation)];
+    struct fast_row *row = &rows[number_in(conversation)];
     uint64_t word, opaque;
     take_overflowed(conversation);
     word = word_of(number_in(conversation));

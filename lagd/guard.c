@@ -22,7 +22,7 @@ static int program = -1;
 
 /* The program that keeps data from the stack of a member is loaded once, while the daemon may. */
 void load_guard(void) {
-    program = load_dropper();
+    program = load_program("dropper", NULL, 0);
 }
 
 /* Asks the driver of an interface something, or for something. */

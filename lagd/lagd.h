@@ -233,11 +233,6 @@ bool has_new_carrier(struct link *link);
 void send_frame(struct link *link, const uint8_t *frame);
 
 /* frames.c */
-/* Where a frame of the slow protocols has its subtype, and those of LACP and of the Marker protocol (IEEE 802.1AX-2014, 6.4.2.3 and
- * 6.5.3.3). */
-#define SUBTYPE_AT 14
-#define SUBTYPE_LACP 1
-#define SUBTYPE_MARKER 2
 struct arrival {
     const uint8_t *frame;
     size_t length;

@@ -20,7 +20,7 @@ static void tell(const struct options *options, const char *key, const char *wha
 
 /* Whether the kernel has a program run at an interface, as Linux does from 6.6 on: then it misses the interface alone. 0, or errno. */
 static int fault_of_programs(void) {
-    int program = load_dropper(), fault = errno;
+    int program = load_program("dropper", NULL, 0), fault = errno;
     if (program < 0) return fault;
     fault = attach_program(program, NO_INDEX, false) < 0 && errno != ENODEV ? errno : 0;
     close(program);

@@ -7,6 +7,7 @@
 #include <stdint.h>
 
 #include "lag.h"
+#include "shared.h"
 
 /* The room of a name of an interface, of its alternative names too: ALTIFNAMSIZ of linux/if.h. */
 #define NAME_ROOM 128
@@ -35,15 +36,6 @@ enum partner_policy {
     PARTNER_ANY,
     PARTNER_FIRST, /* those of the system that speaks first, until the link goes down */
     PARTNER_GIVEN, /* those of one given system */
-};
-
-/* What a conversation is of: what stands in its frames, in the words of xmit_hash_policy of the bonding driver of Linux. */
-enum hash {
-    HASH_LAYER2,    /* the last octets of both MAC addresses, as the library has it */
-    HASH_LAYER2_3,  /* MAC addresses, and those of IP */
-    HASH_LAYER3_4,  /* addresses of IP, and the ports of TCP, UDP and SCTP */
-    HASH_ENCAP3_4,  /* those of the packet that a tunnel carries */
-    HASH_VLAN_SRCMAC, /* the VLAN, and the source */
 };
 
 /* Where a port has no value of its own. */

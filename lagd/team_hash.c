@@ -34,7 +34,7 @@ static const struct sock_filter CLEAR[] = {NUMBER(0), KEEP(SKIPPED), KEEP(PORTS)
     COUNT(BPF_ADD, TAG_OCTETS), BPF_STMT(BPF_MISC | BPF_TAX, 0)
 static const struct sock_filter FIND_HEADER[] = {
     BPF_STMT(BPF_LDX | BPF_IMM, 0), SKIP_TAG, SKIP_TAG, SKIP_TAG, SKIP_TAG, BPF_STMT(BPF_STX, SKIPPED)};
-_Static_assert(MOST_TAGS == 4, "as many tags are skipped as hash.c skips");
+_Static_assert(MOST_TAGS == 4, "as many tags are skipped as hash.h skips");
 
 static const struct sock_filter ADD_IPV4[] = {
     LOAD_BEHIND(BPF_H, ETH_HLEN - 2), IF_IS(ETH_P_IP, 0, 15 + 2 * WORD_STEPS),

@@ -62,6 +62,7 @@ LIBRARIES = {
     "inih": "libinih-dev:arm64",
     "libmnl": "libmnl-dev:arm64",
     "libcap-ng": "libcap-ng-dev:arm64",
+    "libbpf": "libbpf-dev:arm64",
     "libsystemd": "libsystemd-dev:arm64",
 }
 

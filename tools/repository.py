@@ -51,16 +51,25 @@ def kit() -> str:
 
 
 def daemon_words() -> tuple[list[str], list[str]]:
-    """With which words the daemon is compiled, and with which it is linked: those of libinih, libmnl and libcap-ng, and of
-    libsystemd where that is here."""
-    want("pkg-config")
-    found = [name for name in ("inih", "libmnl", "libsystemd", "libcap-ng") if not subprocess.run(["pkg-config", "--exists", name]).returncode]
-    for name, package in ("inih", "libinih-dev"), ("libmnl", "libmnl-dev"), ("libcap-ng", "libcap-ng-dev"):
+    """With which words the daemon is compiled, and with which it is linked: those of libinih, libmnl, libcap-ng and libbpf, and of libsystemd
+    where that is here. Its Makefile makes the programs of the kernel, which it has in it."""
+    want("pkg-config", "make")
+    found = [name for name in ("inih", "libmnl", "libsystemd", "libcap-ng", "libbpf") if not subprocess.run(["pkg-config", "--exists", name]).returncode]
+    for name, package in ("inih", "libinih-dev"), ("libmnl", "libmnl-dev"), ("libcap-ng", "libcap-ng-dev"), ("libbpf", "libbpf-dev"):
         if name not in found:
             raise Missing(f"the daemon needs {name}, and pkg-config finds none (Debian: {package})")
     defined = {"libsystemd": "-DHAVE_SYSTEMD"}
     told = [subprocess.run(["pkg-config", kind, *found], capture_output=True, text=True).stdout.split() for kind in ("--cflags", "--libs")]
-    return [*(defined[name] for name in found if name in defined), *told[0]], told[1]
+    return [*(defined[name] for name in found if name in defined), "-isystem", kernel_programs(), *told[0]], told[1]
+
+
+def kernel_programs(name: str = "programs", sources: str = "kernel") -> str:
+    """The folder in which the daemon's Makefile makes a header of these programs of the kernel, after that is done."""
+    daemon = os.path.join(TOP, "lagd")
+    made = subprocess.run(["make", "-s", "-C", daemon, f"KERNEL={sources}", f"out/{name}.skel.h"], capture_output=True, text=True)
+    if made.returncode:
+        raise Missing(f"the programs of the kernel are not made: {made.stderr.strip()[-800:]}")
+    return os.path.join(daemon, "out")
 
 
 def runtime() -> str:

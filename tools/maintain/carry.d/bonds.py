@@ -54,8 +54,6 @@ class Programs:
     cables: str
     conversations: str  # a program that prints the conversations of frames
     buckets: str        # one that prints the buckets of frames, by the program of the team driver
-    kernel_hash: str    # one that compares them with those that a program of the kernel finds
-    kernel_short: str   # the same, where that program has too many steps
 
 
 def build_programs(folder: str, libraries: list[str], words: Sequence[str] = ()) -> Programs:
@@ -70,11 +68,8 @@ def build_programs(folder: str, libraries: list[str], words: Sequence[str] = ())
     hashing = build(f"{folder}/conversations", sources, libraries, *STRICT, "-fsanitize=address,undefined", f"-I{DAEMON}")
     bucket_sources = [f"{here}/buckets.c", f"{DAEMON}/team_hash.c"]
     buckets = build(f"{folder}/buckets", bucket_sources, [], *STRICT, "-fsanitize=address,undefined", f"-I{DAEMON}")
-    sources = [f"{here}/kernel_hash.c", *(f"{DAEMON}/{name}.c" for name in ("hash", "bpf", "fast_programs", "settings"))]
-    kernel, short = (build(f"{folder}/kernel_{name}", sources, libraries, *STRICT, "-fsanitize=address,undefined", f"-I{DAEMON}", *more)
-                     for name, more in (("hash", ()), ("short", ("-DMOST_STEPS=100",))))
     return Programs(folder, build_daemon(folder, libraries, words=words), forcing, old_kernel, without_wait, conversations=hashing,
-                    buckets=buckets, kernel_hash=kernel, kernel_short=short, **own)
+                    buckets=buckets, **own)
 
 
 class Carry(TypedDict):

@@ -14,12 +14,9 @@ from typing import Any, ContextManager
 from bonds import (COMES_BACK, COMES_UP, DEVICE, FLOWS, RIGHTS, Cables, End, Programs, cables, check_end, check_order, check_whole, every,
                    kernel_count, lay_direct, move_all, pair, run_flows)
 from checking import Failed, Skipped, check, command, within
-from rows import ROWS
 from spaces import OURS, THEIRS, inside, ip, packet_socket, within_space
 from streams import run_stream
 
-# How many frames the kernel is given by each hash, to find their conversations.
-HASHED = 20000
 # Frames a second of a run by the kernel, and the least share of them that the kernel passes on, while all conversations move each second.
 FAST, PASSED = 20000, 0.1
 # Of several segments: the least part of a run that comes in one frame with others.
@@ -45,18 +42,6 @@ def check_fast(end: End, count: int = 1) -> None:
     """The kernel passes on the conversations of a run."""
     fast = end.carry()["fast_conversations"]
     check(fast >= count, f"the kernel passes on {fast} conversations", end.text(), end.printed())
-
-
-def kernel_hashes(programs: Programs) -> None:
-    """The program of the kernel finds the conversation that the daemon finds."""
-    text = "".join(f"{frame}\n" for row in ROWS.values() for frame in row[:2])
-    for name, seed in (("layer2", 0), ("layer2+3", 0), ("layer3+4", 0), ("layer3+4", 40000), ("encap3+4", 7), ("vlan+srcmac", 7)):
-        told = command(programs.kernel_hash, name, str(seed), str(HASHED), input=text)
-        if told.returncode == 3:
-            raise Skipped("the kernel takes no program")
-        check(told.returncode == 0, f"{name}: {told.stdout.strip()}, of rows and of changed ones", told.returncode, told.stdout, told.stderr)
-    told = command(programs.kernel_short, "layer3+4", "0", "1", input=text)
-    check(told.returncode == 5, "a program with more steps than there is room for is not loaded", told.returncode, told.stderr)
 
 
 def offload(programs: Programs) -> None:

@@ -13,7 +13,7 @@ from announced import announced
 from bonds import (CACHE, COMES_BACK, COMES_UP, DEVICE, FLOWS, RIGHTS, Cables, Carry, End, Event, Programs, ask_gro, cables, check_end,
                    check_order, check_whole, every, lay_direct, move_all, pair, run_flows)
 from fast_parts import (fast, fast_away, fast_ends, fast_hash, fast_overload, fast_refused, fast_requeued, fast_troubles, fast_unfit,
-                        fast_unwaited, kernel_hashes, offload)
+                        fast_unwaited, offload)
 from forged import PARTS as FORGED
 from member_parts import PARTS as MEMBERS
 from models import model
@@ -312,7 +312,7 @@ def rights(programs: Programs) -> None:
 
 PARTS: dict[str, Callable[[Programs], None]] = {it.__name__: it for it in
     (rows, moves, cuts, silence, switches, away, restarts, stops, overload, hashes, mute, frames, rights, open_vswitch, offload,
-     kernel_hashes, model, fast, fast_hash, fast_troubles, fast_overload, fast_refused, fast_requeued, fast_unfit, fast_unwaited, fast_away,
+     model, fast, fast_hash, fast_troubles, fast_overload, fast_refused, fast_requeued, fast_unfit, fast_unwaited, fast_away,
      fast_ends, fast_outage, fast_start, fast_moved, fast_queues, gone, administered, long_frames,
      queues, segments, speed, announced)}
 PARTS.update(FORGED)

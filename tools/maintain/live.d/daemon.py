@@ -107,8 +107,9 @@ def not_built() -> NoReturn:
 class Part:
     """The daemons of a part, and its other programs; each stands in a list, so that all are ended."""
 
-    def __init__(self, program: str, folder: str, refusing: Callable[[], str] = not_built, minimal: Callable[[], str] = not_built, sanitized: bool = False) -> None:
-        self.program, self.folder, self.refusing, self.minimal = program, folder, refusing, minimal
+    def __init__(self, program: str, folder: str, refusing: Callable[[], str] = not_built, minimal: Callable[[], str] = not_built,
+                 kernel: Callable[[], str] = not_built, sanitized: bool = False) -> None:
+        self.program, self.folder, self.refusing, self.minimal, self.kernel = program, folder, refusing, minimal, kernel
         self.running: list[Program] = []
         self.sanitized = sanitized
 

@@ -11,7 +11,7 @@ from typing import Sequence
 
 from checking import Failed, check, command
 from processors import FOR_EACH_X86
-from repository import CC, COMPILER, CRATES, MAINTAIN, RT, TOP, WARNINGS, Missing, daemon_words, runtime, want
+from repository import CC, COMPILER, CRATES, MAINTAIN, RT, TOP, WARNINGS, Missing, daemon_words, kernel_programs, runtime, want
 
 CRATE = os.path.join(CRATES, "lagffi")
 INCLUDE = f"-I{CRATE}/include"
@@ -127,6 +127,14 @@ def build_buckets(folder: str) -> str:
     the path of the program."""
     sources = [*(f"{MAINTAIN}/live.d/{name}.c" for name in ("buckets", "checks")), f"{DAEMON}/buckets.c"]
     return build(os.path.join(folder, "buckets"), sources, [], *STRICT, f"-I{DAEMON}", *SANITIZED)
+
+
+def build_kernel(folder: str, libraries: Sequence[str]) -> str:
+    """Builds what runs the programs of the kernel for frames, with ASan and UBSan; answers the path of the program."""
+    sources = [*(f"{MAINTAIN}/live.d/{name}.c" for name in ("programs", "checks")), *(f"{DAEMON}/{name}.c" for name in ("hash", "bpf", "programs", "settings"))]
+    compiled, linked = daemon_words()
+    words = [*STRICT, *compiled, "-isystem", kernel_programs("tagging", f"{MAINTAIN}/live.d"), f"-I{DAEMON}", *SANITIZED]
+    return build(os.path.join(folder, "programs"), sources, [*libraries, *linked], *words)
 
 
 def build_threads(folder: str, libraries: Sequence[str]) -> str:

@@ -14,7 +14,7 @@ from repository import MAINTAIN
 
 # What the tree has beside a minimal Debian; the libraries are those that lagd needs, so that packages are installed without a network.
 NEEDED = ("systemd-sysv", "udev", "dbus", "iproute2", "ethtool", "iputils-ping", "iperf3", "libteam-utils", "kmod", "procps", "tcpdump", "bridge-utils",
-          "libinih1", "libmnl0", "libcap-ng0", "netplan.io")  # fmt: skip
+          "libinih1", "libmnl0", "libcap-ng0", "libbpf1", "netplan.io")  # fmt: skip
 MEGABYTES = 1000
 # Takes scripts from the port and runs them, one after the other; an answer has the number of its script.
 SHELL = """#!/bin/bash

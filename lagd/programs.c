@@ -1,0 +1,92 @@
+/* Loads the programs that the kernel runs for frames (kernel/programs.bpf.c), by libbpf. */
+#define _GNU_SOURCE
+#include <bpf/bpf.h>
+#include <errno.h>
+#include <fcntl.h>
+#include <stdio.h>
+#include <stdlib.h>
+#include <string.h>
+
+#include "carry.h"
+#include "programs.skel.h"
+
+/* The room of what the verifier of the kernel writes, and of the line of it that is told. */
+#define LOG_ROOM (1 << 20)
+#define REASON_ROOM 160
+
+static char reason[REASON_ROOM];
+
+/* Why the kernel did not take the last program that it did not take. */
+const char *program_fault(void) {
+    return reason;
+}
+
+/* Keeps a line. */
+static void keep_line(const char *line) {
+    snprintf(reason, sizeof reason, "%.*s", (int)strcspn(line, "\n"), line);
+}
+
+/* What libbpf tells first is the reason, where the verifier has none. */
+static int keep_first(enum libbpf_print_level level, const char *format, va_list values) {
+    char text[2 * REASON_ROOM];
+    if (level != LIBBPF_WARN || reason[0]) return 0;
+    vsnprintf(text, sizeof text, format, values);
+    keep_line(text);
+    return 0;
+}
+
+/* Keeps what the verifier wrote last, but for the lines of what it did. */
+static void keep_last(char *log) {
+    char *rest = log;
+    for (char *line; (line = strsep(&rest, "\n"));)
+        if (line[0] && strncmp(line, "processed ", 10) != 0 && strncmp(line, "verification time", 17) != 0
+            && strncmp(line, "stack depth", 11) != 0)
+            keep_line(line);
+}
+
+/* Has the programs use these tables; a program that has none has no maps. */
+static bool share_maps(const struct programs *made, const struct fast_maps *maps) {
+    if (maps)
+        return bpf_map__reuse_fd(made->maps.rows, maps->rows) == 0 && bpf_map__reuse_fd(made->maps.members, maps->members) == 0
+            && bpf_map__reuse_fd(made->maps.hosts, maps->host) == 0;
+    return bpf_map__set_autocreate(made->maps.rows, false) == 0 && bpf_map__set_autocreate(made->maps.members, false) == 0
+        && bpf_map__set_autocreate(made->maps.hosts, false) == 0;
+}
+
+/* Says which program is loaded, and what it has of the settings; answers whether all of it can be. */
+static bool prepare(const struct programs *made, const char *name, const struct fast_maps *maps, uint16_t port) {
+    struct bpf_program *program;
+    bpf_object__for_each_program(program, made->obj) (void)bpf_program__set_autoload(program, strcmp(bpf_program__name(program), name) == 0);
+    made->rodata->way = settings.hash;
+    made->rodata->hash_seed = settings.hash_seed;
+    made->rodata->port = port;
+    return share_maps(made, maps);
+}
+
+static int load_with_log(const char *name, const struct fast_maps *maps, uint16_t port, char *log) {
+    const struct bpf_object_open_opts options = {.sz = sizeof options, .kernel_log_buf = log, .kernel_log_size = LOG_ROOM};
+    struct programs *made = programs__open_opts(&options);
+    int loaded = -1, fault;
+    if (made && prepare(made, name, maps, port) && programs__load(made) == 0)
+        loaded = fcntl(bpf_program__fd(bpf_object__find_program_by_name(made->obj, name)), F_DUPFD_CLOEXEC, 0);
+    fault = errno;
+    programs__destroy(made);
+    errno = fault;
+    return loaded;
+}
+
+/* Loads one program, with the tables that it has, if it has some, and the receiver for a port; answers its file, or -1, and errno, and a
+ * reason. */
+int load_program(const char *name, const struct fast_maps *maps, uint16_t port) {
+    char *log = calloc(1, LOG_ROOM); /* the kernel fills what it needs of it */
+    int loaded = -1, fault = ENOMEM;
+    reason[0] = 0;
+    (void)libbpf_set_print(keep_first);
+    if (log) loaded = load_with_log(name, maps, port, log);
+    if (log) fault = errno;
+    if (log && loaded < 0) keep_last(log);
+    if (loaded < 0 && !reason[0]) keep_line(strerror(fault));
+    free(log);
+    errno = fault;
+    return loaded;
+}
