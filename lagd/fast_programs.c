@@ -495,6 +495,15 @@ static unsigned find_unfit(struct code *code, unsigned *unfit) {
     return count;
 }
 
+/* The frame goes by the queue of its conversation, whose number is on the stack. Where an interface has no such queue, the kernel begins
+ * again at the first one. A mapping of n is queue n - 1. */
+static void choose_queue(struct code *code) {
+    load(code, BPF_W, ARG1, STACK, KEY);
+    with(code, BPF_AND, ARG1, MOST_QUEUES - 1);
+    with(code, BPF_ADD, ARG1, 1);
+    store(code, BPF_W, FRAME, offsetof(struct __sk_buff, queue_mapping), ARG1);
+}
+
 /* The frame goes on the member whose interface is in HASH. */
 static void send_there(struct code *code) {
     store(code, BPF_DW, STACK, NETWORK, HASH);
@@ -503,6 +512,7 @@ static void send_there(struct code *code) {
     add_to(code, FOUND, offsetof(struct row, passed), ARG1);
     set(code, ARG1, 0);
     store(code, BPF_W, FRAME, offsetof(struct __sk_buff, priority), ARG1);
+    if (settings.all_queues) choose_queue(code);
     load(code, BPF_DW, ARG1, STACK, NETWORK);
     set(code, ARG2, 0);
     call(code, BPF_FUNC_redirect);
@@ -704,6 +714,24 @@ int load_dropper(void) {
     keep_local(&code);
     end(&code, LOSE);
     land(&code, slow);
+    end(&code, GO_ON);
+    return load_code(&code);
+}
+
+/* Where frames leave a member that keeps its queues: a frame of the daemon goes by the queue that its mark names. */
+int load_chooser(void) {
+    static struct code code;
+    unsigned other;
+    code.count = 0;
+    load(&code, BPF_W, ARG2, ARG1, offsetof(struct __sk_buff, mark));
+    move(&code, ARG3, ARG2);
+    with(&code, BPF_AND, ARG3, (int32_t)~QUEUE_BITS);
+    other = jump(&code, BPF_JNE, ARG3, (int32_t)QUEUE_MARK);
+    with(&code, BPF_AND, ARG2, QUEUE_BITS);
+    store(&code, BPF_W, ARG1, offsetof(struct __sk_buff, queue_mapping), ARG2);
+    set(&code, ARG2, 0);
+    store(&code, BPF_W, ARG1, offsetof(struct __sk_buff, mark), ARG2);
+    land(&code, other);
     end(&code, GO_ON);
     return load_code(&code);
 }
