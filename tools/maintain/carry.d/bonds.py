@@ -186,9 +186,10 @@ def ask_gro(space: str, name: str, wanted: bool | None = None) -> bool:
     return bool(struct.unpack("=II", value.raw[:8])[1])
 
 
-def lay_direct(number: int) -> None:
+def lay_direct(number: int, queues: int = 1) -> None:
     """A pair of interfaces. Where one goes, the other goes, too, and nothing is on its way between them."""
-    ip(OURS, "link", "add", f"a{number}", "type", "veth", "peer", "name", f"b{number}", "netns", THEIRS)
+    several = ("numtxqueues", str(queues), "numrxqueues", str(queues))
+    ip(OURS, "link", "add", f"a{number}", *several, "type", "veth", "peer", "name", f"b{number}", "netns", THEIRS, *several)
     ip(OURS, "link", "set", f"a{number}", "up")
     ip(THEIRS, "link", "set", f"b{number}", "up")
 
@@ -196,7 +197,7 @@ def lay_direct(number: int) -> None:
 class Cables:
     """Both namespaces, and a cable for each delay through a third one; or, without delays, two pairs of interfaces that need none."""
 
-    def __init__(self, programs: Programs, delays: Sequence[int] = DELAYS) -> None:
+    def __init__(self, programs: Programs, delays: Sequence[int] = DELAYS, queues: int = 1) -> None:
         self.delays, self.path = delays, f"{programs.folder}/cables.sock"
         self.process: subprocess.Popen[bytes] | None = None
         self.socket = socket.socket(socket.AF_UNIX, socket.SOCK_DGRAM)
@@ -206,7 +207,7 @@ class Cables:
                 raise Skipped(f"no network namespaces: {made.stderr.strip()}")
             inside(space, "sysctl", "-qw", "net.ipv6.conf.all.disable_ipv6=1", "net.ipv6.conf.default.disable_ipv6=1")
         for number in range(0 if delays else DIRECT):
-            lay_direct(number)
+            lay_direct(number, queues)
         if not delays:
             return
         for number in range(len(delays)):
@@ -236,11 +237,11 @@ class Cables:
 
 
 @contextlib.contextmanager
-def cables(programs: Programs, delays: Sequence[int] = DELAYS) -> Iterator[Cables]:
+def cables(programs: Programs, delays: Sequence[int] = DELAYS, queues: int = 1) -> Iterator[Cables]:
     """The cables of a part; all is gone behind it."""
     laid = None
     try:
-        laid = Cables(programs, delays)
+        laid = Cables(programs, delays, queues)
         yield laid
     finally:
         if laid:
@@ -253,9 +254,9 @@ def cables(programs: Programs, delays: Sequence[int] = DELAYS) -> Iterator[Cable
 
 @contextlib.contextmanager
 def pair(programs: Programs, *, delays: Sequence[int] = DELAYS, program: str = "", options: Sequence[str] = (),
-         before: Sequence[str] = ()) -> Iterator[tuple[Cables, End, End]]:
+         before: Sequence[str] = (), queues: int = 1) -> Iterator[tuple[Cables, End, End]]:
     """Two ends whose links all carry, and who know that the other one answers markers."""
-    with cables(programs, delays) as laid:
+    with cables(programs, delays, queues) as laid:
         ends: list[End] = []
         try:
             count = len(laid.delays) or DIRECT
