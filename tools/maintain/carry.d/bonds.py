@@ -186,10 +186,14 @@ def ask_gro(space: str, name: str, wanted: bool | None = None) -> bool:
     return bool(struct.unpack("=II", value.raw[:8])[1])
 
 
+def several(queues: int) -> list[str]:
+    """The words by which an interface is made with so many queues for each direction."""
+    return ["numtxqueues", str(queues), "numrxqueues", str(queues)] if queues > 1 else []
+
+
 def lay_direct(number: int, queues: int = 1) -> None:
     """A pair of interfaces. Where one goes, the other goes, too, and nothing is on its way between them."""
-    several = ("numtxqueues", str(queues), "numrxqueues", str(queues))
-    ip(OURS, "link", "add", f"a{number}", *several, "type", "veth", "peer", "name", f"b{number}", "netns", THEIRS, *several)
+    ip(OURS, "link", "add", f"a{number}", *several(queues), "type", "veth", "peer", "name", f"b{number}", "netns", THEIRS, *several(queues))
     ip(OURS, "link", "set", f"a{number}", "up")
     ip(THEIRS, "link", "set", f"b{number}", "up")
 
@@ -211,16 +215,16 @@ class Cables:
         if not delays:
             return
         for number in range(len(delays)):
-            self.lay(OURS, f"a{number}", f"x{number}")
-            self.lay(THEIRS, f"b{number}", f"y{number}")
+            self.lay(OURS, f"a{number}", f"x{number}", queues)
+            self.lay(THEIRS, f"b{number}", f"y{number}", queues)
         words = [f"x{number}:y{number}:{delay}" for number, delay in enumerate(delays)]
         self.process = subprocess.Popen(["ip", "netns", "exec", MIDDLE, programs.cables, self.path, *words])
         if not within(COMES_UP, lambda: os.path.exists(self.path)):
             raise Failed("the cables are laid")
 
-    def lay(self, space: str, name: str, end: str) -> None:
+    def lay(self, space: str, name: str, end: str, queues: int = 1) -> None:
         """An interface, and the end of it at a cable."""
-        ip(space, "link", "add", name, "type", "veth", "peer", "name", end, "netns", MIDDLE)
+        ip(space, "link", "add", name, *several(queues), "type", "veth", "peer", "name", end, "netns", MIDDLE)
         ip(space, "link", "set", name, "up")
         ip(MIDDLE, "link", "set", end, "up")
         # One processor takes what the cable is given, whichever one it was sent from: else the cable itself would turn frames round.
