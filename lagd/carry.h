@@ -225,6 +225,7 @@ struct kept {
 FILE *open_kept(const struct link *link, const char *kind, int flags, const char *mode);
 bool replace_kept(const struct link *link, const char *from, const char *to);
 void drop_kept(const struct link *link, const char *kind);
+void write_settings(const struct link *link, const struct kept *kept);
 void keep_settings(const struct link *link, struct kept *kept);
 void recall_settings(const struct link *link, struct kept *kept);
 void forget_settings(const struct link *link);

@@ -180,12 +180,16 @@ static unsigned joins_allowed(const struct link *link, const struct guard *guard
     return guard->spread && guard->fast && keeps_briefly(link->index) ? JOINED_BY_KERNEL : 0;
 }
 
-/* Gives a member all its queues, or one; what was one for an earlier daemon is all again. */
+/* Lets a member keep all its queues, where it can, or gives it one. How many others give it meanwhile, it is to have behind the daemon. */
 static void set_queues(struct link *link, struct guard *guard) {
-    if (settings.all_queues) (void)part_queues(link->index, &guard->before.queues);
+    struct ethtool_channels *before = &guard->before.queues;
     look_at_discipline(link, guard);
-    if (is_unqueued(link) && settings.all_queues) return; /* it is looked at again then */
-    if (settings.all_queues) spread(link, guard);
+    if (settings.all_queues) {
+        if (is_unqueued(link)) return; /* it is looked at again then */
+        spread(link, guard);
+        if (guard->spread || queues_of(link->index, before) <= 1) *before = (struct ethtool_channels){0};
+        write_settings(link, &guard->before);
+    }
     if (!guard->spread) join_queues(link->index);
 }
 
@@ -227,6 +231,7 @@ void open_guard(struct link *link, struct guard *guard) {
     guard->chooser = -1;
     look_before(link, &guard->before);
     keep_settings(link, &guard->before);
+    if (settings.all_queues) (void)part_queues(link->index, &guard->before.queues); /* an earlier daemon may have given it one */
     set_queues(link, guard);
     run_programs(link, guard);
     note_channels(link, guard);

@@ -72,24 +72,28 @@ static bool recall(const struct link *link, struct kept *kept) {
     return true;
 }
 
-/* Keeps what an interface has now, before it is changed, and adds to it what it had before an earlier daemon changed it. */
-void keep_settings(const struct link *link, struct kept *kept) {
-    struct kept first;
+/* Keeps what an interface has to get back, for the next daemon, where this one is killed. */
+void write_settings(const struct link *link, const struct kept *kept) {
     char mac[32];
     const struct ethtool_channels *queues = &kept->queues;
-    FILE *file;
-    if (recall(link, &first)) {
-        kept->joins |= first.joins;
-        if (first.queues.combined_count + first.queues.rx_count + first.queues.tx_count > 0) kept->queues = first.queues;
-        if (first.steered[0]) memcpy(kept->steered, first.steered, sizeof kept->steered);
-    }
-    file = open_kept(link, "member", O_WRONLY | O_CREAT | O_TRUNC, "w");
+    FILE *file = open_kept(link, "member", O_WRONLY | O_CREAT | O_TRUNC, "w");
     if (file)
         fprintf(file, FORM, boot_id(), mac_text(link->mac, mac), kept->joins, queues->rx_count, queues->tx_count,
             queues->other_count, queues->combined_count, kept->steered[0] ? kept->steered : "-");
     if (!file || fclose(file) != 0)
         (void)say(LOG_WARNING | ABOUT_DATA, "port %u %s: if this daemon is killed, nobody knows what the interface had: %s",
             link->settings.number, link->name, strerror(errno));
+}
+
+/* Keeps what an interface has now, before it is changed, and adds to it what it had before an earlier daemon changed it. */
+void keep_settings(const struct link *link, struct kept *kept) {
+    struct kept first;
+    if (recall(link, &first)) {
+        kept->joins |= first.joins;
+        if (first.queues.combined_count + first.queues.rx_count + first.queues.tx_count > 0) kept->queues = first.queues;
+        if (first.steered[0]) memcpy(kept->steered, first.steered, sizeof kept->steered);
+    }
+    write_settings(link, kept);
 }
 
 /* What an interface had before an earlier daemon changed it; zeros, where nobody knows. */

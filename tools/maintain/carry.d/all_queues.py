@@ -100,7 +100,7 @@ def queues_all(programs: Programs) -> None:
         for queues in ("one", "all"):
             try_order(programs, way, queues)
         with pair(programs, options=[*way, *ALL], queues=QUEUES) as (_, ours, theirs):
-            outcome = run_flows(programs, SECONDS, every(1, SECONDS - 1, move_all(ours)), rate=RATE)
+            outcome = run_flows(programs, SECONDS, every(1, SECONDS - 1, move_all(ours)))
             check_order(outcome, f"{name_of(way)}, over cables", ours.text(), theirs.text())
             check(outcome.lost() == 0, f"{name_of(way)}: none was lost", outcome, ours.text(), theirs.text())
 
