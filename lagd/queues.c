@@ -20,6 +20,7 @@ struct flight {
     uint32_t id;      /* that the library gave it */
     uint32_t waiting; /* the queues of which none came, a bit for each; 0: there is no marker */
     uint64_t since;
+    uint64_t place; /* which one it is of all that were sent */
 };
 
 static struct queues {
@@ -96,7 +97,7 @@ static struct flight *next_flight(struct queues *queues) {
     for (size_t i = 0; i < MOST_FLIGHTS; i++) {
         struct flight *flight = &queues->flights[i];
         if (flight->waiting == 0) return flight;
-        if (flight->since < oldest->since) oldest = flight;
+        if (flight->place < oldest->place) oldest = flight;
     }
     return oldest;
 }
@@ -117,8 +118,9 @@ static uint32_t unanswered(const struct link *link, struct queues *queues) {
 
 /* Sends a marker that is due; answers whether all of it went. */
 bool send_by_queues(struct link *link, const uint8_t *marker) {
+    static uint64_t all;
     struct queues *queues = &ports[link->settings.number - 1];
-    struct flight flight = {identifier_of(marker), unanswered(link, queues), carry.time};
+    struct flight flight = {identifier_of(marker), unanswered(link, queues), carry.time, all++};
     struct flight *place = next_flight(queues);
     queues->dirty = 0;
     *place = flight;
