@@ -15,7 +15,7 @@ from typing import Callable, Iterator
 from bonds import (COMES_BACK, DEVICE, FLOWS, End, Programs, ask_gro, cables, check_end, check_order, every, lay_direct, move_all, pair,
                    run_flows, several)
 from checking import Skipped, check, within
-from restarting import hand_over
+from restarting import RESTARTS, hand_over, managed
 from spaces import OURS, THEIRS, inside, ip, packet_socket
 
 QUEUES = 4
@@ -141,6 +141,22 @@ def queues_restarted(programs: Programs) -> None:
         hand_over(programs, name, ALL, QUEUES)
 
 
+def queues_moved(programs: Programs) -> None:
+    """Either end hands over, and is killed, while conversations move: what it held is lost, and nothing is overtaken."""
+    for way in (), ("--fast",):
+        for space, end in (OURS, "sends"), (THEIRS, "receives"):
+            with managed(programs, [*way, *ALL], space=space, queues=QUEUES) as (kept, peer):
+                sender = kept if space == OURS else peer
+                for by, what in (signal.SIGUSR1, "handed over"), (signal.SIGKILL, "killed"):
+                    moving = every(0.3, 6, lambda: sender.process.send_signal(signal.SIGUSR2))
+                    events = sorted([*moving, (3.1, partial(kept.again, by, RESTARTS))], key=lambda event: event[0])
+                    outcome = run_flows(programs, 7, events, rate=RATE // 2)
+                    name = f"{name_of(way)}, the end that {end} is {what} amid moves"
+                    check_order(outcome, name, sender.text(), kept.printed()[-1500:])
+                    held = sender.carry()["forced"]
+                    check(held == 0 and outcome.lost() < RATE // 10, f"{name}: {outcome.lost()} frames are lost, and {held} are forced", outcome, sender.text())
+
+
 def channels(count: int) -> None:
     inside(OURS, "ethtool", "-L", "a0", "rx", str(count), "tx", str(count))
 
@@ -158,8 +174,10 @@ def queues_changed(programs: Programs) -> None:
                 inside(OURS, "sh", "-c", "for it in /sys/class/net/a0/queues/tx-*/xps_cpus; do echo 3 >$it; done")
 
             count = lambda: [port["data"]["queues"] for port in ours.told()["ports"]]
-            for what, event, wanted in (("two queues", partial(channels, 2), [2, QUEUES]), ("four again", partial(channels, QUEUES), [QUEUES, QUEUES]),
-                                        ("XPS", spoil, [QUEUES, QUEUES]), ("a member with two", remake, [QUEUES, 2])):
+            events: list[tuple[str, Callable[[], None], list[int]]] = [
+                ("two queues", partial(channels, 2), [2, QUEUES]), ("four again", partial(channels, QUEUES), [QUEUES, QUEUES]),
+                ("XPS", spoil, [QUEUES, QUEUES]), ("a member with two", remake, [QUEUES, 2])]
+            for what, event, wanted in events:
                 event()
                 time.sleep(1.5)
                 check(within(COMES_BACK, lambda: count() == wanted and ours.links() == 2), f"{name}, {what}: it has {wanted} queues", count(),
@@ -250,4 +268,4 @@ def queues_disciplines(programs: Programs) -> None:
 
 
 PARTS: dict[str, Callable[[Programs], None]] = {it.__name__: it for it in
-    (queues_all, queues_kept, queues_restarted, queues_changed, queues_answered, queues_refused, queues_disciplines)}
+    (queues_all, queues_kept, queues_restarted, queues_moved, queues_changed, queues_answered, queues_refused, queues_disciplines)}
