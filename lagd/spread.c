@@ -131,9 +131,10 @@ static bool keep_all(const struct link *link) {
     return fclose(next) == 0 && done && replace_kept(link, "queues.new", "queues");
 }
 
-/* How many queues an interface has, those that send above those that receive. */
+/* How many queues an interface has, those that send above those that receive; 0 where the kernel does not tell of both. */
 static unsigned channels_of(int index) {
-    return count_entries(index, "tx-") << 16 | count_entries(index, "rx-");
+    unsigned sends = count_entries(index, "tx-"), receives = count_entries(index, "rx-");
+    return sends > 0 && receives > 0 ? sends << 16 | receives : 0;
 }
 
 /* Why a member may not keep all its queues, or NULL. */
@@ -181,10 +182,12 @@ void note_channels(const struct link *link, struct guard *guard) {
 bool is_spread_anew(const struct link *link, const struct guard *guard) {
     static char now[PROCESSORS_ROOM];
     char name[NAME_OCTETS], path[128];
-    if (channels_of(link->index) != guard->channels) return true;
+    unsigned channels = channels_of(link->index);
+    if (channels == 0) return false;
+    if (channels != guard->channels) return true;
     if (guard->chooser < 0) return false;
     for (enum setting setting = SENT_FOR; setting < SETTINGS; setting++) {
-        name_setting(setting, (unsigned)seconds_passed() % (guard->channels >> 16), name);
+        name_setting(setting, (unsigned)seconds_passed() % (channels >> 16), name);
         if (path_of_queue(link->index, name, path, sizeof path) && read_processors(path, now, sizeof now) && !is_none(now)) return true;
     }
     return false;

@@ -12,7 +12,7 @@ import time
 from functools import partial
 from typing import Callable, Iterator
 
-from bonds import (COMES_BACK, DEVICE, FLOWS, End, Programs, ask_gro, cables, check_end, check_order, every, lay_direct, move_all, pair,
+from bonds import (COMES_BACK, COMES_UP, DEVICE, FLOWS, End, Programs, ask_gro, cables, check_end, check_order, every, lay_direct, move_all, pair,
                    run_flows, several)
 from checking import Skipped, check, within
 from restarting import RESTARTS, hand_over, managed
@@ -157,6 +157,32 @@ def queues_moved(programs: Programs) -> None:
                     check(held == 0 and outcome.lost() < RATE // 10, f"{name}: {outcome.lost()} frames are lost, and {held} are forced", outcome, sender.text())
 
 
+def queues_unlike(programs: Programs) -> None:
+    """The queues of one member are slow, each in its own way: a conversation that leaves it waits for those that it went by. A daemon whose moves
+    are forced turns frames round there, so this machine can tell."""
+    tried: list[tuple[tuple[str, ...], str]] = [((), ""), (("--fast",), ""), ((), programs.forcing)]
+    for way, program in tried:
+        with cables(programs, (), QUEUES):
+            if inside(OURS, "tc", "qdisc", "add", "dev", "a0", "root", "handle", "6c61:", "mq").returncode:
+                raise Skipped("tc gives no queue a discipline of its own")
+            ours, theirs = (End(programs, space, program=program, options=[*way, *ALL]) for space in (OURS, THEIRS))
+            try:
+                ready = lambda: all(end.links() == 2 and end.carry()["markers"] == "answered" for end in (ours, theirs))
+                check(within(COMES_UP, ready), "two links carry", ours.text(), ours.printed())
+                for queue in range(1, QUEUES):
+                    words = ("parent", f"6c61:{queue + 1}", "tbf", "rate", f"{1000 + 300 * queue}kbit", "burst", "2000", "limit", "20000")
+                    if inside(OURS, "tc", "qdisc", "replace", "dev", "a0", *words).returncode:
+                        raise Skipped("tc slows no queue (tbf)")
+                outcome = run_flows(programs, SECONDS, every(0.5, SECONDS - 1, move_all(ours)), rate=RATE // 2)
+                if not program:
+                    check_order(outcome, f"{name_of(way)}, slow queues", ours.text())
+                else:
+                    check(outcome.overtaken > 0, f"moves that are forced turn {outcome.overtaken} frames round", outcome)
+            finally:
+                ours.stop()
+                theirs.stop()
+
+
 def channels(count: int) -> None:
     inside(OURS, "ethtool", "-L", "a0", "rx", str(count), "tx", str(count))
 
@@ -268,4 +294,4 @@ def queues_disciplines(programs: Programs) -> None:
 
 
 PARTS: dict[str, Callable[[Programs], None]] = {it.__name__: it for it in
-    (queues_all, queues_kept, queues_restarted, queues_moved, queues_changed, queues_answered, queues_refused, queues_disciplines)}
+    (queues_all, queues_kept, queues_restarted, queues_moved, queues_unlike, queues_changed, queues_answered, queues_refused, queues_disciplines)}
