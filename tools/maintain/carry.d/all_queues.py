@@ -148,8 +148,9 @@ def queues_moved(programs: Programs) -> None:
             with managed(programs, [*way, *ALL], space=space, queues=QUEUES) as (kept, peer):
                 sender = kept if space == OURS else peer
                 for by, what in (signal.SIGUSR1, "handed over"), (signal.SIGKILL, "killed"):
-                    moving = every(0.3, 6, lambda: sender.process.send_signal(signal.SIGUSR2))
-                    events = sorted([*moving, (3.1, partial(kept.again, by, RESTARTS))], key=lambda event: event[0])
+                    events = every(0.3, 6, lambda: sender.process.send_signal(signal.SIGUSR2))
+                    events += every(6, 4, lambda: kept.again(by, RESTARTS), 3.1)
+                    events.sort(key=lambda event: event[0])
                     outcome = run_flows(programs, 7, events, rate=RATE // 2)
                     name = f"{name_of(way)}, the end that {end} is {what} amid moves"
                     check_order(outcome, name, sender.text(), kept.printed()[-1500:])
