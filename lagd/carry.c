@@ -89,7 +89,7 @@ static enum offered offer(struct conversation *conversation, uint16_t number) {
 /* Puts a frame behind those of the port of its conversation. */
 static void send_on(const struct conversation *conversation, uint8_t *packet, size_t length) {
     note_sent(conversation->port);
-    put_data(conversation->port, packet, length);
+    put_data(conversation->port, (uint16_t)(conversation - carry.conversations), packet, length);
 }
 
 /* Whether a frame of the host may go: of a right length, which each member takes, and none of the slow protocols. */
@@ -340,6 +340,7 @@ void pass_carry_tick(void) {
     if (!carries_by_team()) {
         pass_flight_tick();
         count_losses();
+        watch_queues();
     }
     wake_ports();
     carry.changed = to_balance = true;
@@ -348,7 +349,8 @@ void pass_carry_tick(void) {
 /* Serves what is ready: a member, or the TAP device, whose frames come after what was released. */
 void serve_data(uint32_t tag) {
     if (!carries_data() || broken) return;
-    if (tag >= MEMBERS && tag < TAGS) {
+    if (tag == RESPONSES) serve_answers();
+    if (tag >= MEMBERS && tag < RESPONSES) {
         take_data((uint16_t)(tag - MEMBERS + 1));
         if (carry.changed) send_due();
     }
@@ -358,7 +360,9 @@ void serve_data(uint32_t tag) {
 
 /* The link of a port goes down: nothing goes there from here on. */
 void lose_data(uint16_t port) {
-    if (carries_data()) withdraw_port(port);
+    if (!carries_data()) return;
+    withdraw_port(port);
+    forget_answers(port);
 }
 
 /* Makes the TAP device, and all room that frames ever take, where data is carried. */
@@ -372,6 +376,8 @@ void open_carry(void) {
     }
     packets = make_rooms();
     load_guard();
+    start_spreading();
+    start_answers();
     if (atexit(put_back_members) != 0) stop(REFUSED, "no memory", "for what members had");
     tap = open_tap(settings.carry, settings.config.mac);
     gather(tap_index());

@@ -4,6 +4,7 @@
 
 #include <linux/ethtool.h>
 #include <net/ethernet.h>
+#include <stdio.h>
 
 #include "lagd.h"
 
@@ -142,6 +143,21 @@ struct joins {
 };
 struct joins read_joins(int index);
 void set_joins(int index, unsigned wanted);
+#define JOINED_BY_KERNEL 1u
+
+/* possible.c */
+int fault_of_programs(void);
+
+/* processors.c: which processors an interface uses for what it sends and receives, by files of /sys */
+bool path_of_queue(int index, const char *what, char *path, size_t room);
+unsigned count_entries(int index, const char *begin);
+bool has_card(int index);
+bool keeps_briefly(int index);
+bool read_processors(const char *path, char *mask, size_t room);
+bool write_processors(const char *path, const char *mask);
+bool is_one(const char *mask);
+bool is_none(const char *mask);
+void mask_of(unsigned place, char mask[static 16]);
 
 /* kept.c */
 #define PROCESSORS_LENGTH "2399" /* of the mask of the 8192 processors that Linux knows */
@@ -151,6 +167,10 @@ struct kept {
     char steered[PROCESSORS_ROOM];  /* the processors that RPS named, or empty where that was one, or is not changed */
     struct ethtool_channels queues; /* what there was; all 0 where there was one queue */
 };
+FILE *open_kept(const struct link *link, const char *kind, int flags, const char *mode);
+bool replace_kept(const struct link *link, const char *from, const char *to);
+void drop_kept(const struct link *link, const char *kind);
+void write_settings(const struct link *link, const struct kept *kept);
 void keep_settings(const struct link *link, struct kept *kept);
 void recall_settings(const struct link *link, struct kept *kept);
 void forget_settings(const struct link *link);
@@ -160,7 +180,9 @@ enum classifier { NO_CLASSIFIER, CLASSIFIER_ALONE, CLASSIFIER_BEHIND_OTHERS };
 bool keeps_order(const char *discipline);
 bool read_discipline(int index, char name[static DISCIPLINE_ROOM]);
 bool give_fifo(int index, uint32_t megabits);
+bool give_fifos(int index, unsigned queues, uint32_t megabits);
 void fit_fifo(int index, uint32_t megabits);
+void fit_fifos(int index, unsigned queues, uint32_t megabits);
 void take_fifo(int index);
 void give_no_queue(int index);
 enum classifier set_classifier(int program, int index);
@@ -173,6 +195,10 @@ struct guard {
     bool in_order;      /* whether the queueing discipline of the interface keeps the order */
     bool fast;          /* whether the kernel may pass on what goes and comes there */
     struct kept before; /* what the interface had */
+    bool spread;        /* whether it keeps all its queues */
+    unsigned queues;    /* by how many of them data goes */
+    unsigned channels;  /* how many it has, as spread.c has it */
+    int chooser;        /* what keeps the program there by which a frame of the daemon goes by its queue, or -1 */
 };
 bool ask_driver(int index, void *value);
 void load_guard(void);
@@ -183,14 +209,39 @@ void reopen_guard(struct link *link, struct guard *guard);
 void close_guard(const struct link *link, struct guard *guard);
 void put_back(int index, const uint8_t *mac);
 
+/* spread.c: a member that keeps all its queues */
+void start_spreading(void);
+void spread(const struct link *link, struct guard *guard);
+void stop_spreading(const struct link *link, struct guard *guard);
+void note_channels(const struct link *link, struct guard *guard);
+bool has_usual_queues(const struct guard *guard);
+bool is_spread_anew(const struct link *link, const struct guard *guard);
+void gather_back(const struct link *link);
+
+/* queues.c: by which queue of its member a conversation goes, and the markers of each queue */
+struct msghdr;
+void begin_queues(uint16_t port, unsigned count);
+void mark_conversation(uint16_t port, uint16_t number, struct msghdr *message);
+bool send_by_queues(struct link *link, const uint8_t *marker);
+bool send_by_queues_again(struct link *link, const uint8_t *marker);
+
+/* answers.c: responses to markers that wait */
+void start_answers(void);
+void serve_answers(void);
+void note_unread(uint16_t port, unsigned packets, bool drained);
+void forget_answers(uint16_t port);
+
 /* members.c */
 void start_members(void);
+bool give_marker(struct link *link, const uint8_t *marker, struct msghdr *message);
+void watch_queues(void);
+unsigned member_queues(uint16_t port);
 void put_back_members(void);
 bool has_fast_member(uint16_t port);
 uint32_t sum_speeds(void);
 void add_fast_counts(uint16_t port, const struct fast_member *more);
 void note_passed(uint16_t port, uint64_t frames);
-void put_data(uint16_t port, uint8_t *packet, size_t length);
+void put_data(uint16_t port, uint16_t number, uint8_t *packet, size_t length);
 void flush_data(void);
 void take_data(uint16_t port);
 bool send_marker_again(uint16_t port);

@@ -45,7 +45,7 @@ void write_carry_text(void) {
     add("  carry: %s, carrier %s, hash %s, flight %u ms, ", settings.carry, has_carrier() ? "on" : "off", hash_text(settings.hash),
         settings.flight);
     if (!carries_by_team()) add("markers %s, ", answering_text());
-    add("%s", way_text(&settings));
+    add("%s%s", way_text(&settings), settings.all_queues ? ", all queues" : "");
     for (unsigned i = 0; i < CARRY_COUNTS; i++)
         if (counts_here(i)) add("%s %s %" PRIu64, told++ % 5 == 0 ? "\n  data:" : "", CARRY_COUNTERS[i].name, carry.counts[i]);
     if (carries_by_team())
@@ -58,6 +58,7 @@ void write_member_text(const struct link *link) {
     if (!carries_data()) return;
     add("  data: busy_conversations %u", count_busy(link->settings.number));
     for (unsigned i = 0; i < member_counts(); i++) add(" %s %" PRIu64, MEMBER_COUNTERS[i].name, member_count(link->settings.number, i));
+    if (settings.all_queues) add(" queues %u", member_queues(link->settings.number));
     add("\n");
 }
 
@@ -83,6 +84,7 @@ void write_member_json(const struct link *link) {
     add(",\"data\":{\"busy_conversations\":%u", count_busy(link->settings.number));
     for (unsigned i = 0; i < member_counts(); i++)
         add(",\"%s\":%" PRIu64, MEMBER_COUNTERS[i].name, member_count(link->settings.number, i));
+    if (settings.all_queues) add(",\"queues\":%u", member_queues(link->settings.number));
     add("}");
 }
 

@@ -6,7 +6,7 @@
 
 #include "carry.h"
 
-/* GRO by the kernel, and by the card, and LRO: a bit for each. */
+/* GRO by the kernel, JOINED_BY_KERNEL, and by the card, and LRO: a bit for each. */
 static const char *const joining[] = {"rx-gro", "rx-gro-hw", "rx-lro"};
 #define JOINING (sizeof joining / sizeof *joining)
 /* The most features of an interface, and the words of 32 bits that have a bit for each. */

@@ -79,10 +79,23 @@ static void hand_over(struct link *link, const struct arrival *arrival, const st
     if (!is_done(niw_count_received(&link->counters, arrival->frame, arrival->length, received.what), "niw_count_received")) return;
     if (received.what == NIW_RECEIVED_TOOK_LACPDU && actor) note_actor(link, actor, arrival->frame);
     if (received.what != NIW_RECEIVED_RESPOND) return;
-    if (may_answer(link, arrival))
-        send_frame(link, response);
-    else
-        note_odd_marker(link, arrival, RESPONSES_UNSENT);
+    if (!may_answer(link, arrival) || !answer_marker(link, response)) note_odd_marker(link, arrival, RESPONSES_UNSENT);
+}
+
+/* Takes a response to a marker of one queue: the library has the last one that was missing. */
+static void take_response(struct link *link, const struct arrival *arrival, uint32_t id) {
+    uint8_t frame[NIW_FRAME];
+    struct arrival last = *arrival;
+    if (!ends_flight(link, &id)) {
+        if (!is_done(niw_count_received(&link->counters, arrival->frame, arrival->length, NIW_RECEIVED_RELEASED), "niw_count_received")) return;
+        return;
+    }
+    memcpy(frame, arrival->frame, sizeof frame);
+    set_identifier(frame, id);
+    last.frame = frame;
+    last.length = sizeof frame;
+    hand_over(link, &last, NULL);
+    note_response(link, id);
 }
 
 /* Takes a frame. The slow protocols have one address, which no bridge passes on: a frame to any other one comes from anybody. Their
@@ -108,6 +121,10 @@ void take_frame(struct link *link, const struct arrival *arrival) {
     is_response = link->up && read_response(arrival, &response);
     if (is_response && !is_partners_response(link, arrival, &response)) {
         note_odd_marker(link, arrival, FOREIGN_RESPONSES);
+        return;
+    }
+    if (is_response && settings.all_queues) {
+        take_response(link, arrival, response.transaction_id);
         return;
     }
     hand_over(link, arrival, is_lacpdu ? &actor : NULL);

@@ -1,7 +1,6 @@
 /* What an interface does not do while it is a member of a bundle that carries data: put frames together, have them in several queues,
  * and hand them to its own network stack. */
 #define _GNU_SOURCE
-#include <dirent.h>
 #include <errno.h>
 #include <linux/ethtool.h>
 #include <linux/sockios.h>
@@ -14,9 +13,6 @@
 #include <unistd.h>
 
 #include "carry.h"
-
-/* The most processors that are named for RPS. */
-#define MOST_PROCESSORS 32
 
 static int program = -1;
 
@@ -39,30 +35,10 @@ bool ask_driver(int index, void *value) {
     return done;
 }
 
-/* A file of an interface in /sys; answers whether it is of this interface. */
-static bool path_of(int index, const char *what, char *path, size_t room) {
-    char name[IF_NAMESIZE], number[16] = "";
-    FILE *file;
-    if (!if_indextoname((unsigned)index, name)) return false;
-    snprintf(path, room, "/sys/class/net/%s/ifindex", name);
-    file = fopen(path, "re");
-    if (!file) return false;
-    if (!fgets(number, sizeof number, file)) number[0] = 0;
-    fclose(file);
-    snprintf(path, room, "/sys/class/net/%s/queues/%s", name, what);
-    return atoi(number) == index;
-}
-
 /* How many queues the kernel has for one direction of an interface whose driver does not tell. */
 static unsigned count_queues(int index) {
-    char path[128];
-    unsigned sends = 0, receives = 1;
-    DIR *folder = path_of(index, "", path, sizeof path) ? opendir(path) : NULL;
-    for (const struct dirent *entry; folder && (entry = readdir(folder));) {
-        sends += strncmp(entry->d_name, "tx-", 3) == 0;
-        receives += strncmp(entry->d_name, "rx-", 3) == 0 && strcmp(entry->d_name, "rx-0") != 0;
-    }
-    if (folder) closedir(folder);
+    unsigned sends = count_entries(index, "tx-"), receives = count_entries(index, "rx-");
+    if (receives == 0) receives = 1;
     return sends > receives ? sends : receives;
 }
 
@@ -85,42 +61,30 @@ static void join_queues(int index) {
     (void)ask_driver(index, &wanted);
 }
 
+static bool has_channels(int index, const struct ethtool_channels *wanted) {
+    struct ethtool_channels now;
+    (void)queues_of(index, &now);
+    return now.combined_count == wanted->combined_count && now.rx_count == wanted->rx_count && now.tx_count == wanted->tx_count;
+}
+
+/* Gives an interface its queues back; answers whether it has them now. A driver that could not change them, as vmxnet3, has them still. */
+static bool part_queues(int index, struct ethtool_channels *wanted) {
+    wanted->cmd = ETHTOOL_SCHANNELS;
+    if (wanted->combined_count + wanted->rx_count + wanted->tx_count == 0) return true;
+    return has_channels(index, wanted) || ask_driver(index, wanted) || has_channels(index, wanted);
+}
+
 /* The file in which the kernel has which processors take what an interface receives (RPS). */
 static bool path_of_processors(int index, char *path, size_t room) {
-    return path_of(index, "rx-0/rps_cpus", path, room);
-}
-
-/* Reads the processors of RPS: a mask, in hexadecimal. One that is too long is none. */
-static bool read_processors(const char *path, char *mask, size_t room) {
-    FILE *file = fopen(path, "re");
-    bool done = file && fgets(mask, (int)room, file) && strchr(mask, '\n');
-    if (file) fclose(file);
-    if (done) mask[strcspn(mask, "\n")] = 0;
-    return done;
-}
-
-static bool write_processors(const char *path, const char *mask) {
-    FILE *file = fopen(path, "we");
-    bool done = file && fputs(mask, file) >= 0;
-    return file && fclose(file) == 0 && done;
-}
-
-/* Whether a mask names one processor. */
-static bool is_one(const char *mask) {
-    unsigned bits = 0;
-    for (; *mask; mask++)
-        for (int digit = *mask == ',' ? 0 : (int)strtol((char[]){*mask, 0}, NULL, 16); digit; digit &= digit - 1) bits++;
-    return bits == 1;
+    return path_of_queue(index, "rx-0/rps_cpus", path, room);
 }
 
 /* Has one processor take all that an interface receives, so that it stands in one row, whatever processors it was sent from. */
 static bool steer(const struct link *link) {
     char path[128], mask[16], now[PROCESSORS_ROOM];
-    long processors = sysconf(_SC_NPROCESSORS_ONLN);
-    if (processors > MOST_PROCESSORS) processors = MOST_PROCESSORS;
     if (!path_of_processors(link->index, path, sizeof path) || !read_processors(path, now, sizeof now)) return false;
     if (is_one(now)) return true;
-    snprintf(mask, sizeof mask, "%x", 1u << ((link->settings.number - 1) % (processors > 0 ? processors : 1)));
+    mask_of(link->settings.number - 1u, mask);
     return write_processors(path, mask);
 }
 
@@ -128,7 +92,7 @@ static bool steer(const struct link *link) {
 void gather(int index) {
     char path[128], now[PROCESSORS_ROOM];
     if (!path_of_processors(index, path, sizeof path) || !read_processors(path, now, sizeof now)) return;
-    if (is_one(now) || strspn(now, "0,") == strlen(now) || write_processors(path, "0")) return;
+    if (is_one(now) || is_none(now) || write_processors(path, "0")) return;
     (void)say(LOG_WARNING | ABOUT_DATA, "carry %s: RPS spreads what goes up over processors, and markers may be answered before data",
         settings.carry);
 }
@@ -148,14 +112,21 @@ static bool is_unqueued(const struct link *link) {
     return strcmp(link->discipline, "noop") == 0;
 }
 
+/* How many queues of an interface have a discipline of their own: all of them, where it keeps them. */
+static unsigned fifos_of(int index) {
+    return settings.all_queues ? count_entries(index, "tx-") : 1;
+}
+
 /* Sees whether what is sent at an interface keeps its order in its queueing discipline. Frames of several segments have to go through
  * that, since it segments them for an interface that cannot: so they get one that does. */
 void look_at_discipline(struct link *link, struct guard *guard) {
+    bool wants = passes_segments() || settings.all_queues, given = false;
     (void)read_discipline(link->index, link->discipline);
-    if (passes_segments() && !is_unqueued(link) && strcmp(link->discipline, "noqueue") != 0
-        && give_fifo(link->index, read_speed(link->socket, link->name).megabits))
-        (void)read_discipline(link->index, link->discipline);
-    guard->in_order = keeps_order(link->discipline);
+    if (wants && !is_unqueued(link) && strcmp(link->discipline, "noqueue") != 0)
+        given = give_fifos(link->index, fifos_of(link->index), read_speed(link->socket, link->name).megabits);
+    if (given) (void)read_discipline(link->index, link->discipline);
+    link->has_fifos = given && strcmp(link->discipline, "mq") == 0;
+    guard->in_order = keeps_order(link->discipline) || link->has_fifos;
     if (passes_segments() && !guard->in_order && !is_unqueued(link))
         (void)say(LOG_WARNING | ABOUT_DATA, "port %u %s: its queueing discipline is neither noqueue, bfifo nor pfifo: it loses frames of "
             "several segments, if its card cannot cut them", link->settings.number, link->name);
@@ -163,16 +134,21 @@ void look_at_discipline(struct link *link, struct guard *guard) {
 
 /* The link comes up: the queue of its interface, if that is one of the daemon, has the length of its speed from now on. */
 void fit_queue(const struct link *link, const char *interface) {
-    if (carries_data() && passes_segments()) fit_fifo(link->index, read_speed(link->socket, interface).megabits);
+    if (!carries_data() || !(passes_segments() || settings.all_queues)) return;
+    if (link->has_fifos)
+        fit_fifos(link->index, fifos_of(link->index), read_speed(link->socket, interface).megabits);
+    else
+        fit_fifo(link->index, read_speed(link->socket, interface).megabits);
 }
 
 /* Why the kernel may not pass on what goes and comes at an interface, or NULL: a marker would overtake the data before it. */
 static const char *fault_of_fast(const struct link *link, const struct guard *guard) {
     struct ethtool_channels queues;
     if (link->stacked) return "it stands on another interface, whose queues are not seen";
-    if (queues_of(link->index, &queues) > 1) return "it has several queues";
+    if (!guard->spread && queues_of(link->index, &queues) > 1) return "it has several queues";
+    if (guard->spread && !has_usual_queues(guard)) return "it has another number of queues than the first member";
     if (!guard->in_order) return "its queueing discipline is neither noqueue, bfifo nor pfifo";
-    if (!steer(link)) return "RPS cannot be set to one processor";
+    if (!guard->spread && !steer(link)) return "RPS cannot be set to one processor";
     return NULL;
 }
 
@@ -198,6 +174,25 @@ static void keep_from_stack(const struct link *link, struct guard *guard) {
         (void)say(LOG_WARNING | ABOUT_DATA, "port %u %s: its own network stack has its frames, too", port, link->name);
 }
 
+/* Which ways to put frames together may stay: GRO of the kernel, where responses wait for longer than it keeps a frame. Where the daemon
+ * takes the frames, it does not: a socket cannot tell of each frame what it was made of. */
+static unsigned joins_allowed(const struct link *link, const struct guard *guard) {
+    return guard->spread && guard->fast && keeps_briefly(link->index) ? JOINED_BY_KERNEL : 0;
+}
+
+/* Lets a member keep all its queues, where it can, or gives it one. How many others give it meanwhile, it is to have behind the daemon. */
+static void set_queues(struct link *link, struct guard *guard) {
+    struct ethtool_channels *before = &guard->before.queues;
+    look_at_discipline(link, guard);
+    if (settings.all_queues) {
+        if (is_unqueued(link)) return; /* it is looked at again then */
+        spread(link, guard);
+        if (guard->spread || queues_of(link->index, before) <= 1) *before = (struct ethtool_channels){0};
+        write_settings(link, &guard->before);
+    }
+    if (!guard->spread) join_queues(link->index);
+}
+
 /* Has programs run for the frames of an interface. */
 static void run_programs(const struct link *link, struct guard *guard) {
     guard->opened = -1;
@@ -205,6 +200,7 @@ static void run_programs(const struct link *link, struct guard *guard) {
     guard->fast = false;
     if (is_fast()) open_fast(link, guard);
     if (guard->opened < 0) keep_from_stack(link, guard);
+    if (guard->before.joins != 0) set_joins(link->index, guard->before.joins & joins_allowed(link, guard));
 }
 
 static void stop_programs(const struct link *link, struct guard *guard) {
@@ -218,26 +214,33 @@ static void stop_programs(const struct link *link, struct guard *guard) {
 /* An interface has another queueing discipline: its programs are chosen anew. What it had before it was a member stays kept. */
 void reopen_guard(struct link *link, struct guard *guard) {
     stop_programs(link, guard);
-    look_at_discipline(link, guard);
+    if (settings.all_queues)
+        set_queues(link, guard);
+    else
+        look_at_discipline(link, guard);
     run_programs(link, guard);
+    note_channels(link, guard);
 }
 
 /* Prepares an interface. What it cannot be kept from has a line. */
 void open_guard(struct link *link, struct guard *guard) {
     struct ethtool_channels queues;
     uint16_t port = link->settings.number;
-    look_at_discipline(link, guard);
+    guard->spread = false;
+    guard->queues = 1;
+    guard->chooser = -1;
     look_before(link, &guard->before);
     keep_settings(link, &guard->before);
-    if (guard->before.joins != 0) set_joins(link->index, 0);
-    join_queues(link->index);
+    if (settings.all_queues) (void)part_queues(link->index, &guard->before.queues); /* an earlier daemon may have given it one */
+    set_queues(link, guard);
     run_programs(link, guard);
-    if (read_joins(link->index).on != 0)
+    note_channels(link, guard);
+    if ((read_joins(link->index).on & ~joins_allowed(link, guard)) != 0)
         (void)say(LOG_WARNING | ABOUT_DATA, "port %u %s: GRO or LRO stays on, and markers may overtake data", port, link->name);
     if (link->stacked && !is_fast())
         (void)say(LOG_WARNING | ABOUT_DATA, "port %u %s: it stands on another interface, whose queues are not seen: markers may overtake "
             "data", port, link->name);
-    if (queues_of(link->index, &queues) > 1)
+    if (!guard->spread && !(settings.all_queues && is_unqueued(link)) && queues_of(link->index, &queues) > 1)
         (void)say(LOG_WARNING | ABOUT_DATA, "port %u %s: it has several queues, and markers may overtake data", port, link->name);
 }
 
@@ -248,21 +251,14 @@ static bool steer_back(int index, const char *mask) {
     return write_processors(path, mask) || (read_processors(path, now, sizeof now) && strcmp(now, mask) == 0);
 }
 
-/* Gives an interface its queues back; answers whether it has them now. A driver that could not change them, as vmxnet3, has them still. */
-static bool part_queues(int index, struct ethtool_channels *wanted) {
-    struct ethtool_channels now;
-    wanted->cmd = ETHTOOL_SCHANNELS;
-    if (wanted->combined_count + wanted->rx_count + wanted->tx_count == 0 || ask_driver(index, wanted)) return true;
-    (void)queues_of(index, &now);
-    return now.combined_count == wanted->combined_count && now.rx_count == wanted->rx_count && now.tx_count == wanted->tx_count;
-}
-
 /* The interface is no member any more. What cannot be set back stays kept, as without CAP_NET_ADMIN. */
 void close_guard(const struct link *link, struct guard *guard) {
     struct kept *before = &guard->before;
     char name[IF_NAMESIZE];
     bool done = true;
     stop_programs(link, guard);
+    stop_spreading(link, guard);
+    gather_back(link);
     if (before->joins != 0) set_joins(link->index, before->joins);
     if (before->joins != 0) done = (before->joins & ~read_joins(link->index).wanted) == 0;
     done = part_queues(link->index, &before->queues) && done;
@@ -278,6 +274,7 @@ void put_back(int index, const uint8_t *mac) {
     int lock = lock_interface(index);
     if (lock < 0) return;
     guard.opened = take_stored("guard", index);
+    guard.chooser = take_stored("queues", index);
     memcpy(link.mac, mac, sizeof link.mac);
     recall_settings(&link, &guard.before);
     close_guard(&link, &guard);

@@ -13,8 +13,8 @@
 #define FORM "boot=%s\nmac=%s\njoins=%u\nqueues=%u %u %u %u\nrps=%s\nend\n"
 #define READ_FORM "boot=%63s mac=%31s joins=%u queues=%u %u %u %u rps=%" PROCESSORS_LENGTH "s %7s"
 
-static void name_file(const struct link *link, char room[static 64]) {
-    snprintf(room, 64, "%lu.%d.member", network_namespace(), link->index);
+static void name_file(const struct link *link, const char *kind, char room[static 64]) {
+    snprintf(room, 64, "%lu.%d.%s", network_namespace(), link->index, kind);
 }
 
 /* The number of this boot; "unknown" where it may not be read, as under the unit, whose folder does not outlive a boot. */
@@ -26,12 +26,12 @@ const char *boot_id(void) {
     return text;
 }
 
-/* Opens the file of an interface; or answers NULL, and errno tells why not. */
-static FILE *open_file(const struct link *link, int flags, const char *mode) {
+/* Opens the file of an interface that has this kind of settings; or answers NULL, and errno tells why not. */
+FILE *open_kept(const struct link *link, const char *kind, int flags, const char *mode) {
     char name[64];
     FILE *file;
     int opened, fault;
-    name_file(link, name);
+    name_file(link, kind, name);
     opened = openat(folder_file(), name, flags | O_NOFOLLOW | O_CLOEXEC, 0600);
     file = opened < 0 ? NULL : fdopen(opened, mode);
     if (file || opened < 0) return file;
@@ -41,12 +41,27 @@ static FILE *open_file(const struct link *link, int flags, const char *mode) {
     return NULL;
 }
 
+/* Puts a file of an interface in the place of another one; answers whether it did. */
+bool replace_kept(const struct link *link, const char *from, const char *to) {
+    char old[64], next[64];
+    name_file(link, from, old);
+    name_file(link, to, next);
+    return renameat(folder_file(), old, folder_file(), next) == 0;
+}
+
+/* What a file of an interface has is of no use any more. */
+void drop_kept(const struct link *link, const char *kind) {
+    char name[64];
+    name_file(link, kind, name);
+    (void)unlinkat(folder_file(), name, 0);
+}
+
 /* Reads what an interface had before an earlier daemon changed it; answers whether there is something. */
 static bool recall(const struct link *link, struct kept *kept) {
     char boot[64], mac[32], own[32], end[8] = "";
     struct ethtool_channels *queues = &kept->queues;
     int found;
-    FILE *file = open_file(link, O_RDONLY, "r");
+    FILE *file = open_kept(link, "member", O_RDONLY, "r");
     if (!file) return false;
     *kept = (struct kept){0};
     found = fscanf(file, READ_FORM, boot, mac, &kept->joins, &queues->rx_count, &queues->tx_count, &queues->other_count,
@@ -57,24 +72,28 @@ static bool recall(const struct link *link, struct kept *kept) {
     return true;
 }
 
-/* Keeps what an interface has now, before it is changed, and adds to it what it had before an earlier daemon changed it. */
-void keep_settings(const struct link *link, struct kept *kept) {
-    struct kept first;
+/* Keeps what an interface has to get back, for the next daemon, where this one is killed. */
+void write_settings(const struct link *link, const struct kept *kept) {
     char mac[32];
     const struct ethtool_channels *queues = &kept->queues;
-    FILE *file;
-    if (recall(link, &first)) {
-        kept->joins |= first.joins;
-        if (first.queues.combined_count + first.queues.rx_count + first.queues.tx_count > 0) kept->queues = first.queues;
-        if (first.steered[0]) memcpy(kept->steered, first.steered, sizeof kept->steered);
-    }
-    file = open_file(link, O_WRONLY | O_CREAT | O_TRUNC, "w");
+    FILE *file = open_kept(link, "member", O_WRONLY | O_CREAT | O_TRUNC, "w");
     if (file)
         fprintf(file, FORM, boot_id(), mac_text(link->mac, mac), kept->joins, queues->rx_count, queues->tx_count,
             queues->other_count, queues->combined_count, kept->steered[0] ? kept->steered : "-");
     if (!file || fclose(file) != 0)
         (void)say(LOG_WARNING | ABOUT_DATA, "port %u %s: if this daemon is killed, nobody knows what the interface had: %s",
             link->settings.number, link->name, strerror(errno));
+}
+
+/* Keeps what an interface has now, before it is changed, and adds to it what it had before an earlier daemon changed it. */
+void keep_settings(const struct link *link, struct kept *kept) {
+    struct kept first;
+    if (recall(link, &first)) {
+        kept->joins |= first.joins;
+        if (first.queues.combined_count + first.queues.rx_count + first.queues.tx_count > 0) kept->queues = first.queues;
+        if (first.steered[0]) memcpy(kept->steered, first.steered, sizeof kept->steered);
+    }
+    write_settings(link, kept);
 }
 
 /* What an interface had before an earlier daemon changed it; zeros, where nobody knows. */
@@ -84,7 +103,5 @@ void recall_settings(const struct link *link, struct kept *kept) {
 
 /* The interface has what it had before, or is gone. */
 void forget_settings(const struct link *link) {
-    char name[64];
-    name_file(link, name);
-    (void)unlinkat(folder_file(), name, 0);
+    drop_kept(link, "member");
 }

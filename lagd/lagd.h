@@ -92,6 +92,7 @@ struct link {
     int carrier_file;         /* of its carrier, or -1 */
     char carrier_changes[24]; /* how often that came and went, as the kernel has it */
     char discipline[DISCIPLINE_ROOM]; /* its queueing discipline, as the kernel last told */
+    bool has_fifos;      /* whether each of its queues has a discipline of the daemon, in which an LACPDU would wait behind data */
     bool stacked;        /* whether what it sends goes by another interface of this machine */
     uint8_t mac[6];
     bool present; /* whether the answer of the kernel that is being read named it */
@@ -254,6 +255,13 @@ bool is_partners_response(const struct link *link, const struct arrival *arrival
 void note_odd_marker(struct link *link, const struct arrival *arrival, enum count count);
 bool may_answer(struct link *link, const struct arrival *arrival);
 void tell_markers(struct link *link);
+
+/* queues.c */
+bool ends_flight(const struct link *link, uint32_t *id);
+void set_identifier(uint8_t *frame, uint32_t id);
+
+/* answers.c */
+bool answer_marker(struct link *link, const uint8_t *response);
 
 /* twins.c */
 void look_for_twins(void);
@@ -458,7 +466,8 @@ enum {
     CALLERS,
     HOST = CALLERS + MOST_CALLERS, /* the TAP device */
     MEMBERS,                       /* their data */
-    TAGS = MEMBERS + NIW_MOST_PORTS,
+    RESPONSES = MEMBERS + NIW_MOST_PORTS, /* responses to markers, which waited */
+    TAGS,
 };
 bool await_input(int fd, uint32_t tag);
 bool await_output(int fd, uint32_t tag);

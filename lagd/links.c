@@ -63,7 +63,7 @@ static bool has_queued(const struct link *link) {
  * at once, the frame waits with the data, and those after it go the same way until it left: an LACPDU that came behind a newer one would
  * undo that. */
 static bool give_past_data(struct link *link, const uint8_t *frame) {
-    bool bypass = !is_passable(link->discipline);
+    bool bypass = !is_passable(link->discipline) || link->has_fifos;
     link->queued = link->queued && has_queued(link);
     if (!bypass || link->queued) return give(link->socket, frame, false);
     if (give(link->socket, frame, true)) return true;

@@ -11,6 +11,8 @@
 #define SLOT 100
 /* Which part of the responses others get, while the partner is known. */
 #define PART_OF_OTHERS 4
+/* How many come in the place of one, of a partner whose members have several queues, where ours have: one for each queue. */
+#define MARKERS_AT_ONCE 16
 /* How many ticks there are between two lines about Marker PDUs of a link. */
 #define LINE_TICKS (10 * SECOND)
 
@@ -50,14 +52,14 @@ static void pass_slots(struct answered *answered, uint64_t slot) {
  * partner's. */
 bool may_answer(struct link *link, const struct arrival *arrival) {
     struct answered *answered = &link->markers.answered;
-    unsigned partner = 0, others = 0;
+    unsigned partner = 0, others = 0, most = settings.marker_responses * (settings.all_queues ? MARKERS_AT_ONCE : 1u);
     bool other = !is_from_partner(link, arrival);
     pass_slots(answered, milliseconds() / SLOT);
     for (unsigned i = 0; i < ANSWERED_SLOTS; i++) {
         partner += answered->partner[i];
         others += answered->others[i];
     }
-    if (partner + others >= settings.marker_responses || (other && others >= settings.marker_responses / PART_OF_OTHERS)) return false;
+    if (partner + others >= most || (other && others >= most / PART_OF_OTHERS)) return false;
     (other ? answered->others : answered->partner)[answered->slot % ANSWERED_SLOTS]++;
     return true;
 }

@@ -168,6 +168,7 @@ static bool open_or_close(struct member *member, const struct link *link) {
     int fault;
     if (open_sockets(member, link)) {
         store_sockets(member, link->index);
+        begin_queues(link->settings.number, member->guard.queues);
         return true;
     }
     fault = errno;
@@ -196,6 +197,17 @@ static void count_loss(struct member *member) {
         member->counts[SOCKET_FULL] += stats.tp_drops;
 }
 
+/* The programs and sockets of a member are chosen anew; answers whether it is still taken up. */
+static bool renew_member(struct link *link) {
+    struct member *member = member_of(link);
+    withdraw_port(link->settings.number);
+    count_loss(member);
+    close_sockets(member);
+    reopen_guard(link, &member->guard);
+    look_at_carry();
+    return open_or_close(member, link);
+}
+
 /* The interface has another queueing discipline: how data is sent is seen anew. Answers whether the member is still taken up. */
 bool reopen_member(struct link *link) {
     struct member *member = member_of(link);
@@ -203,16 +215,27 @@ bool reopen_member(struct link *link) {
     memcpy(before, link->discipline, sizeof before);
     if (!read_discipline(link->index, link->discipline) || strcmp(before, link->discipline) == 0) return true;
     if (!carries_data() || member->socket < 0) return true;
-    if (!is_fast()) {
-        look_at_discipline(link, &member->guard);
-        return set_bypass(member->socket, member->guard.in_order);
+    if (is_fast() || settings.all_queues) return renew_member(link);
+    look_at_discipline(link, &member->guard);
+    return set_bypass(member->socket, member->guard.in_order);
+}
+
+/* Looks at the queues of all members, each second: one whose queues others changed is taken up anew. */
+void watch_queues(void) {
+    if (!settings.all_queues || ticks_passed() % SECOND != 0) return;
+    for (uint16_t i = 0; i < link_count; i++) {
+        struct link *link = &links[i];
+        if (members[i].socket < 0 || !is_spread_anew(link, &members[i].guard)) continue;
+        (void)say(LOG_NOTICE | ABOUT_DATA, "port %u %s: its queues were changed", link->settings.number, link->name);
+        if (renew_member(link)) continue;
+        look_again();
+        lose_link(link);
     }
-    withdraw_port(link->settings.number);
-    count_loss(member);
-    close_sockets(member);
-    reopen_guard(link, &member->guard);
-    look_at_carry();
-    return open_or_close(member, link);
+}
+
+/* By how many queues of a member its data goes. */
+unsigned member_queues(uint16_t port) {
+    return members[port - 1].socket < 0 ? 0 : members[port - 1].guard.queues;
 }
 
 /* Whether the kernel may pass on what goes on a port. */
@@ -230,6 +253,7 @@ void close_member(struct link *link) {
     if (carries_by_team()) close_team_port(link);
     if (!carries_data() || member->socket < 0) return;
     withdraw_port(link->settings.number);
+    forget_answers(link->settings.number);
     count_loss(member);
     close_sockets(member);
     close_guard(link, &member->guard);
@@ -310,27 +334,37 @@ void flush_data(void) {
     free_left();
 }
 
-/* Puts a packet behind those that wait for a port. It stays where it is until flush_data. */
-void put_data(uint16_t port, uint8_t *packet, size_t length) {
+/* Puts a packet of a conversation behind those that wait for a port. It stays where it is until flush_data. */
+void put_data(uint16_t port, uint16_t number, uint8_t *packet, size_t length) {
     struct member *member = &members[port - 1];
     if (member->out == BATCH) flush_member(member);
     member->parts[member->out] = (struct iovec){packet, length};
     member->messages[member->out].msg_hdr = (struct msghdr){.msg_iov = &member->parts[member->out], .msg_iovlen = 1};
+    if (settings.all_queues) mark_conversation(port, number, &member->messages[member->out].msg_hdr);
     member->out++;
+}
+
+/* Gives the kernel a marker for a member, as the message has it beside the frame; answers whether it took it. */
+bool give_marker(struct link *link, const uint8_t *marker, struct msghdr *message) {
+    const struct member *member = member_of(link);
+    uint8_t sent[sizeof(struct virtio_net_hdr) + NIW_FRAME] = {0};
+    struct iovec part = {sent, head_octets() + NIW_FRAME};
+    message->msg_iov = &part;
+    message->msg_iovlen = 1;
+    memcpy(sent + head_octets(), marker, NIW_FRAME);
+    memcpy(sent + head_octets() + ETH_ALEN, link->mac, ETH_ALEN);
+    if (member->socket < 0 || sendmsg(member->socket, message, 0) != (ssize_t)part.iov_len) return false;
+    return is_done(niw_count_sent(&link->counters, marker, NIW_FRAME), "niw_count_sent");
 }
 
 /* Sends a marker behind the data of its port, by the same socket: by another one, of another priority, it would overtake them. What the
  * kernel passes on and no longer may is taken back before. */
-static bool send_marker(struct link *link, const uint8_t *marker) {
-    struct member *member = member_of(link);
-    uint8_t sent[sizeof(struct virtio_net_hdr) + NIW_FRAME] = {0};
-    size_t length = head_octets() + NIW_FRAME;
-    flush_member(member);
+static bool send_marker(struct link *link, const uint8_t *marker, bool again) {
+    struct msghdr message = {0};
+    flush_member(member_of(link));
     withdraw();
-    memcpy(sent + head_octets(), marker, NIW_FRAME);
-    memcpy(sent + head_octets() + ETH_ALEN, link->mac, ETH_ALEN);
-    if (member->socket < 0 || send(member->socket, sent, length, 0) != (ssize_t)length) return false;
-    return is_done(niw_count_sent(&link->counters, marker, NIW_FRAME), "niw_count_sent");
+    if (!settings.all_queues) return give_marker(link, marker, &message);
+    return again ? send_by_queues_again(link, marker) : send_by_queues(link, marker);
 }
 
 /* A marker is due on a port. */
@@ -339,12 +373,12 @@ void take_marker(struct link *link, const uint8_t *frame) {
     memcpy(member->marker, frame, sizeof member->marker);
     member->has_marker = true;
     carry.counts[MARKERS_SENT]++;
-    (void)send_marker(link, member->marker);
+    (void)send_marker(link, member->marker, false);
 }
 
 /* Sends the last marker of a port again: a cable may repeat control frames, and may lose one. Answers whether it went. */
 bool send_marker_again(uint16_t port) {
-    return members[port - 1].has_marker && send_marker(&links[port - 1], members[port - 1].marker);
+    return members[port - 1].has_marker && send_marker(&links[port - 1], members[port - 1].marker, true);
 }
 
 /* Hands a frame of data to the library, and up. */
@@ -415,6 +449,7 @@ static void take_packets(uint16_t port, const int *fd, bool only_markers) {
                 .msg_iovlen = 1, .msg_control = controls[i], .msg_controllen = sizeof controls[i]};
         }
         got = recvmmsg(*fd, messages, BATCH, MSG_DONTWAIT, NULL);
+        if (!only_markers) note_unread(port, got > 0 ? (unsigned)got : 0, got >= 0 ? got < BATCH : errno == EAGAIN);
         if (is_unreadable(got)) {
             member->counts[DATA_RECEIVED]++;
             member->counts[WRONG_LENGTH]++;

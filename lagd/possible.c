@@ -12,6 +12,7 @@
 
 /* No interface has this index. */
 #define NO_INDEX INT_MAX
+#define NO_PROGRAMS "the kernel has no program of an interface, which Linux has from 6.6 on"
 
 /* Tells what is lacking, or not known, for a key of the file. */
 static void tell(const struct options *options, const char *key, const char *what) {
@@ -19,7 +20,7 @@ static void tell(const struct options *options, const char *key, const char *wha
 }
 
 /* Whether the kernel has a program run at an interface, as Linux does from 6.6 on: then it misses the interface alone. 0, or errno. */
-static int fault_of_programs(void) {
+int fault_of_programs(void) {
     int program = load_program("dropper", NULL, 0), fault = errno;
     if (program < 0) return fault;
     fault = attach_program(program, NO_INDEX, false) < 0 && errno != ENODEV ? errno : 0;
@@ -35,12 +36,20 @@ static int check_fast(const struct options *options) {
         return DONE;
     }
     if (fault != 0) {
-        tell(options, "fast", "the kernel has no program of an interface, which Linux has from 6.6 on");
+        tell(options, "fast", NO_PROGRAMS);
         return REFUSED;
     }
     if (syscall(SYS_membarrier, MEMBARRIER_CMD_GLOBAL, 0, 0) == 0) return DONE;
     tell(options, "fast", "the kernel cannot wait for its programs (membarrier)");
     return REFUSED;
+}
+
+/* Whether the kernel has a program choose the queue of a frame: answers how the program ends. */
+static int check_queues(const struct options *options) {
+    int fault = fault_of_programs();
+    if (fault == 0) return DONE;
+    tell(options, "queues", fault == EPERM ? "not known without CAP_BPF and CAP_NET_ADMIN" : NO_PROGRAMS);
+    return fault == EPERM ? DONE : REFUSED;
 }
 
 /* Whether the kernel has the team driver, and its mode, which is another module: answers how the program ends. The mode is tried in a network
@@ -63,5 +72,6 @@ int check_machine(const struct options *options) {
         tell(options, "carry", "there is no /dev/net/tun");
         return REFUSED;
     }
-    return options->settings.fast ? check_fast(options) : DONE;
+    if (options->settings.fast && check_fast(options) != DONE) return REFUSED;
+    return options->settings.all_queues ? check_queues(options) : DONE;
 }

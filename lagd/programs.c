@@ -60,6 +60,7 @@ static bool prepare(const struct programs *made, const char *name, const struct 
     made->rodata->way = settings.hash;
     made->rodata->hash_seed = settings.hash_seed;
     made->rodata->port = port;
+    made->rodata->all_queues = settings.all_queues;
     return share_maps(made, maps);
 }
 

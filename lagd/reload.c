@@ -20,6 +20,7 @@ static const char *restart_for(const struct settings *wanted) {
     if (wanted->plane != settings.plane) return "another plane";
     if (wanted->hash != settings.hash || wanted->hash_seed != settings.hash_seed) return "another hash or hash-seed";
     if (wanted->offload != settings.offload || wanted->fast != settings.fast) return "another offload or fast";
+    if (wanted->all_queues != settings.all_queues) return "another queues";
     for (uint16_t port = 1; port <= link_count; port++) {
         if (!has_aggregator(port_of(wanted, port).key)) return "a key that no port had at the start";
     }
@@ -90,6 +91,7 @@ static unsigned take(const struct settings *wanted) {
     settings.min_links = wanted->min_links <= link_count ? wanted->min_links : link_count;
     settings.marker_responses = wanted->marker_responses;
     settings.flight = wanted->flight;
+    settings.answer_after = wanted->answer_after;
     settings.wait_to_restore = wanted->wait_to_restore;
     settings.revert = wanted->revert;
     memcpy(settings.hook, wanted->hook, sizeof settings.hook);

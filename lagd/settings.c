@@ -182,6 +182,14 @@ static bool take_flight(const char *text, struct settings *settings) {
     return read_number(text, 1, 60000, &settings->flight);
 }
 
+static bool take_queues(const char *text, struct settings *settings) {
+    return read_choice(text, "all", "one", &settings->all_queues);
+}
+
+static bool take_answer_after(const char *text, struct settings *settings) {
+    return read_number(text, 1, 500, &settings->answer_after);
+}
+
 /* The keys of a bundle, in the order of the help. */
 static const struct bundle_key BUNDLE_KEYS[] = {
     {"key", A_NUMBER, take_key, 0, NULL, NULL},
@@ -217,6 +225,10 @@ static const struct bundle_key BUNDLE_KEYS[] = {
         "how long a frame can be on its way; 500 if not given"},
     {"offload", YES_OR_NO, take_offload, 'O', NULL, "passes frames of several segments, which the kernel or the card cuts"},
     {"fast", YES_OR_NO, take_fast, 'K', NULL, "the kernel passes data on by itself (Linux 6.6), of several segments too"},
+    {"queues", "one or all", take_queues, 'Q', "one|all",
+        "how many queues of its members data goes by: one, if not given; all (Linux 6.6): each\nconversation by one of them"},
+    {"answer-after", "a number of milliseconds from 1 to 500", take_answer_after, 'A', "MILLISECONDS",
+        "how long a response to a marker waits with --queues all; 50 if not given"},
 };
 
 enum { BUNDLE_KEY_COUNT = sizeof BUNDLE_KEYS / sizeof *BUNDLE_KEYS };
@@ -328,6 +340,7 @@ struct settings usual_settings(void) {
         .min_links = 1,
         .marker_responses = USUAL_RESPONSES,
         .flight = USUAL_FLIGHT,
+        .answer_after = USUAL_ANSWER_AFTER,
     };
 }
 
@@ -338,6 +351,8 @@ static const char *key_of_data(const struct settings *settings) {
     if (line_of(settings, "hash")) return "hash";
     if (line_of(settings, "hash-seed")) return "hash-seed";
     if (line_of(settings, "plane")) return "plane";
+    if (line_of(settings, "queues")) return "queues";
+    if (line_of(settings, "answer-after")) return "answer-after";
     return line_of(settings, "flight") ? "flight" : NULL;
 }
 
@@ -356,10 +371,13 @@ struct lack lack_of(const struct settings *settings) {
     for (uint16_t i = 0; i < settings->port_count; i++)
         if (strcmp(settings->ports[i].name, settings->carry) == 0)
             return (struct lack){"carry=NAME that is not the interface of a port", "carry"};
-    if (data && !settings->carry[0]) return (struct lack){"carry=NAME beside plane, hash, hash-seed, flight, offload or fast", data};
+    if (data && !settings->carry[0]) return (struct lack){"carry=NAME beside plane, hash, hash-seed, flight, offload, fast, queues or answer-after", data};
     if (settings->hash_seed && settings->hash == HASH_LAYER2) return (struct lack){"another hash than layer2 beside hash-seed", "hash-seed"};
     if (settings->plane == PLANE_TEAM && (settings->offload || settings->fast))
         return (struct lack){"neither offload nor fast beside plane=team, by which the kernel carries all", "plane"};
+    if (settings->plane == PLANE_TEAM && settings->all_queues)
+        return (struct lack){"no queues=all beside plane=team, which leaves queues as they are", "queues"};
+    if (line_of(settings, "answer-after") && !settings->all_queues) return (struct lack){"queues=all beside answer-after", "answer-after"};
     if (settings->plane == PLANE_TEAM && settings->hash == HASH_ENCAP3_4) return (struct lack){"another hash than encap3+4 beside plane=team", "hash"};
     if (settings->min_links > settings->port_count)
         return (struct lack){"min-links that is at most the number of interfaces", "min-links"};

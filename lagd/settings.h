@@ -20,6 +20,9 @@
 #define USUAL_PRIORITY 32768
 /* How long a frame can be on its way, in milliseconds, if nothing else is given: on a direct cable it is far less. */
 #define USUAL_FLIGHT 500
+/* How long a response to a marker waits where data comes by several queues, in milliseconds, if nothing else is given. A processor takes
+ * what its card gave it within a few of them; this is more than ten programs on it have in turn, of 4 ms each. */
+#define USUAL_ANSWER_AFTER 50
 /* The most keys of a bundle. */
 #define MOST_BUNDLE_KEYS 24
 /* The room of the name of a device that is made, with a zero: IFNAMSIZ of linux/if.h. */
@@ -74,6 +77,8 @@ struct settings {
     uint16_t flight;         /* how long a frame of it can be on its way, in milliseconds */
     bool offload;            /* whether frames of several segments are passed */
     bool fast;               /* whether the kernel passes data on by itself, of several segments too */
+    bool all_queues;         /* whether members keep all their queues */
+    uint16_t answer_after;   /* how long a response to a marker waits then, in milliseconds */
     bool revert;              /* whether a port that stands by takes the place of one with a higher identifier */
     uint16_t wait_to_restore; /* for how many seconds the carrier of a link that comes back has to be steady */
     uint16_t port_count;

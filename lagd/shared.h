@@ -8,6 +8,11 @@
 /* Conversations of the host, and members: what the tables have room for. */
 #define CONVERSATIONS 256
 #define MOST_MEMBERS 64
+/* The most queues of a member by which data goes: the identifier of a marker has four bits for one. */
+#define MOST_QUEUES 16
+/* By this mark, and the number of a queue from 1 on, a frame of the daemon is sent by that queue. */
+#define QUEUE_MARK 0x6c617100u
+#define QUEUE_BITS 0xffu
 /* Frames of the host that wait for the daemon, which other programs may keep from a processor for a while. */
 #define HOST_QUEUE 4096
 

@@ -50,8 +50,8 @@ static uint32_t most_queued(uint32_t megabits) {
     return octets < LEAST_QUEUED ? LEAST_QUEUED : (uint32_t)octets;
 }
 
-static bool set_fifo(int index, uint32_t megabits, unsigned flags) {
-    union message question = question_of(RTM_NEWQDISC, flags, index, TC_H_ROOT, FIFO);
+static bool set_fifo(int index, uint32_t megabits, unsigned flags, uint32_t parent, uint32_t handle) {
+    union message question = question_of(RTM_NEWQDISC, flags, index, parent, handle);
     struct tc_fifo_qopt most = {most_queued(megabits)};
     mnl_attr_put_strz(&question.head, TCA_KIND, "bfifo");
     mnl_attr_put(&question.head, TCA_OPTIONS, sizeof most, &most);
@@ -61,12 +61,39 @@ static bool set_fifo(int index, uint32_t megabits, unsigned flags) {
 /* Gives an interface one queue that keeps the order, in place of what the kernel gave it by itself: where an administrator set another
  * one, the kernel refuses. Answers whether it has one of the daemon now. */
 bool give_fifo(int index, uint32_t megabits) {
-    return set_fifo(index, megabits, NLM_F_CREATE);
+    return set_fifo(index, megabits, NLM_F_CREATE, TC_H_ROOT, FIFO);
+}
+
+/* Gives an interface a discipline that has a queue for each of its own, in place of what the kernel gave it by itself. */
+static bool give_queues(int index) {
+    union message question = question_of(RTM_NEWQDISC, NLM_F_CREATE, index, TC_H_ROOT, FIFO);
+    mnl_attr_put_strz(&question.head, TCA_KIND, "mq");
+    return order(&question);
+}
+
+/* As give_fifo, for each queue of an interface: so the order of one stays, and none waits for another one. The last daemon may have left one
+ * for all. */
+bool give_fifos(int index, unsigned queues, uint32_t megabits) {
+    bool given;
+    if (queues <= 1) return give_fifo(index, megabits);
+    given = give_queues(index);
+    if (!given) take_fifo(index);
+    if (!given && !give_queues(index)) return false;
+    for (unsigned queue = 0; queue < queues; queue++)
+        if (!set_fifo(index, megabits, NLM_F_CREATE | NLM_F_REPLACE, FIFO | (queue + 1), 0)) return false;
+    return true;
 }
 
 /* The link has this speed now: the queue of an interface gets its length, if it is one of the daemon. */
 void fit_fifo(int index, uint32_t megabits) {
-    (void)set_fifo(index, megabits, 0);
+    (void)set_fifo(index, megabits, 0, TC_H_ROOT, FIFO);
+}
+
+/* The same, for each queue. */
+void fit_fifos(int index, unsigned queues, uint32_t megabits) {
+    if (queues <= 1) fit_fifo(index, megabits);
+    for (unsigned queue = 0; queues > 1 && queue < queues; queue++)
+        (void)set_fifo(index, megabits, NLM_F_CREATE | NLM_F_REPLACE, FIFO | (queue + 1), 0);
 }
 
 /* The kernel gives an interface what it chooses by itself, if its queue is one of the daemon. */

@@ -54,7 +54,8 @@ def daemon_words() -> tuple[list[str], list[str]]:
     """With which words the daemon is compiled, and with which it is linked: those of libinih, libmnl, libcap-ng and libbpf, and of libsystemd
     where that is here. Its Makefile makes the programs of the kernel, which it has in it."""
     want("pkg-config", "make")
-    found = [name for name in ("inih", "libmnl", "libsystemd", "libcap-ng", "libbpf") if not subprocess.run(["pkg-config", "--exists", name]).returncode]
+    names = "inih", "libmnl", "libsystemd", "libcap-ng", "libbpf"
+    found = [name for name in names if not subprocess.run(["pkg-config", "--exists", name]).returncode]
     for name, package in ("inih", "libinih-dev"), ("libmnl", "libmnl-dev"), ("libcap-ng", "libcap-ng-dev"), ("libbpf", "libbpf-dev"):
         if name not in found:
             raise Missing(f"the daemon needs {name}, and pkg-config finds none (Debian: {package})")

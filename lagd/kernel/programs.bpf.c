@@ -26,6 +26,7 @@ struct frame {
 const volatile uint64_t way = HASH_LAYER2; /* of enum hash */
 const volatile uint64_t hash_seed = 0;
 const volatile uint64_t port = 0; /* of the receiver */
+const volatile uint64_t all_queues = 0; /* whether members keep their queues */
 
 struct {
     __uint(type, BPF_MAP_TYPE_ARRAY);
@@ -86,13 +87,9 @@ static __always_inline uint64_t hash_of(const struct frame *frame, const union h
     return add_headers(frame, ethernet->words, &place, (enum hash)way, start);
 }
 
-static __always_inline struct fast_row *find_row(const struct frame *frame, const union header *ethernet) {
-    uint32_t conversation;
-    if (way == HASH_LAYER2)
-        conversation = ethernet->octets[ETH_ALEN - 1] ^ ethernet->octets[2 * ETH_ALEN - 1];
-    else
-        conversation = conversation_in(hash_of(frame, ethernet));
-    return bpf_map_lookup_elem(&rows, &conversation);
+static __always_inline uint32_t conversation_of(const struct frame *frame, const union header *ethernet) {
+    if (way == HASH_LAYER2) return ethernet->octets[ETH_ALEN - 1] ^ ethernet->octets[2 * ETH_ALEN - 1];
+    return conversation_in(hash_of(frame, ethernet));
 }
 
 /* Whether the frame, or with `how` a segment of it with its headers, is too long for an interface, or for that where it came in if this is
@@ -131,6 +128,12 @@ static __always_inline int leave(struct fast_row *row, struct fast_host *host, c
     return LOSE;
 }
 
+/* The queue of a conversation, as a mapping has it: n is queue n - 1. Where an interface has no such queue, the kernel begins again at the
+ * first one. */
+static __always_inline uint32_t queue_of(uint32_t conversation) {
+    return (conversation & (MOST_QUEUES - 1)) + 1;
+}
+
 /* Where frames leave the TAP device: a frame of a conversation whose row names a member goes on there or is lost, any other one goes to the
  * daemon. What came from a virtual machine may have segments that nobody has counted: the row notes it before the frame counts. A frame that
  * is unfit for the member is lost: the daemon might find it fit, and would send it behind later ones. */
@@ -141,11 +144,12 @@ int sender(struct __sk_buff *skb) {
     struct counted counted = {0, 0};
     union header ethernet;
     struct fast_row *row;
-    uint32_t member;
+    uint32_t conversation, member;
     bool unfit;
     if (!host || bpf_ktime_get_ns() >= now_in(&host->open_until)) return LOSE;
     if (!read_octets(&frame, 0, &ethernet, ETH_HLEN)) return LOSE;
-    row = find_row(&frame, &ethernet);
+    conversation = conversation_of(&frame, &ethernet);
+    row = bpf_map_lookup_elem(&rows, &conversation);
     if (!row) return LOSE;
     counted.segments = (uint64_t)(skb->gso_segs ? skb->gso_segs : 1) << 32;
     counted.opaque = skb->gso_segs == 0 && skb->gso_size != 0;
@@ -160,6 +164,7 @@ int sender(struct __sk_buff *skb) {
     }
     add_to(&row->passed, 1);
     skb->priority = 0;
+    if (all_queues) skb->queue_mapping = queue_of(conversation);
     return (int)bpf_redirect(member, 0);
 }
 
@@ -214,6 +219,16 @@ int receiver(struct __sk_buff *skb) {
 SEC("tc")
 int dropper(struct __sk_buff *skb) {
     return skb->protocol == bpf_htons(ETH_P_SLOW) || is_local(skb) ? GO_ON : LOSE;
+}
+
+/* Where frames leave a member that keeps its queues: a frame of the daemon goes by the queue that its mark names. */
+SEC("tc")
+int chooser(struct __sk_buff *skb) {
+    const uint32_t mark = skb->mark;
+    if ((mark & ~QUEUE_BITS) != QUEUE_MARK) return GO_ON;
+    skb->queue_mapping = mark & QUEUE_BITS;
+    skb->mark = 0;
+    return GO_ON;
 }
 
 /* Where what came up comes in at the TAP device: to whom it is addressed is seen anew, since a member has another address. */

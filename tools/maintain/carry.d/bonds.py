@@ -181,9 +181,14 @@ def ask_gro(space: str, name: str, wanted: bool | None = None) -> bool:
     return bool(struct.unpack("=II", value.raw[:8])[1])
 
 
-def lay_direct(number: int) -> None:
+def several(queues: int) -> list[str]:
+    """The words by which an interface is made with so many queues for each direction."""
+    return ["numtxqueues", str(queues), "numrxqueues", str(queues)] if queues > 1 else []
+
+
+def lay_direct(number: int, queues: int = 1) -> None:
     """A pair of interfaces. Where one goes, the other goes, too, and nothing is on its way between them."""
-    ip(OURS, "link", "add", f"a{number}", "type", "veth", "peer", "name", f"b{number}", "netns", THEIRS)
+    ip(OURS, "link", "add", f"a{number}", *several(queues), "type", "veth", "peer", "name", f"b{number}", "netns", THEIRS, *several(queues))
     ip(OURS, "link", "set", f"a{number}", "up")
     ip(THEIRS, "link", "set", f"b{number}", "up")
 
@@ -191,7 +196,7 @@ def lay_direct(number: int) -> None:
 class Cables:
     """Both namespaces, and a cable for each delay through a third one; or, without delays, two pairs of interfaces that need none."""
 
-    def __init__(self, programs: Programs, delays: Sequence[int] = DELAYS) -> None:
+    def __init__(self, programs: Programs, delays: Sequence[int] = DELAYS, queues: int = 1) -> None:
         self.delays, self.path = delays, f"{programs.folder}/cables.sock"
         self.process: subprocess.Popen[bytes] | None = None
         self.socket = socket.socket(socket.AF_UNIX, socket.SOCK_DGRAM)
@@ -201,20 +206,20 @@ class Cables:
                 raise Skipped(f"no network namespaces: {made.stderr.strip()}")
             inside(space, "sysctl", "-qw", "net.ipv6.conf.all.disable_ipv6=1", "net.ipv6.conf.default.disable_ipv6=1")
         for number in range(0 if delays else DIRECT):
-            lay_direct(number)
+            lay_direct(number, queues)
         if not delays:
             return
         for number in range(len(delays)):
-            self.lay(OURS, f"a{number}", f"x{number}")
-            self.lay(THEIRS, f"b{number}", f"y{number}")
+            self.lay(OURS, f"a{number}", f"x{number}", queues)
+            self.lay(THEIRS, f"b{number}", f"y{number}", queues)
         words = [f"x{number}:y{number}:{delay}" for number, delay in enumerate(delays)]
         self.process = subprocess.Popen(["ip", "netns", "exec", MIDDLE, programs.cables, self.path, *words])
         if not within(COMES_UP, lambda: os.path.exists(self.path)):
             raise Failed("the cables are laid")
 
-    def lay(self, space: str, name: str, end: str) -> None:
+    def lay(self, space: str, name: str, end: str, queues: int = 1) -> None:
         """An interface, and the end of it at a cable."""
-        ip(space, "link", "add", name, "type", "veth", "peer", "name", end, "netns", MIDDLE)
+        ip(space, "link", "add", name, *several(queues), "type", "veth", "peer", "name", end, "netns", MIDDLE)
         ip(space, "link", "set", name, "up")
         ip(MIDDLE, "link", "set", end, "up")
         # One processor takes what the cable is given, whichever one it was sent from: else the cable itself would turn frames round.
@@ -231,11 +236,11 @@ class Cables:
 
 
 @contextlib.contextmanager
-def cables(programs: Programs, delays: Sequence[int] = DELAYS) -> Iterator[Cables]:
+def cables(programs: Programs, delays: Sequence[int] = DELAYS, queues: int = 1) -> Iterator[Cables]:
     """The cables of a part; all is gone behind it."""
     laid = None
     try:
-        laid = Cables(programs, delays)
+        laid = Cables(programs, delays, queues)
         yield laid
     finally:
         if laid:
@@ -248,9 +253,9 @@ def cables(programs: Programs, delays: Sequence[int] = DELAYS) -> Iterator[Cable
 
 @contextlib.contextmanager
 def pair(programs: Programs, *, delays: Sequence[int] = DELAYS, program: str = "", options: Sequence[str] = (),
-         before: Sequence[str] = ()) -> Iterator[tuple[Cables, End, End]]:
+         before: Sequence[str] = (), queues: int = 1) -> Iterator[tuple[Cables, End, End]]:
     """Two ends whose links all carry, and who know that the other one answers markers."""
-    with cables(programs, delays) as laid:
+    with cables(programs, delays, queues) as laid:
         ends: list[End] = []
         try:
             count = len(laid.delays) or DIRECT

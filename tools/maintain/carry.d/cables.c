@@ -2,9 +2,9 @@
  *
  *     cables SOCKET NEAR:FAR:MICROSECONDS..
  *
- * A datagram to SOCKET is a command: cut N, join N, silence N, hear N, mute N or speak N. A cable that is cut takes both
- * interfaces down and loses what is on it, one that is silent loses all frames, and one that is mute loses the markers and their
- * responses. */
+ * A datagram to SOCKET is a command: cut N, join N, silence N, hear N, mute N, dumb N or speak N. A cable that is cut takes both
+ * interfaces down and loses what is on it, one that is silent loses all frames, one that is mute loses the markers and their
+ * responses, and one that is dumb those of odd queues. */
 #define _GNU_SOURCE
 #include <linux/if_packet.h>
 #include <net/ethernet.h>
@@ -45,7 +45,7 @@ struct way {
 static struct cable {
     char near[IFNAMSIZ], far[IFNAMSIZ];
     uint64_t delay; /* in nanoseconds */
-    bool silent, mute, cut;
+    bool silent, mute, dumb, cut;
     struct way ways[2];
 } cables[MOST_CABLES];
 static int count;
@@ -109,16 +109,23 @@ static void obey(const char *text) {
     if (strcmp(what, "cut") == 0 || strcmp(what, "join") == 0) set_cut(cable, what[0] == 'c');
     if (strcmp(what, "silence") == 0 || strcmp(what, "hear") == 0) cable->silent = what[0] == 's';
     if (strcmp(what, "mute") == 0 || strcmp(what, "speak") == 0) cable->mute = what[0] == 'm';
+    if (strcmp(what, "dumb") == 0 || strcmp(what, "speak") == 0) cable->dumb = what[0] == 'd';
 }
 
 static bool is_marker(const uint8_t *frame, unsigned length) {
     return length > ETH_HLEN && (frame[12] << 8 | frame[13]) == SLOW_PROTOCOLS && frame[ETH_HLEN] == MARKER;
 }
 
+/* Whether a cable loses a frame: lagd has the queue in the first four bits of the identifier of a marker. */
+static bool loses(const struct cable *cable, const uint8_t *frame, unsigned length) {
+    if (cable->silent || cable->cut) return true;
+    return is_marker(frame, length) && (cable->mute || (cable->dumb && (frame[ETH_HLEN + 12] >> 4 & 1)));
+}
+
 /* Puts a frame that came behind the others, unless the cable loses it: it lies at the tail already, or behind it. */
 static void keep(struct cable *cable, struct way *way, unsigned from, unsigned length, uint64_t due) {
     unsigned to = way->tail % RING;
-    if (cable->silent || cable->cut || (cable->mute && is_marker(way->frames[from], length))) return;
+    if (loses(cable, way->frames[from], length)) return;
     if (to != from) memcpy(way->frames[to], way->frames[from], length);
     way->due[to] = due;
     way->lengths[to] = length;

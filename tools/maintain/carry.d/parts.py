@@ -9,6 +9,7 @@ import time
 from typing import Callable
 
 from above import PARTS as ABOVE
+from all_queues import PARTS as ALL_QUEUES
 from announced import announced
 from bonds import (CACHE, COMES_BACK, COMES_UP, DEVICE, FLOWS, RIGHTS, Cables, Carry, End, Event, Programs, ask_gro, cables, check_end,
                    check_order, check_whole, every, lay_direct, move_all, pair, run_flows)
@@ -320,3 +321,4 @@ PARTS.update(MEMBERS)
 PARTS.update(RESTORING)
 PARTS.update(ABOVE)
 PARTS.update(RESTARTS)
+PARTS.update(ALL_QUEUES)

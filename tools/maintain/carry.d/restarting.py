@@ -137,12 +137,13 @@ class Kept(End):
 
 
 @contextlib.contextmanager
-def managed(programs: Programs, options: Sequence[str], *, space: str = OURS, has_manager: bool = True) -> Iterator[tuple[Kept, End]]:
+def managed(programs: Programs, options: Sequence[str], *, space: str = OURS, has_manager: bool = True,
+            queues: int = 1) -> Iterator[tuple[Kept, End]]:
     """Two ends whose links all carry; the daemon of the first one is started again."""
     manager = Manager(programs.folder) if has_manager else None
     ends: list[End] = []
     try:
-        with cables(programs, ()):
+        with cables(programs, (), queues):
             kept = Kept(programs, space, options, manager)
             ends += [kept, End(programs, THEIRS if space == OURS else OURS, options=options)]
             ip(space, "address", "add", ADDRESS, "dev", DEVICE)
@@ -217,10 +218,10 @@ def another_hash(programs: Programs) -> None:
         check(lost == 0, f"fast, another hash: {lost} frames are lost by a handover", outcome, kept.text())
 
 
-def hand_over(programs: Programs, name: str) -> None:
+def hand_over(programs: Programs, name: str, more: Sequence[str] = (), queues: int = 1) -> None:
     """The daemon of one way hands over under a manager, and is killed: the sending end, twice, and the receiving one."""
     for space, end, events in (OURS, "sends", ("handed over", "handed over again", "killed")), (THEIRS, "receives", ("handed over", "killed")):
-        with managed(programs, WAYS[name], space=space) as (kept, peer):
+        with managed(programs, [*WAYS[name], *more], space=space, queues=queues) as (kept, peer):
             before = seen(peer), device_number(space)
             for event in events:
                 signals = (signal.SIGKILL, RESTARTS) if event == "killed" else (signal.SIGUSR1, 0.0)

@@ -116,6 +116,12 @@ def build_markers(folder: str, libraries: Sequence[str]) -> str:
     return build(os.path.join(folder, "markers"), sources, libraries, *STRICT, f"-I{DAEMON}", *SANITIZED, "-Wl,--wrap=lagffi_probe")
 
 
+def build_flights(folder: str) -> str:
+    """Builds the markers of each queue and the responses that wait alone, with ASan and UBSan; answers the path of the program."""
+    sources = [*(f"{MAINTAIN}/live.d/{name}.c" for name in ("flights", "checks")), *(f"{DAEMON}/{name}.c" for name in ("queues", "answers"))]
+    return build(os.path.join(folder, "flights"), sources, [], *STRICT, f"-I{DAEMON}", *SANITIZED)
+
+
 def build_memory(folder: str, libraries: Sequence[str]) -> str:
     """Builds what counts the memory that the library asks for; answers the path of the program."""
     sources = [f"{MAINTAIN}/live.d/{name}.c" for name in ("memory", "checks")]

@@ -86,8 +86,16 @@ CONTRADICTIONS = {
     FILE.replace("min-links=1", "hook=/nowhere/hook"): f"6: {A_HOOK}/nowhere/hook",
     FILE.replace("min-links=1", "hook=/etc/passwd"): f"6: {A_HOOK}/etc/passwd",
     FILE.replace("min-links=1", "hook=/etc"): f"6: {A_HOOK}/etc",
-    **{FILE.replace("min-links=1", f"{key}={value}"): f"6: expected carry=NAME beside plane, hash, hash-seed, flight, offload or fast: {key}"
-       for key, value in (("plane", "tap"), ("hash", "layer2"), ("hash-seed", "7"), ("flight", "500"), ("offload", "yes"), ("fast", "yes"))},
+    **{FILE.replace("min-links=1", f"{key}={value}"): "6: expected carry=NAME beside plane, hash, hash-seed, flight, offload, fast, queues "
+       f"or answer-after: {key}"
+       for key, value in (("plane", "tap"), ("hash", "layer2"), ("hash-seed", "7"), ("flight", "500"), ("offload", "yes"), ("fast", "yes"),
+                          ("queues", "one"), ("answer-after", "50"))},
+    FILE.replace("min-links=1", "carry=lag0\nplane=team\nqueues=all"): "8: expected no queues=all beside plane=team, which leaves queues as they "
+    "are: queues",
+    FILE.replace("min-links=1", "carry=lag0\nanswer-after=50"): "7: expected queues=all beside answer-after: answer-after",
+    FILE.replace("min-links=1", "carry=lag0\nqueues=4"): "7: expected one or all: queues=4",
+    **{FILE.replace("min-links=1", f"carry=lag0\nqueues=all\nanswer-after={value}"): "8: expected a number of milliseconds from 1 to 500: "
+       f"answer-after={value}" for value in ("0", "501")},
 }
 
 

@@ -1,0 +1,157 @@
+/* The queues of a member, where it keeps all of them: by which one a conversation goes, and the markers of each. A frame in one queue may
+ * overtake those in others. So a marker goes by each queue that may have frames before it, with the number of the queue in its
+ * identifier, and the library has the last of its responses. */
+#define _GNU_SOURCE
+#include <string.h>
+#include <sys/socket.h>
+
+#include "carry.h"
+
+/* Where a Marker PDU has the identifier of its requester (IEEE 802.1AX-2014, 6.5.3.3), and which of its bits are the queue. */
+#define IDENTIFIER_AT (ETH_HLEN + 12)
+#define QUEUE_SHIFT 28
+#define IDENTIFIER_BITS ((1u << QUEUE_SHIFT) - 1)
+/* The most markers of a port whose responses are waited for: the library sends another one in the place of one that is 3 s old. */
+#define MOST_FLIGHTS 4
+#define LONGEST_FLIGHT 3500
+
+/* A marker whose responses are waited for. */
+struct flight {
+    uint32_t id;      /* that the library gave it */
+    uint32_t waiting; /* the queues of which none came, a bit for each; 0: there is no marker */
+    uint64_t since;
+    uint64_t place; /* which one it is of all that were sent */
+};
+
+static struct queues {
+    unsigned count; /* by how many the data of the member goes */
+    uint32_t dirty; /* those that have frames behind which no marker went, a bit for each */
+    struct flight flights[MOST_FLIGHTS];
+} ports[NIW_MOST_PORTS];
+
+static uint32_t all_of(unsigned count) {
+    return (1u << count) - 1;
+}
+
+/* A member is taken up: nobody knows what its queues have. */
+void begin_queues(uint16_t port, unsigned count) {
+    struct queues *queues = &ports[port - 1];
+    queues->count = count;
+    queues->dirty = all_of(count);
+    for (size_t i = 0; i < MOST_FLIGHTS; i++)
+        if (queues->flights[i].waiting != 0) queues->flights[i].waiting = all_of(count);
+}
+
+/* Has a frame go by a queue of a member, if there are several. */
+static void mark_queue(const struct queues *queues, unsigned queue, struct msghdr *message) {
+    static _Alignas(struct cmsghdr) uint8_t marks[MOST_QUEUES][CMSG_SPACE(sizeof(uint32_t))];
+    struct cmsghdr *head;
+    uint32_t mark = QUEUE_MARK | (queue + 1);
+    if (queues->count < 2) return;
+    message->msg_control = marks[queue];
+    message->msg_controllen = sizeof marks[queue];
+    head = CMSG_FIRSTHDR(message);
+    head->cmsg_len = CMSG_LEN(sizeof mark);
+    head->cmsg_level = SOL_SOCKET;
+    head->cmsg_type = SO_MARK;
+    memcpy(CMSG_DATA(head), &mark, sizeof mark);
+}
+
+/* Has a frame of a conversation go by its queue, as the programs of the kernel have it. */
+void mark_conversation(uint16_t port, uint16_t number, struct msghdr *message) {
+    struct queues *queues = &ports[port - 1];
+    unsigned queue = number % MOST_QUEUES % queues->count;
+    queues->dirty |= 1u << queue;
+    mark_queue(queues, queue, message);
+}
+
+static uint32_t identifier_of(const uint8_t *frame) {
+    const uint8_t *at = frame + IDENTIFIER_AT;
+    return (uint32_t)at[0] << 24 | (uint32_t)at[1] << 16 | (uint32_t)at[2] << 8 | at[3];
+}
+
+/* Gives a Marker PDU another identifier. */
+void set_identifier(uint8_t *frame, uint32_t id) {
+    for (unsigned i = 0; i < 4; i++) frame[IDENTIFIER_AT + i] = (uint8_t)(id >> (24 - 8 * i));
+}
+
+/* Sends the marker of a flight by each queue that has no response yet; answers whether all went. */
+static bool send_flight(struct link *link, const uint8_t *marker, const struct flight *flight) {
+    const struct queues *queues = &ports[link->settings.number - 1];
+    uint8_t frame[NIW_FRAME];
+    bool done = true;
+    memcpy(frame, marker, sizeof frame);
+    for (unsigned queue = 0; queue < MOST_QUEUES; queue++) {
+        struct msghdr message = {0};
+        if (!(flight->waiting >> queue & 1)) continue;
+        set_identifier(frame, (flight->id & IDENTIFIER_BITS) | (uint32_t)queue << QUEUE_SHIFT);
+        mark_queue(queues, queue, &message);
+        done = give_marker(link, frame, &message) && done;
+    }
+    return done;
+}
+
+/* The place of the next flight: a free one, or that of the oldest. */
+static struct flight *next_flight(struct queues *queues) {
+    struct flight *oldest = &queues->flights[0];
+    for (size_t i = 0; i < MOST_FLIGHTS; i++) {
+        struct flight *flight = &queues->flights[i];
+        if (flight->waiting == 0) return flight;
+        if (flight->place < oldest->place) oldest = flight;
+    }
+    return oldest;
+}
+
+/* The queues with frames of which no response has told yet. Where the kernel passes frames on, that is any: how many there are is seen
+ * anew, since it goes by as many as there are now. */
+static uint32_t unanswered(const struct link *link, struct queues *queues) {
+    uint32_t found = queues->dirty;
+    for (size_t i = 0; i < MOST_FLIGHTS; i++) found |= queues->flights[i].waiting;
+    if (has_fast_member(link->settings.number)) {
+        unsigned now = count_entries(link->index, "tx-");
+        if (now > MOST_QUEUES) now = MOST_QUEUES;
+        if (now > queues->count && queues->count > 1) queues->count = now;
+        found = all_of(queues->count);
+    }
+    return found != 0 ? found : 1;
+}
+
+/* Sends a marker that is due; answers whether all of it went. */
+bool send_by_queues(struct link *link, const uint8_t *marker) {
+    static uint64_t all;
+    struct queues *queues = &ports[link->settings.number - 1];
+    struct flight flight = {identifier_of(marker), unanswered(link, queues), carry.time, all++};
+    struct flight *place = next_flight(queues);
+    queues->dirty = 0;
+    *place = flight;
+    return send_flight(link, marker, place);
+}
+
+/* Sends again what has no response, of each marker that may still get one; answers whether all of it went. */
+bool send_by_queues_again(struct link *link, const uint8_t *marker) {
+    struct queues *queues = &ports[link->settings.number - 1];
+    bool done = true;
+    for (size_t i = 0; i < MOST_FLIGHTS; i++) {
+        struct flight *flight = &queues->flights[i];
+        if (flight->waiting != 0 && carry.time - flight->since > LONGEST_FLIGHT) {
+            queues->dirty |= flight->waiting;
+            flight->waiting = 0;
+        }
+        if (flight->waiting != 0) done = send_flight(link, marker, flight) && done;
+    }
+    return done;
+}
+
+/* A response to the marker of a queue came: answers whether it is the last one that was missing, and gives back the identifier of the library. */
+bool ends_flight(const struct link *link, uint32_t *id) {
+    struct queues *queues = &ports[link->settings.number - 1];
+    uint32_t bit = 1u << (*id >> QUEUE_SHIFT);
+    for (size_t i = 0; i < MOST_FLIGHTS; i++) {
+        struct flight *flight = &queues->flights[i];
+        if (!(flight->waiting & bit) || ((flight->id ^ *id) & IDENTIFIER_BITS) != 0) continue;
+        flight->waiting &= ~bit;
+        *id = flight->id;
+        return flight->waiting == 0;
+    }
+    return false;
+}
