@@ -89,7 +89,8 @@ pub extern "C" fn lagffi_receive(
         return LagReceived::refused(NO_SYSTEM);
     };
     let answer = system.receive(port, frame);
-    block.answering.after_receive(&system, port, frame, &answer);
+    let notes = &mut block.stored.answering;
+    notes.after_receive(&system, port, frame, &answer);
     lag.put(system, block);
     write_reply(&answer, response);
     LagReceived::of(&answer)
@@ -160,7 +161,8 @@ pub extern "C" fn lagffi_set_link(alloc: Global, lag: &mut Lag, port: u16, up: b
         return NO_SYSTEM;
     };
     let answer = system.set_link(port, up);
-    block.answering.after_set_link(&system, port, up, &answer);
+    let notes = &mut block.stored.answering;
+    notes.after_set_link(&system, port, up, &answer);
     lag.put(system, block);
     status(&answer)
 }
@@ -200,7 +202,7 @@ pub extern "C" fn lagffi_restart(alloc: Global, lag: &mut Lag) -> u32
         return NO_SYSTEM;
     };
     system.restart();
-    block.answering = Answering::nobody_asked();
+    block.stored.answering = Answering::nobody_asked();
     lag.put(system, block);
     OK
 }
@@ -232,7 +234,8 @@ pub extern "C" fn lagffi_transmit(
         return LagSent::refused(NO_SYSTEM);
     };
     let answer = system.transmit(port);
-    block.answering.after_transmit(&system, port, &answer);
+    let notes = &mut block.stored.answering;
+    notes.after_transmit(&system, port, &answer);
     lag.put(system, block);
     write_due(&answer, frame);
     LagSent::of(&answer)
@@ -286,7 +289,7 @@ pub extern "C" fn lagffi_offer(alloc: Global, lag: &mut Lag, agg: u16, frame: &[
     let Some((kept, block)) = lag.take(alloc, ()) else {
         return LagNumber::refused(NO_SYSTEM);
     };
-    let (answer, system) = offer_with(kept, block.algorithm, AggId(agg), frame);
+    let (answer, system) = offer_with(kept, block.stored.algorithm, AggId(agg), frame);
     lag.put(system, block);
     LagNumber::of(&answer)
 }

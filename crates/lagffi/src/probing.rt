@@ -36,7 +36,8 @@ pub extern "C" fn lagffi_probe(alloc: Global, lag: &mut Lag, port: u16, frame: &
         return LagSent::refused(NO_SYSTEM);
     };
     let answer = system.probe(port);
-    block.answering.after_transmit(&system, port, &answer);
+    let notes = &mut block.stored.answering;
+    notes.after_transmit(&system, port, &answer);
     lag.put(system, block);
     write_due(&answer, frame);
     LagSent::of(&answer)

@@ -5,12 +5,12 @@ ghost use Rattle.lagffi.specs.Made.{holds_system_already, made_with_status, refu
 ghost use Rattle.lagffi.specs.Resuming.{IsNotResumed, IsResumedOf, MayNotResume, not_resumed};
 ghost use Rattle.lagffi.specs.Algorithms.{is_algorithm};
 
-use crate::handle::{Block, Held, Lag};
+use crate::handle::{Block, Lag};
 use crate::made::{HOLDS_SYSTEM_ALREADY, LAST_ALGORITHM, LagConfig, LagMade, LagPort, config_of};
 use crate::refusal::refusal;
-use crate::stored::by_number;
+use crate::stored::{Stored, by_number};
 use crate::values::OK;
-use dataplane::{Answering, ResumeFault, SavedPort, resume};
+use dataplane::{ResumeFault, SavedPort, resume};
 use lagsystem::{System, SystemFault};
 use std::alloc::Global;
 
@@ -93,21 +93,16 @@ pub extern "C" fn lagffi_resume(
     if config.algorithm > LAST_ALGORITHM {
         return LagMade::no_algorithm();
     }
-    let Some(held) = Held::room(alloc) else {
+    let Some(block) = Block::new(alloc, Stored::under(config.algorithm)) else {
         return LagMade::refused(&SystemFault::NoMemory);
     };
     match resumed(alloc, config, keys, ports, saved) {
         Ok(system) => {
-            let block = Block {
-                held,
-                algorithm: config.algorithm,
-                answering: Answering::nobody_asked(),
-            };
             lag.put(system, block);
             LagMade::with_status(OK)
         }
         Err(refused) => {
-            held.free();
+            block.free();
             refused
         }
     }
