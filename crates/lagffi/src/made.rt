@@ -242,16 +242,16 @@ pub extern "C" fn lagffi_new(
     if config.algorithm > LAST_ALGORITHM {
         return LagMade::no_algorithm();
     }
-    let Some(block) = Block::new(alloc, Stored::under(config.algorithm)) else {
+    let Some(room) = Block::new(alloc, Stored::under(config.algorithm)) else {
         return LagMade::refused(&SystemFault::NoMemory);
     };
     match system_of(alloc, config, keys, ports) {
         Ok(system) => {
-            lag.put(system, block);
+            lag.put(system, room);
             LagMade::with_status(OK)
         }
         Err(fault) => {
-            block.free();
+            room.free();
             LagMade::refused(&fault)
         }
     }

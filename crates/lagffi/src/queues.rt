@@ -53,7 +53,7 @@ pub extern "C" fn lagffi_queue_new(
     }
 }
 
-/// Frees the queues of a handle, which is empty then. Of frames that still wait no more is told.
+/// Frees the queues of a handle, which is empty then. It does not tell which frames still waited.
 /// Refuses: NIW_NO_QUEUE.
 #[unsafe(no_mangle)]
 pub extern "C" fn lagffi_queue_free(alloc: Global, lag: &mut LagQueue) -> u32
