@@ -9,7 +9,7 @@ use std::marker::Model;
 use std::ptr::null_mut;
 
 /// The block of what a handle keeps, or none. Its type names neither a system nor a queue, as C has to see it. Only an empty one may
-/// be dropped: a block goes by `free`.
+/// be dropped: a block goes by `Block::free`.
 #[repr(C)]
 pub struct Held {
     ptr: *mut u8,
@@ -26,7 +26,7 @@ unsafe impl Send for Held {}
 
 impl Drop for Held {
     // promise: each block is freed or kept in a handle, whose flag tells whether it keeps one
-    // contract: `drop` of `Held`; `tells`, `full` of `Lag`
+    // contract: `drop` of `Held`, `emptied`; `tells`, `full` of `Lag`
     // not said: that a box which `Box::into_inner` empties goes to `free`: std's `Box` is trusted
     fn drop(self)
         requires { self.kept ≡ None }
