@@ -56,7 +56,8 @@ impl Lag {
     // promise: a system under another algorithm is the same system
     // contract: `System::with_algorithm`, `Distributor::with_algorithm`
     /// Takes the system out under this algorithm, beside its block; None if the handle holds none. What else the block keeps stays where
-    /// it is, since a call would pay for each octet that is moved.
+    /// it is, since a call would pay for each octet that is moved. Not inlined: each of the exports would have a copy.
+    #[inline(never)]
     pub(crate) fn take<F: Drop>(
         &mut self,
         alloc: Global,
