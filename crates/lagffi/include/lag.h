@@ -45,7 +45,7 @@ struct niw_queue {
 };
 #define NIW_EMPTY {false, NULL}
 
-/* The version of this header: it is to go up with each change of what stands here. */
+/* The version of this header: it goes up by one with each change of the interface. */
 #define NIW_VERSION 11
 /* The version of the release that the header is of. */
 #define NIW_VERSION_TEXT "0.1.0"
@@ -157,7 +157,7 @@ struct niw_config {
 /* How a conversation picks its port, in the list of the ports that distribute: the index in it, from 0. */
 enum {
     NIW_BY_NUMBER = 0, /* the number of the conversation, modulo the count of these ports */
-    NIW_BY_SUM = 1,    /* that number, its 16th part and its 256th part together, modulo the count */
+    NIW_BY_SUM = 1,    /* that number, plus it divided by 16, plus it divided by 256, modulo the count */
     NIW_BY_FIRST = 2   /* 0: the first port carries all, and the others stand in reserve */
 };
 
@@ -565,9 +565,8 @@ static inline uint32_t niw_tick(struct niw_system *handle) {
     return handle ? lagffi_tick(handle) : niw_null_status();
 }
 
-/* `count` times 100 ms have passed: like `count` calls of niw_tick, with nothing between them. Up to niw_ticks_until_due of them let no
- * frame wait that is due; of more, a host makes up few at once, since nothing is sent between them. The call takes as long as they all
- * do. */
+/* `count` times 100 ms have passed: like `count` calls of niw_tick, and as long as they take. Nothing is sent between them: with more
+ * ticks than niw_ticks_until_due tells, a frame that becomes due waits for the end of the call, so a program makes few up at once. */
 static inline uint32_t niw_ticks(struct niw_system *handle, uint32_t count) {
     return handle ? lagffi_ticks(handle, count) : niw_null_status();
 }
@@ -577,7 +576,7 @@ static inline uint32_t niw_set_link(struct niw_system *handle, uint16_t port, bo
     return handle ? lagffi_set_link(handle, port, up) : niw_null_status();
 }
 
-/* Gives a port another key, priority or Aggregation bit; returns whether anything differs. */
+/* Gives a port this key, priority and Aggregation bit. Returns false, and changes nothing, if the port has them already. */
 static inline struct niw_truth niw_configure(struct niw_system *handle, uint16_t port, const struct niw_change *change) {
     return (handle && change) ? lagffi_configure(handle, port, change) : niw_null_truth();
 }
@@ -587,8 +586,8 @@ static inline uint32_t niw_restart(struct niw_system *handle) {
     return handle ? lagffi_restart(handle) : niw_null_status();
 }
 
-/* Whether a frame is due on a port, and which; `frame` has NIW_FRAME octets or more, and is written only then, at its front. To be
- * called until its `is` is false. */
+/* The frame that is due on a port, if `is` is true: it is written at the front of `frame` then, which has NIW_FRAME octets or more. To
+ * be called until `is` is false. */
 static inline struct niw_sent niw_transmit(struct niw_system *handle, uint16_t port, uint8_t *frame, size_t room) {
     struct niw_sent refused;
     if (handle && frame) return lagffi_transmit(handle, port, frame, room);
@@ -607,7 +606,7 @@ static inline uint32_t niw_move_conversation(struct niw_system *handle, uint16_t
     return handle ? lagffi_move_conversation(handle, agg, conv, port) : niw_null_status();
 }
 
-/* Frees a conversation at once, so that its frames may arrive out of order. */
+/* Frees a conversation at once. Its next frames may overtake those that are on their way. */
 static inline uint32_t niw_force(struct niw_system *handle, uint16_t agg, uint16_t conv) {
     return handle ? lagffi_force(handle, agg, conv) : niw_null_status();
 }
@@ -640,8 +639,8 @@ static inline uint32_t niw_adopt(struct niw_system *handle, uint16_t agg, uint16
     return handle ? lagffi_adopt(handle, agg, conv, port) : niw_null_status();
 }
 
-/* A marker that asks whether the peer of a port answers markers, to be sent now; `frame` has NIW_FRAME octets or more, and is written
- * only then, at its front. Its `is` is false while the link is down, and where no identifier is left. */
+/* A marker that asks whether the peer of a port answers markers, to be sent now, if `is` is true: it is written at the front of `frame`
+ * then, which has NIW_FRAME octets or more. `is` is false while the link is down, and where no identifier is left. */
 static inline struct niw_sent niw_probe(struct niw_system *handle, uint16_t port, uint8_t *frame, size_t room) {
     struct niw_sent refused;
     if (handle && frame) return lagffi_probe(handle, port, frame, room);
@@ -806,9 +805,9 @@ static inline struct niw_number niw_distributing(struct niw_system *handle, uint
     return (handle && numbers) ? lagffi_distributing(handle, agg, numbers, room) : niw_null_number();
 }
 
-/* A warm start: puts a system into an empty handle whose saved ports distribute, and tell their peers nothing new. `first_marker` is
- * niw_next_marker of the system before it, or higher. No frame is to be sent before; every conversation is free. It wants one LACPDU of
- * each port that distributed. `place` has the port that is refused. */
+/* A warm start: puts a system into an empty handle whose saved ports distribute, and tell their peers nothing new. `saved` has the last
+ * LACPDU of each port that distributed in the system before it. `first_marker` is niw_next_marker of that one, or higher. The ports send
+ * nothing between the two systems; every conversation is free. `place` of the answer has the port that is refused. */
 static inline struct niw_made niw_resume(struct niw_system *handle, const struct niw_config *config, const uint16_t *keys,
     size_t key_count, const struct niw_port *ports, size_t port_count, const struct niw_saved *saved, size_t saved_count) {
     struct niw_made refused;
@@ -870,9 +869,9 @@ static inline struct niw_number niw_conversation_ports(struct niw_system *handle
     return niw_null_number();
 }
 
-/* What was released: `busy` is the program's own list of which conversations of an aggregator are on a port or held, at first all false.
- * The program sets a place of it when an offer answers a port. It gets which are so now, and `freed` gets which `busy` named and are free
- * now. Both have a place or more for each conversation. Answers how many became free. */
+/* What was released: writes into `busy`, for each conversation of an aggregator by its number, whether it is on a port or held now, and
+ * into `freed` whether `busy` told so before and it is free now. `busy` is the program's own list, at first all false: the program sets
+ * a place of it when an offer answers a port. Both have a place or more for each conversation. Answers how many became free. */
 static inline struct niw_number niw_released(struct niw_system *handle, uint16_t agg, bool *busy, size_t busy_count, bool *freed,
     size_t freed_count) {
     if (handle && busy && freed) return lagffi_released(handle, agg, busy, busy_count, freed, freed_count);
@@ -952,7 +951,8 @@ static inline uint32_t niw_count_sent(struct niw_counters *counters, const uint8
     return (counters && frame) ? lagffi_count_sent(counters, frame, length) : niw_null_status();
 }
 
-/* Frames that wait, as where their conversation is held. The program keeps the frames: the queues have a number of its own for each. */
+/* Queues of frames that wait, as while their conversation is held. The program keeps the frames: a queue has the number that the program
+ * gives each. */
 
 static inline struct niw_queued niw_null_queued(void) {
     struct niw_queued refused;
@@ -968,7 +968,7 @@ static inline uint32_t niw_queue_new(struct niw_queue *handle, uint16_t conversa
     return handle ? lagffi_queue_new(handle, conversations, in_all, each) : niw_null_status();
 }
 
-/* Frees the queues of a handle, which is empty then. Of frames that still wait no more is told. */
+/* Frees the queues of a handle, which is empty then. It does not tell which frames still waited. */
 static inline uint32_t niw_queue_free(struct niw_queue *handle) {
     return handle ? lagffi_queue_free(handle) : niw_null_status();
 }

@@ -89,7 +89,8 @@ pub extern "C" fn lagffi_receive(
         return LagReceived::refused(NO_SYSTEM);
     };
     let answer = system.receive(port, frame);
-    block.answering.after_receive(&system, port, frame, &answer);
+    let notes = &mut block.stored.answering;
+    notes.after_receive(&system, port, frame, &answer);
     lag.put(system, block);
     write_reply(&answer, response);
     LagReceived::of(&answer)
@@ -125,9 +126,8 @@ fn tick_times<F: Fn(u16, usize) -> usize + Drop>(system: &mut System<F>, count: 
     }
 }
 
-/// `count` times 100 ms have passed: like `count` calls of niw_tick, with nothing between them. Up to niw_ticks_until_due of them let no
-/// frame wait that is due; of more, a host makes up few at once, since nothing is sent between them. The call takes as long as they all
-/// do.
+/// `count` times 100 ms have passed: like `count` calls of niw_tick, and as long as they take. Nothing is sent between them: with more
+/// ticks than niw_ticks_until_due tells, a frame that becomes due waits for the end of the call, so a program makes few up at once.
 /// Refuses: NIW_MANY_TICKS, NIW_NO_SYSTEM.
 #[unsafe(no_mangle)]
 pub extern "C" fn lagffi_ticks(alloc: Global, lag: &mut Lag, count: u32) -> u32
@@ -160,12 +160,13 @@ pub extern "C" fn lagffi_set_link(alloc: Global, lag: &mut Lag, port: u16, up: b
         return NO_SYSTEM;
     };
     let answer = system.set_link(port, up);
-    block.answering.after_set_link(&system, port, up, &answer);
+    let notes = &mut block.stored.answering;
+    notes.after_set_link(&system, port, up, &answer);
     lag.put(system, block);
     status(&answer)
 }
 
-/// Gives a port another key, priority or Aggregation bit; returns whether anything differs.
+/// Gives a port this key, priority and Aggregation bit. Returns false, and changes nothing, if the port has them already.
 /// Refuses: NIW_NO_SYSTEM, NIW_NO_PORT.
 #[unsafe(no_mangle)]
 pub extern "C" fn lagffi_configure(
@@ -200,13 +201,13 @@ pub extern "C" fn lagffi_restart(alloc: Global, lag: &mut Lag) -> u32
         return NO_SYSTEM;
     };
     system.restart();
-    block.answering = Answering::nobody_asked();
+    block.stored.answering = Answering::nobody_asked();
     lag.put(system, block);
     OK
 }
 
-/// Whether a frame is due on a port, and which; `frame` has NIW_FRAME octets or more, and is written only then, at its front. To be
-/// called until its `is` is false.
+/// The frame that is due on a port, if `is` is true: it is written at the front of `frame` then, which has NIW_FRAME octets or more. To
+/// be called until `is` is false.
 /// Refuses: NIW_BUFFER, NIW_NO_SYSTEM, NIW_NO_PORT.
 #[unsafe(no_mangle)]
 pub extern "C" fn lagffi_transmit(
@@ -232,7 +233,8 @@ pub extern "C" fn lagffi_transmit(
         return LagSent::refused(NO_SYSTEM);
     };
     let answer = system.transmit(port);
-    block.answering.after_transmit(&system, port, &answer);
+    let notes = &mut block.stored.answering;
+    notes.after_transmit(&system, port, &answer);
     lag.put(system, block);
     write_due(&answer, frame);
     LagSent::of(&answer)
@@ -286,7 +288,7 @@ pub extern "C" fn lagffi_offer(alloc: Global, lag: &mut Lag, agg: u16, frame: &[
     let Some((kept, block)) = lag.take(alloc, ()) else {
         return LagNumber::refused(NO_SYSTEM);
     };
-    let (answer, system) = offer_with(kept, block.algorithm, AggId(agg), frame);
+    let (answer, system) = offer_with(kept, block.stored.algorithm, AggId(agg), frame);
     lag.put(system, block);
     LagNumber::of(&answer)
 }
@@ -316,7 +318,7 @@ pub extern "C" fn lagffi_move_conversation(
     status(&answer)
 }
 
-/// Frees a conversation at once, so that its frames may arrive out of order.
+/// Frees a conversation at once. Its next frames may overtake those that are on their way.
 /// Refuses: NIW_NO_SYSTEM, NIW_NO_AGGREGATOR, NIW_NOT_ASSIGNED.
 #[unsafe(no_mangle)]
 pub extern "C" fn lagffi_force(alloc: Global, lag: &mut Lag, agg: u16, conv: u16) -> u32

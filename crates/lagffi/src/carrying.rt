@@ -101,7 +101,12 @@ pub extern "C" fn lagffi_offer_in_active_aggregator(
     let Some((kept, block)) = lag.take(alloc, ()) else {
         return LagNumber::refused(NO_SYSTEM);
     };
-    let (answer, system) = offer_in_active_aggregator_with(kept, block.algorithm, agg, frame);
+    let (answer, system) = offer_in_active_aggregator_with(
+        kept,
+        block.stored.algorithm,
+        agg,
+        frame,
+    );
     lag.put(system, block);
     LagNumber::of(&answer)
 }
@@ -157,7 +162,7 @@ pub extern "C" fn lagffi_offer_conversation_in_active_aggregator(
     };
     let (answer, system) = offer_conversation_in_active_aggregator_with(
         kept,
-        block.algorithm,
+        block.stored.algorithm,
         agg,
         conv,
     );

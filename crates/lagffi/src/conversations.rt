@@ -77,7 +77,7 @@ pub extern "C" fn lagffi_offer_conversation(
     let Some((kept, block)) = lag.take(alloc, ()) else {
         return LagNumber::refused(NO_SYSTEM);
     };
-    let (answer, system) = offer_conversation_with(kept, block.algorithm, agg, conv);
+    let (answer, system) = offer_conversation_with(kept, block.stored.algorithm, agg, conv);
     lag.put(system, block);
     LagNumber::of(&answer)
 }
@@ -232,9 +232,9 @@ pub extern "C" fn lagffi_conversation_ports(
     answer
 }
 
-/// What was released: `busy` is the program's own list of which conversations of an aggregator are on a port or held, at first all false.
-/// The program sets a place of it when an offer answers a port. It gets which are so now, and `freed` gets which `busy` named and are free
-/// now. Both have a place or more for each conversation. Answers how many became free.
+/// What was released: writes into `busy`, for each conversation of an aggregator by its number, whether it is on a port or held now, and
+/// into `freed` whether `busy` told so before and it is free now. `busy` is the program's own list, at first all false: the program sets
+/// a place of it when an offer answers a port. Both have a place or more for each conversation. Answers how many became free.
 /// Refuses: NIW_NO_SYSTEM, NIW_NO_AGGREGATOR, NIW_BUFFER.
 #[unsafe(no_mangle)]
 pub extern "C" fn lagffi_released(

@@ -1,4 +1,4 @@
-ghost use Rattle.std.specs.Prelude.{◌≡◌, IfSome, IsTrue, MatchOption, None, Some, is_some};
+ghost use Rattle.std.specs.Prelude.{◌≡◌, IfSome, MatchOption, None, Some, is_some};
 ghost use Rattle.lagffi.specs.Holding.{held_value};
 
 mod held;
@@ -6,11 +6,10 @@ mod parts;
 mod queue;
 
 use crate::stored::Stored;
-use dataplane::Answering;
-pub(crate) use held::Held;
+use held::Held;
 use lagsystem::System;
 pub use queue::LagQueue;
-use std::alloc::Global;
+use std::alloc::{Allocator, Global};
 use std::mem::replace;
 
 /// The handle of a program in C: it holds a system, or none. It may not be dropped, so that no block is lost with it.
@@ -22,41 +21,51 @@ pub struct Lag {
     ghost full: { is_some (held_value held.kept) ≡ is_some held.kept },
 }
 
-/// The block of a system that was taken out, and what is kept beside the system: the number of its distribution algorithm, and whether
-/// the peers of its ports answer markers.
+/// The block of a handle, while what it keeps is taken out: of a system, the number of its distribution algorithm and whether the peers of
+/// its ports answer markers stay in it. It may not be dropped, so that it is freed or put back.
 pub(crate) struct Block {
-    pub(crate) held: Held,
-    pub(crate) algorithm: u16,
-    pub(crate) answering: Answering,
+    pub(crate) stored: Box<Stored, Global>,
 }
 
 impl Block {
-    /// Frees the block.
-    pub(crate) fn free(self)
-        requires { IsTrue (is_some self.held.kept) }
+    /// A block that keeps this, if memory is not refused.
+    pub(crate) fn new(alloc: Global, stored: Stored) -> Option<Block>
+        ensures { IfSome result (λ block. block.stored.value ≡ stored) }
     {
-        let Block {
-            held,
-            algorithm: _,
-            answering: _,
-        } = self;
-        held.free();
+        match Box::new(alloc, stored) {
+            Ok(stored) => Some(Block { stored }),
+            Err(_) => None,
+        }
     }
+
+    /// Frees the block, and what it keeps.
+    pub(crate) fn free(self) {
+        let Block { stored } = self;
+        drop(emptied(stored));
+    }
+}
+
+/// Frees a box, and hands out its value. A `T` need not be `Drop`, so a body can't let go of the box instead.
+fn emptied<T, A: Allocator>(block: Box<T, A>) -> T
+    ensures { result ≡ block.value }
+{
+    Box::into_inner(block)
 }
 
 impl Lag {
     // promise: a system under another algorithm is the same system
     // contract: `System::with_algorithm`, `Distributor::with_algorithm`
-    /// Takes the system out under this algorithm, beside its block; None if the handle holds none.
+    /// Takes the system out under this algorithm, beside its block; None if the handle holds none. What else the block keeps stays where
+    /// it is, since a call would pay for each octet that is moved. Not inlined: each of the exports would have a copy.
+    #[inline(never)]
     pub(crate) fn take<F: Drop>(
         &mut self,
         alloc: Global,
         algorithm: F,
     ) -> Option<(System<F>, Block)>
-        ensures taken { MatchOption result (held_value self.old.held.kept ≡ None)
-            (λ taken. held_value self.old.held.kept ≡ Some (record { state = taken.0.state; algorithm = taken.1.algorithm; answering = taken.1.answering })) }
+        ensures taken { MatchOption result (held_value self.old.held.kept ≡ None) (λ taken. held_value self.old.held.kept
+            ≡ Some (record { state = taken.0.state; algorithm = taken.1.stored.value.algorithm; answering = taken.1.stored.value.answering })) }
         ensures algorithm { IfSome result (λ taken. taken.0.algorithm ≡ algorithm) }
-        ensures block { IfSome result (λ taken. IsTrue (is_some taken.1.held.kept)) }
         ensures left { self.new.held.kept ≡ None }
     {
         let empty = Lag {
@@ -67,47 +76,29 @@ impl Lag {
         if !live {
             return None;
         }
-        let (stored, held) = held.replace(Stored::nothing());
-        let Stored {
-            system,
-            algorithm: number,
-            answering,
-            queue,
-        } = stored;
-        drop(queue);
-        let block = Block {
-            held,
-            algorithm: number,
-            answering,
-        };
-        match system {
-            Some(system) => Some((system.with_algorithm(algorithm), block)),
+        let mut stored = held.into_box();
+        match stored.system.take() {
+            Some(system) => Some((system.with_algorithm(algorithm), Block { stored })),
             None => unreachable!(),
         }
     }
 
     /// Puts a system into the empty handle, with a block for it.
     pub(crate) fn put<F: Drop>(&mut self, system: System<F>, block: Block)
-        requires empty { self.old.held.kept ≡ None }
-        requires block { IsTrue (is_some block.held.kept) }
-        ensures { held_value self.new.held.kept ≡ Some (record { state = system.state; algorithm = block.algorithm; answering = block.answering }) }
+        requires { self.old.held.kept ≡ None }
+        ensures { held_value self.new.held.kept
+            ≡ Some (record { state = system.state; algorithm = block.stored.value.algorithm; answering = block.stored.value.answering }) }
     {
-        let Block {
-            held,
-            algorithm,
-            answering,
-        } = block;
-        let (old, held) = held.replace(Stored {
-            system: Some(system.with_algorithm(())),
-            algorithm,
-            answering,
-            queue: None,
-        });
-        drop(old);
+        let Block { mut stored } = block;
+        stored.system = Some(system.with_algorithm(()));
+        let full = Lag {
+            live: true,
+            held: Held::of_box(stored),
+        };
         let Lag {
             live: _,
             held: none,
-        } = replace(self, Lag { live: true, held });
+        } = replace(self, full);
         drop(none);
     }
 }

@@ -7,11 +7,10 @@ ghost use Rattle.lagffi.specs.Algorithms.{is_algorithm};
 ghost use Rattle.dataplane.specs.Notes.{nobody_asked};
 ghost use Rattle.lagffi.specs.Made.{lag_limit, no_algorithm, refusal_of, why_refused};
 
-use crate::handle::{Block, Held, Lag};
+use crate::handle::{Block, Lag};
 use crate::refusal::refusal;
-use crate::stored::by_number;
+use crate::stored::{Stored, by_number};
 use crate::values::{NO_SYSTEM, OK};
-use dataplane::Answering;
 use lagsystem::{BadConfig, Config, Key, NoMemory, PortConfig, System, SystemFault, SystemId};
 use std::alloc::Global;
 
@@ -243,21 +242,16 @@ pub extern "C" fn lagffi_new(
     if config.algorithm > LAST_ALGORITHM {
         return LagMade::no_algorithm();
     }
-    let Some(held) = Held::room(alloc) else {
+    let Some(room) = Block::new(alloc, Stored::under(config.algorithm)) else {
         return LagMade::refused(&SystemFault::NoMemory);
     };
     match system_of(alloc, config, keys, ports) {
         Ok(system) => {
-            let block = Block {
-                held,
-                algorithm: config.algorithm,
-                answering: Answering::nobody_asked(),
-            };
-            lag.put(system, block);
+            lag.put(system, room);
             LagMade::with_status(OK)
         }
         Err(fault) => {
-            held.free();
+            room.free();
             LagMade::refused(&fault)
         }
     }

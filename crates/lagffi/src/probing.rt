@@ -15,8 +15,8 @@ use crate::stored::by_number;
 use crate::values::{CONTROL_FRAME_LENGTH, LagSent, NO_SYSTEM, WRONG_BUFFER_LENGTH};
 use std::alloc::Global;
 
-/// A marker that asks whether the peer of a port answers markers, to be sent now; `frame` has NIW_FRAME octets or more, and is written
-/// only then, at its front. Its `is` is false while the link is down, and where no identifier is left.
+/// A marker that asks whether the peer of a port answers markers, to be sent now, if `is` is true: it is written at the front of `frame`
+/// then, which has NIW_FRAME octets or more. `is` is false while the link is down, and where no identifier is left.
 /// Refuses: NIW_BUFFER, NIW_NO_SYSTEM, NIW_NO_PORT.
 #[unsafe(no_mangle)]
 pub extern "C" fn lagffi_probe(alloc: Global, lag: &mut Lag, port: u16, frame: &mut [u8]) -> LagSent
@@ -36,7 +36,8 @@ pub extern "C" fn lagffi_probe(alloc: Global, lag: &mut Lag, port: u16, frame: &
         return LagSent::refused(NO_SYSTEM);
     };
     let answer = system.probe(port);
-    block.answering.after_transmit(&system, port, &answer);
+    let notes = &mut block.stored.answering;
+    notes.after_transmit(&system, port, &answer);
     lag.put(system, block);
     write_due(&answer, frame);
     LagSent::of(&answer)

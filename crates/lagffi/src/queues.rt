@@ -10,8 +10,9 @@ ghost use Rattle.lagsystem.specs.Faults.{fault_number};
 ghost use Rattle.lagsystem.specs.declared.fault.SystemFault.{SystemFault};
 
 use crate::balancing::MOST_CONVERSATIONS;
-use crate::handle::{Held, LagQueue};
+use crate::handle::{Block, LagQueue};
 use crate::queued::{HOLDS_QUEUE_ALREADY, LagQueueCounts, LagQueued, NO_QUEUE, status_of_put};
+use crate::stored::Stored;
 use crate::values::{LagNumber, NO_CONVERSATION, NO_MEMORY, OK};
 use dataplane::{Holding, Refusal};
 use std::alloc::Global;
@@ -33,26 +34,26 @@ pub extern "C" fn lagffi_queue_new(
     ensures made { queue_value lag.old.held.kept ≡ None → MatchOption (queue_value lag.new.held.kept) (result ≡ fault_number SystemFault.NoMemory)
         (λ h. (h ≡ holding_of (replicate conversations []) in_all each 0 0) × (result ≡ 0)) }
 {
-    if let Some((queue, held)) = lag.take(alloc) {
-        lag.put(queue, held);
+    if let Some((queue, block)) = lag.take(alloc) {
+        lag.put(queue, block);
         return HOLDS_QUEUE_ALREADY;
     }
-    let Some(held) = Held::room(alloc) else {
+    let Some(block) = Block::new(alloc, Stored::under(0)) else {
         return NO_MEMORY;
     };
     match Holding::new(alloc, conversations, in_all, each) {
         Ok(queue) => {
-            lag.put(queue, held);
+            lag.put(queue, block);
             OK
         }
         Err(_) => {
-            held.free();
+            block.free();
             NO_MEMORY
         }
     }
 }
 
-/// Frees the queues of a handle, which is empty then. Of frames that still wait no more is told.
+/// Frees the queues of a handle, which is empty then. It does not tell which frames still waited.
 /// Refuses: NIW_NO_QUEUE.
 #[unsafe(no_mangle)]
 pub extern "C" fn lagffi_queue_free(alloc: Global, lag: &mut LagQueue) -> u32
@@ -60,8 +61,8 @@ pub extern "C" fn lagffi_queue_free(alloc: Global, lag: &mut LagQueue) -> u32
     ensures status { MatchOption (queue_value lag.old.held.kept) (result ≡ no_queue) (λ h. result ≡ 0) }
 {
     match lag.take(alloc) {
-        Some((_, held)) => {
-            held.free();
+        Some((_, block)) => {
+            block.free();
             OK
         }
         None => NO_QUEUE,
@@ -90,11 +91,11 @@ pub extern "C" fn lagffi_queue_put(alloc: Global, lag: &mut LagQueue, conv: u16,
     ensures { CallsQueue (queue_value lag.old.held.kept) (queue_value lag.new.held.kept)
         (λ old new. (new ≡ after (Put conv frame) old) × (result ≡ status_of_put (refusal old conv))) (result ≡ no_queue) }
 {
-    let Some((mut queue, held)) = lag.take(alloc) else {
+    let Some((mut queue, block)) = lag.take(alloc) else {
         return NO_QUEUE;
     };
     let refusal = put_into(&mut queue, conv, frame);
-    lag.put(queue, held);
+    lag.put(queue, block);
     status_of_put(refusal)
 }
 
@@ -105,11 +106,11 @@ pub extern "C" fn lagffi_queue_next(alloc: Global, lag: &mut LagQueue, conv: u16
     ensures { CallsQueue (queue_value lag.old.held.kept) (queue_value lag.new.held.kept)
         (λ old new. (new ≡ after (Next conv) old) × (result ≡ frame_of conv (oldest old conv))) (result ≡ no_frame no_queue) }
 {
-    let Some((mut queue, held)) = lag.take(alloc) else {
+    let Some((mut queue, block)) = lag.take(alloc) else {
         return LagQueued::none(NO_QUEUE);
     };
     let answer = queue.next(conv);
-    lag.put(queue, held);
+    lag.put(queue, block);
     LagQueued::of(conv, answer)
 }
 
@@ -120,11 +121,11 @@ pub extern "C" fn lagffi_queue_drop(alloc: Global, lag: &mut LagQueue, conv: u16
     ensures { CallsQueue (queue_value lag.old.held.kept) (queue_value lag.new.held.kept)
         (λ old new. (new ≡ after (DropOldest conv) old) × (result ≡ frame_of conv (oldest old conv))) (result ≡ no_frame no_queue) }
 {
-    let Some((mut queue, held)) = lag.take(alloc) else {
+    let Some((mut queue, block)) = lag.take(alloc) else {
         return LagQueued::none(NO_QUEUE);
     };
     let answer = queue.drop_oldest(conv);
-    lag.put(queue, held);
+    lag.put(queue, block);
     LagQueued::of(conv, answer)
 }
 
@@ -135,11 +136,11 @@ pub extern "C" fn lagffi_queue_oldest(alloc: Global, lag: &mut LagQueue, conv: u
     ensures { CallsQueue (queue_value lag.old.held.kept) (queue_value lag.new.held.kept)
         (λ old new. (new ≡ old) × (result ≡ frame_of conv (oldest old conv))) (result ≡ no_frame no_queue) }
 {
-    let Some((queue, held)) = lag.take(alloc) else {
+    let Some((queue, block)) = lag.take(alloc) else {
         return LagQueued::none(NO_QUEUE);
     };
     let answer = queue.oldest(conv).copied();
-    lag.put(queue, held);
+    lag.put(queue, block);
     LagQueued::of(conv, answer)
 }
 
@@ -160,11 +161,11 @@ pub extern "C" fn lagffi_queue_next_released(
     if ports.len() > MOST_CONVERSATIONS {
         return LagQueued::none(NO_CONVERSATION);
     }
-    let Some((mut queue, held)) = lag.take(alloc) else {
+    let Some((mut queue, block)) = lag.take(alloc) else {
         return LagQueued::none(NO_QUEUE);
     };
     let answer = queue.next_released(ports);
-    lag.put(queue, held);
+    lag.put(queue, block);
     LagQueued::released(answer)
 }
 
@@ -175,11 +176,11 @@ pub extern "C" fn lagffi_queue_waiting(alloc: Global, lag: &mut LagQueue, conv: 
     ensures { CallsQueue (queue_value lag.old.held.kept) (queue_value lag.new.held.kept)
         (λ old new. (new ≡ old) × (result ≡ number (length (queue old conv)))) (result ≡ number_refused no_queue) }
 {
-    let Some((queue, held)) = lag.take(alloc) else {
+    let Some((queue, block)) = lag.take(alloc) else {
         return LagNumber::refused(NO_QUEUE);
     };
     let answer = queue.waiting(conv) as u64;
-    lag.put(queue, held);
+    lag.put(queue, block);
     LagNumber::answered(answer)
 }
 
@@ -190,10 +191,10 @@ pub extern "C" fn lagffi_queue_counts(alloc: Global, lag: &mut LagQueue) -> LagQ
     ensures { CallsQueue (queue_value lag.old.held.kept) (queue_value lag.new.held.kept)
         (λ old new. (new ≡ old) × (result ≡ counts_of old)) (result ≡ no_counts no_queue) }
 {
-    let Some((queue, held)) = lag.take(alloc) else {
+    let Some((queue, block)) = lag.take(alloc) else {
         return LagQueueCounts::none(NO_QUEUE);
     };
     let answer = LagQueueCounts::of(&queue);
-    lag.put(queue, held);
+    lag.put(queue, block);
     answer
 }

@@ -5,12 +5,12 @@ ghost use Rattle.lagffi.specs.Made.{holds_system_already, made_with_status, refu
 ghost use Rattle.lagffi.specs.Resuming.{IsNotResumed, IsResumedOf, MayNotResume, not_resumed};
 ghost use Rattle.lagffi.specs.Algorithms.{is_algorithm};
 
-use crate::handle::{Block, Held, Lag};
+use crate::handle::{Block, Lag};
 use crate::made::{HOLDS_SYSTEM_ALREADY, LAST_ALGORITHM, LagConfig, LagMade, LagPort, config_of};
 use crate::refusal::refusal;
-use crate::stored::by_number;
+use crate::stored::{Stored, by_number};
 use crate::values::OK;
-use dataplane::{Answering, ResumeFault, SavedPort, resume};
+use dataplane::{ResumeFault, SavedPort, resume};
 use lagsystem::{System, SystemFault};
 use std::alloc::Global;
 
@@ -63,9 +63,9 @@ fn resumed(
 // promise: `lagffi_resume` puts the system of a warm start into an empty handle; else the handle stays as it was, with 14 if it holds one,
 //    what `lagffi_new` refuses, or the port that `resume` refuses
 // contract: `lagffi_resume` (`resumed`: `IsResumedOf`, `MayNotResume`; `live`)
-/// A warm start: puts a system into an empty handle whose saved ports distribute, and tell their peers nothing new. `first_marker` is
-/// niw_next_marker of the system before it, or higher. No frame is to be sent before; every conversation is free. It wants one LACPDU of
-/// each port that distributed. `place` has the port that is refused.
+/// A warm start: puts a system into an empty handle whose saved ports distribute, and tell their peers nothing new. `saved` has the last
+/// LACPDU of each port that distributed in the system before it. `first_marker` is niw_next_marker of that one, or higher. The ports send
+/// nothing between the two systems; every conversation is free. `place` of the answer has the port that is refused.
 /// Refuses: NIW_HAS_SYSTEM, NIW_BAD_CONFIG, NIW_NO_MEMORY, NIW_STALE, NIW_NOT_DISTRIBUTING.
 #[unsafe(no_mangle)]
 pub extern "C" fn lagffi_resume(
@@ -93,21 +93,16 @@ pub extern "C" fn lagffi_resume(
     if config.algorithm > LAST_ALGORITHM {
         return LagMade::no_algorithm();
     }
-    let Some(held) = Held::room(alloc) else {
+    let Some(room) = Block::new(alloc, Stored::under(config.algorithm)) else {
         return LagMade::refused(&SystemFault::NoMemory);
     };
     match resumed(alloc, config, keys, ports, saved) {
         Ok(system) => {
-            let block = Block {
-                held,
-                algorithm: config.algorithm,
-                answering: Answering::nobody_asked(),
-            };
-            lag.put(system, block);
+            lag.put(system, room);
             LagMade::with_status(OK)
         }
         Err(refused) => {
-            held.free();
+            room.free();
             refused
         }
     }

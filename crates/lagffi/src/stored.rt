@@ -1,12 +1,13 @@
-ghost use Rattle.std.specs.Prelude.{◌≡◌, None, Some};
+ghost use Rattle.std.specs.Prelude.{◌≡◌};
+ghost use Rattle.dataplane.specs.Notes.{nobody_asked};
 ghost use Rattle.distributor.specs.Calls.{index_by_number};
 ghost use Rattle.lagffi.specs.Algorithms.{index_by_sum};
 
 use dataplane::{Answering, Holding};
 use lagsystem::System;
 
-/// What the block of a handle keeps, taken out while a call goes on: a system with no algorithm, so that its type names none, or the
-/// queues of frames that wait.
+/// What the block of a handle keeps: a system with no algorithm, so that its type names none, or the queues of frames that wait. They are
+/// taken out while a call goes on.
 #[derive(Drop)]
 pub struct Stored {
     pub(crate) system: Option<System<()>>,
@@ -19,29 +20,16 @@ pub struct Stored {
 }
 
 impl Stored {
-    /// Neither a system nor queues.
-    pub(crate) fn nothing() -> Stored
-        ensures system { result.system ≡ None }
-        ensures queue { result.queue ≡ None }
+    /// Neither a system nor queues; no peer was asked.
+    pub(crate) fn under(algorithm: u16) -> Stored
+        ensures algorithm { result.algorithm ≡ algorithm }
+        ensures answering { result.answering ≡ nobody_asked }
     {
         Stored {
             system: None,
-            algorithm: 0,
+            algorithm,
             answering: Answering::nobody_asked(),
             queue: None,
-        }
-    }
-
-    /// Queues alone.
-    pub(crate) fn of_queue(queue: Holding<u64>) -> Stored
-        ensures system { result.system ≡ None }
-        ensures queue { result.queue ≡ Some queue }
-    {
-        Stored {
-            system: None,
-            algorithm: 0,
-            answering: Answering::nobody_asked(),
-            queue: Some(queue),
         }
     }
 }

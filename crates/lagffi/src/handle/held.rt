@@ -1,4 +1,4 @@
-ghost use Rattle.std.specs.Prelude.{◌≡◌, IfSome, Option, None, Some, IsTrue, is_some};
+ghost use Rattle.std.specs.Prelude.{◌≡◌, Option, None, Some, IsTrue, is_some};
 ghost use Rattle.lagffi.specs.Owned.{held_owns, kept_coded};
 ghost use Rattle.lagffi.specs.declared.stored.Stored.{Stored};
 
@@ -9,7 +9,7 @@ use std::marker::Model;
 use std::ptr::null_mut;
 
 /// The block of what a handle keeps, or none. Its type names neither a system nor a queue, as C has to see it. Only an empty one may
-/// be dropped: a block goes by `free`.
+/// be dropped: a block goes by `Block::free`.
 #[repr(C)]
 pub struct Held {
     ptr: *mut u8,
@@ -26,7 +26,7 @@ unsafe impl Send for Held {}
 
 impl Drop for Held {
     // promise: each block is freed or kept in a handle, whose flag tells whether it keeps one
-    // contract: `drop` of `Held`, `Parts::free`; `tells`, `full` of `Lag`
+    // contract: `drop` of `Held`, `emptied`; `tells`, `full` of `Lag`
     // not said: that a box which `Box::into_inner` empties goes to `free`: std's `Box` is trusted
     fn drop(self)
         requires { self.kept ≡ None }
@@ -43,16 +43,6 @@ impl Held {
         Held {
             ptr: null_mut(),
             alloc,
-        }
-    }
-
-    /// A block that keeps nothing yet, if memory is not refused.
-    pub(crate) fn room(alloc: Global) -> Option<Held>
-        ensures { IfSome result (λ held. IsTrue (is_some held.kept)) }
-    {
-        match Box::new(alloc, Stored::nothing()) {
-            Ok(block) => Some(Held::of_parts(Parts::of(block))),
-            Err(_) => None,
         }
     }
 
@@ -79,20 +69,18 @@ impl Held {
         }
     }
 
-    /// Keeps this in the block, and hands out what was there.
-    pub(super) fn replace(self, stored: Stored) -> (Stored, Held)
-        requires { IsTrue (is_some self.kept) }
-        ensures out { self.kept ≡ Some result.0 }
-        ensures kept { result.1.kept ≡ Some stored }
+    /// Holds a block.
+    pub(super) fn of_box(block: Box<Stored, Global>) -> Held
+        ensures { result.kept ≡ Some block.value }
     {
-        let (old, parts) = self.into_parts().replace(stored);
-        (old, Held::of_parts(parts))
+        Held::of_parts(Parts::of(block))
     }
 
-    /// Frees the block, and what it keeps.
-    pub(crate) fn free(self)
+    /// Hands out the block that it holds.
+    pub(super) fn into_box(self) -> Box<Stored, Global>
         requires { IsTrue (is_some self.kept) }
+        ensures { self.kept ≡ Some result.value }
     {
-        drop(self.into_parts().free());
+        self.into_parts().into_box()
     }
 }

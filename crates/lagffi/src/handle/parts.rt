@@ -4,7 +4,7 @@ ghost use Rattle.std.specs.Box.Ownership.{box_owns};
 use std::alloc::Allocator;
 use std::marker::Model;
 
-/// A box as its pointer and its allocator. It may not be dropped, so that its block is freed or handed on.
+/// A box as its pointer and its allocator. It may not be dropped, so that its block is handed on.
 pub(crate) struct Parts<T, A: Allocator> {
     pub(super) ptr: *mut T,
     pub(super) alloc: A,
@@ -27,29 +27,10 @@ impl<T, A: Allocator> Parts<T, A> {
     }
 
     /// Makes the box again.
-    fn into_box(self) -> Box<T, A>
+    pub(super) fn into_box(self) -> Box<T, A>
         ensures { result.value ≡ self.value }
     {
         let Parts { ptr, alloc } = self;
         unsafe { Box::from_raw(alloc, ptr) }
-    }
-
-    /// Puts another value into the block, and hands out the one that was there.
-    pub(super) fn replace(self, value: T) -> (T, Parts<T, A>)
-    where
-        T: Drop,
-        ensures out { result.0 ≡ self.value }
-        ensures value { result.1.value ≡ value }
-    {
-        let mut block = self.into_box();
-        let old = Box::replace(&mut block, value);
-        (old, Parts::of(block))
-    }
-
-    /// Frees the block, and hands out its value. A `T` need not be `Drop`, so a body can't let go of the box instead.
-    pub(super) fn free(self) -> T
-        ensures { result ≡ self.value }
-    {
-        Box::into_inner(self.into_box())
     }
 }

@@ -1,8 +1,7 @@
-ghost use Rattle.std.specs.Prelude.{◌≡◌, IfSome, IsTrue, MatchOption, None, Some, is_some};
+ghost use Rattle.std.specs.Prelude.{◌≡◌, MatchOption, None, Some, is_some};
 ghost use Rattle.lagffi.specs.Queues.{queue_value};
 
-use super::Held;
-use crate::stored::Stored;
+use super::{Block, Held};
 use dataplane::Holding;
 use std::alloc::Global;
 use std::mem::replace;
@@ -18,9 +17,8 @@ pub struct LagQueue {
 
 impl LagQueue {
     /// Takes the queues out, beside their block; None if the handle holds none.
-    pub(crate) fn take(&mut self, alloc: Global) -> Option<(Holding<u64>, Held)>
+    pub(crate) fn take(&mut self, alloc: Global) -> Option<(Holding<u64>, Block)>
         ensures taken { MatchOption result (queue_value self.old.held.kept ≡ None) (λ taken. queue_value self.old.held.kept ≡ Some taken.0) }
-        ensures block { IfSome result (λ taken. IsTrue (is_some taken.1.kept)) }
         ensures left { self.new.held.kept ≡ None }
     {
         let empty = LagQueue {
@@ -31,32 +29,28 @@ impl LagQueue {
         if !live {
             return None;
         }
-        let (stored, held) = held.replace(Stored::nothing());
-        let Stored {
-            system,
-            algorithm: _,
-            answering: _,
-            queue,
-        } = stored;
-        drop(system);
-        match queue {
-            Some(queue) => Some((queue, held)),
+        let mut stored = held.into_box();
+        match stored.queue.take() {
+            Some(queue) => Some((queue, Block { stored })),
             None => unreachable!(),
         }
     }
 
     /// Puts queues into the empty handle, with a block for them.
-    pub(crate) fn put(&mut self, queue: Holding<u64>, held: Held)
-        requires empty { self.old.held.kept ≡ None }
-        requires block { IsTrue (is_some held.kept) }
+    pub(crate) fn put(&mut self, queue: Holding<u64>, block: Block)
+        requires { self.old.held.kept ≡ None }
         ensures { queue_value self.new.held.kept ≡ Some queue }
     {
-        let (old, held) = held.replace(Stored::of_queue(queue));
-        drop(old);
+        let Block { mut stored } = block;
+        stored.queue = Some(queue);
+        let full = LagQueue {
+            live: true,
+            held: Held::of_box(stored),
+        };
         let LagQueue {
             live: _,
             held: none,
-        } = replace(self, LagQueue { live: true, held });
+        } = replace(self, full);
         drop(none);
     }
 }
