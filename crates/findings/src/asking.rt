@@ -1,10 +1,10 @@
-ghost use Rattle.std.specs.Prelude.{◌≡◌, ◌∷◌, List};
+ghost use Rattle.std.specs.Prelude.{◌≡◌, ◌∷◌, List, if◌then◌else◌};
 ghost use Rattle.std.specs.Option.{option_or};
 ghost use Rattle.findings.specs.declared.slow_frame.SlowFrame.{SlowFrame};
 ghost use Rattle.findings.specs.Ends.{end_of, same_end};
 ghost use Rattle.findings.specs.Markers.{asked_in, asking, is_response_to, marker_in, overdue, response_in, unless_answered};
 
-use crate::finding::Shown;
+use crate::finding::{Shown, keep_first};
 use crate::recent::{SHORT_TIMEOUT, is_over};
 use crate::slow_frame::{LinkEnd, SlowFrame, What};
 use slowpdu::{Marker, MarkerKind};
@@ -82,19 +82,37 @@ pub(crate) fn question(now: &SlowFrame) -> Option<Asked>
     }
 }
 
-/// The marker, unless the frame of another end is the response to it.
-fn unless_answered(end: &LinkEnd, now: &SlowFrame, waiting: Option<Asked>) -> Option<Asked>
-    ensures { result ≡ unless_answered end.now now.now (response_in now.now.what) waiting }
+/// Keeps the marker in the frame, if there is one; else the one before.
+pub(crate) fn keep_asked(asked: &mut Option<Asked>, question: Option<Asked>)
+    ensures { asked.new ≡ option_or question asked.old }
 {
-    match (now.what.response(), waiting) {
-        (Some(response), Some(asked)) => {
-            if now.interface == end.interface && asked.is_answered_by(&response) {
-                None
-            } else {
-                Some(asked)
-            }
-        }
-        _ => waiting,
+    if question.is_some() {
+        *asked = question;
+    }
+}
+
+/// Keeps the marker, unless the frame of another end is the response to it.
+fn keep_unless_answered(end: &LinkEnd, now: &SlowFrame, waiting: &mut Option<Asked>)
+    ensures { waiting.new ≡ unless_answered end.now now.now (response_in now.now.what) waiting.old }
+{
+    if let Some(response) = now.what.response()
+        && let Some(asked) = *waiting
+        && now.interface == end.interface
+        && asked.is_answered_by(&response)
+    {
+        *waiting = None;
+    }
+}
+
+/// Keeps the marker that waits behind one more frame, of this end or another.
+fn keep_waiting(end: &LinkEnd, is_own: bool, now: &SlowFrame, waiting: &mut Option<Asked>)
+    ensures { waiting.new ≡ (if is_own then option_or (asked_in now.now (marker_in now.now.what)) waiting.old
+        else unless_answered end.now now.now (response_in now.now.what) waiting.old) }
+{
+    if is_own {
+        keep_asked(waiting, question(now));
+    } else {
+        keep_unless_answered(end, now, waiting);
     }
 }
 
@@ -119,20 +137,14 @@ impl Asking {
         }
     }
 
-    /// What is known of the markers of this end after one more frame, of this end or another.
-    pub(crate) fn with(&self, end: &LinkEnd, is_own: bool, now: &SlowFrame) -> Asking
-        ensures { (h : List SlowFrame) → same_end (end_of now.now) end.now ≡ is_own → self.now ≡ asking end.now h
-            → result ≡ asking end.now (now.now ∷ h) }
+    /// Takes one more frame, of this end or another.
+    pub(crate) fn see(&mut self, end: &LinkEnd, is_own: bool, now: &SlowFrame)
+        ensures { (h : List SlowFrame) → same_end (end_of now.now) end.now ≡ is_own → self.old ≡ asking end.now h
+            → self.new ≡ asking end.now (now.now ∷ h) }
     {
-        let waiting = if is_own {
-            question(now).or(self.waiting)
-        } else {
-            unless_answered(end, now, self.waiting)
-        };
-        Asking {
-            waiting,
-            overdue: self.overdue.or(self.late(now.nanoseconds)),
-        }
+        let late = self.late(now.nanoseconds);
+        keep_first(&mut self.overdue, late);
+        keep_waiting(end, is_own, now, &mut self.waiting);
     }
 
     /// The first marker without a response in time, in a capture that goes up to this time.

@@ -1,4 +1,5 @@
 ghost use Rattle.std.specs.Prelude.{◌≡◌};
+ghost use Rattle.std.specs.Option.{option_or};
 ghost use Rattle.findings.specs.Firsts.{earlier_or, finding_of};
 
 use crate::rule::Rule;
@@ -27,14 +28,21 @@ pub struct Finding {
     pub shown: Shown,
 }
 
-/// The earlier one if there is one; else this one, if it shows the rule.
-pub(crate) fn earlier_or(earlier: Option<Shown>, holds: bool, now: Shown) -> Option<Shown>
-    ensures { result ≡ earlier_or earlier holds now }
+/// Keeps the earlier one if there is one; else this one, if it shows the rule.
+pub(crate) fn keep_earlier(earlier: &mut Option<Shown>, holds: bool, now: &Shown)
+    ensures { earlier.new ≡ earlier_or earlier.old holds now.now }
 {
-    match earlier {
-        Some(shown) => Some(shown),
-        None if holds => Some(now),
-        None => None,
+    if earlier.is_none() && holds {
+        *earlier = Some(*now);
+    }
+}
+
+/// Keeps the first one, if there is one; else the other.
+pub(crate) fn keep_first(first: &mut Option<Shown>, other: Option<Shown>)
+    ensures { first.new ≡ option_or first.old other }
+{
+    if first.is_none() {
+        *first = other;
     }
 }
 

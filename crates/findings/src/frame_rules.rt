@@ -4,7 +4,7 @@ ghost use Rattle.findings.specs.Firsts.{shown_frame};
 ghost use Rattle.findings.specs.Holds.{has_other_destination, has_other_length, has_other_source, has_other_types, has_other_version, has_reserved, is_read};
 ghost use Rattle.findings.specs.KeptEnds.{frame_rules};
 
-use crate::finding::{Shown, earlier_or};
+use crate::finding::{Shown, keep_earlier};
 use crate::slow_frame::{SlowFrame, What};
 
 /// The Slow_Protocols_Multicast address (6.4.2.2).
@@ -93,19 +93,17 @@ impl SlowFrame {
 }
 
 impl FrameRules {
-    /// The first frame that shows each rule, after one more frame.
-    pub(crate) fn with(&self, now: &SlowFrame) -> FrameRules
-        ensures { (l : List SlowFrame) → self.now ≡ frame_rules l → result ≡ frame_rules (now.now ∷ l) }
+    /// Keeps the first frame that shows each rule, after one more frame.
+    pub(crate) fn see(&mut self, now: &SlowFrame)
+        ensures { (l : List SlowFrame) → self.old ≡ frame_rules l → self.new ≡ frame_rules (now.now ∷ l) }
     {
         let shown = now.shown();
-        FrameRules {
-            version: earlier_or(self.version, now.has_other_version(), shown),
-            length: earlier_or(self.length, now.has_other_length(), shown),
-            reserved: earlier_or(self.reserved, now.has_reserved(), shown),
-            destination: earlier_or(self.destination, now.has_other_destination(), shown),
-            tag: earlier_or(self.tag, now.tags > 0, shown),
-            types: earlier_or(self.types, now.has_other_types(), shown),
-            source: earlier_or(self.source, now.has_other_source(), shown),
-        }
+        keep_earlier(&mut self.version, now.has_other_version(), &shown);
+        keep_earlier(&mut self.length, now.has_other_length(), &shown);
+        keep_earlier(&mut self.reserved, now.has_reserved(), &shown);
+        keep_earlier(&mut self.destination, now.has_other_destination(), &shown);
+        keep_earlier(&mut self.tag, now.tags > 0, &shown);
+        keep_earlier(&mut self.types, now.has_other_types(), &shown);
+        keep_earlier(&mut self.source, now.has_other_source(), &shown);
     }
 }

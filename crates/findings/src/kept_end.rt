@@ -1,10 +1,9 @@
 ghost use Rattle.std.specs.Prelude.{◌≡◌, ◌∷◌, [], true, false, List};
 ghost use Rattle.findings.specs.declared.slow_frame.SlowFrame.{SlowFrame};
-ghost use Rattle.findings.specs.Ends.{end_of, others, same_end};
+ghost use Rattle.findings.specs.Ends.{end_of, same_end};
 ghost use Rattle.findings.specs.Firsts.{first_of, unless_faced};
 ghost use Rattle.findings.specs.Knows.{Takes};
 ghost use Rattle.findings.specs.Orders.{order_of};
-ghost use Rattle.findings.specs.Responses.{responding};
 ghost use Rattle.findings.specs.KeptEnds.{kept_end};
 
 use crate::asking::Asking;
@@ -52,60 +51,24 @@ impl KeptEnd {
         }
     }
 
-    /// What is known of this end after one more frame that it sent.
-    fn with_own(&self, now: &SlowFrame) -> KeptEnd
-        ensures end { result.end ≡ self.now.end }
-        ensures exact { (h : List SlowFrame) → same_end (end_of now.now) self.now.end ≡ true → self.now ≡ kept_end self.now.end h
-            → result ≡ kept_end self.now.end (now.now ∷ h) }
+    /// Takes one more frame that this end sent.
+    fn see_own(&mut self, now: &SlowFrame)
+        ensures end { self.new.end ≡ self.old.end }
+        ensures exact { (h : List SlowFrame) → same_end (end_of now.now) self.old.end ≡ true → self.old ≡ kept_end self.old.end h
+            → self.new ≡ kept_end self.old.end (now.now ∷ h) }
     {
-        let frames = self.frames.with(now);
-        let asking = self.asking.with(&self.end, true, now);
-        match now.what.lacpdu() {
-            Some(pdu) => {
-                let heard = Heard {
-                    number: now.number,
-                    nanoseconds: now.nanoseconds,
-                    pdu,
-                    others: self.others,
-                };
-                KeptEnd {
-                    end: self.end,
-                    said: Some(pdu),
-                    asking,
-                    responding: self.responding,
-                    others: self.others,
-                    recent: self.recent.with(&heard),
-                    lacpdus: self.lacpdus.with(&self.recent, &heard),
-                    frames,
-                }
-            }
-            None => KeptEnd {
-                asking,
-                frames,
-                ..*self
-            },
-        }
-    }
-
-    /// What is known of other ends behind one more frame of another end.
-    fn others_with(&self, now: &SlowFrame) -> Others
-        ensures { (h : List SlowFrame) → same_end (end_of now.now) self.now.end ≡ false → self.now ≡ kept_end self.now.end h
-            → result ≡ others self.now.end (now.now ∷ h) }
-    {
-        match (self.said, now.what.lacpdu()) {
-            (Some(own), Some(pdu)) => self.others.with(&self.end, &own, now, &pdu),
-            _ => self.others,
-        }
-    }
-
-    /// What is known of the responses of this end after one more frame of another end.
-    fn responding_with(&self, now: &SlowFrame) -> Responding
-        ensures { (h : List SlowFrame) → same_end (end_of now.now) self.now.end ≡ false → self.now ≡ kept_end self.now.end h
-            → result ≡ responding self.now.end (now.now ∷ h) }
-    {
-        match self.said {
-            Some(_) => self.responding.with(&self.end, now),
-            None => self.responding,
+        self.frames.see(now);
+        self.asking.see(&self.end, true, now);
+        if let Some(pdu) = now.what.lacpdu() {
+            let heard = Heard {
+                number: now.number,
+                nanoseconds: now.nanoseconds,
+                pdu,
+                others: self.others,
+            };
+            self.lacpdus.hear(&self.recent, &heard);
+            self.recent = self.recent.with(&heard);
+            self.said = Some(pdu);
         }
     }
 
@@ -114,14 +77,11 @@ impl KeptEnd {
         ensures { Takes now.now self.old self.new }
     {
         if now.end().is(&self.end) {
-            *self = self.with_own(now);
+            self.see_own(now);
         } else {
-            let asking = self.asking.with(&self.end, false, now);
-            let others = self.others_with(now);
-            let responding = self.responding_with(now);
-            self.asking = asking;
-            self.responding = responding;
-            self.others = others;
+            self.asking.see(&self.end, false, now);
+            self.others.see(&self.end, &self.said, now);
+            self.responding.see(&self.end, &self.said, now);
         }
     }
 

@@ -2,7 +2,7 @@ ghost use Rattle.std.specs.Prelude.{◌≡◌, ◌∷◌, List};
 ghost use Rattle.findings.specs.declared.recent.Heard.{Heard};
 ghost use Rattle.findings.specs.KeptEnds.{recent_of, lacpdu_rules};
 
-use crate::finding::{Shown, earlier_or};
+use crate::finding::{Shown, keep_earlier};
 use crate::recent::{Heard, Recent};
 
 /// The first LACPDU of an end that shows each rule of LACPDUs.
@@ -28,29 +28,31 @@ pub(crate) struct LacpduRules {
 }
 
 impl LacpduRules {
-    /// The first LACPDU that shows each rule, after one more LACPDU; `recent` has those that came before it.
-    pub(crate) fn with(&self, recent: &Recent, now: &Heard) -> LacpduRules
-        ensures { (l : List Heard) → recent.now ≡ recent_of l → self.now ≡ lacpdu_rules l → result ≡ lacpdu_rules (now.now ∷ l) }
+    /// Keeps the first LACPDU that shows each rule, after one more LACPDU; `recent` has those that came before it.
+    pub(crate) fn hear(&mut self, recent: &Recent, now: &Heard)
+        ensures { (l : List Heard) → recent.now ≡ recent_of l → self.old ≡ lacpdu_rules l → self.new ≡ lacpdu_rules (now.now ∷ l) }
     {
         let shown = now.shown();
-        LacpduRules {
-            rate: earlier_or(self.rate, recent.is_rushed(now), shown),
-            system: earlier_or(self.system, recent.has_other_system(now), shown),
-            port: earlier_or(self.port, recent.has_other_port(now), shown),
-            key: earlier_or(self.key, recent.has_other_key(now), shown),
-            passive: earlier_or(self.passive, now.is_passive(), shown),
-            silence: earlier_or(self.silence, recent.is_late(now), shown),
-            unheard: earlier_or(self.unheard, recent.is_unheard(now), shown),
-            desynchronized: earlier_or(self.desynchronized, recent.is_desynchronized(now), shown),
-            individual: earlier_or(self.individual, now.is_individual(), shown),
-            keys: earlier_or(self.keys, recent.has_other_keys(now), shown),
-            segment: earlier_or(self.segment, now.has_rival(), shown),
-            discarded: earlier_or(self.discarded, recent.is_discarded(now), shown),
-            one_way: earlier_or(self.one_way, recent.is_one_way(now), shown),
-            attached: earlier_or(self.attached, recent.is_attached(now), shown),
-            relapsing: earlier_or(self.relapsing, recent.is_relapsing(now), shown),
-            third: earlier_or(self.third, recent.has_third(now), shown),
-            hasty: earlier_or(self.hasty, recent.is_hasty(now), shown),
-        }
+        keep_earlier(&mut self.rate, recent.is_rushed(now), &shown);
+        keep_earlier(&mut self.system, recent.has_other_system(now), &shown);
+        keep_earlier(&mut self.port, recent.has_other_port(now), &shown);
+        keep_earlier(&mut self.key, recent.has_other_key(now), &shown);
+        keep_earlier(&mut self.passive, now.is_passive(), &shown);
+        keep_earlier(&mut self.silence, recent.is_late(now), &shown);
+        keep_earlier(&mut self.unheard, recent.is_unheard(now), &shown);
+        keep_earlier(
+            &mut self.desynchronized,
+            recent.is_desynchronized(now),
+            &shown,
+        );
+        keep_earlier(&mut self.individual, now.is_individual(), &shown);
+        keep_earlier(&mut self.keys, recent.has_other_keys(now), &shown);
+        keep_earlier(&mut self.segment, now.has_rival(), &shown);
+        keep_earlier(&mut self.discarded, recent.is_discarded(now), &shown);
+        keep_earlier(&mut self.one_way, recent.is_one_way(now), &shown);
+        keep_earlier(&mut self.attached, recent.is_attached(now), &shown);
+        keep_earlier(&mut self.relapsing, recent.is_relapsing(now), &shown);
+        keep_earlier(&mut self.third, recent.has_third(now), &shown);
+        keep_earlier(&mut self.hasty, recent.is_hasty(now), &shown);
     }
 }

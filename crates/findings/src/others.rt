@@ -1,6 +1,7 @@
-ghost use Rattle.std.specs.Prelude.{◌≡◌, Some, None, if◌then◌else◌};
+ghost use Rattle.std.specs.Prelude.{◌≡◌, ◌∷◌, List, Some, None, false, if◌then◌else◌};
 ghost use Rattle.std.specs.Option.{option_or};
-ghost use Rattle.findings.specs.Ends.{answers, faces, intrudes, is_heard, is_named, is_sibling, names, related, rivals};
+ghost use Rattle.findings.specs.declared.slow_frame.SlowFrame.{SlowFrame};
+ghost use Rattle.findings.specs.Ends.{answers, end_of, faces, intrudes, is_heard, is_named, is_sibling, names, others, related, rivals, said, same_end};
 
 use crate::slow_frame::{LinkEnd, SlowFrame};
 use slowpdu::{Info, Lacpdu};
@@ -90,35 +91,47 @@ fn is_named(end: &LinkEnd, own: &Lacpdu, now: &SlowFrame, pdu: &Lacpdu) -> bool
     now.interface == end.interface && pdu.actor.system == own.partner.system
 }
 
-/// The new one if it is related, else the one before.
-fn latest(is_related: bool, now: Other, before: Option<Other>) -> Option<Other>
-    ensures { result ≡ option_or (if is_related then Some now else None) before }
+/// Keeps the new one if it is related, else the one before.
+fn keep_latest(latest: &mut Option<Other>, is_related: bool, now: &Other)
+    ensures { latest.new ≡ option_or (if is_related then Some now.now else None) latest.old }
 {
-    if is_related { Some(now) } else { before }
+    if is_related {
+        *latest = Some(*now);
+    }
 }
 
 impl Others {
-    /// The latest ones behind one more LACPDU of another end.
-    pub(crate) fn with(&self, end: &LinkEnd, own: &Lacpdu, now: &SlowFrame, pdu: &Lacpdu) -> Others
-        ensures answer { result.answer ≡ option_or (related answers end.now now.now (Some own.now) (Some pdu.now)) self.now.answer }
-        ensures rival { result.rival ≡ option_or (related rivals end.now now.now (Some own.now) (Some pdu.now)) self.now.rival }
-        ensures facing { result.facing ≡ option_or (related faces end.now now.now (Some own.now) (Some pdu.now)) self.now.facing }
-        ensures third { result.third ≡ option_or (related intrudes end.now now.now (Some own.now) (Some pdu.now)) self.now.third }
-        ensures named { result.named ≡ option_or (related is_named end.now now.now (Some own.now) (Some pdu.now)) self.now.named }
-        ensures sibling { result.sibling ≡ option_or (related is_sibling end.now now.now (Some own.now) (Some pdu.now)) self.now.sibling }
+    /// Keeps the latest ones behind one more LACPDU of another end.
+    fn keep(&mut self, end: &LinkEnd, own: &Lacpdu, now: &SlowFrame, pdu: &Lacpdu)
+        ensures answer { self.new.answer ≡ option_or (related answers end.now now.now (Some own.now) (Some pdu.now)) self.old.answer }
+        ensures rival { self.new.rival ≡ option_or (related rivals end.now now.now (Some own.now) (Some pdu.now)) self.old.rival }
+        ensures facing { self.new.facing ≡ option_or (related faces end.now now.now (Some own.now) (Some pdu.now)) self.old.facing }
+        ensures third { self.new.third ≡ option_or (related intrudes end.now now.now (Some own.now) (Some pdu.now)) self.old.third }
+        ensures named { self.new.named ≡ option_or (related is_named end.now now.now (Some own.now) (Some pdu.now)) self.old.named }
+        ensures sibling { self.new.sibling ≡ option_or (related is_sibling end.now now.now (Some own.now) (Some pdu.now)) self.old.sibling }
     {
         let other = Other {
             end: now.end(),
             nanoseconds: now.nanoseconds,
             pdu: *pdu,
         };
-        Others {
-            answer: latest(answers(end, own, now, pdu), other, self.answer),
-            rival: latest(rivals(end, own, now, pdu), other, self.rival),
-            sibling: latest(is_sibling(end, own, now, pdu), other, self.sibling),
-            facing: latest(now.interface == end.interface, other, self.facing),
-            third: latest(intrudes(end, own, now, pdu), other, self.third),
-            named: latest(is_named(end, own, now, pdu), other, self.named),
+        keep_latest(&mut self.answer, answers(end, own, now, pdu), &other);
+        keep_latest(&mut self.rival, rivals(end, own, now, pdu), &other);
+        keep_latest(&mut self.sibling, is_sibling(end, own, now, pdu), &other);
+        keep_latest(&mut self.facing, now.interface == end.interface, &other);
+        keep_latest(&mut self.third, intrudes(end, own, now, pdu), &other);
+        keep_latest(&mut self.named, is_named(end, own, now, pdu), &other);
+    }
+
+    /// Takes one more frame of another end; `own` is what this end said last.
+    pub(crate) fn see(&mut self, end: &LinkEnd, own: &Option<Lacpdu>, now: &SlowFrame)
+        ensures { (h : List SlowFrame) → same_end (end_of now.now) end.now ≡ false → own.now ≡ said end.now h → self.old ≡ others end.now h
+            → self.new ≡ others end.now (now.now ∷ h) }
+    {
+        if let Some(own) = own
+            && let Some(pdu) = now.what.lacpdu()
+        {
+            self.keep(end, own, now, &pdu);
         }
     }
 }

@@ -5,11 +5,11 @@ ghost use Rattle.findings.specs.Counts.{counted};
 ghost use Rattle.findings.specs.Responses.{asks, is_of_requester, is_overdue, is_unasked, if_response_is, owed_with, responding, responds};
 ghost use Rattle.std.specs.Prelude.{false, true};
 
-use crate::asking::{Asked, question};
-use crate::finding::Shown;
+use crate::asking::{Asked, keep_asked, question};
+use crate::finding::{Shown, keep_first};
 use crate::recent::{SHORT_TIMEOUT, is_over};
 use crate::slow_frame::{LinkEnd, SlowFrame};
-use slowpdu::Marker;
+use slowpdu::{Lacpdu, Marker};
 
 /// What an end was asked by markers, and how it responds.
 #[derive(Clone, Copy, Debug, Default, PartialEq, Eq)]
@@ -133,19 +133,28 @@ impl Responding {
         }
     }
 
-    /// What is known of the responses of this end after one more frame. The end has sent an LACPDU before, and the frame is
-    /// none of its LACPDUs and markers.
-    pub(crate) fn with(&self, end: &LinkEnd, now: &SlowFrame) -> Responding
-        ensures { (h : List SlowFrame) → same_end (end_of now.now) end.now ≡ false → is_some (said end.now h) ≡ true → self.now ≡ responding end.now h
-            → result ≡ responding end.now (now.now ∷ h) }
+    /// Takes one more frame. The end has sent an LACPDU before, and the frame is none of its LACPDUs and markers.
+    fn see_later(&mut self, end: &LinkEnd, now: &SlowFrame)
+        ensures { (h : List SlowFrame) → same_end (end_of now.now) end.now ≡ false → is_some (said end.now h) ≡ true → self.old ≡ responding end.now h
+            → self.new ≡ responding end.now (now.now ∷ h) }
     {
         let request = asks(end, now);
         let response = responds(end, now);
-        Responding {
-            request: request.or(self.request),
-            owed: owed_with(request, response, self.owed),
-            unasked: self.unasked.or(self.unasked_in(now, response)),
-            late: self.late.or(self.late_in(now, response)),
+        let unasked = self.unasked_in(now, response);
+        let late = self.late_in(now, response);
+        keep_first(&mut self.unasked, unasked);
+        keep_first(&mut self.late, late);
+        self.owed = owed_with(request, response, self.owed);
+        keep_asked(&mut self.request, request);
+    }
+
+    /// Takes one more frame, which is none of the LACPDUs and markers of this end; `own` is what this end said last.
+    pub(crate) fn see(&mut self, end: &LinkEnd, own: &Option<Lacpdu>, now: &SlowFrame)
+        ensures { (h : List SlowFrame) → same_end (end_of now.now) end.now ≡ false → own.now ≡ said end.now h → self.old ≡ responding end.now h
+            → self.new ≡ responding end.now (now.now ∷ h) }
+    {
+        if own.is_some() {
+            self.see_later(end, now);
         }
     }
 }

@@ -1,8 +1,9 @@
-"""The built program beside tcpdump and tshark: `check` of 100,000 frames, `replay` of 100,000 events. What each prints is compared
-with what it should print, worked out here. A time is the CPU time of the process, the least of some runs."""
+"""The built program beside tcpdump and tshark: `check` and `capture` of 100,000 frames, `replay` of 100,000 events. What each prints is
+compared with what it should print, worked out here. A time is the CPU time of the process, the least of some runs."""
 
 from __future__ import annotations
 
+import itertools
 import os
 import shutil
 import struct
@@ -16,6 +17,8 @@ COUNT = 100_000
 # A row of the table: a program, its seconds if it is here, and how many runs were wrong.
 Row = tuple[str, Optional[float], int]
 HEADER = bytes.fromhex("0180c20000020200000000098809")
+# tcpdump gives up root only if it is not told to keep it.
+AS_ROOT = ["-Z", "root"] if os.geteuid() == 0 else []
 RUNS = 5
 # The first entries of a script, and their replies: two switches with two cables come up.
 COMING_UP = [
@@ -53,13 +56,13 @@ def end_of(system: int, port: int) -> bytes:
     return struct.pack(">H6sHHHB", 0x8000, bytes([2, 0, 0, 0, 0, system]), 1, 128, port, 0x3D)
 
 
-def lacpdu(port: int) -> bytes:
-    parts = bytes([1, 1, 1, 20]) + end_of(9, port) + bytes(3) + bytes([2, 20]) + end_of(1, port) + bytes(3) + bytes([3, 16])
+def lacpdu(port: int, system: int = 9, partner: int = 1) -> bytes:
+    parts = bytes([1, 1, 1, 20]) + end_of(system, port) + bytes(3) + bytes([2, 20]) + end_of(partner, port) + bytes(3) + bytes([3, 16])
     return parts.ljust(110, b"\0")
 
 
-def marker(kind: int, port: int, number: int) -> bytes:
-    return struct.pack(">BBBBH6sI", 2, 1, kind, 16, port, bytes([2, 0, 0, 0, 0, 9]), number).ljust(110, b"\0")
+def marker(kind: int, port: int, number: int, system: int = 9) -> bytes:
+    return struct.pack(">BBBBH6sI", 2, 1, kind, 16, port, bytes([2, 0, 0, 0, 0, system]), number).ljust(110, b"\0")
 
 
 def frames() -> Iterator[tuple[str, bytes]]:
@@ -84,6 +87,44 @@ def write_frames(folder: str) -> str:
             capture.write(struct.pack("<IIII", number // 1000, number % 1000 * 1000, len(frame), len(frame)) + frame)
             told.append(f"{number + 1} {word}\n")
     return "".join(told) + f"checked {COUNT} faults 0\n"
+
+
+def header(system: int, port: int) -> bytes:
+    return HEADER[:6] + bytes([2, 0, 0, 0, system, port]) + HEADER[12:]
+
+
+def record(microseconds: int, frame: bytes) -> bytes:
+    return struct.pack("<IIII", *divmod(microseconds, 1_000_000), len(frame), len(frame)) + frame
+
+
+def on_links() -> Iterator[bytes]:
+    """Two links of two systems: four LACPDUs a second, and in each fifth second a marker and its response on each link."""
+    for second in itertools.count():
+        for port in (1, 2):
+            now = second * 1_000_000 + port * 1000
+            if second % 5 == 4:
+                yield record(now, header(1, port) + marker(1, port, second, 1))
+                yield record(now + 10, header(9, port) + marker(2, port, second, 1))
+            for system, partner in ((1, 9), (9, 1)):
+                yield record(now + 20 + system, header(system, port) + lacpdu(port, system, partner))
+
+
+def among_data() -> Iterator[bytes]:
+    """Data of one link in frames of 60 to 1,514 octets, 10,000 a second, and the LACPDUs of both ends, one a second each."""
+    for second in itertools.count():
+        for number in range(10_000):
+            now = second * 1_000_000 + number * 100
+            length = (60, 1514, 60, 1514, 590, 60, 1514, 200, 60, 1514)[number % 10]
+            packet = struct.pack(">BBHHHBBH4s4sHHHH", 69, 0, length - 14, number, 0, 64, 17, 0, bytes(4), bytes(4), 1, 2, length - 34, 0)
+            yield record(now, HEADER[:12].replace(b"\x80", b"\0") + b"\x08\0" + packet.ljust(length - 14, b"\0"))
+        for system, partner in ((1, 9), (9, 1)):
+            yield record(second * 1_000_000 + 999_980 + system, header(system, 1) + lacpdu(1, system, partner))
+
+
+def write_capture(file: str, records: Iterator[bytes]) -> None:
+    with open(file, "wb") as capture:
+        capture.write(struct.pack("<IHHiIII", 0xA1B2C3D4, 2, 4, 0, 0, 65535, 1))
+        capture.writelines(itertools.islice(records, COUNT))
 
 
 def entries() -> Iterator[tuple[str, str]]:
@@ -162,18 +203,32 @@ def find(name: str, root: str) -> tuple[str, dict[str, str] | None] | None:
     return f"{root}/usr/bin/{name}", {**os.environ, "LD_LIBRARY_PATH": ":".join(libraries)}
 
 
+def captured(file: str, what: str, last: str, tcpdump: tuple[str, dict[str, str] | None] | None) -> list[Row]:
+    """Rows of a capture: the program, whose last line is known, and tcpdump, which prints a line for each frame."""
+    ours = least([PROGRAM, "capture", file], lambda it: it.endswith(f"\n{last}\n"))
+    words = ["-n", *AS_ROOT, "-r", file]
+    theirs = least([tcpdump[0], *words], lambda it: it.count("\n") == COUNT, tcpdump[1]) if tcpdump else (None, 0)
+    return [(f"lagtool capture of {what}", *ours), (f"tcpdump -n of {what}", *theirs)]
+
+
 def measure(cache: str, fetches: bool) -> list[Row]:
     """Rows of the program: name, seconds, wrong runs; the seconds of a program that is not here are None."""
     folder, root = f"{cache}/frames", fetched(cache) if fetches else f"{cache}/programs"
     os.makedirs(folder, exist_ok=True)
     checked, replayed = write_frames(folder), write_script(folder)
-    rows: list[Row] = [("lagtool check", *least([PROGRAM, "check", f"{folder}/frames.hex"], lambda it: it == checked))]
-    as_root = ["-Z", "root"] if os.geteuid() == 0 else []
+    write_capture(f"{folder}/links.pcap", on_links())
+    write_capture(f"{folder}/data.pcap", among_data())
+    what = f"{COUNT:,} frames"
+    rows: list[Row] = [(f"lagtool check of {what}", *least([PROGRAM, "check", f"{folder}/frames.hex"], lambda it: it == checked))]
     beside = [
-        ("tcpdump -vv", ["-vv", *as_root, "-r", f"{folder}/frames.pcap"], lambda it: it.count("LACPv1,") == COUNT * 8 // 10),
+        ("tcpdump -vv", ["-vv", *AS_ROOT, "-r", f"{folder}/frames.pcap"], lambda it: it.count("LACPv1,") == COUNT * 8 // 10),
         ("tshark", ["-r", f"{folder}/frames.pcap"], lambda it: it.count("\n") == COUNT),
     ]
     for name, words, is_right in beside:
         found = find(name.split()[0], root)
-        rows.append((name, *(least([found[0], *words], is_right, found[1], 3) if found else (None, 0))))
-    return rows + [("lagtool replay", *least([PROGRAM, "replay", f"{folder}/events.toml"], lambda it: it == replayed))]
+        rows.append((f"{name} of {what}", *(least([found[0], *words], is_right, found[1], 3) if found else (None, 0))))
+    tcpdump = find("tcpdump", root)
+    rows += captured(f"{folder}/links.pcap", f"{what}, two links", f"packets {COUNT} slow {COUNT} ends 4 findings 0", tcpdump)
+    rows += captured(f"{folder}/data.pcap", f"{what}, data", f"packets {COUNT} slow 18 ends 2 findings 0", tcpdump)
+    replay = least([PROGRAM, "replay", f"{folder}/events.toml"], lambda it: it == replayed)
+    return rows + [(f"lagtool replay of {COUNT:,} events", *replay)]

@@ -11,8 +11,9 @@ returns-else-is c =
     = ap (λ (e : LinkEnd). same_end e c.args.self.now.end) (sym c.end.ensures) ∙ (sym c.is.ensures ∙ c.if-is.false) in
     record {
       end = refl;
-      exact = λ h is. other_frame c.args.self.now.end c.args.now.now h c.args.self.now c.with-asking.result c.others_with-others.result
-          c.responding_with-responding.result other is
-          (c.with-asking.ensures h other (ap (λ (w : KeptEnd). w.asking) is)) (c.others_with-others.ensures h other is)
-          (c.responding_with-responding.ensures h other is);
+      exact = λ h is. other_frame c.args.self.now.end c.args.now.now h c.args.self.now c.see.new.self c.see-else-is.new.self
+          c.see-else-is-2.new.self other is
+          (c.see.ensures h other (ap (λ (w : KeptEnd). w.asking) is))
+          (c.see-else-is.ensures h other (ap (λ (w : KeptEnd). w.said) is) (ap (λ (w : KeptEnd). w.others) is))
+          (c.see-else-is-2.ensures h other (ap (λ (w : KeptEnd). w.said) is) (ap (λ (w : KeptEnd). w.responding) is));
     }
