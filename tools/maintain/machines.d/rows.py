@@ -37,10 +37,16 @@ def orderly(guest: Guest, what: str, outcomes: list[Outcome], most: int, ordered
 
 def without_daemon(guest: Guest) -> float:
     """For how many seconds the bundle had no daemon last."""
-    ends = "may go on from here|Sent signal SIGKILL|go on where the last"
-    told = guest.text(f"journalctl --no-pager -b -u lagd@uplink -o short-monotonic | grep -E '{ends}' | tail -2 | grep -oE '^. *[0-9.]+' | tr -d '[ '")
-    times = [float(it) for it in told.split()]
-    return times[1] - times[0] if len(times) == 2 else 0.0
+    ends, goes_on = "may go on from here|Sent signal SIGKILL", "go on where the last"
+    told = guest.text(f"journalctl --sync; journalctl --no-pager -b -u lagd@uplink -o short-monotonic | grep -E '{ends}|{goes_on}' | tr -d '[]'")
+    ended = away = 0.0
+    for line in told.splitlines():
+        at = float(line.split()[0])
+        if goes_on in line:
+            away = at - ended
+        else:
+            ended = at
+    return away
 
 
 def handed_over(guest: Guest, what: str, outcomes: list[Outcome], most: int, ordered: bool = True) -> str:
