@@ -131,13 +131,15 @@ def name_is_taken(guest: Guest) -> str:
 
 def second_start(guest: Guest) -> str:
     """While no member is there, a second start by other settings leaves the device to the daemon that has it."""
-    guest.run("ip netns add away; for n in 1 2; do ip link set eth$n netns away; done")
-    before = guest.text("cat /sys/class/net/lag0/ifindex")
-    guest.run("mkdir -p /run/other; sed 's/^hash=.*/hash=layer2/' /etc/lagd/uplink.conf >/run/other/uplink.conf")
-    told = guest.text("lagd --config /run/other/uplink.conf --folder /run/lagd/uplink")
-    after = guest.text("cat /sys/class/net/lag0/ifindex")
-    guest.run("for n in 1 2; do ip -n away link set eth$n netns 1; ip link set eth$n up; done; ip netns del away")
-    check("lag0" in told and "another lagd has the interface" in told and before == after, "it is refused, and the device stays", told, before, after)
+    look = "cat /sys/class/net/lag0/ifindex"
+    guest.run("ip netns add away; for n in 1 2; do ip -n far link set far$n netns away; done; sleep 1")
+    before = guest.text(f"ip netns exec far {look}")
+    guest.run("mkdir -p /run/other; sed 's/^hash=.*/hash=layer2/' /etc/lagd/far.conf >/run/other/far.conf")
+    told = guest.text("ip netns exec far lagd --config /run/other/far.conf --folder /run/lagd/far")
+    after = guest.text(f"ip netns exec far {look}")
+    guest.run("for n in 1 2; do ip -n away link set far$n netns far; ip -n far link set far$n up; done; ip netns del away")
+    refused = before == after != "" and "lagd: another lagd has the interface, one of user 0: lag0" in told
+    check(refused, "it is refused, and the device stays", told, before, after)
     check(comes_up(guest) is not None, "the members are back in the device", journal(guest))
     return pings(guest)
 
