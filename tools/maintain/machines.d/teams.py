@@ -126,6 +126,7 @@ def name_is_taken(guest: Guest) -> str:
     guest.run("ip link del lag0; systemctl start lagd@uplink")
     up_again(guest)
     check("lag0: an interface of this name is there, and is no team device" in told, "a name that is taken is refused", told)
+    check(guest.within(COMES_UP, lambda: ping(guest).status == 0), "and data goes, once the name is free", journal(guest))
     return "refused"
 
 
