@@ -38,7 +38,7 @@ def orderly(guest: Guest, what: str, outcomes: list[Outcome], most: int, ordered
 def without_daemon(guest: Guest) -> float:
     """For how many seconds the bundle had no daemon last."""
     ends, goes_on = "may go on from here|Sent signal SIGKILL", "go on where the last"
-    told = guest.text(f"journalctl --sync; journalctl --no-pager -b -u lagd@uplink -o short-monotonic | grep -E '{ends}|{goes_on}' | tr -d '[]'")
+    told = guest.text(f"journalctl --sync; journalctl --no-pager -b LAGD_BUNDLE=uplink + UNIT=lagd@uplink.service -o short-monotonic | grep -E '{ends}|{goes_on}' | tr -d '[]'")
     ended = away = 0.0
     for line in told.splitlines():
         at = float(line.split()[0])
