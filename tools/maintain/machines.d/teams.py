@@ -30,13 +30,14 @@ ip link set br0 up
 ip address add 192.0.2.1/24 dev br0
 """
 NO_BRIDGE = "ip link del br0; ip address add 192.0.2.1/24 dev lag0"
-# A kernel whose team driver nobody can load.
+# A kernel whose team driver nobody can load. The far daemon was killed, and has no state: it leaves a device that was there.
 WITHOUT = """systemctl stop lagd@uplink far
+ip -n far link del lag0
 modprobe -r team_mode_loadbalance team
 printf 'install team /bin/false\\ninstall team_mode_loadbalance /bin/false\\n' >/etc/modprobe.d/without.conf
 lagd --check /etc/lagd/uplink.conf
 echo "status $?"
-lagd --config /etc/lagd/uplink.conf --folder /run/without
+timeout 20 lagd --config /etc/lagd/uplink.conf --folder /run/without
 echo "status $?"
 rm /etc/modprobe.d/without.conf
 systemctl start far lagd@uplink
