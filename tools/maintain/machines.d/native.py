@@ -53,8 +53,7 @@ class Native(Guest):
         self.shell = Line(near)
 
     def set_link(self, up: bool, *names: str) -> None:
-        for name in names:
-            self.run(f"ip -n cables link set {name} {'up' if up else 'down'}")
+        self.run("\n".join(f"ip -n cables link set {name} {'up' if up else 'down'}" for name in names))
 
     def remove(self, name: str) -> None:
         self.run(f"ip link del {name}")
