@@ -27,10 +27,10 @@ static uint32_t count_features(int index) {
 
 /* Writes the number that the kernel has for each way; for one that it does not know, how many features it has, which is the answer. */
 static uint32_t find_joining(int index, uint32_t places[static JOINING]) {
-    static union {
+    union {
         uint8_t room[sizeof(struct ethtool_gstrings) + MOST_FEATURES * ETH_GSTRING_LEN];
         struct ethtool_gstrings about;
-    } told;
+    } told = {{0}};
     uint32_t count = count_features(index);
     told.about.cmd = ETHTOOL_GSTRINGS;
     told.about.string_set = ETH_SS_FEATURES;

@@ -160,6 +160,7 @@ extern struct settings settings; /* those that hold now */
 extern struct link links[NIW_MOST_PORTS];
 extern uint16_t link_count;
 extern struct bundle bundle;
+extern int epoll_file; /* the epoll by which the daemon waits */
 extern bool has_started; /* whether the interfaces that are there were taken up */
 extern bool broken;  /* whether the program cannot go on, as where the library refused a call: the peers are told, and it ends */
 /* An answer that tells whether the library refused: what depends on the call is done only where it did not. */

@@ -44,14 +44,11 @@ static int output(void) {
 
 /* Whether the journal reads standard output: then a line begins with its priority, and has no time of its own. */
 static bool in_journal(void) {
-    static int known = -1;
     const char *stream = getenv("JOURNAL_STREAM");
     struct stat file;
     uintmax_t device, inode;
-    if (known >= 0) return known;
-    known = stream && fstat(STDOUT_FILENO, &file) == 0 && sscanf(stream, "%ju:%ju", &device, &inode) == 2
+    return stream && fstat(STDOUT_FILENO, &file) == 0 && sscanf(stream, "%ju:%ju", &device, &inode) == 2
         && device == (uintmax_t)file.st_dev && inode == (uintmax_t)file.st_ino;
-    return known;
 }
 
 /* Writes a line, if its reader keeps up; answers whether it did. */

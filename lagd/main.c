@@ -25,23 +25,23 @@
 /* How many ticks the peers are told of the end at most. */
 #define END_TICKS 15
 
-static int waits = -1;
+int epoll_file = -1;
 
 /* Waits for a file descriptor, too; answers whether the kernel takes it. */
 bool await_input(int fd, uint32_t tag) {
     struct epoll_event event = {.events = EPOLLIN, .data = {.u32 = tag}};
-    return epoll_ctl(waits, EPOLL_CTL_ADD, fd, &event) == 0;
+    return epoll_ctl(epoll_file, EPOLL_CTL_ADD, fd, &event) == 0;
 }
 
 /* Waits until it takes what is sent, and for nothing that comes. */
 bool await_output(int fd, uint32_t tag) {
     struct epoll_event event = {.events = EPOLLOUT, .data = {.u32 = tag}};
-    return epoll_ctl(waits, EPOLL_CTL_MOD, fd, &event) == 0;
+    return epoll_ctl(epoll_file, EPOLL_CTL_MOD, fd, &event) == 0;
 }
 
 /* Waits for it no longer. */
 void await_no_more(int fd) {
-    (void)epoll_ctl(waits, EPOLL_CTL_DEL, fd, NULL);
+    (void)epoll_ctl(epoll_file, EPOLL_CTL_DEL, fd, NULL);
 }
 
 /* At the start, what cannot be waited for ends the program. */
@@ -152,7 +152,7 @@ static void run(int signals, int clock, const char *file) {
     struct epoll_event events[MOST_EVENTS];
     bool ends = false;
     for (unsigned end_ticks = 0; !ends || (end_ticks < END_TICKS && !end_is_told());) {
-        int count = epoll_wait(waits, events, MOST_EVENTS, -1);
+        int count = epoll_wait(epoll_file, events, MOST_EVENTS, -1);
         struct ready ready = ready_of(events, count);
         bool ends_now = count < 0 && errno != EINTR;
         serve(events, count, ready, clock);
@@ -181,8 +181,8 @@ static int run_daemon(const struct options *options) {
     unsigned resumed;
     settings = options->settings;
     signals = open_signals();
-    waits = epoll_create1(EPOLL_CLOEXEC);
-    if (waits < 0) stop(REFUSED, "epoll", strerror(errno));
+    epoll_file = epoll_create1(EPOLL_CLOEXEC);
+    if (epoll_file < 0) stop(REFUSED, "epoll", strerror(errno));
     if (settings.system_auto) take_own_address();
     open_folder(options->folder);
     open_store();

@@ -27,17 +27,17 @@ static const char HELP_ENDS[] =
     "Status: 0; 1: the kernel or another lagd is in the way, or none answers; 2: a wrong word or file.\n";
 
 /* An option: a key of the bundle, or one that says what the program is to do. */
-struct row {
+struct option_text {
     char letter;
     const char *name, *value, *help; /* `value`: the word for it in the help; NULL: it has none */
 };
 
-static const struct row BEFORE_KEYS[] = {
+static const struct option_text BEFORE_KEYS[] = {
     {'c', "config", "FILE", "runs the bundle of this file"},
     {'k', "check", "FILE", "says what is wrong with a file, or what this machine lacks for it"},
 };
 
-static const struct row BEHIND_KEYS[] = {
+static const struct option_text BEHIND_KEYS[] = {
     {'f', "folder", "FOLDER", "of status sockets; /run/lagd if not given"},
     {'s', "status", NULL, "prints the state of each lagd of this network namespace and folder"},
     {'w', "watch", NULL, "prints each change of one, as it happens"},
@@ -48,7 +48,7 @@ static const struct row BEHIND_KEYS[] = {
 };
 
 enum { OPTION_ROOM = MOST_BUNDLE_KEYS + sizeof BEFORE_KEYS / sizeof *BEFORE_KEYS + sizeof BEHIND_KEYS / sizeof *BEHIND_KEYS };
-static struct row rows[OPTION_ROOM];
+static struct option_text rows[OPTION_ROOM];
 static size_t row_count;
 
 /* The options in the order of the help, from the tables above and from that of the keys. */
@@ -56,7 +56,7 @@ static void make_rows(void) {
     for (size_t i = 0; i < sizeof BEFORE_KEYS / sizeof *BEFORE_KEYS; i++) rows[row_count++] = BEFORE_KEYS[i];
     for (size_t i = 0; bundle_key(i); i++)
         if (bundle_key(i)->letter)
-            rows[row_count++] = (struct row){bundle_key(i)->letter, bundle_key(i)->name, bundle_key(i)->value, bundle_key(i)->help};
+            rows[row_count++] = (struct option_text){bundle_key(i)->letter, bundle_key(i)->name, bundle_key(i)->value, bundle_key(i)->help};
     for (size_t i = 0; i < sizeof BEHIND_KEYS / sizeof *BEHIND_KEYS; i++) rows[row_count++] = BEHIND_KEYS[i];
 }
 
@@ -64,7 +64,7 @@ static void make_rows(void) {
 enum { TEXT_AT = 30, LEAST_GAP = 3 };
 
 /* An option of the help; each line of its text begins in the same column, but behind a long word. */
-static void print_row(const struct row *row) {
+static void print_row(const struct option_text *row) {
     int width = printf("  -%c, --%s%s%s", row->letter, row->name, row->value ? " " : "", row->value ? row->value : "");
     const char *text = row->help;
     printf("%*s", width + LEAST_GAP > TEXT_AT ? LEAST_GAP : TEXT_AT - width, "");
@@ -96,7 +96,7 @@ static void expect(const char *expected, const char *name, const char *value) {
 
 /* An option that is a key of the bundle. */
 static void take_option(int letter, const char *text) {
-    const struct row *row = rows;
+    const struct option_text *row = rows;
     while (row->letter != letter) row++;
     text = row->value ? text : "yes";
     has_words = true;
