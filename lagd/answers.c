@@ -6,7 +6,7 @@
 #include <sys/timerfd.h>
 #include <unistd.h>
 
-#include "carry.h"
+#include "daemon.h"
 
 /* The most that wait for a port. */
 #define MOST_WAITING 64
@@ -20,18 +20,28 @@ struct answer {
 };
 
 /* Those of a port, in a ring, in the order in which they came. */
-static struct waiting {
-    unsigned first, count;
-    struct answer answers[MOST_WAITING];
-} ports[NIW_MOST_PORTS];
 
-static int timer = -1;
+/* What this file keeps for a daemon. */
+struct answers_private {
+    struct waiting {
+        unsigned first, count;
+        struct answer answers[MOST_WAITING];
+    } ports[NIW_MOST_PORTS];
+    int timer;
+};
+
+struct answers_private *make_answers_private(void) {
+    struct answers_private *made = make_room(sizeof *made);
+    made->timer = -1;
+    return made;
+}
 
 /* Opens what wakes the daemon for a response, where some wait. */
-void start_answers(void) {
-    if (!settings.all_queues) return;
-    timer = timerfd_create(CLOCK_MONOTONIC, TFD_NONBLOCK | TFD_CLOEXEC);
-    if (timer < 0 || !await_input(timer, RESPONSES)) stop(REFUSED, "no clock", strerror(errno));
+void start_answers(struct lagd *lagd) {
+    struct answers_private *own = lagd->answers;
+    if (!lagd->settings.all_queues) return;
+    own->timer = timerfd_create(CLOCK_MONOTONIC, TFD_NONBLOCK | TFD_CLOEXEC);
+    if (own->timer < 0 || !await_input(lagd, own->timer, RESPONSES)) stop(REFUSED, "no clock", strerror(errno));
 }
 
 static struct answer *first_of(struct waiting *waiting) {
@@ -39,38 +49,40 @@ static struct answer *first_of(struct waiting *waiting) {
 }
 
 /* Wakes the daemon for the first response that is due: one that waits for its socket is looked at again in a millisecond. */
-static void wake(void) {
-    uint64_t now = milliseconds(), next = UINT64_MAX;
+static void wake(struct lagd *lagd) {
+    struct answers_private *own = lagd->answers;
+    uint64_t now = milliseconds(lagd), next = UINT64_MAX;
     struct itimerspec at = {{0, 0}, {0, 0}};
-    for (uint16_t i = 0; i < link_count; i++) {
-        const struct answer *answer = first_of(&ports[i]);
+    for (uint16_t i = 0; i < lagd->link_count; i++) {
+        const struct answer *answer = first_of(&own->ports[i]);
         if (answer && answer->due < next) next = answer->due;
     }
     if (next <= now) next = now + 1;
     if (next != UINT64_MAX) at.it_value = (struct timespec){(time_t)(next / 1000), (long)(next % 1000) * 1000000};
-    (void)timerfd_settime(timer, TFD_TIMER_ABSTIME, &at, NULL);
+    (void)timerfd_settime(own->timer, TFD_TIMER_ABSTIME, &at, NULL);
 }
 
 /* Sends the response to a marker, at once or later; answers false where too many wait. */
-bool answer_marker(struct link *link, const uint8_t *response) {
-    struct waiting *waiting = &ports[link->settings.number - 1];
+bool answer_marker(struct lagd *lagd, struct link *link, const uint8_t *response) {
+    struct answers_private *own = lagd->answers;
+    struct waiting *waiting = &own->ports[link->settings.number - 1];
     struct answer *answer;
-    if (timer < 0) {
-        send_frame(link, response);
+    if (own->timer < 0) {
+        send_frame(lagd, link, response);
         return true;
     }
     if (waiting->count == MOST_WAITING) return false;
     answer = &waiting->answers[(waiting->first + waiting->count++) % MOST_WAITING];
-    *answer = (struct answer){.due = milliseconds() + settings.answer_after + 1, .unread = MOST_UNREAD};
+    *answer = (struct answer){.due = milliseconds(lagd) + lagd->settings.answer_after + 1, .unread = MOST_UNREAD};
     memcpy(answer->frame, response, sizeof answer->frame);
-    if (waiting->count == 1) wake();
+    if (waiting->count == 1) wake(lagd);
     return true;
 }
 
 /* So many packets were read of the socket of a member, or all that it had. */
-void note_unread(uint16_t port, unsigned packets, bool drained) {
-    struct waiting *waiting = &ports[port - 1];
-    uint64_t now = waiting->count > 0 ? milliseconds() : 0;
+void note_unread(struct lagd *lagd, uint16_t port, unsigned packets, bool drained) {
+    struct waiting *waiting = &lagd->answers->ports[port - 1];
+    uint64_t now = waiting->count > 0 ? milliseconds(lagd) : 0;
     for (unsigned i = 0; i < waiting->count; i++) {
         struct answer *answer = &waiting->answers[(waiting->first + i) % MOST_WAITING];
         if (answer->due > now) return;
@@ -79,28 +91,28 @@ void note_unread(uint16_t port, unsigned packets, bool drained) {
 }
 
 /* The link of a port is down: whoever asked there asks again. */
-void forget_answers(uint16_t port) {
-    ports[port - 1].count = 0;
+void forget_answers(struct lagd *lagd, uint16_t port) {
+    lagd->answers->ports[port - 1].count = 0;
 }
 
 /* Sends what is due on a port, behind the data that came before. */
-static void answer_due(uint16_t port) {
-    struct waiting *waiting = &ports[port - 1];
+static void answer_due(struct lagd *lagd, uint16_t port) {
+    struct waiting *waiting = &lagd->answers->ports[port - 1];
     struct answer *answer = first_of(waiting);
-    uint64_t now = milliseconds();
+    uint64_t now = milliseconds(lagd);
     if (!answer || answer->due > now) return;
-    if (!has_fast_member(port)) take_data(port);
-    while ((answer = first_of(waiting)) && answer->due <= now && (answer->unread == 0 || has_fast_member(port))) {
-        send_frame(&links[port - 1], answer->frame);
+    if (!has_fast_member(lagd, port)) take_data(lagd, port);
+    while ((answer = first_of(waiting)) && answer->due <= now && (answer->unread == 0 || has_fast_member(lagd, port))) {
+        send_frame(lagd, &lagd->links[port - 1], answer->frame);
         waiting->first = (waiting->first + 1) % MOST_WAITING;
         waiting->count--;
     }
 }
 
 /* The time of a response came. */
-void serve_answers(void) {
+void serve_answers(struct lagd *lagd) {
     uint64_t passed;
-    (void)!read(timer, &passed, sizeof passed);
-    for (uint16_t port = 1; port <= link_count; port++) answer_due(port);
-    wake();
+    (void)!read(lagd->answers->timer, &passed, sizeof passed);
+    for (uint16_t port = 1; port <= lagd->link_count; port++) answer_due(lagd, port);
+    wake(lagd);
 }

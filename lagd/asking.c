@@ -13,7 +13,7 @@
 #include <time.h>
 #include <unistd.h>
 
-#include "lagd.h"
+#include "daemon.h"
 
 /* How long a daemon may take for its answer, in milliseconds. */
 #define PATIENCE 2000
@@ -22,15 +22,23 @@
 #define MOST_ANSWERED 8388608
 
 /* The daemons that are asked. */
-static struct {
-    char path[512];
-    char bundle[NAME_ROOM];
-    int fd;
-    bool may_ask;
-    char *answer; /* whole, with a zero behind it */
-} daemons[MOST_DAEMONS];
-static unsigned count;
-static const char *denied; /* what may not be looked at, if there is something */
+/* What this file keeps for a daemon. */
+struct asking_private {
+    struct {
+        char path[512];
+        char bundle[NAME_ROOM];
+        int fd;
+        bool may_ask;
+        char *answer; /* whole, with a zero behind it */
+    } daemons[MOST_DAEMONS];
+    unsigned count;
+    const char *denied; /* what may not be looked at, if there is something */
+    char line[4096]; /* of print */
+};
+
+struct asking_private *make_asking_private(void) {
+    return make_room(sizeof(struct asking_private));
+}
 
 /* Whether a file is the status socket of a daemon of this namespace, of which bundle. */
 static bool is_socket(const char *name, char bundle[static NAME_ROOM]) {
@@ -46,27 +54,28 @@ static int is_visible(const struct dirent *entry) {
 }
 
 /* Finds the status sockets in a folder, and in the folders in it. */
-static void find_sockets(const char *folder, bool deeper) {
+static void find_sockets(struct lagd *lagd, const char *folder, bool deeper) {
+    struct asking_private *own = lagd->asking;
     struct dirent **entries = NULL;
     int found = scandir(folder, &entries, is_visible, alphasort);
-    if (found < 0 && errno == EACCES) denied = strdup(folder);
+    if (found < 0 && errno == EACCES) own->denied = strdup(folder);
     for (int i = 0; i < found; i++) {
-        char path[sizeof daemons->path], bundle[NAME_ROOM];
+        char path[sizeof own->daemons->path], bundle[NAME_ROOM];
         bool fits = snprintf(path, sizeof path, "%s/%s", folder, entries[i]->d_name) < (int)sizeof path;
         struct stat file;
-        if (fits && count < MOST_DAEMONS && is_socket(entries[i]->d_name, bundle)) {
-            memcpy(daemons[count].bundle, bundle, sizeof bundle);
-            memcpy(daemons[count++].path, path, sizeof path);
+        if (fits && own->count < MOST_DAEMONS && is_socket(entries[i]->d_name, bundle)) {
+            memcpy(own->daemons[own->count].bundle, bundle, sizeof bundle);
+            memcpy(own->daemons[own->count++].path, path, sizeof path);
         } else if (fits && deeper && lstat(path, &file) == 0 && S_ISDIR(file.st_mode))
-            find_sockets(path, false);
+            find_sockets(lagd, path, false);
         free(entries[i]);
     }
     free(entries);
 }
 
 /* The address of a socket, whose whole path may be longer than an address: by its folder, which is opened; answers that, or -1. */
-static int address_of(const char *path, struct sockaddr_un *to) {
-    char folder[sizeof daemons->path];
+static int address_of(struct lagd *lagd, const char *path, struct sockaddr_un *to) {
+    char folder[sizeof lagd->asking->daemons->path];
     const char *name = strrchr(path, '/') + 1;
     int opened;
     snprintf(folder, sizeof folder, "%.*s", (int)(name - path), path);
@@ -86,10 +95,10 @@ static void close_keeping_errno(int fd) {
 }
 
 /* Connects with a daemon and asks it; or -1, and errno. It waits no longer than PATIENCE: one that is stopped may answer nobody. */
-static int ask(const char *path, const char *question) {
+static int ask(struct lagd *lagd, const char *path, const char *question) {
     struct sockaddr_un to;
     struct timeval patience = {PATIENCE / 1000, 0};
-    int folder = address_of(path, &to), opened = folder < 0 ? -1 : socket(AF_UNIX, SOCK_STREAM | SOCK_CLOEXEC, 0);
+    int folder = address_of(lagd, path, &to), opened = folder < 0 ? -1 : socket(AF_UNIX, SOCK_STREAM | SOCK_CLOEXEC, 0);
     bool asked = opened >= 0 && setsockopt(opened, SOL_SOCKET, SO_SNDTIMEO, &patience, sizeof patience) == 0
         && connect(opened, (struct sockaddr *)&to, sizeof to) == 0;
     /* One that refuses may have closed the connection already, and said why. */
@@ -101,14 +110,14 @@ static int ask(const char *path, const char *question) {
 }
 
 /* Whether text of a daemon is a refusal. Then it is told. */
-static bool is_refusal(const char *path, const char *text) {
+static bool is_refusal(struct lagd *lagd, const char *path, const char *text) {
     if (strncmp(text, REFUSAL, strlen(REFUSAL)) != 0) return false;
-    complain("%s: %.*s", path, (int)strcspn(text, "\n"), text);
+    complain(lagd, "%s: %.*s", path, (int)strcspn(text, "\n"), text);
     return true;
 }
 
 /* Reads until the daemon ends the connection; NULL where it does not in time, or refuses, as a line says. */
-static char *read_answer(int fd, const char *path) {
+static char *read_answer(struct lagd *lagd, int fd, const char *path) {
     char *whole = NULL;
     size_t size = 0, used = 0;
     ssize_t got = -1;
@@ -120,38 +129,39 @@ static char *read_answer(int fd, const char *path) {
         if (got > 0) used += (size_t)got;
     } while (got > 0);
     if (whole) whole[used] = 0;
-    if (whole && is_refusal(path, whole))
+    if (whole && is_refusal(lagd, path, whole))
         used = 0;
     else if (got != 0 || used == 0)
-        complain("%s: its daemon does not answer", path);
+        complain(lagd, "%s: its daemon does not answer", path);
     if (got == 0 && used > 0) return whole;
     free(whole);
     return NULL;
 }
 
 /* Prints text of a daemon. Whoever made a socket in the folder may be no daemon: a terminal only shows what it says. */
-static void print(const char *text, size_t length) {
-    static char line[4096];
+static void print(struct lagd *lagd, const char *text, size_t length) {
+    struct asking_private *own = lagd->asking;
     while (length > 0) {
         size_t part = length < 1000 ? length : 1000;
-        fwrite(line, 1, escape(line, sizeof line, text, part, true), stdout);
+        fwrite(own->line, 1, escape(own->line, sizeof own->line, text, part, true), stdout);
         text += part;
         length -= part;
     }
 }
 
 /* Prints the metrics of all: each metric has one head, and the values of all daemons below it. */
-static void print_metrics(void) {
+static void print_metrics(struct lagd *lagd) {
+    struct asking_private *own = lagd->asking;
     const char *at[MOST_DAEMONS];
-    for (unsigned i = 0; i < count; i++) at[i] = daemons[i].answer ? daemons[i].answer : "";
+    for (unsigned i = 0; i < own->count; i++) at[i] = own->daemons[i].answer ? own->daemons[i].answer : "";
     for (bool more = true; more;) {
         more = false;
-        for (unsigned i = 0; i < count; i++) {
+        for (unsigned i = 0; i < own->count; i++) {
             bool first = !more && *at[i];
             const char *next;
             for (unsigned line = 0; *at[i] && (line < 2 || *at[i] != '#'); line++, at[i] = *next ? next + 1 : next) {
                 next = at[i] + strcspn(at[i], "\n");
-                if (line >= 2 || first) print(at[i], (size_t)(next - at[i]) + (*next != 0));
+                if (line >= 2 || first) print(lagd, at[i], (size_t)(next - at[i]) + (*next != 0));
             }
             more = more || first;
         }
@@ -159,43 +169,46 @@ static void print_metrics(void) {
 }
 
 /* Prints which bundles have a daemon that answers, and when that was. */
-static void print_who_answers(void) {
-    report_length = 0;
-    add_head("up", "gauge", "whether the daemon of the bundle answers");
-    for (unsigned i = 0; i < count; i++)
-        if (daemons[i].may_ask) add_value_of("up", daemons[i].bundle, daemons[i].answer != NULL);
-    add_head("time_seconds", "gauge", "when this was asked");
-    add("lagd_time_seconds %llu\n", (unsigned long long)time(NULL));
-    print(report, report_length);
+static void print_who_answers(struct lagd *lagd) {
+    struct asking_private *own = lagd->asking;
+    lagd->report_length = 0;
+    add_head(lagd, "up", "gauge", "whether the daemon of the bundle answers");
+    for (unsigned i = 0; i < own->count; i++)
+        if (own->daemons[i].may_ask) add_value_of(lagd, "up", own->daemons[i].bundle, own->daemons[i].answer != NULL);
+    add_head(lagd, "time_seconds", "gauge", "when this was asked");
+    add(lagd, "lagd_time_seconds %llu\n", (unsigned long long)time(NULL));
+    print(lagd, lagd->report, lagd->report_length);
 }
 
 /* Ends the program where no daemon answers. */
-static _Noreturn void refuse_all(const char *folder) {
-    if (denied) stop(REFUSED, "permission denied", denied);
+static _Noreturn void refuse_all(struct lagd *lagd, const char *folder) {
+    struct asking_private *own = lagd->asking;
+    if (own->denied) stop(REFUSED, "permission denied", own->denied);
     stop(REFUSED, "no lagd answers in", folder);
 }
 
 /* Prints what came of a daemon that is watched. */
-static void print_lines_of(unsigned daemon, char *text, size_t length) {
+static void print_lines_of(struct lagd *lagd, unsigned daemon, char *text, size_t length) {
     text[length] = 0;
-    if (!is_refusal(daemons[daemon].path, text)) print(text, length);
+    if (!is_refusal(lagd, lagd->asking->daemons[daemon].path, text)) print(lagd, text, length);
 }
 
 /* Prints what the daemons say, one after the other as each has a line, until they end. */
-static int print_changes_of_all(void) {
+static int print_changes_of_all(struct lagd *lagd) {
+    struct asking_private *own = lagd->asking;
     struct pollfd waits[MOST_DAEMONS];
     char text[4096 + 1];
     unsigned left = 0;
-    for (unsigned i = 0; i < count; i++) {
-        waits[i] = (struct pollfd){daemons[i].fd, POLLIN, 0};
-        left += daemons[i].fd >= 0;
+    for (unsigned i = 0; i < own->count; i++) {
+        waits[i] = (struct pollfd){own->daemons[i].fd, POLLIN, 0};
+        left += own->daemons[i].fd >= 0;
     }
-    while (left > 0 && poll(waits, count, -1) > 0) {
-        for (unsigned i = 0; i < count; i++) {
+    while (left > 0 && poll(waits, own->count, -1) > 0) {
+        for (unsigned i = 0; i < own->count; i++) {
             ssize_t got;
             if (!waits[i].revents) continue;
             got = recv(waits[i].fd, text, sizeof text - 1, 0);
-            if (got > 0) print_lines_of(i, text, (size_t)got);
+            if (got > 0) print_lines_of(lagd, i, text, (size_t)got);
             if (got <= 0) waits[i].fd = -1;
             left -= got <= 0;
         }
@@ -210,31 +223,33 @@ static const char *question_of(const struct options *options) {
 }
 
 /* Asks a daemon, and whether it answers before it is watched. One that does not has a line. */
-static bool ask_daemon(unsigned daemon, const struct options *options) {
-    const char *path = daemons[daemon].path;
+static bool ask_daemon(struct lagd *lagd, unsigned daemon, const struct options *options) {
+    struct asking_private *own = lagd->asking;
+    const char *path = own->daemons[daemon].path;
     bool watched = options->action == WATCH;
-    int fd = ask(path, question_of(options));
-    daemons[daemon].may_ask = fd >= 0 || (errno != EACCES && errno != EPERM);
-    if (!daemons[daemon].may_ask) denied = path;
-    if (fd < 0) complain("%s: its daemon does not answer: %s", path, strerror(errno));
-    if (fd >= 0) daemons[daemon].answer = read_answer(fd, path);
+    int fd = ask(lagd, path, question_of(options));
+    own->daemons[daemon].may_ask = fd >= 0 || (errno != EACCES && errno != EPERM);
+    if (!own->daemons[daemon].may_ask) own->denied = path;
+    if (fd < 0) complain(lagd, "%s: its daemon does not answer: %s", path, strerror(errno));
+    if (fd >= 0) own->daemons[daemon].answer = read_answer(lagd, fd, path);
     if (fd >= 0) close(fd);
-    daemons[daemon].fd = watched && fd >= 0 ? ask(path, options->json ? "watch-json\n" : "watch\n") : -1;
-    return watched ? daemons[daemon].fd >= 0 : daemons[daemon].answer != NULL;
+    own->daemons[daemon].fd = watched && fd >= 0 ? ask(lagd, path, options->json ? "watch-json\n" : "watch\n") : -1;
+    return watched ? own->daemons[daemon].fd >= 0 : own->daemons[daemon].answer != NULL;
 }
 
 /* Asks the daemons, and prints what they answer; answers how the program ends. */
-int ask_daemons(const struct options *options) {
+int ask_daemons(struct lagd *lagd, const struct options *options) {
+    struct asking_private *own = lagd->asking;
     unsigned answers = 0;
-    find_sockets(options->folder, true);
-    for (unsigned i = 0; i < count; i++) answers += ask_daemon(i, options);
-    if (answers == 0 && (options->action != METRICS || count == 0 || denied)) refuse_all(options->folder);
-    if (options->action == WATCH) return print_changes_of_all();
+    find_sockets(lagd, options->folder, true);
+    for (unsigned i = 0; i < own->count; i++) answers += ask_daemon(lagd, i, options);
+    if (answers == 0 && (options->action != METRICS || own->count == 0 || own->denied)) refuse_all(lagd, options->folder);
+    if (options->action == WATCH) return print_changes_of_all(lagd);
     if (options->action == METRICS) {
-        print_metrics();
-        print_who_answers();
+        print_metrics(lagd);
+        print_who_answers(lagd);
     }
-    for (unsigned i = 0; options->action == SHOW && i < count; i++)
-        if (daemons[i].answer) print(daemons[i].answer, strlen(daemons[i].answer));
+    for (unsigned i = 0; options->action == SHOW && i < own->count; i++)
+        if (own->daemons[i].answer) print(lagd, own->daemons[i].answer, strlen(own->daemons[i].answer));
     return fflush(stdout) == 0 ? DONE : REFUSED;
 }

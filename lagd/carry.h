@@ -55,51 +55,50 @@ struct carry {
     struct conversation conversations[CONVERSATIONS];
     uint64_t counts[CARRY_COUNTS];
 };
-extern struct carry carry;
 
 /* carry.c */
-void go_on_in(uint16_t aggregator);
-bool ask_state(uint16_t aggregator, uint16_t number, struct niw_assignment *state) MUST_USE;
-bool ask_ports(uint16_t aggregator, uint16_t *ports) MUST_USE;
+void go_on_in(struct lagd *lagd, uint16_t aggregator);
+bool ask_state(struct lagd *lagd, uint16_t aggregator, uint16_t number, struct niw_assignment *state) MUST_USE;
+bool ask_ports(struct lagd *lagd, uint16_t aggregator, uint16_t *ports) MUST_USE;
 bool is_held(const struct niw_assignment *state);
-bool is_home(const struct conversation *conversation, uint16_t number);
-bool is_busy(const struct conversation *conversation);
-void suspect_aggregator(uint32_t aggregator);
-void hand_up(uint32_t aggregator, const uint8_t *packet, size_t length);
+bool is_home(struct lagd *lagd, const struct conversation *conversation, uint16_t number);
+bool is_busy(struct lagd *lagd, const struct conversation *conversation);
+void suspect_aggregator(struct lagd *lagd, uint32_t aggregator);
+void hand_up(struct lagd *lagd, uint32_t aggregator, const uint8_t *packet, size_t length);
 
 /* hash.c */
-struct niw_number conversation_of(const uint8_t *frame, size_t length);
+struct niw_number conversation_of(struct lagd *lagd, const uint8_t *frame, size_t length);
 
 /* packets.c: a packet is a frame, and what the kernel tells before it */
 size_t head_octets(void);
 size_t packet_room(void);
 uint8_t *make_rooms(void);
-bool passes_segments(void);
+bool passes_segments(struct lagd *lagd);
 bool has_segments(const uint8_t *packet);
 uint32_t count_segments(const uint8_t *packet, size_t length);
 bool has_right_length(const uint8_t *packet, size_t length, uint32_t mtu);
 uint8_t *put_tag(uint8_t *packet, uint16_t type, uint16_t tag);
 
 /* tap.c */
-int open_tap(const char *name, const uint8_t *mac);
-void use_team_device(int index);
-void set_carrier(bool on);
-bool has_carrier(void);
-void set_speed(uint32_t megabits);
-void limit_mtu(uint32_t most);
-uint32_t longest_payload(void);
-void pass_tap_tick(void);
-void forget_tap(void);
-bool read_tap_mac(uint8_t *mac);
-bool is_tap_up(void);
+int open_tap(struct lagd *lagd, const char *name, const uint8_t *mac);
+void use_team_device(struct lagd *lagd, int index);
+void set_carrier(struct lagd *lagd, bool on);
+bool has_carrier(struct lagd *lagd);
+void set_speed(struct lagd *lagd, uint32_t megabits);
+void limit_mtu(struct lagd *lagd, uint32_t most);
+uint32_t longest_payload(struct lagd *lagd);
+void pass_tap_tick(struct lagd *lagd);
+void forget_tap(struct lagd *lagd);
+bool read_tap_mac(struct lagd *lagd, uint8_t *mac);
+bool is_tap_up(struct lagd *lagd);
 void end_tap(int index);
-void keep_tap(bool keeps);
-bool tap_persists(void);
-uint32_t mtu_of_administrator(void);
+void keep_tap(struct lagd *lagd, bool keeps);
+bool tap_persists(struct lagd *lagd);
+uint32_t mtu_of_administrator(struct lagd *lagd);
 
 /* announce.c */
-void announce_soon(void);
-void pass_announcing_tick(void);
+void announce_soon(struct lagd *lagd);
+void pass_announcing_tick(struct lagd *lagd);
 
 /* bpf.c */
 void *make_map(uint32_t size, uint32_t count, int *map);
@@ -109,33 +108,33 @@ void *take_map(uint32_t size, uint32_t count, int map);
 void detach_program(int attached);
 
 /* store.c */
-int attach_stored(const char *kind, int program, int index, bool egress);
+int attach_stored(struct lagd *lagd, const char *kind, int program, int index, bool egress);
 void detach_stored(const char *kind, int index, int attached);
 
 /* programs.c: what the kernel runs for frames */
 struct fast_maps {
     int rows, members, host;
 };
-int load_program(const char *name, const struct fast_maps *maps, uint16_t port);
+int load_program(struct lagd *lagd, const char *name, const struct fast_maps *maps, uint16_t port);
 const char *program_fault(void);
 
 /* fast.c */
-bool is_fast(void);
-void start_fast(void);
-void end_fast(void);
-int open_fast_receiver(const struct link *link);
+bool is_fast(struct lagd *lagd);
+void start_fast(struct lagd *lagd);
+void end_fast(struct lagd *lagd);
+int open_fast_receiver(struct lagd *lagd, const struct link *link);
 void note_taken(struct conversation *conversation, uint32_t segments);
-void pass_on(void);
-void withdraw(void);
-void withdraw_port(uint16_t port);
-void set_collecting(void);
-void take_fast_counts(void);
-void pass_fast_tick(void);
-void note_read(unsigned packets, bool drained);
-void open_host(bool open);
-void follow_host_queue(const char *discipline);
-int fast_member_of(uint16_t number);
-void resume_fast(void);
+void pass_on(struct lagd *lagd);
+void withdraw(struct lagd *lagd);
+void withdraw_port(struct lagd *lagd, uint16_t port);
+void set_collecting(struct lagd *lagd);
+void take_fast_counts(struct lagd *lagd);
+void pass_fast_tick(struct lagd *lagd);
+void note_read(struct lagd *lagd, unsigned packets, bool drained);
+void open_host(struct lagd *lagd, bool open);
+void follow_host_queue(struct lagd *lagd, const char *discipline);
+int fast_member_of(struct lagd *lagd, uint16_t number);
+void resume_fast(struct lagd *lagd);
 
 /* features.c: what puts received frames together, a bit for each way */
 struct joins {
@@ -146,13 +145,13 @@ void set_joins(int index, unsigned wanted);
 #define JOINED_BY_KERNEL 1u
 
 /* possible.c */
-int fault_of_programs(void);
+int fault_of_programs(struct lagd *lagd);
 
 /* processors.c: which processors an interface uses for what it sends and receives, by files of /sys */
 bool path_of_queue(int index, const char *what, char *path, size_t room);
 unsigned count_entries(int index, const char *begin);
 bool has_card(int index);
-bool keeps_briefly(int index);
+bool keeps_briefly(struct lagd *lagd, int index);
 bool read_processors(const char *path, char *mask, size_t room);
 bool write_processors(const char *path, const char *mask);
 bool is_one(const char *mask);
@@ -167,26 +166,26 @@ struct kept {
     char steered[PROCESSORS_ROOM];  /* the processors that RPS named, or empty where that was one, or is not changed */
     struct ethtool_channels queues; /* what there was; all 0 where there was one queue */
 };
-FILE *open_kept(const struct link *link, const char *kind, int flags, const char *mode);
-bool replace_kept(const struct link *link, const char *from, const char *to);
-void drop_kept(const struct link *link, const char *kind);
-void write_settings(const struct link *link, const struct kept *kept);
-void keep_settings(const struct link *link, struct kept *kept);
-void recall_settings(const struct link *link, struct kept *kept);
-void forget_settings(const struct link *link);
+FILE *open_kept(struct lagd *lagd, const struct link *link, const char *kind, int flags, const char *mode);
+bool replace_kept(struct lagd *lagd, const struct link *link, const char *from, const char *to);
+void drop_kept(struct lagd *lagd, const struct link *link, const char *kind);
+void write_settings(struct lagd *lagd, const struct link *link, const struct kept *kept);
+void keep_settings(struct lagd *lagd, const struct link *link, struct kept *kept);
+void recall_settings(struct lagd *lagd, const struct link *link, struct kept *kept);
+void forget_settings(struct lagd *lagd, const struct link *link);
 
 /* traffic.c: queueing disciplines and classifiers of members */
 enum classifier { NO_CLASSIFIER, CLASSIFIER_ALONE, CLASSIFIER_BEHIND_OTHERS };
 bool keeps_order(const char *discipline);
-bool read_discipline(int index, char name[static DISCIPLINE_ROOM]);
-bool give_fifo(int index, uint32_t megabits);
-bool give_fifos(int index, unsigned queues, uint32_t megabits);
-void fit_fifo(int index, uint32_t megabits);
-void fit_fifos(int index, unsigned queues, uint32_t megabits);
-void take_fifo(int index);
-void give_no_queue(int index);
-enum classifier set_classifier(int program, int index);
-void drop_classifier(int index);
+bool read_discipline(struct lagd *lagd, int index, char name[static DISCIPLINE_ROOM]);
+bool give_fifo(struct lagd *lagd, int index, uint32_t megabits);
+bool give_fifos(struct lagd *lagd, int index, unsigned queues, uint32_t megabits);
+void fit_fifo(struct lagd *lagd, int index, uint32_t megabits);
+void fit_fifos(struct lagd *lagd, int index, unsigned queues, uint32_t megabits);
+void take_fifo(struct lagd *lagd, int index);
+void give_no_queue(struct lagd *lagd, int index);
+enum classifier set_classifier(struct lagd *lagd, int program, int index);
+void drop_classifier(struct lagd *lagd, int index);
 
 /* guard.c */
 struct guard {
@@ -201,78 +200,78 @@ struct guard {
     int chooser;        /* what keeps the program there by which a frame of the daemon goes by its queue, or -1 */
 };
 bool ask_driver(int index, void *value);
-void load_guard(void);
-void gather(int index);
-void open_guard(struct link *link, struct guard *guard);
-void look_at_discipline(struct link *link, struct guard *guard);
-void reopen_guard(struct link *link, struct guard *guard);
-void close_guard(const struct link *link, struct guard *guard);
-void put_back(int index, const uint8_t *mac);
+void load_guard(struct lagd *lagd);
+void gather(struct lagd *lagd, int index);
+void open_guard(struct lagd *lagd, struct link *link, struct guard *guard);
+void look_at_discipline(struct lagd *lagd, struct link *link, struct guard *guard);
+void reopen_guard(struct lagd *lagd, struct link *link, struct guard *guard);
+void close_guard(struct lagd *lagd, const struct link *link, struct guard *guard);
+void put_back(struct lagd *lagd, int index, const uint8_t *mac);
 
 /* spread.c: a member that keeps all its queues */
-void start_spreading(void);
-void spread(const struct link *link, struct guard *guard);
+void start_spreading(struct lagd *lagd);
+void spread(struct lagd *lagd, const struct link *link, struct guard *guard);
 void stop_spreading(const struct link *link, struct guard *guard);
 void note_channels(const struct link *link, struct guard *guard);
-bool has_usual_queues(const struct guard *guard);
-bool is_spread_anew(const struct link *link, const struct guard *guard);
-void gather_back(const struct link *link);
+bool has_usual_queues(struct lagd *lagd, const struct guard *guard);
+bool is_spread_anew(struct lagd *lagd, const struct link *link, const struct guard *guard);
+void gather_back(struct lagd *lagd, const struct link *link);
 
 /* queues.c: by which queue of its member a conversation goes, and the markers of each queue */
 struct msghdr;
-void begin_queues(uint16_t port, unsigned count);
-void mark_conversation(uint16_t port, uint16_t number, struct msghdr *message);
-bool send_by_queues(struct link *link, const uint8_t *marker);
-bool send_by_queues_again(struct link *link, const uint8_t *marker);
+void begin_queues(struct lagd *lagd, uint16_t port, unsigned count);
+void mark_conversation(struct lagd *lagd, uint16_t port, uint16_t number, struct msghdr *message);
+bool send_by_queues(struct lagd *lagd, struct link *link, const uint8_t *marker);
+bool send_by_queues_again(struct lagd *lagd, struct link *link, const uint8_t *marker);
 
 /* answers.c: responses to markers that wait */
-void start_answers(void);
-void serve_answers(void);
-void note_unread(uint16_t port, unsigned packets, bool drained);
-void forget_answers(uint16_t port);
+void start_answers(struct lagd *lagd);
+void serve_answers(struct lagd *lagd);
+void note_unread(struct lagd *lagd, uint16_t port, unsigned packets, bool drained);
+void forget_answers(struct lagd *lagd, uint16_t port);
 
 /* members.c */
-void start_members(void);
-bool give_marker(struct link *link, const uint8_t *marker, struct msghdr *message);
-void watch_queues(void);
-unsigned member_queues(uint16_t port);
-void put_back_members(void);
-bool has_fast_member(uint16_t port);
-uint32_t sum_speeds(void);
-void add_fast_counts(uint16_t port, const struct fast_member *more);
-void note_passed(uint16_t port, uint64_t frames);
-void put_data(uint16_t port, uint16_t number, uint8_t *packet, size_t length);
-void flush_data(void);
-void take_data(uint16_t port);
-bool send_marker_again(uint16_t port);
-void count_losses(void);
-uint64_t member_count(uint16_t port, enum member_count count);
+void start_members(struct lagd *lagd);
+bool give_marker(struct lagd *lagd, struct link *link, const uint8_t *marker, struct msghdr *message);
+void watch_queues(struct lagd *lagd);
+unsigned member_queues(struct lagd *lagd, uint16_t port);
+void put_back_members(struct lagd *lagd);
+bool has_fast_member(struct lagd *lagd, uint16_t port);
+uint32_t sum_speeds(struct lagd *lagd);
+void add_fast_counts(struct lagd *lagd, uint16_t port, const struct fast_member *more);
+void note_passed(struct lagd *lagd, uint16_t port, uint64_t frames);
+void put_data(struct lagd *lagd, uint16_t port, uint16_t number, uint8_t *packet, size_t length);
+void flush_data(struct lagd *lagd);
+void take_data(struct lagd *lagd, uint16_t port);
+bool send_marker_again(struct lagd *lagd, uint16_t port);
+void count_losses(struct lagd *lagd);
+uint64_t member_count(struct lagd *lagd, uint16_t port, enum member_count count);
 
 /* held.c */
-void start_held(void);
-void end_held(void);
-bool count_held(uint16_t number, uint64_t *waiting) MUST_USE;
-bool none_held(uint16_t number);
-bool count_all_held(uint64_t *waiting) MUST_USE;
-bool oldest_held(uint16_t number, uint64_t *came);
-bool put_held(uint16_t number, const uint8_t *packet, size_t length);
-bool drop_held(uint16_t number, enum carry_count why);
-uint8_t *take_held(uint16_t number, size_t *length);
-void free_left(void);
+void start_held(struct lagd *lagd);
+void end_held(struct lagd *lagd);
+bool count_held(struct lagd *lagd, uint16_t number, uint64_t *waiting) MUST_USE;
+bool none_held(struct lagd *lagd, uint16_t number);
+bool count_all_held(struct lagd *lagd, uint64_t *waiting) MUST_USE;
+bool oldest_held(struct lagd *lagd, uint16_t number, uint64_t *came);
+bool put_held(struct lagd *lagd, uint16_t number, const uint8_t *packet, size_t length);
+bool drop_held(struct lagd *lagd, uint16_t number, enum carry_count why);
+uint8_t *take_held(struct lagd *lagd, uint16_t number, size_t *length);
+void free_left(struct lagd *lagd);
 
 /* moves.c */
-void balance(void);
+void balance(struct lagd *lagd);
 
 /* probe.c */
-void go_on_answering(enum answering last);
-enum answering peer_answering(void);
-void look_at_partner(void);
-void pass_probe_tick(void);
-void suspect_partner(void);
+void go_on_answering(struct lagd *lagd, enum answering last);
+enum answering peer_answering(struct lagd *lagd);
+void look_at_partner(struct lagd *lagd);
+void pass_probe_tick(struct lagd *lagd);
+void suspect_partner(struct lagd *lagd);
 
 /* flight.c */
-void note_sent(uint16_t port);
-void wake_ports(void);
-void pass_flight_tick(void);
+void note_sent(struct lagd *lagd, uint16_t port);
+void wake_ports(struct lagd *lagd);
+void pass_flight_tick(struct lagd *lagd);
 
 #endif

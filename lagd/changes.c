@@ -10,6 +10,7 @@
 #include <string.h>
 #include <sys/socket.h>
 
+#include "daemon.h"
 #include "netlink.h"
 #include "team.h"
 
@@ -18,30 +19,40 @@
 #define PATIENCE 10000
 #define MOST_ASKED 1000
 
-static struct mnl_socket *route; /* NULL: none is open yet */
-static uint32_t asked;   /* the number of the last question */
-static bool asking;      /* whether the answer is not whole yet */
-static bool interrupted; /* whether interfaces changed while the kernel answered */
-static bool ask_again;   /* whether something was missed */
-static bool suspected;     /* whether a carrier may have gone */
-static bool tap_named;   /* whether the answer that is being read named the TAP device */
+/* What this file keeps for a daemon. */
+struct changes_private {
+    struct mnl_socket *route; /* NULL: none is open yet */
+    uint32_t asked; /* the number of the last question */
+    bool asking; /* whether the answer is not whole yet */
+    bool interrupted; /* whether interfaces changed while the kernel answered */
+    bool ask_again; /* whether something was missed */
+    bool suspected; /* whether a carrier may have gone */
+    bool tap_named; /* whether the answer that is being read named the TAP device */
+    _Alignas(struct nlmsghdr) uint8_t room[ROOM]; /* of take_changes */
+};
+
+struct changes_private *make_changes_private(void) {
+    return make_room(sizeof(struct changes_private));
+}
 
 /* Asks for an interface, or with 0 for all of them; answers whether the kernel took the question. The answer comes as changes do. */
-static bool ask_for(int index, uint32_t number) {
+static bool ask_for(struct lagd *lagd, int index, uint32_t number) {
+    struct changes_private *own = lagd->changes;
     union message question = message_of_interface(RTM_GETLINK, index == 0 ? NLM_F_DUMP : 0, index);
     question.head.nlmsg_seq = number;
     mnl_attr_put_u32(&question.head, IFLA_EXT_MASK, RTEXT_FILTER_SKIP_STATS);
-    return route && mnl_socket_sendto(route, &question, question.head.nlmsg_len) == (ssize_t)question.head.nlmsg_len;
+    return own->route && mnl_socket_sendto(own->route, &question, question.head.nlmsg_len) == (ssize_t)question.head.nlmsg_len;
 }
 
 /* Asks for all interfaces. */
-static void ask(void) {
-    for (uint16_t i = 0; i < link_count; i++) links[i].present = false;
-    tap_named = false;
-    asking = ask_for(0, ++asked);
-    if (!asking && !has_started) stop(REFUSED, "the kernel takes no question", strerror(errno));
-    ask_again = !asking;
-    interrupted = false;
+static void ask(struct lagd *lagd) {
+    struct changes_private *own = lagd->changes;
+    for (uint16_t i = 0; i < lagd->link_count; i++) lagd->links[i].present = false;
+    own->tap_named = false;
+    own->asking = ask_for(lagd, 0, ++own->asked);
+    if (!own->asking && !lagd->has_started) stop(REFUSED, "the kernel takes no question", strerror(errno));
+    own->ask_again = !own->asking;
+    own->interrupted = false;
 }
 
 /* Whether what an interface sends goes by another one of this machine. The other end of a veth pair receives it. */
@@ -65,25 +76,25 @@ static bool is_named(const struct interface *interface, const char *name) {
 }
 
 /* At the start an interface cannot be taken up. */
-static _Noreturn void refuse_link(const struct link *link) {
+static _Noreturn void refuse_link(struct lagd *lagd, const struct link *link) {
     char what[128];
     if (link->trouble != EADDRINUSE) stop(REFUSED, link->name, strerror(link->trouble));
-    snprintf(what, sizeof what, "another lagd has the interface, %s", holder_of(link->index));
+    snprintf(what, sizeof what, "another lagd has the interface, %s", holder_of(lagd, link->index));
     stop(REFUSED, what, link->name);
 }
 
 /* Takes up an interface that has the name of a port. At the start, what is wrong with one ends the program. */
-static bool take_up(struct link *link, const struct interface *interface) {
+static bool take_up(struct lagd *lagd, struct link *link, const struct interface *interface) {
     if (interface->type != ARPHRD_ETHER) {
-        if (!has_started) stop(WRONG_WORD, "not an Ethernet interface", link->name);
+        if (!lagd->has_started) stop(WRONG_WORD, "not an Ethernet interface", link->name);
         return false;
     }
     memcpy(link->discipline, interface->discipline, sizeof link->discipline);
     if (interface->has_mac) memcpy(link->mac, interface->mac, sizeof link->mac);
     link->stacked = is_stacked(interface);
-    if (!open_link(link, interface->index)) {
-        if (!has_started) refuse_link(link);
-        ask_again = true;
+    if (!open_link(lagd, link, interface->index)) {
+        if (!lagd->has_started) refuse_link(lagd, link);
+        lagd->changes->ask_again = true;
         return false;
     }
     link->kernel_losses = interface->losses;
@@ -97,156 +108,164 @@ static uint32_t losses_since(uint32_t before, uint32_t now) {
 
 /* The queues of an interface are of another kind than it had: an interface that is made has none until it is up. Whether the kernel may
  * pass on what goes there is seen anew. Answers whether the interface is still taken up. */
-static bool follow_discipline(struct link *link, const struct interface *interface) {
+static bool follow_discipline(struct lagd *lagd, struct link *link, const struct interface *interface) {
     if (!interface->discipline[0] || strcmp(link->discipline, interface->discipline) == 0) return true;
-    if (reopen_member(link)) return true;
-    ask_again = true;
-    lose_link(link);
+    if (reopen_member(lagd, link)) return true;
+    lagd->changes->ask_again = true;
+    lose_link(lagd, link);
     return false;
 }
 
 /* Follows an interface of a port. Its carrier may have gone and come back, of which the kernel tells at once: it counts how often
  * it went. IFF_RUNNING may be a second old, and IFF_LOWER_UP is the carrier itself. */
-static void follow(struct link *link, const struct interface *interface) {
+static void follow(struct lagd *lagd, struct link *link, const struct interface *interface) {
     uint16_t port = link->settings.number;
     bool up, carrier = (interface->flags & IFF_UP) && (interface->flags & IFF_RUNNING) && (interface->flags & IFF_LOWER_UP), lost = false;
     if (interface->has_mac) memcpy(link->mac, interface->mac, sizeof link->mac);
-    if (!follow_discipline(link, interface)) return;
-    if (interface->mtu != 0) follow_mtu(link, interface->mtu);
+    if (!follow_discipline(lagd, link, interface)) return;
+    if (interface->mtu != 0) follow_mtu(lagd, link, interface->mtu);
     if (interface->counts_losses && interface->losses != link->kernel_losses) {
         uint32_t losses = losses_since(link->kernel_losses, interface->losses);
         link->kernel_losses = interface->losses;
         lost = losses > 0;
         if (lost) link->counts[LOSSES] += losses - (link->up ? 1 : 0);
-        if (lost) set_link(port, false);
+        if (lost) set_link(lagd, port, false);
     }
     if (lost || !carrier) forget_carrier(link);
-    up = carrier && is_restored(link);
-    if (up && !link->up) fit_queue(link, interface->name);
-    if (up) take_speed(link, interface->name);
-    if (up) follow_speed(link, interface->name);
-    set_link(port, up);
+    up = carrier && is_restored(lagd, link);
+    if (up && !link->up) fit_queue(lagd, link, interface->name);
+    if (up) take_speed(lagd, link, interface->name);
+    if (up) follow_speed(lagd, link, interface->name);
+    set_link(lagd, port, up);
 }
 
 /* An interface is there. A port goes by its name, and the TAP device by its number. */
-static void take_present(const struct interface *interface) {
-    if (carries_data() && interface->index == tap_index()) {
-        tap_named = true;
-        look_at_carry();
-        follow_tap(interface->carrier, interface->discipline);
+static void take_present(struct lagd *lagd, const struct interface *interface) {
+    if (carries_data(lagd) && interface->index == tap_index(lagd)) {
+        lagd->changes->tap_named = true;
+        look_at_carry(lagd);
+        follow_tap(lagd, interface->carrier, interface->discipline);
     }
-    for (uint16_t i = 0; i < link_count; i++) {
-        struct link *link = &links[i];
+    for (uint16_t i = 0; i < lagd->link_count; i++) {
+        struct link *link = &lagd->links[i];
         bool named = is_named(interface, link->name), same = link->socket >= 0 && link->index == interface->index;
-        if (link->socket >= 0 && (same != named || (same && !is_bound(link)))) lose_link(link);
-        if (same && link->socket >= 0 && !is_still_team_port(link, interface->master)) lose_link(link);
-        if (!named || (link->socket < 0 && !take_up(link, interface))) continue;
+        if (link->socket >= 0 && (same != named || (same && !is_bound(link)))) lose_link(lagd, link);
+        if (same && link->socket >= 0 && !is_still_team_port(lagd, link, interface->master)) lose_link(lagd, link);
+        if (!named || (link->socket < 0 && !take_up(lagd, link, interface))) continue;
         link->present = true;
-        follow(link, interface);
+        follow(lagd, link, interface);
     }
 }
 
-static void take_absent(int index) {
-    if (index == tap_index()) lose_tap();
-    for (uint16_t i = 0; i < link_count; i++)
-        if (links[i].socket >= 0 && links[i].index == index) lose_link(&links[i]);
+static void take_absent(struct lagd *lagd, int index) {
+    if (index == tap_index(lagd)) lose_tap(lagd);
+    for (uint16_t i = 0; i < lagd->link_count; i++)
+        if (lagd->links[i].socket >= 0 && lagd->links[i].index == index) lose_link(lagd, &lagd->links[i]);
 }
 
 /* Queueing disciplines came or went. Which one an interface has now is asked: of its usual one the kernel does not tell. */
-static void take_discipline(const struct tcmsg *info) {
-    bool ours = info->tcm_ifindex == tap_index();
-    for (uint16_t i = 0; i < link_count; i++) ours = ours || (links[i].socket >= 0 && links[i].index == info->tcm_ifindex);
-    if (ours && info->tcm_parent == TC_H_ROOT && !ask_for(info->tcm_ifindex, 0)) ask_again = true;
+static void take_discipline(struct lagd *lagd, const struct tcmsg *info) {
+    bool ours = info->tcm_ifindex == tap_index(lagd);
+    for (uint16_t i = 0; i < lagd->link_count; i++)
+        ours = ours || (lagd->links[i].socket >= 0 && lagd->links[i].index == info->tcm_ifindex);
+    if (ours && info->tcm_parent == TC_H_ROOT && !ask_for(lagd, info->tcm_ifindex, 0)) lagd->changes->ask_again = true;
 }
 
 /* The answer to the last question has ended. What a whole one did not name is gone. One that ends with an error ends the program at
  * the start; later the kernel is asked again. */
-static void end_answer(int error) {
-    bool whole = error == 0 && !interrupted;
-    if (error < 0 && !has_started) stop(REFUSED, "the kernel does not tell of interfaces", strerror(-error));
-    asking = false;
-    ask_again = ask_again || !whole;
-    if (whole && !tap_named) lose_tap();
-    for (uint16_t i = 0; whole && i < link_count; i++)
-        if (links[i].socket >= 0 && !links[i].present) lose_link(&links[i]);
+static void end_answer(struct lagd *lagd, int error) {
+    struct changes_private *own = lagd->changes;
+    bool whole = error == 0 && !own->interrupted;
+    if (error < 0 && !lagd->has_started) stop(REFUSED, "the kernel does not tell of interfaces", strerror(-error));
+    own->asking = false;
+    own->ask_again = own->ask_again || !whole;
+    if (whole && !own->tap_named) lose_tap(lagd);
+    for (uint16_t i = 0; whole && i < lagd->link_count; i++)
+        if (lagd->links[i].socket >= 0 && !lagd->links[i].present) lose_link(lagd, &lagd->links[i]);
 }
 
 /* Takes one message. A bridge tells of its ports in messages of its own family, which say nothing of their links. */
-static void take_message(const struct nlmsghdr *message) {
+static void take_message(struct lagd *lagd, const struct nlmsghdr *message) {
+    struct changes_private *own = lagd->changes;
     const struct ifinfomsg *info = mnl_nlmsg_get_payload(message);
     const struct tcmsg *discipline = mnl_nlmsg_get_payload(message);
     size_t length = mnl_nlmsg_get_payload_len(message);
     uint16_t type = message->nlmsg_type;
-    bool answers = asking && message->nlmsg_seq == asked && message->nlmsg_pid == mnl_socket_get_portid(route);
-    if (answers && (message->nlmsg_flags & NLM_F_DUMP_INTR)) interrupted = true;
-    if (answers && (type == NLMSG_DONE || type == NLMSG_ERROR)) end_answer(error_of(message));
-    if ((type == RTM_NEWQDISC || type == RTM_DELQDISC) && length >= sizeof *discipline) take_discipline(discipline);
+    bool answers = own->asking && message->nlmsg_seq == own->asked && message->nlmsg_pid == mnl_socket_get_portid(own->route);
+    if (answers && (message->nlmsg_flags & NLM_F_DUMP_INTR)) own->interrupted = true;
+    if (answers && (type == NLMSG_DONE || type == NLMSG_ERROR)) end_answer(lagd, error_of(message));
+    if ((type == RTM_NEWQDISC || type == RTM_DELQDISC) && length >= sizeof *discipline) take_discipline(lagd, discipline);
     if ((type != RTM_NEWLINK && type != RTM_DELLINK) || length < sizeof *info || info->ifi_family != AF_UNSPEC) return;
     if (type == RTM_NEWLINK) {
         struct interface interface = read_interface(message);
-        if (interface.name[0]) take_present(&interface);
+        if (interface.name[0]) take_present(lagd, &interface);
     } else
-        take_absent(info->ifi_index);
+        take_absent(lagd, info->ifi_index);
 }
 
 /* Takes the messages of `length` octets, in their order. */
-void take_messages(const void *messages, size_t length) {
+void take_messages(struct lagd *lagd, const void *messages, size_t length) {
     int left = (int)length;
-    for (const struct nlmsghdr *message = messages; is_whole(message, left); message = mnl_nlmsg_next(message, &left)) take_message(message);
+    for (const struct nlmsghdr *message = messages; is_whole(message, left); message = mnl_nlmsg_next(message, &left))
+        take_message(lagd, message);
 }
 
 /* Takes what the kernel told. Where it had no room for some, it says so, and all is asked again. Any program of the machine may
  * send to this socket, too: what does not come from the kernel is not looked at. */
-void take_changes(void) {
-    static _Alignas(struct nlmsghdr) uint8_t room[ROOM];
+void take_changes(struct lagd *lagd) {
+    struct changes_private *own = lagd->changes;
     for (int turn = 0; turn < MOST_TAKEN; turn++) {
         struct sockaddr_nl from = {0};
         socklen_t length = sizeof from;
-        ssize_t got = recvfrom(mnl_socket_get_fd(route), room, sizeof room, MSG_TRUNC, (struct sockaddr *)&from, &length);
+        ssize_t got = recvfrom(mnl_socket_get_fd(own->route), own->room, sizeof own->room, MSG_TRUNC, (struct sockaddr *)&from, &length);
         if (got < 0 && errno != ENOBUFS) return;
         if (got >= 0 && from.nl_pid != 0) continue;
-        if (got < 0 || got > (ssize_t)sizeof room)
-            ask_again = true;
+        if (got < 0 || got > (ssize_t)sizeof own->room)
+            own->ask_again = true;
         else
-            take_messages(room, (size_t)got);
+            take_messages(lagd, own->room, (size_t)got);
     }
 }
 
 /* Asks again for what was missed, or could not be taken up; once a second. */
-void watch_changes(void) {
-    if (ask_again && !asking) ask();
+void watch_changes(struct lagd *lagd) {
+    struct changes_private *own = lagd->changes;
+    if (own->ask_again && !own->asking) ask(lagd);
 }
 
 /* An interface is to be taken up anew. */
-void look_again(void) {
-    ask_again = true;
+void look_again(struct lagd *lagd) {
+    lagd->changes->ask_again = true;
 }
 
 /* Something could not be sent: a carrier may have gone. */
-void suspect_carriers(void) {
-    suspected = true;
+void suspect_carriers(struct lagd *lagd) {
+    lagd->changes->suspected = true;
 }
 
 /* Looks at carriers, at each tick and where one is suspected: the kernel counts at once that one came or went, but tells of those that go
  * once a second, over all interfaces. It is asked then, and answers at once. */
-void watch_carriers(bool all) {
+void watch_carriers(struct lagd *lagd, bool all) {
+    struct changes_private *own = lagd->changes;
     bool any = false;
-    if (!all && !suspected) return;
-    suspected = false;
-    for (uint16_t i = 0; i < link_count; i++)
-        if (links[i].socket >= 0 && (has_new_carrier(&links[i]) || has_waited(&links[i]))) any = ask_for(links[i].index, 0) || any;
-    if (any) take_changes();
+    if (!all && !own->suspected) return;
+    own->suspected = false;
+    for (uint16_t i = 0; i < lagd->link_count; i++)
+        if (lagd->links[i].socket >= 0 && (has_new_carrier(&lagd->links[i]) || has_waited(lagd, &lagd->links[i])))
+            any = ask_for(lagd, lagd->links[i].index, 0) || any;
+    if (any) take_changes(lagd);
 }
 
 /* Opens the changes of interfaces, and takes up those that are there. */
-int open_changes(void) {
-    route = mnl_socket_open2(NETLINK_ROUTE, SOCK_NONBLOCK | SOCK_CLOEXEC);
-    if (!route || mnl_socket_bind(route, RTMGRP_LINK | RTMGRP_TC, MNL_SOCKET_AUTOPID) < 0)
+int open_changes(struct lagd *lagd) {
+    struct changes_private *own = lagd->changes;
+    own->route = mnl_socket_open2(NETLINK_ROUTE, SOCK_NONBLOCK | SOCK_CLOEXEC);
+    if (!own->route || mnl_socket_bind(own->route, RTMGRP_LINK | RTMGRP_TC, MNL_SOCKET_AUTOPID) < 0)
         stop(REFUSED, "no changes of interfaces", strerror(errno));
-    for (ask(); asking || ask_again; watch_changes()) {
-        if (poll(&(struct pollfd){mnl_socket_get_fd(route), POLLIN, 0}, 1, PATIENCE) != 1) stop(REFUSED, "no answer", "interfaces");
-        if (asked > MOST_ASKED) stop(REFUSED, "no whole answer", "interfaces");
-        take_changes();
+    for (ask(lagd); own->asking || own->ask_again; watch_changes(lagd)) {
+        if (poll(&(struct pollfd){mnl_socket_get_fd(own->route), POLLIN, 0}, 1, PATIENCE) != 1) stop(REFUSED, "no answer", "interfaces");
+        if (own->asked > MOST_ASKED) stop(REFUSED, "no whole answer", "interfaces");
+        take_changes(lagd);
     }
-    return mnl_socket_get_fd(route);
+    return mnl_socket_get_fd(own->route);
 }

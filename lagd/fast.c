@@ -9,7 +9,7 @@
 #include <sys/syscall.h>
 #include <unistd.h>
 
-#include "state.h"
+#include "daemon.h"
 
 /* How long the conversations of a link that went down wait, in milliseconds: the peer's kernel may still have frames to hand up. */
 #define DOWN_WAIT 100
@@ -18,18 +18,28 @@
 /* For how long frames of the host are taken without a word of the daemon, in nanoseconds: as long as the peer waits for an LACPDU. */
 #define OPEN_FOR 3000000000u
 
-static struct fast_row *rows;
-static struct fast_member *entries;
-static struct fast_host *host;
-static int receivers[NIW_MOST_PORTS];     /* the programs of the members */
-static int tap_at;                        /* the index of the TAP device */
-static int sender = -1, handover = -1;    /* what keeps its programs there */
-static bool queue_holds;                  /* whether its queueing discipline may hold frames */
-static struct fast_member counted[NIW_MOST_PORTS];
-static uint64_t counted_overflows, counted_unfit;
+/* What this file keeps for a daemon. */
+struct fast_private {
+    struct fast_row *rows;
+    struct fast_member *entries;
+    struct fast_host *host;
+    int receivers[NIW_MOST_PORTS]; /* the programs of the members */
+    int tap_at; /* the index of the TAP device */
+    int sender, handover; /* what keeps its programs there */
+    bool queue_holds; /* whether its queueing discipline may hold frames */
+    struct fast_member counted[NIW_MOST_PORTS];
+    uint64_t counted_overflows, counted_unfit;
+};
 
-bool is_fast(void) {
-    return rows != NULL;
+struct fast_private *make_fast_private(void) {
+    struct fast_private *made = make_room(sizeof *made);
+    made->sender = -1;
+    made->handover = -1;
+    return made;
+}
+
+bool is_fast(struct lagd *lagd) {
+    return lagd->fast->rows != NULL;
 }
 
 /* Waits until each program that runs now, and what it does with its frame, is done; answers whether the kernel can. */
@@ -47,19 +57,19 @@ static int needed(int program) {
 }
 
 /* Has a program run at the TAP device; answers what keeps it there. */
-static int keep_program(const char *kind, int program, bool egress) {
+static int keep_program(struct lagd *lagd, const char *kind, int program, bool egress) {
     int opened;
-    opened = attach_stored(kind, program, tap_at, egress);
+    opened = attach_stored(lagd, kind, program, lagd->fast->tap_at, egress);
     need(opened >= 0, "fast: no program of an interface, which Linux has from 6.6 on");
     close(program);
     return opened;
 }
 
 /* A table that the programs share with the daemon: that of the last daemon, where that left one for this device, or a new one. */
-static void *open_map(int number, uint32_t size, uint32_t count, int *map) {
+static void *open_map(struct lagd *lagd, int number, uint32_t size, uint32_t count, int *map) {
     void *at;
-    *map = take_stored("map", number);
-    at = *map >= 0 && inherited.tap != 0 && inherited.tap == tap_at ? take_map(size, count, *map) : NULL;
+    *map = take_stored(lagd, "map", number);
+    at = *map >= 0 && lagd->inherited.tap != 0 && lagd->inherited.tap == lagd->fast->tap_at ? take_map(size, count, *map) : NULL;
     if (at) return at;
     if (*map >= 0) close_stored("map", number, *map);
     at = make_map(size, count, map);
@@ -69,245 +79,261 @@ static void *open_map(int number, uint32_t size, uint32_t count, int *map) {
 }
 
 /* What the kernel did for the last daemon is no count of this one. */
-static void begin_counts(void) {
+static void begin_counts(struct lagd *lagd) {
+    struct fast_private *own = lagd->fast;
     for (uint16_t number = 0; number < CONVERSATIONS; number++) {
-        struct fast *fast = &carry.conversations[number].fast;
-        fast->counted = __atomic_load_n(&rows[number].passed, __ATOMIC_ACQUIRE);
-        fast->overflowed = __atomic_load_n(&rows[number].overflowed, __ATOMIC_ACQUIRE);
+        struct fast *fast = &lagd->carry.conversations[number].fast;
+        fast->counted = __atomic_load_n(&own->rows[number].passed, __ATOMIC_ACQUIRE);
+        fast->overflowed = __atomic_load_n(&own->rows[number].overflowed, __ATOMIC_ACQUIRE);
     }
-    memcpy(counted, entries, sizeof counted);
-    for (uint16_t i = link_count; i < NIW_MOST_PORTS; i++) __atomic_store_n(&entries[i].up_to, 0, __ATOMIC_SEQ_CST);
-    counted_overflows = __atomic_load_n(&host->overflowed, __ATOMIC_RELAXED);
-    counted_unfit = __atomic_load_n(&host->unfit, __ATOMIC_RELAXED);
+    memcpy(own->counted, own->entries, sizeof own->counted);
+    for (uint16_t i = lagd->link_count; i < NIW_MOST_PORTS; i++) __atomic_store_n(&own->entries[i].up_to, 0, __ATOMIC_SEQ_CST);
+    own->counted_overflows = __atomic_load_n(&own->host->overflowed, __ATOMIC_RELAXED);
+    own->counted_unfit = __atomic_load_n(&own->host->unfit, __ATOMIC_RELAXED);
 }
 
 /* Loads all that the kernel is to run, while the daemon may. */
-void start_fast(void) {
+void start_fast(struct lagd *lagd) {
+    struct fast_private *own = lagd->fast;
     struct fast_maps maps;
     need(wait_for_programs(), "fast: the kernel cannot wait for its programs (membarrier)");
-    tap_at = tap_index();
-    rows = open_map(0, sizeof *rows, CONVERSATIONS, &maps.rows);
-    entries = open_map(1, sizeof *entries, NIW_MOST_PORTS, &maps.members);
-    host = open_map(2, sizeof *host, 1, &maps.host);
-    begin_counts();
-    if (host->mac == 0) memcpy(&host->mac, settings.config.mac, ETH_ALEN);
-    for (uint16_t i = 0; i < link_count; i++)
-        receivers[i] = needed(load_program("receiver", &maps, (uint16_t)(i + 1)));
-    handover = keep_program("handover", needed(load_program("handover", &maps, 0)), false);
-    sender = keep_program("sender", needed(load_program("sender", &maps, 0)), true);
+    own->tap_at = tap_index(lagd);
+    own->rows = open_map(lagd, 0, sizeof *own->rows, CONVERSATIONS, &maps.rows);
+    own->entries = open_map(lagd, 1, sizeof *own->entries, NIW_MOST_PORTS, &maps.members);
+    own->host = open_map(lagd, 2, sizeof *own->host, 1, &maps.host);
+    begin_counts(lagd);
+    if (own->host->mac == 0) memcpy(&own->host->mac, lagd->settings.config.mac, ETH_ALEN);
+    for (uint16_t i = 0; i < lagd->link_count; i++)
+        own->receivers[i] = needed(load_program(lagd, "receiver", &maps, (uint16_t)(i + 1)));
+    own->handover = keep_program(lagd, "handover", needed(load_program(lagd, "handover", &maps, 0)), false);
+    own->sender = keep_program(lagd, "sender", needed(load_program(lagd, "sender", &maps, 0)), true);
 }
 
 /* Nothing is passed on any more, from the first line on. */
-void end_fast(void) {
-    if (!is_fast()) return;
-    open_host(false);
+void end_fast(struct lagd *lagd) {
+    struct fast_private *own = lagd->fast;
+    if (!is_fast(lagd)) return;
+    open_host(lagd, false);
     for (uint16_t number = 0; number < CONVERSATIONS; number++)
-        (void)__atomic_and_fetch(&rows[number].word, ~(uint64_t)UINT32_MAX, __ATOMIC_SEQ_CST);
-    for (uint16_t i = 0; i < link_count; i++) __atomic_store_n(&entries[i].up_to, 0, __ATOMIC_SEQ_CST);
-    if (sender >= 0) detach_stored("sender", tap_at, sender);
-    if (handover >= 0) detach_stored("handover", tap_at, handover);
-    sender = handover = -1;
-    tap_at = 0;
+        (void)__atomic_and_fetch(&own->rows[number].word, ~(uint64_t)UINT32_MAX, __ATOMIC_SEQ_CST);
+    for (uint16_t i = 0; i < lagd->link_count; i++) __atomic_store_n(&own->entries[i].up_to, 0, __ATOMIC_SEQ_CST);
+    if (own->sender >= 0) detach_stored("sender", own->tap_at, own->sender);
+    if (own->handover >= 0) detach_stored("handover", own->tap_at, own->handover);
+    own->sender = own->handover = -1;
+    own->tap_at = 0;
 }
 
 /* Has what comes at a member go up by the kernel, as long as the answer is open; or -1, and errno. */
-int open_fast_receiver(const struct link *link) {
-    return attach_stored("guard", receivers[link->settings.number - 1], link->index, false);
+int open_fast_receiver(struct lagd *lagd, const struct link *link) {
+    return attach_stored(lagd, "guard", lagd->fast->receivers[link->settings.number - 1], link->index, false);
 }
 
-static uint64_t word_of(uint16_t number) {
-    return __atomic_load_n(&rows[number].word, __ATOMIC_SEQ_CST);
+static uint64_t word_of(struct lagd *lagd, uint16_t number) {
+    return __atomic_load_n(&lagd->fast->rows[number].word, __ATOMIC_SEQ_CST);
 }
 
 /* The number of a conversation. */
-static uint16_t number_in(const struct conversation *conversation) {
-    return (uint16_t)(conversation - carry.conversations);
+static uint16_t number_in(struct lagd *lagd, const struct conversation *conversation) {
+    return (uint16_t)(conversation - lagd->carry.conversations);
 }
 
 /* So many segments that were left to the daemon are dealt with. What counts less was of segments that nobody had counted. */
-static void subtract(uint16_t number, uint32_t segments) {
-    uint64_t before = word_of(number), after;
+static void subtract(struct lagd *lagd, uint16_t number, uint32_t segments) {
+    uint64_t before = word_of(lagd, number), after;
     do {
         uint64_t left = before >> 32;
         after = before - ((left < segments ? left : segments) << 32);
-    } while (!__atomic_compare_exchange_n(&rows[number].word, &before, after, false, __ATOMIC_SEQ_CST, __ATOMIC_SEQ_CST));
+    } while (!__atomic_compare_exchange_n(&lagd->fast->rows[number].word, &before, after, false, __ATOMIC_SEQ_CST, __ATOMIC_SEQ_CST));
 }
 
 /* Takes off what overflowed. */
-static void take_overflowed(struct conversation *conversation) {
-    uint64_t overflowed = __atomic_load_n(&rows[number_in(conversation)].overflowed, __ATOMIC_ACQUIRE);
+static void take_overflowed(struct lagd *lagd, struct conversation *conversation) {
+    uint64_t overflowed = __atomic_load_n(&lagd->fast->rows[number_in(lagd, conversation)].overflowed, __ATOMIC_ACQUIRE);
     if (overflowed == conversation->fast.overflowed) return;
-    subtract(number_in(conversation), (uint32_t)(overflowed - conversation->fast.overflowed));
+    subtract(lagd, number_in(lagd, conversation), (uint32_t)(overflowed - conversation->fast.overflowed));
     conversation->fast.overflowed = overflowed;
     conversation->fast.suspected = false;
 }
 
 /* Counts what the kernel passed on of a conversation; answers whether there was something. */
-static bool count_passed(struct conversation *conversation) {
-    uint64_t passed = __atomic_load_n(&rows[number_in(conversation)].passed, __ATOMIC_ACQUIRE);
+static bool count_passed(struct lagd *lagd, struct conversation *conversation) {
+    uint64_t passed = __atomic_load_n(&lagd->fast->rows[number_in(lagd, conversation)].passed, __ATOMIC_ACQUIRE);
     uint64_t more = passed - conversation->fast.counted;
     conversation->fast.counted = passed;
     if (more == 0 || conversation->fast.port == 0) return false;
     conversation->used = true;
-    note_passed(conversation->fast.port, more);
+    note_passed(lagd, conversation->fast.port, more);
     return true;
 }
 
 /* Counts what the kernel did since the last time. */
-void take_fast_counts(void) {
+void take_fast_counts(struct lagd *lagd) {
+    struct fast_private *own = lagd->fast;
     uint64_t overflowed, unfit;
-    if (!is_fast()) return;
-    for (uint16_t number = 0; number < CONVERSATIONS; number++) (void)count_passed(&carry.conversations[number]);
-    for (uint16_t i = 0; i < link_count; i++) {
+    if (!is_fast(lagd)) return;
+    for (uint16_t number = 0; number < CONVERSATIONS; number++) (void)count_passed(lagd, &lagd->carry.conversations[number]);
+    for (uint16_t i = 0; i < lagd->link_count; i++) {
         struct fast_member now = {
-            .passed_up = __atomic_load_n(&entries[i].passed_up, __ATOMIC_RELAXED),
-            .uncollected = __atomic_load_n(&entries[i].uncollected, __ATOMIC_RELAXED),
-            .wrong_length = __atomic_load_n(&entries[i].wrong_length, __ATOMIC_RELAXED),
+            .passed_up = __atomic_load_n(&own->entries[i].passed_up, __ATOMIC_RELAXED),
+            .uncollected = __atomic_load_n(&own->entries[i].uncollected, __ATOMIC_RELAXED),
+            .wrong_length = __atomic_load_n(&own->entries[i].wrong_length, __ATOMIC_RELAXED),
         };
-        struct fast_member more = {0, now.passed_up - counted[i].passed_up, now.uncollected - counted[i].uncollected,
-            now.wrong_length - counted[i].wrong_length};
-        counted[i] = now;
-        add_fast_counts((uint16_t)(i + 1), &more);
+        struct fast_member more = {0, now.passed_up - own->counted[i].passed_up, now.uncollected - own->counted[i].uncollected,
+            now.wrong_length - own->counted[i].wrong_length};
+        own->counted[i] = now;
+        add_fast_counts(lagd, (uint16_t)(i + 1), &more);
     }
-    overflowed = __atomic_load_n(&host->overflowed, __ATOMIC_RELAXED);
-    carry.counts[FROM_HOST] += overflowed - counted_overflows;
-    carry.counts[OVERFLOWED] += overflowed - counted_overflows;
-    counted_overflows = overflowed;
-    unfit = __atomic_load_n(&host->unfit, __ATOMIC_RELAXED);
-    carry.counts[FROM_HOST] += unfit - counted_unfit;
-    carry.counts[UNFIT] += unfit - counted_unfit;
-    counted_unfit = unfit;
+    overflowed = __atomic_load_n(&own->host->overflowed, __ATOMIC_RELAXED);
+    lagd->carry.counts[FROM_HOST] += overflowed - own->counted_overflows;
+    lagd->carry.counts[OVERFLOWED] += overflowed - own->counted_overflows;
+    own->counted_overflows = overflowed;
+    unfit = __atomic_load_n(&own->host->unfit, __ATOMIC_RELAXED);
+    lagd->carry.counts[FROM_HOST] += unfit - own->counted_unfit;
+    lagd->carry.counts[UNFIT] += unfit - own->counted_unfit;
+    own->counted_unfit = unfit;
 }
 
 /* Whether the kernel may pass a conversation on at a port. */
-static bool may_pass(const struct conversation *conversation, uint16_t port) {
+static bool may_pass(struct lagd *lagd, const struct conversation *conversation, uint16_t port) {
+    struct fast_private *own = lagd->fast;
     struct niw_assignment state;
-    if (tap_at == 0 || queue_holds || conversation->home != carry.active || carry.active == 0 || !has_fast_member(port)) return false;
-    return ask_state(carry.active, number_in(conversation), &state) && state.what == NIW_CONVERSATION_ON && state.port == port;
+    if (own->tap_at == 0 || own->queue_holds || conversation->home != lagd->carry.active || lagd->carry.active == 0
+        || !has_fast_member(lagd, port))
+        return false;
+    return ask_state(lagd, lagd->carry.active, number_in(lagd, conversation), &state) && state.what == NIW_CONVERSATION_ON
+        && state.port == port;
 }
 
 /* Waits for the programs. Where the kernel does so no longer, the peers are told, and the daemon ends. */
-static void wait_or_end(void) {
+static void wait_or_end(struct lagd *lagd) {
     if (wait_for_programs()) return;
-    (void)say(LOG_ERR | ABOUT_DATA, "fast: the kernel waits no longer for its programs: %s; the peers are told, and the daemon ends",
+    (void)say(lagd, LOG_ERR | ABOUT_DATA, "fast: the kernel waits no longer for its programs: %s; the peers are told, and the daemon ends",
         strerror(errno));
-    broken = true;
-    end_fast();
+    lagd->broken = true;
+    end_fast(lagd);
 }
 
 /* Takes the rows back that are chosen; once that is done, all that they passed on is with the members, and counted. */
-static void take_back(bool (*is_chosen)(const struct conversation *conversation, uint16_t port), uint16_t port) {
+static void take_back(struct lagd *lagd, bool (*is_chosen)(struct lagd *lagd, const struct conversation *conversation, uint16_t port),
+    uint16_t port) {
     bool taken[CONVERSATIONS] = {false}, any = false;
     for (uint16_t number = 0; number < CONVERSATIONS; number++) {
-        const struct conversation *conversation = &carry.conversations[number];
-        if (conversation->fast.port == 0 || !is_chosen(conversation, port)) continue;
-        (void)__atomic_and_fetch(&rows[number].word, ~(uint64_t)UINT32_MAX, __ATOMIC_SEQ_CST);
+        const struct conversation *conversation = &lagd->carry.conversations[number];
+        if (conversation->fast.port == 0 || !is_chosen(lagd, conversation, port)) continue;
+        (void)__atomic_and_fetch(&lagd->fast->rows[number].word, ~(uint64_t)UINT32_MAX, __ATOMIC_SEQ_CST);
         taken[number] = any = true;
     }
-    if (any) wait_or_end();
+    if (any) wait_or_end(lagd);
     for (uint16_t number = 0; any && number < CONVERSATIONS; number++) {
-        struct conversation *conversation = &carry.conversations[number];
+        struct conversation *conversation = &lagd->carry.conversations[number];
         if (!taken[number]) continue;
-        (void)count_passed(conversation);
+        (void)count_passed(lagd, conversation);
         conversation->fast.port = 0;
-        carry.counts[WITHDRAWN]++;
+        lagd->carry.counts[WITHDRAWN]++;
     }
 }
 
-static bool is_wrong(const struct conversation *conversation, uint16_t port) {
+static bool is_wrong(struct lagd *lagd, const struct conversation *conversation, uint16_t port) {
     (void)port;
-    return carry.port_of[number_in(conversation)] != conversation->fast.port || !has_fast_member(conversation->fast.port);
+    return lagd->carry.port_of[number_in(lagd, conversation)] != conversation->fast.port || !has_fast_member(lagd, conversation->fast.port);
 }
 
 /* Where the library refuses to tell, or the queue of the TAP device holds frames, the kernel passes nothing on. */
-static bool is_any(const struct conversation *conversation, uint16_t port) {
+static bool is_any(struct lagd *lagd, const struct conversation *conversation, uint16_t port) {
+    (void)lagd;
     (void)conversation;
     (void)port;
     return true;
 }
 
-static bool is_on(const struct conversation *conversation, uint16_t port) {
+static bool is_on(struct lagd *lagd, const struct conversation *conversation, uint16_t port) {
+    (void)lagd;
     return conversation->fast.port == port;
 }
 
 /* One that rests for a flight: towards a peer that answers no markers it is free then, and no frame of it may pass meanwhile. */
-static bool is_resting(const struct conversation *conversation, uint16_t port) {
+static bool is_resting(struct lagd *lagd, const struct conversation *conversation, uint16_t port) {
     (void)port;
-    return !conversation->used && carry.time - conversation->last >= settings.flight;
+    return !conversation->used && lagd->carry.time - conversation->last >= lagd->settings.flight;
 }
 
 /* The interface on which the kernel passes a conversation on, or 0. */
-int fast_member_of(uint16_t number) {
-    return is_fast() ? (int)(uint32_t)word_of(number) : 0;
+int fast_member_of(struct lagd *lagd, uint16_t number) {
+    return is_fast(lagd) ? (int)(uint32_t)word_of(lagd, number) : 0;
 }
 
 /* The kernel goes on passing what stays on its port, and nothing else of what it passed on for the last daemon. */
-void resume_fast(void) {
+void resume_fast(struct lagd *lagd) {
     bool any = false;
-    for (uint16_t number = 0; is_fast() && number < CONVERSATIONS; number++) {
-        struct conversation *conversation = &carry.conversations[number];
-        int member = fast_member_of(number);
+    for (uint16_t number = 0; is_fast(lagd) && number < CONVERSATIONS; number++) {
+        struct conversation *conversation = &lagd->carry.conversations[number];
+        int member = fast_member_of(lagd, number);
         if (member == 0) continue;
-        if (conversation->port != 0 && member == links[conversation->port - 1].index && may_pass(conversation, conversation->port)) {
+        if (conversation->port != 0 && member == lagd->links[conversation->port - 1].index
+            && may_pass(lagd, conversation, conversation->port)) {
             conversation->fast.port = conversation->port;
         } else {
-            (void)__atomic_and_fetch(&rows[number].word, ~(uint64_t)UINT32_MAX, __ATOMIC_SEQ_CST);
+            (void)__atomic_and_fetch(&lagd->fast->rows[number].word, ~(uint64_t)UINT32_MAX, __ATOMIC_SEQ_CST);
             any = true;
         }
     }
-    if (any) wait_or_end();
+    if (any) wait_or_end(lagd);
 }
 
 /* Takes back what is not, or no longer, on the port where the kernel passes it on: before a marker goes there. */
-void withdraw(void) {
-    if (!is_fast()) return;
-    take_back(ask_ports(carry.active, carry.port_of) ? is_wrong : is_any, 0);
+void withdraw(struct lagd *lagd) {
+    if (!is_fast(lagd)) return;
+    take_back(lagd, ask_ports(lagd, lagd->carry.active, lagd->carry.port_of) ? is_wrong : is_any, 0);
 }
 
 /* The link of a port goes down, or its interface: before the library hears of it. */
-void withdraw_port(uint16_t port) {
-    if (!is_fast()) return;
-    __atomic_store_n(&entries[port - 1].up_to, 0, __ATOMIC_SEQ_CST);
-    take_back(is_on, port);
+void withdraw_port(struct lagd *lagd, uint16_t port) {
+    if (!is_fast(lagd)) return;
+    __atomic_store_n(&lagd->fast->entries[port - 1].up_to, 0, __ATOMIC_SEQ_CST);
+    take_back(lagd, is_on, port);
     for (uint16_t number = 0; number < CONVERSATIONS; number++) {
-        struct conversation *conversation = &carry.conversations[number];
-        if (conversation->port == port && conversation->home != 0) conversation->fast.not_before = milliseconds() + DOWN_WAIT;
+        struct conversation *conversation = &lagd->carry.conversations[number];
+        if (conversation->port == port && conversation->home != 0) conversation->fast.not_before = milliseconds(lagd) + DOWN_WAIT;
     }
 }
 
 /* The TAP device has this queueing discipline now. One that may hold frames holds them behind the program that counts them, where nobody
  * sees them, and would not have what the kernel passes on: with it the daemon has all data. */
-void follow_host_queue(const char *discipline) {
+void follow_host_queue(struct lagd *lagd, const char *discipline) {
+    struct fast_private *own = lagd->fast;
     bool holds = !keeps_order(discipline) && strcmp(discipline, "pfifo_fast") != 0
         && strcmp(discipline, "noop") != 0; /* it has that one until it is up */
-    if (!is_fast() || !discipline[0] || holds == queue_holds) return;
-    queue_holds = holds;
-    if (holds) take_back(is_any, 0);
-    (void)say(LOG_WARNING | ABOUT_DATA, "carry %s: its queueing discipline is %s: its data %s", settings.carry, discipline,
+    if (!is_fast(lagd) || !discipline[0] || holds == own->queue_holds) return;
+    own->queue_holds = holds;
+    if (holds) take_back(lagd, is_any, 0);
+    (void)say(lagd, LOG_WARNING | ABOUT_DATA, "carry %s: its queueing discipline is %s: its data %s", lagd->settings.carry, discipline,
         holds ? "stays with the daemon, since that discipline may hold frames" : "may go by the kernel");
 }
 
 /* Frames go up by the kernel from the ports that collect in the active aggregator, while the TAP device is up: else the kernel would lose
  * markers, too, which go up behind the data. */
-void set_collecting(void) {
-    bool tap_up = is_fast() && is_tap_up();
-    for (uint16_t i = 0; is_fast() && i < link_count; i++) {
-        uint16_t port = links[i].settings.number;
+void set_collecting(struct lagd *lagd) {
+    struct fast_private *own = lagd->fast;
+    bool tap_up = is_fast(lagd) && is_tap_up(lagd);
+    for (uint16_t i = 0; is_fast(lagd) && i < lagd->link_count; i++) {
+        uint16_t port = lagd->links[i].settings.number;
         uint64_t state = 0;
-        bool up = tap_up && tap_at != 0 && carry.active != 0 && links[i].view.aggregator == carry.active && has_fast_member(port)
-            && is_told(niw_state(&own_system, port), "niw_state", &state) && (state & NIW_STATE_COLLECTING) != 0;
-        __atomic_store_n(&entries[i].up_to, up ? (uint64_t)tap_at : 0, __ATOMIC_SEQ_CST);
+        bool up = tap_up && own->tap_at != 0 && lagd->carry.active != 0 && lagd->links[i].view.aggregator == lagd->carry.active
+            && has_fast_member(lagd, port)
+            && is_told(lagd, niw_state(&lagd->own_system, port), "niw_state", &state) && (state & NIW_STATE_COLLECTING) != 0;
+        __atomic_store_n(&own->entries[i].up_to, up ? (uint64_t)own->tap_at : 0, __ATOMIC_SEQ_CST);
     }
 }
 
 /* Frames of the host are taken for a while from here on, or no longer. Where its device has no carrier, the queue behind the program loses
  * each frame, and a row that counted it would keep it; so they are lost before they are counted. Those of a host whose daemon is stopped go
  * nowhere once the peer may have given the links up. */
-void open_host(bool open) {
+void open_host(struct lagd *lagd, bool open) {
     struct timespec now;
-    if (!is_fast()) return;
+    if (!is_fast(lagd)) return;
     clock_gettime(CLOCK_MONOTONIC, &now);
-    __atomic_store_n(&host->open_until, open ? (uint64_t)now.tv_sec * 1000000000u + (uint64_t)now.tv_nsec + OPEN_FOR : 0, __ATOMIC_SEQ_CST);
+    __atomic_store_n(&lagd->fast->host->open_until, open ? (uint64_t)now.tv_sec * 1000000000u + (uint64_t)now.tv_nsec + OPEN_FOR : 0,
+        __ATOMIC_SEQ_CST);
 }
 
 /* A packet of a conversation came to the daemon. */
@@ -317,33 +343,33 @@ void note_taken(struct conversation *conversation, uint32_t segments) {
 }
 
 /* Lets the kernel pass on a conversation of which nothing waits here, and nothing is on its way here. */
-static void pass(struct conversation *conversation) {
-    struct fast_row *row = &rows[number_in(conversation)];
+static void pass(struct lagd *lagd, struct conversation *conversation) {
+    struct fast_row *row = &lagd->fast->rows[number_in(lagd, conversation)];
     uint16_t port = conversation->port;
-    uint64_t none = 0, member = (uint32_t)links[port - 1].index;
+    uint64_t none = 0, member = (uint32_t)lagd->links[port - 1].index;
     if (__atomic_load_n(&row->opaque, __ATOMIC_SEQ_CST) != 0) return;
     if (__atomic_compare_exchange_n(&row->word, &none, member, false, __ATOMIC_SEQ_CST, __ATOMIC_SEQ_CST)) conversation->fast.port = port;
 }
 
 /* After all that was put was sent: what was taken counts no more, and the kernel gets what it may pass on. */
-void pass_on(void) {
-    for (uint16_t number = 0; is_fast() && number < CONVERSATIONS; number++) {
-        struct conversation *conversation = &carry.conversations[number];
+void pass_on(struct lagd *lagd) {
+    for (uint16_t number = 0; is_fast(lagd) && number < CONVERSATIONS; number++) {
+        struct conversation *conversation = &lagd->carry.conversations[number];
         if (!conversation->fast.touched) continue;
         conversation->fast.touched = false;
-        take_overflowed(conversation);
-        if (conversation->fast.taken > 0) subtract(number, conversation->fast.taken);
+        take_overflowed(lagd, conversation);
+        if (conversation->fast.taken > 0) subtract(lagd, number, conversation->fast.taken);
         if (conversation->fast.taken > 0) conversation->fast.suspected = false;
         conversation->fast.taken = 0;
-        if (conversation->port == 0 || conversation->fast.port > 0 || !none_held(number)) continue;
-        if (may_pass(conversation, conversation->port)) pass(conversation);
+        if (conversation->port == 0 || conversation->fast.port > 0 || !none_held(lagd, number)) continue;
+        if (may_pass(lagd, conversation, conversation->port)) pass(lagd, conversation);
     }
 }
 
 /* Counts no more what was lost on its way to the daemon: since it was suspected, no frame of it came and none was left (programs only ever
  * raise the count of a row without a member), all programs ended, and the TAP device had nothing more. */
-static void confirm_loss(struct conversation *conversation) {
-    struct fast_row *row = &rows[number_in(conversation)];
+static void confirm_loss(struct lagd *lagd, struct conversation *conversation) {
+    struct fast_row *row = &lagd->fast->rows[number_in(lagd, conversation)];
     uint64_t word = conversation->fast.suspected_word, overflowed = __atomic_load_n(&row->overflowed, __ATOMIC_SEQ_CST);
     conversation->fast.suspected = false;
     if (__atomic_load_n(&row->opaque, __ATOMIC_SEQ_CST) != conversation->fast.suspected_opaque) return;
@@ -357,23 +383,24 @@ static void confirm_loss(struct conversation *conversation) {
  * program counts just now. More of `left` was lost behind the program that counted it, by a queue without a carrier or without room, and
  * no read takes it off: with MOST_LEFT of it no frame would ever come here again. What is taken off too early makes it less than 0, and is
  * put back. It only tells how many may wait, so a frame too many is lost by the kernel, which counts it. The order rests on the rows. */
-void note_read(unsigned packets, bool drained) {
+void note_read(struct lagd *lagd, unsigned packets, bool drained) {
+    struct fast_private *own = lagd->fast;
     int64_t left;
-    if (!is_fast() || broken) return;
-    left = __atomic_sub_fetch(&host->left, packets, __ATOMIC_SEQ_CST);
-    if (drained && (left > MOST_BETWEEN || left < 0)) (void)__atomic_sub_fetch(&host->left, left, __ATOMIC_SEQ_CST);
-    for (uint16_t number = 0; drained && !queue_holds && number < CONVERSATIONS; number++) {
-        struct conversation *conversation = &carry.conversations[number];
-        if (conversation->fast.suspected && conversation->fast.taken == 0) confirm_loss(conversation);
+    if (!is_fast(lagd) || lagd->broken) return;
+    left = __atomic_sub_fetch(&own->host->left, packets, __ATOMIC_SEQ_CST);
+    if (drained && (left > MOST_BETWEEN || left < 0)) (void)__atomic_sub_fetch(&own->host->left, left, __ATOMIC_SEQ_CST);
+    for (uint16_t number = 0; drained && !own->queue_holds && number < CONVERSATIONS; number++) {
+        struct conversation *conversation = &lagd->carry.conversations[number];
+        if (conversation->fast.suspected && conversation->fast.taken == 0) confirm_loss(lagd, conversation);
     }
 }
 
 /* Suspects rows with frames that do not come: none came since the last tick. */
-static bool suspect(struct conversation *conversation) {
-    struct fast_row *row = &rows[number_in(conversation)];
+static bool suspect(struct lagd *lagd, struct conversation *conversation) {
+    struct fast_row *row = &lagd->fast->rows[number_in(lagd, conversation)];
     uint64_t word, opaque;
-    take_overflowed(conversation);
-    word = word_of(number_in(conversation));
+    take_overflowed(lagd, conversation);
+    word = word_of(lagd, number_in(lagd, conversation));
     opaque = __atomic_load_n(&row->opaque, __ATOMIC_SEQ_CST);
     if (conversation->fast.port > 0 || conversation->used || conversation->fast.suspected || (word == 0 && opaque == 0)) return false;
     conversation->fast.suspected = true;
@@ -383,14 +410,14 @@ static bool suspect(struct conversation *conversation) {
 }
 
 /* 100 ms passed. */
-void pass_fast_tick(void) {
+void pass_fast_tick(struct lagd *lagd) {
     bool any = false;
-    if (!is_fast()) return;
-    (void)read_tap_mac((uint8_t *)&host->mac);
-    withdraw();
-    open_host(has_carrier());
-    take_fast_counts();
-    if (peer_answering() == MUTE) take_back(is_resting, 0);
-    for (uint16_t number = 0; number < CONVERSATIONS; number++) any = suspect(&carry.conversations[number]) || any;
-    if (any) wait_or_end();
+    if (!is_fast(lagd)) return;
+    (void)read_tap_mac(lagd, (uint8_t *)&lagd->fast->host->mac);
+    withdraw(lagd);
+    open_host(lagd, has_carrier(lagd));
+    take_fast_counts(lagd);
+    if (peer_answering(lagd) == MUTE) take_back(lagd, is_resting, 0);
+    for (uint16_t number = 0; number < CONVERSATIONS; number++) any = suspect(lagd, &lagd->carry.conversations[number]) || any;
+    if (any) wait_or_end(lagd);
 }

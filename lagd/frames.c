@@ -6,7 +6,7 @@
 #include <string.h>
 #include <sys/socket.h>
 
-#include "lagd.h"
+#include "daemon.h"
 
 #define LONGEST_FRAME 2048
 /* Where an LACPDU has its actor's system priority and system (IEEE 802.1AX-2014, 6.4.2.3). */
@@ -22,9 +22,9 @@ static bool is_same_system(const struct system_id *one, const struct system_id *
     return one->priority == other->priority && memcmp(one->mac, other->mac, sizeof one->mac) == 0;
 }
 
-static bool is_own(const struct system_id *system) {
-    struct system_id own = {.priority = settings.config.priority};
-    memcpy(own.mac, settings.config.mac, sizeof own.mac);
+static bool is_own(struct lagd *lagd, const struct system_id *system) {
+    struct system_id own = {.priority = lagd->settings.config.priority};
+    memcpy(own.mac, lagd->settings.config.mac, sizeof own.mac);
     return is_same_system(system, &own);
 }
 
@@ -39,9 +39,9 @@ static bool actor_of(const struct arrival *arrival, struct system_id *actor) {
 
 /* The link went down, or its partner is silent for so long that the port runs on defaults: who speaks first next is the partner, where that
  * holds. */
-void forget_partner(struct link *link) {
-    link->pinned = settings.policy == PARTNER_GIVEN;
-    if (link->pinned) link->partner = settings.partner;
+void forget_partner(struct lagd *lagd, struct link *link) {
+    link->pinned = lagd->settings.policy == PARTNER_GIVEN;
+    if (link->pinned) link->partner = lagd->settings.partner;
     link->heard = false;
 }
 
@@ -53,7 +53,7 @@ static void note_stranger(struct link *link, const struct system_id *system, con
 }
 
 /* An LACPDU of this system was taken. */
-static void note_actor(struct link *link, const struct system_id *actor, const uint8_t *frame) {
+static void note_actor(struct lagd *lagd, struct link *link, const struct system_id *actor, const uint8_t *frame) {
     const uint8_t *source = frame + ETH_ALEN;
     memcpy(link->lacpdu, frame, sizeof link->lacpdu);
     link->lacpdu_at = boottime();
@@ -64,43 +64,45 @@ static void note_actor(struct link *link, const struct system_id *actor, const u
     link->heard = true;
     link->actor = *actor;
     memcpy(link->source, source, sizeof link->source);
-    if (settings.policy != PARTNER_FIRST || link->pinned || is_own(actor)) return;
+    if (lagd->settings.policy != PARTNER_FIRST || link->pinned || is_own(lagd, actor)) return;
     link->pinned = true;
     link->partner = *actor;
 }
 
 /* Hands a frame to the library, and sends the response to a marker, if there were not too many within a second. */
-static void hand_over(struct link *link, const struct arrival *arrival, const struct system_id *actor) {
+static void hand_over(struct lagd *lagd, struct link *link, const struct arrival *arrival, const struct system_id *actor) {
     uint8_t response[NIW_FRAME];
-    struct niw_received received = niw_receive(&own_system, link->settings.number, arrival->frame, arrival->length, response,
+    struct niw_received received = niw_receive(&lagd->own_system, link->settings.number, arrival->frame, arrival->length, response,
         sizeof response);
-    if (!is_done(received.status, "niw_receive")) return;
+    if (!is_done(lagd, received.status, "niw_receive")) return;
     if (received.what == NIW_RECEIVED_DISABLED) link->counts[DISABLED_RECEIVED]++;
-    if (!is_done(niw_count_received(&link->counters, arrival->frame, arrival->length, received.what), "niw_count_received")) return;
-    if (received.what == NIW_RECEIVED_TOOK_LACPDU && actor) note_actor(link, actor, arrival->frame);
+    if (!is_done(lagd, niw_count_received(&link->counters, arrival->frame, arrival->length, received.what), "niw_count_received")) return;
+    if (received.what == NIW_RECEIVED_TOOK_LACPDU && actor) note_actor(lagd, link, actor, arrival->frame);
     if (received.what != NIW_RECEIVED_RESPOND) return;
-    if (!may_answer(link, arrival) || !answer_marker(link, response)) note_odd_marker(link, arrival, RESPONSES_UNSENT);
+    if (!may_answer(lagd, link, arrival) || !answer_marker(lagd, link, response)) note_odd_marker(link, arrival, RESPONSES_UNSENT);
 }
 
 /* Takes a response to a marker of one queue: the library has the last one that was missing. */
-static void take_response(struct link *link, const struct arrival *arrival, uint32_t id) {
+static void take_response(struct lagd *lagd, struct link *link, const struct arrival *arrival, uint32_t id) {
     uint8_t frame[NIW_FRAME];
     struct arrival last = *arrival;
-    if (!ends_flight(link, &id)) {
-        if (!is_done(niw_count_received(&link->counters, arrival->frame, arrival->length, NIW_RECEIVED_RELEASED), "niw_count_received")) return;
+    if (!ends_flight(lagd, link, &id)) {
+        if (!is_done(lagd, niw_count_received(&link->counters, arrival->frame, arrival->length, NIW_RECEIVED_RELEASED),
+            "niw_count_received"))
+            return;
         return;
     }
     memcpy(frame, arrival->frame, sizeof frame);
     set_identifier(frame, id);
     last.frame = frame;
     last.length = sizeof frame;
-    hand_over(link, &last, NULL);
-    note_response(link, id);
+    hand_over(lagd, link, &last, NULL);
+    note_response(lagd, link, id);
 }
 
 /* Takes a frame. The slow protocols have one address, which no bridge passes on: a frame to any other one comes from anybody. Their
  * frames have no VLAN tag. The kernel calls one with a tag another host's, or shows it as a frame of the VLAN's interface. */
-void take_frame(struct link *link, const struct arrival *arrival) {
+void take_frame(struct lagd *lagd, struct link *link, const struct arrival *arrival) {
     struct system_id actor;
     struct niw_pdu response;
     bool is_lacpdu, is_response;
@@ -118,17 +120,17 @@ void take_frame(struct link *link, const struct arrival *arrival) {
         note_stranger(link, &actor, arrival->frame + 6);
         return;
     }
-    is_response = link->up && read_response(arrival, &response);
-    if (is_response && !is_partners_response(link, arrival, &response)) {
+    is_response = link->up && read_response(lagd, arrival, &response);
+    if (is_response && !is_partners_response(lagd, link, arrival, &response)) {
         note_odd_marker(link, arrival, FOREIGN_RESPONSES);
         return;
     }
-    if (is_response && settings.all_queues) {
-        take_response(link, arrival, response.transaction_id);
+    if (is_response && lagd->settings.all_queues) {
+        take_response(lagd, link, arrival, response.transaction_id);
         return;
     }
-    hand_over(link, arrival, is_lacpdu ? &actor : NULL);
-    if (is_response) note_response(link, response.transaction_id);
+    hand_over(lagd, link, arrival, is_lacpdu ? &actor : NULL);
+    if (is_response) note_response(lagd, link, response.transaction_id);
 }
 
 /* What the kernel tells beside a frame; zeros where it does not. */
@@ -144,8 +146,8 @@ struct tpacket_auxdata aux_of(struct msghdr *message) {
 }
 
 /* Takes the frames that wait at an interface, MOST_TAKEN of them at most. */
-void take_frames(uint16_t port) {
-    struct link *link = &links[port - 1];
+void take_frames(struct lagd *lagd, uint16_t port) {
+    struct link *link = &lagd->links[port - 1];
     uint8_t frame[LONGEST_FRAME];
     for (int turn = 0; turn < MOST_TAKEN && link->socket >= 0; turn++) {
         union {
@@ -160,20 +162,21 @@ void take_frames(uint16_t port) {
         if (got < 0) return;
         if (from.sll_pkttype == PACKET_OUTGOING) continue; /* an old kernel shows what was sent */
         arrival.tagged = (aux_of(&message).tp_status & TP_STATUS_VLAN_VALID) != 0;
-        take_frame(link, &arrival);
+        take_frame(lagd, link, &arrival);
     }
 }
 
 /* Tells of strangers on a link, if there are more than were told of: at once, and then every 10 s at most. */
-void tell_strangers(struct link *link) {
+void tell_strangers(struct lagd *lagd, struct link *link) {
     struct strangers *strangers = &link->strangers;
     uint64_t foreign = link->counts[FOREIGN_RECEIVED], changes = link->counts[PARTNER_CHANGES];
     char system[32], source[32];
-    if (foreign + changes == strangers->told || ticks_passed() < strangers->tell_at) return;
-    if (!say(LOG_WARNING | ABOUT_STRANGER, "port %u %s: another system speaks, last %s from %s: %" PRIu64 " LACPDUs not taken, %" PRIu64
+    if (foreign + changes == strangers->told || ticks_passed(lagd) < strangers->tell_at) return;
+    if (!say(lagd, LOG_WARNING | ABOUT_STRANGER,
+        "port %u %s: another system speaks, last %s from %s: %" PRIu64 " LACPDUs not taken, %" PRIu64
             " changes of the partner", link->settings.number, link->name, system_text(&strangers->system, system),
             mac_text(strangers->source, source), foreign, changes))
         return;
     strangers->told = foreign + changes;
-    strangers->tell_at = ticks_passed() + STRANGERS_TICKS;
+    strangers->tell_at = ticks_passed(lagd) + STRANGERS_TICKS;
 }

@@ -12,13 +12,22 @@
 #include <sys/socket.h>
 #include <unistd.h>
 
-#include "carry.h"
+#include "daemon.h"
 
-static int program = -1;
+/* What this file keeps for a daemon. */
+struct guard_private {
+    int program;
+};
+
+struct guard_private *make_guard_private(void) {
+    struct guard_private *made = make_room(sizeof *made);
+    made->program = -1;
+    return made;
+}
 
 /* The program that keeps data from the stack of a member is loaded once, while the daemon may. */
-void load_guard(void) {
-    program = load_program("dropper", NULL, 0);
+void load_guard(struct lagd *lagd) {
+    lagd->guard->program = load_program(lagd, "dropper", NULL, 0);
 }
 
 /* Asks the driver of an interface something, or for something. */
@@ -89,20 +98,21 @@ static bool steer(const struct link *link) {
 }
 
 /* What goes up is not spread over processors at the TAP device: a marker would be answered before the data that came before it went up. */
-void gather(int index) {
+void gather(struct lagd *lagd, int index) {
     char path[128], now[PROCESSORS_ROOM];
     if (!path_of_processors(index, path, sizeof path) || !read_processors(path, now, sizeof now)) return;
     if (is_one(now) || is_none(now) || write_processors(path, "0")) return;
-    (void)say(LOG_WARNING | ABOUT_DATA, "carry %s: RPS spreads what goes up over processors, and markers may be answered before data",
-        settings.carry);
+    (void)say(lagd, LOG_WARNING | ABOUT_DATA, "carry %s: RPS spreads what goes up over processors, and markers may be answered before data",
+        lagd->settings.carry);
 }
 
 /* What an interface has that is changed while it is a member. */
-static void look_before(const struct link *link, struct kept *before) {
+static void look_before(struct lagd *lagd, const struct link *link, struct kept *before) {
     char path[128];
     *before = (struct kept){.joins = read_joins(link->index).wanted};
     if (queues_of(link->index, &before->queues) <= 1) before->queues = (struct ethtool_channels){0};
-    if (!is_fast() || !path_of_processors(link->index, path, sizeof path) || !read_processors(path, before->steered, sizeof before->steered)
+    if (!is_fast(lagd) || !path_of_processors(link->index, path, sizeof path)
+        || !read_processors(path, before->steered, sizeof before->steered)
         || is_one(before->steered))
         before->steered[0] = 0;
 }
@@ -113,135 +123,138 @@ static bool is_unqueued(const struct link *link) {
 }
 
 /* How many queues of an interface have a discipline of their own: all of them, where it keeps them. */
-static unsigned fifos_of(int index) {
-    return settings.all_queues ? count_entries(index, "tx-") : 1;
+static unsigned fifos_of(struct lagd *lagd, int index) {
+    return lagd->settings.all_queues ? count_entries(index, "tx-") : 1;
 }
 
 /* Sees whether what is sent at an interface keeps its order in its queueing discipline. Frames of several segments have to go through
  * that, since it segments them for an interface that cannot: so they get one that does. */
-void look_at_discipline(struct link *link, struct guard *guard) {
-    bool wants = passes_segments() || settings.all_queues, given = false;
-    (void)read_discipline(link->index, link->discipline);
+void look_at_discipline(struct lagd *lagd, struct link *link, struct guard *guard) {
+    bool wants = passes_segments(lagd) || lagd->settings.all_queues, given = false;
+    (void)read_discipline(lagd, link->index, link->discipline);
     if (wants && !is_unqueued(link) && strcmp(link->discipline, "noqueue") != 0)
-        given = give_fifos(link->index, fifos_of(link->index), read_speed(link->socket, link->name).megabits);
-    if (given) (void)read_discipline(link->index, link->discipline);
+        given = give_fifos(lagd, link->index, fifos_of(lagd, link->index), read_speed(link->socket, link->name).megabits);
+    if (given) (void)read_discipline(lagd, link->index, link->discipline);
     link->has_fifos = given && strcmp(link->discipline, "mq") == 0;
     guard->in_order = keeps_order(link->discipline) || link->has_fifos;
-    if (passes_segments() && !guard->in_order && !is_unqueued(link))
-        (void)say(LOG_WARNING | ABOUT_DATA, "port %u %s: its queueing discipline is neither noqueue, bfifo nor pfifo: it loses frames of "
+    if (passes_segments(lagd) && !guard->in_order && !is_unqueued(link))
+        (void)say(lagd, LOG_WARNING | ABOUT_DATA,
+            "port %u %s: its queueing discipline is neither noqueue, bfifo nor pfifo: it loses frames of "
             "several segments, if its card cannot cut them", link->settings.number, link->name);
 }
 
 /* The link comes up: the queue of its interface, if that is one of the daemon, has the length of its speed from now on. */
-void fit_queue(const struct link *link, const char *interface) {
-    if (!carries_data() || !(passes_segments() || settings.all_queues)) return;
+void fit_queue(struct lagd *lagd, const struct link *link, const char *interface) {
+    if (!carries_data(lagd) || !(passes_segments(lagd) || lagd->settings.all_queues)) return;
     if (link->has_fifos)
-        fit_fifos(link->index, fifos_of(link->index), read_speed(link->socket, interface).megabits);
+        fit_fifos(lagd, link->index, fifos_of(lagd, link->index), read_speed(link->socket, interface).megabits);
     else
-        fit_fifo(link->index, read_speed(link->socket, interface).megabits);
+        fit_fifo(lagd, link->index, read_speed(link->socket, interface).megabits);
 }
 
 /* Why the kernel may not pass on what goes and comes at an interface, or NULL: a marker would overtake the data before it. */
-static const char *fault_of_fast(const struct link *link, const struct guard *guard) {
+static const char *fault_of_fast(struct lagd *lagd, const struct link *link, const struct guard *guard) {
     struct ethtool_channels queues;
     if (link->stacked) return "it stands on another interface, whose queues are not seen";
     if (!guard->spread && queues_of(link->index, &queues) > 1) return "it has several queues";
-    if (guard->spread && !has_usual_queues(guard)) return "it has another number of queues than the first member";
+    if (guard->spread && !has_usual_queues(lagd, guard)) return "it has another number of queues than the first member";
     if (!guard->in_order) return "its queueing discipline is neither noqueue, bfifo nor pfifo";
     if (!guard->spread && !steer(link)) return "RPS cannot be set to one processor";
     return NULL;
 }
 
 /* Has the kernel pass on what goes and comes at a member, where it may; a line says why not. */
-static void open_fast(const struct link *link, struct guard *guard) {
-    const char *fault = fault_of_fast(link, guard);
-    if (!fault) guard->opened = open_fast_receiver(link);
+static void open_fast(struct lagd *lagd, const struct link *link, struct guard *guard) {
+    const char *fault = fault_of_fast(lagd, link, guard);
+    if (!fault) guard->opened = open_fast_receiver(lagd, link);
     guard->fast = guard->opened >= 0;
     if (!fault && !guard->fast) fault = strerror(errno);
     if (fault && !is_unqueued(link)) /* it is looked at again then */
-        (void)say(LOG_WARNING | ABOUT_DATA, "port %u %s: its data stays with the daemon: %s", link->settings.number, link->name, fault);
+        (void)say(lagd, LOG_WARNING | ABOUT_DATA, "port %u %s: its data stays with the daemon: %s", link->settings.number, link->name,
+            fault);
 }
 
 /* Keeps data from the stack of an interface: by TCX, or, where the kernel has none, by a classifier. */
-static void keep_from_stack(const struct link *link, struct guard *guard) {
+static void keep_from_stack(struct lagd *lagd, const struct link *link, struct guard *guard) {
     uint16_t port = link->settings.number;
-    if (program >= 0) guard->opened = attach_stored("guard", program, link->index, false);
-    if (program >= 0 && guard->opened < 0) guard->classifier = set_classifier(program, link->index);
+    if (lagd->guard->program >= 0) guard->opened = attach_stored(lagd, "guard", lagd->guard->program, link->index, false);
+    if (lagd->guard->program >= 0 && guard->opened < 0) guard->classifier = set_classifier(lagd, lagd->guard->program, link->index);
     if (guard->classifier == CLASSIFIER_BEHIND_OTHERS)
-        (void)say(LOG_WARNING | ABOUT_DATA, "port %u %s: it has a clsact already: its own network stack has what filters there accept",
-            port, link->name);
+        (void)say(lagd, LOG_WARNING | ABOUT_DATA,
+            "port %u %s: it has a clsact already: its own network stack has what filters there accept", port, link->name);
     if (guard->opened < 0 && guard->classifier == NO_CLASSIFIER)
-        (void)say(LOG_WARNING | ABOUT_DATA, "port %u %s: its own network stack has its frames, too", port, link->name);
+        (void)say(lagd, LOG_WARNING | ABOUT_DATA, "port %u %s: its own network stack has its frames, too", port, link->name);
 }
 
 /* Which ways to put frames together may stay: GRO of the kernel, where responses wait for longer than it keeps a frame. Where the daemon
  * takes the frames, it does not: a socket cannot tell of each frame what it was made of. */
-static unsigned joins_allowed(const struct link *link, const struct guard *guard) {
-    return guard->spread && guard->fast && keeps_briefly(link->index) ? JOINED_BY_KERNEL : 0;
+static unsigned joins_allowed(struct lagd *lagd, const struct link *link, const struct guard *guard) {
+    return guard->spread && guard->fast && keeps_briefly(lagd, link->index) ? JOINED_BY_KERNEL : 0;
 }
 
 /* Lets a member keep all its queues, where it can, or gives it one. How many others give it meanwhile, it is to have behind the daemon. */
-static void set_queues(struct link *link, struct guard *guard) {
+static void set_queues(struct lagd *lagd, struct link *link, struct guard *guard) {
     struct ethtool_channels *before = &guard->before.queues;
-    look_at_discipline(link, guard);
-    if (settings.all_queues) {
+    look_at_discipline(lagd, link, guard);
+    if (lagd->settings.all_queues) {
         if (is_unqueued(link)) return; /* it is looked at again then */
-        spread(link, guard);
+        spread(lagd, link, guard);
         if (guard->spread || queues_of(link->index, before) <= 1) *before = (struct ethtool_channels){0};
-        write_settings(link, &guard->before);
+        write_settings(lagd, link, &guard->before);
     }
     if (!guard->spread) join_queues(link->index);
 }
 
 /* Has programs run for the frames of an interface. */
-static void run_programs(const struct link *link, struct guard *guard) {
+static void run_programs(struct lagd *lagd, const struct link *link, struct guard *guard) {
     guard->opened = -1;
     guard->classifier = NO_CLASSIFIER;
     guard->fast = false;
-    if (is_fast()) open_fast(link, guard);
-    if (guard->opened < 0) keep_from_stack(link, guard);
-    if (guard->before.joins != 0) set_joins(link->index, guard->before.joins & joins_allowed(link, guard));
+    if (is_fast(lagd)) open_fast(lagd, link, guard);
+    if (guard->opened < 0) keep_from_stack(lagd, link, guard);
+    if (guard->before.joins != 0) set_joins(link->index, guard->before.joins & joins_allowed(lagd, link, guard));
 }
 
-static void stop_programs(const struct link *link, struct guard *guard) {
+static void stop_programs(struct lagd *lagd, const struct link *link, struct guard *guard) {
     if (guard->opened >= 0) detach_stored("guard", link->index, guard->opened);
-    if (guard->classifier != NO_CLASSIFIER) drop_classifier(link->index);
+    if (guard->classifier != NO_CLASSIFIER) drop_classifier(lagd, link->index);
     guard->opened = -1;
     guard->classifier = NO_CLASSIFIER;
     guard->fast = false;
 }
 
 /* An interface has another queueing discipline: its programs are chosen anew. What it had before it was a member stays kept. */
-void reopen_guard(struct link *link, struct guard *guard) {
-    stop_programs(link, guard);
-    if (settings.all_queues)
-        set_queues(link, guard);
+void reopen_guard(struct lagd *lagd, struct link *link, struct guard *guard) {
+    stop_programs(lagd, link, guard);
+    if (lagd->settings.all_queues)
+        set_queues(lagd, link, guard);
     else
-        look_at_discipline(link, guard);
-    run_programs(link, guard);
+        look_at_discipline(lagd, link, guard);
+    run_programs(lagd, link, guard);
     note_channels(link, guard);
 }
 
 /* Prepares an interface. What it cannot be kept from has a line. */
-void open_guard(struct link *link, struct guard *guard) {
+void open_guard(struct lagd *lagd, struct link *link, struct guard *guard) {
     struct ethtool_channels queues;
     uint16_t port = link->settings.number;
     guard->spread = false;
     guard->queues = 1;
     guard->chooser = -1;
-    look_before(link, &guard->before);
-    keep_settings(link, &guard->before);
-    if (settings.all_queues) (void)part_queues(link->index, &guard->before.queues); /* an earlier daemon may have given it one */
-    set_queues(link, guard);
-    run_programs(link, guard);
+    look_before(lagd, link, &guard->before);
+    keep_settings(lagd, link, &guard->before);
+    if (lagd->settings.all_queues) (void)part_queues(link->index, &guard->before.queues); /* an earlier daemon may have given it one */
+    set_queues(lagd, link, guard);
+    run_programs(lagd, link, guard);
     note_channels(link, guard);
-    if ((read_joins(link->index).on & ~joins_allowed(link, guard)) != 0)
-        (void)say(LOG_WARNING | ABOUT_DATA, "port %u %s: GRO or LRO stays on, and markers may overtake data", port, link->name);
-    if (link->stacked && !is_fast())
-        (void)say(LOG_WARNING | ABOUT_DATA, "port %u %s: it stands on another interface, whose queues are not seen: markers may overtake "
+    if ((read_joins(link->index).on & ~joins_allowed(lagd, link, guard)) != 0)
+        (void)say(lagd, LOG_WARNING | ABOUT_DATA, "port %u %s: GRO or LRO stays on, and markers may overtake data", port, link->name);
+    if (link->stacked && !is_fast(lagd))
+        (void)say(lagd, LOG_WARNING | ABOUT_DATA,
+            "port %u %s: it stands on another interface, whose queues are not seen: markers may overtake "
             "data", port, link->name);
-    if (!guard->spread && !(settings.all_queues && is_unqueued(link)) && queues_of(link->index, &queues) > 1)
-        (void)say(LOG_WARNING | ABOUT_DATA, "port %u %s: it has several queues, and markers may overtake data", port, link->name);
+    if (!guard->spread && !(lagd->settings.all_queues && is_unqueued(link)) && queues_of(link->index, &queues) > 1)
+        (void)say(lagd, LOG_WARNING | ABOUT_DATA, "port %u %s: it has several queues, and markers may overtake data", port, link->name);
 }
 
 /* Sets back which processors take what an interface receives; answers whether these do now. */
@@ -252,31 +265,31 @@ static bool steer_back(int index, const char *mask) {
 }
 
 /* The interface is no member any more. What cannot be set back stays kept, as without CAP_NET_ADMIN. */
-void close_guard(const struct link *link, struct guard *guard) {
+void close_guard(struct lagd *lagd, const struct link *link, struct guard *guard) {
     struct kept *before = &guard->before;
     char name[IF_NAMESIZE];
     bool done = true;
-    stop_programs(link, guard);
+    stop_programs(lagd, link, guard);
     stop_spreading(link, guard);
-    gather_back(link);
+    gather_back(lagd, link);
     if (before->joins != 0) set_joins(link->index, before->joins);
     if (before->joins != 0) done = (before->joins & ~read_joins(link->index).wanted) == 0;
     done = part_queues(link->index, &before->queues) && done;
-    take_fifo(link->index); /* with all its queues the kernel gives each of them what it chooses */
+    take_fifo(lagd, link->index); /* with all its queues the kernel gives each of them what it chooses */
     if (before->steered[0]) done = steer_back(link->index, before->steered) && done;
-    if (done || !if_indextoname((unsigned)link->index, name)) forget_settings(link);
+    if (done || !if_indextoname((unsigned)link->index, name)) forget_settings(lagd, link);
 }
 
 /* An interface was a member of the last daemon, and is none of this one: it gets what it had, unless somebody else has it by now. */
-void put_back(int index, const uint8_t *mac) {
+void put_back(struct lagd *lagd, int index, const uint8_t *mac) {
     struct link link = {.index = index};
     struct guard guard = {.classifier = CLASSIFIER_ALONE};
-    int lock = lock_interface(index);
+    int lock = lock_interface(lagd, index);
     if (lock < 0) return;
-    guard.opened = take_stored("guard", index);
-    guard.chooser = take_stored("queues", index);
+    guard.opened = take_stored(lagd, "guard", index);
+    guard.chooser = take_stored(lagd, "queues", index);
     memcpy(link.mac, mac, sizeof link.mac);
-    recall_settings(&link, &guard.before);
-    close_guard(&link, &guard);
-    return_stored("lock", index, lock);
+    recall_settings(lagd, &link, &guard.before);
+    close_guard(lagd, &link, &guard);
+    return_stored(lagd, "lock", index, lock);
 }

@@ -6,7 +6,7 @@
 #include <string.h>
 #include <sys/mman.h>
 
-#include "carry.h"
+#include "daemon.h"
 
 /* How many frames of a conversation wait at most, and how many of all. */
 #define MOST_OF_ONE 2048
@@ -25,22 +25,32 @@ struct slot {
     uint8_t packet[];
 };
 
-static struct pool {
-    uint8_t *slots;
-    size_t octets;       /* of a slot */
-    uint32_t idle;       /* the first slot that was used and is not in use */
-    uint32_t used, most; /* how many were ever used, and how many there are */
-} small, large;
-static uint32_t leaving = NONE; /* the first of those that are in use until they were sent */
-static struct niw_queue queues = NIW_EMPTY;
-static size_t octets; /* of all slots, while the queues are there */
+/* What this file keeps for a daemon. */
+struct held_private {
+    struct pool {
+        uint8_t *slots;
+        size_t octets;       /* of a slot */
+        uint32_t idle;       /* the first slot that was used and is not in use */
+        uint32_t used, most; /* how many were ever used, and how many there are */
+    } small, large;
+    uint32_t leaving; /* the first of those that are in use until they were sent */
+    struct niw_queue queues;
+    size_t octets; /* of all slots, while the queues are there */
+};
 
-static struct pool *pool_of(uint32_t at) {
-    return at & LARGE ? &large : &small;
+struct held_private *make_held_private(void) {
+    struct held_private *made = make_room(sizeof *made);
+    made->leaving = NONE;
+    return made;
 }
 
-static struct slot *slot_of(uint32_t at) {
-    struct pool *pool = pool_of(at);
+static struct pool *pool_of(struct lagd *lagd, uint32_t at) {
+    struct held_private *own = lagd->held;
+    return at & LARGE ? &own->large : &own->small;
+}
+
+static struct slot *slot_of(struct lagd *lagd, uint32_t at) {
+    struct pool *pool = pool_of(lagd, at);
     return (struct slot *)(void *)(pool->slots + (size_t)((at & ~LARGE) - 1) * pool->octets);
 }
 
@@ -52,117 +62,122 @@ static size_t size_pool(struct pool *pool, size_t room, uint32_t most) {
 }
 
 /* Takes all memory. Its pages are in use once they are written. */
-void start_held(void) {
-    size_t before = size_pool(&small, SMALL_ROOM, MOST_WAIT);
-    size_t behind = size_pool(&large, packet_room(), MOST_LARGE);
-    small.slots = mmap(NULL, before + behind, PROT_READ | PROT_WRITE, MAP_PRIVATE | MAP_ANONYMOUS | MAP_NORESERVE, -1, 0);
-    if (small.slots == MAP_FAILED) stop(REFUSED, "no room for held frames", strerror(errno));
-    large.slots = small.slots + before;
-    if (!is_done(niw_queue_new(&queues, CONVERSATIONS, MOST_WAIT, MOST_OF_ONE), "niw_queue_new")) return;
-    octets = before + behind;
+void start_held(struct lagd *lagd) {
+    struct held_private *own = lagd->held;
+    size_t before = size_pool(&own->small, SMALL_ROOM, MOST_WAIT);
+    size_t behind = size_pool(&own->large, packet_room(), MOST_LARGE);
+    own->small.slots = mmap(NULL, before + behind, PROT_READ | PROT_WRITE, MAP_PRIVATE | MAP_ANONYMOUS | MAP_NORESERVE, -1, 0);
+    if (own->small.slots == MAP_FAILED) stop(REFUSED, "no room for held frames", strerror(errno));
+    own->large.slots = own->small.slots + before;
+    if (!is_done(lagd, niw_queue_new(&own->queues, CONVERSATIONS, MOST_WAIT, MOST_OF_ONE), "niw_queue_new")) return;
+    own->octets = before + behind;
 }
 
 /* The daemon ends: once the library has no number of a slot, the memory goes back. */
-void end_held(void) {
-    if (octets == 0 || !is_done(niw_queue_free(&queues), "niw_queue_free")) return;
-    (void)munmap(small.slots, octets);
-    octets = 0;
+void end_held(struct lagd *lagd) {
+    struct held_private *own = lagd->held;
+    if (own->octets == 0 || !is_done(lagd, niw_queue_free(&own->queues), "niw_queue_free")) return;
+    (void)munmap(own->small.slots, own->octets);
+    own->octets = 0;
 }
 
 /* A slot that is not in use, or NONE. */
-static uint32_t take_slot(struct pool *pool) {
+static uint32_t take_slot(struct lagd *lagd, struct pool *pool) {
     uint32_t at = pool->idle;
     if (at != NONE)
-        pool->idle = slot_of(at)->next;
+        pool->idle = slot_of(lagd, at)->next;
     else if (pool->used < pool->most)
-        at = ++pool->used | (pool == &large ? LARGE : 0);
+        at = ++pool->used | (pool == &lagd->held->large ? LARGE : 0);
     return at;
 }
 
-static void free_slot(uint32_t at) {
-    struct pool *pool = pool_of(at);
-    slot_of(at)->next = pool->idle;
+static void free_slot(struct lagd *lagd, uint32_t at) {
+    struct pool *pool = pool_of(lagd, at);
+    slot_of(lagd, at)->next = pool->idle;
     pool->idle = at;
 }
 
 /* Writes how many frames of a conversation wait; answers whether that is known. While no frame waits at all, the library is not asked. */
-bool count_held(uint16_t number, uint64_t *waiting) {
+bool count_held(struct lagd *lagd, uint16_t number, uint64_t *waiting) {
     *waiting = 0;
-    return !carry.waiting || is_told(niw_queue_waiting(&queues, number), "niw_queue_waiting", waiting);
+    return !lagd->carry.waiting || is_told(lagd, niw_queue_waiting(&lagd->held->queues, number), "niw_queue_waiting", waiting);
 }
 
 /* Whether it is known that no frame of a conversation waits. */
-bool none_held(uint16_t number) {
+bool none_held(struct lagd *lagd, uint16_t number) {
     uint64_t waiting;
-    return count_held(number, &waiting) && waiting == 0;
+    return count_held(lagd, number, &waiting) && waiting == 0;
 }
 
 /* Writes how many frames wait in all; answers whether that is known. */
-bool count_all_held(uint64_t *waiting) {
-    struct niw_counts counts = niw_queue_counts(&queues);
+bool count_all_held(struct lagd *lagd, uint64_t *waiting) {
+    struct niw_counts counts = niw_queue_counts(&lagd->held->queues);
     *waiting = counts.waiting;
-    return is_done(counts.status, "niw_queue_counts");
+    return is_done(lagd, counts.status, "niw_queue_counts");
 }
 
 /* The slot of a frame that the library tells, or NONE where it tells none. */
-static uint32_t slot_told(const struct niw_queued *queued, const char *call) {
-    return is_done(queued->status, call) && queued->is ? (uint32_t)queued->frame : NONE;
+static uint32_t slot_told(struct lagd *lagd, const struct niw_queued *queued, const char *call) {
+    return is_done(lagd, queued->status, call) && queued->is ? (uint32_t)queued->frame : NONE;
 }
 
 /* Writes the time at which the oldest frame of a conversation came; answers whether one waits. */
-bool oldest_held(uint16_t number, uint64_t *came) {
+bool oldest_held(struct lagd *lagd, uint16_t number, uint64_t *came) {
     struct niw_queued queued;
     uint32_t at;
-    if (!carry.waiting) return false;
-    queued = niw_queue_oldest(&queues, number);
-    at = slot_told(&queued, "niw_queue_oldest");
-    if (at != NONE) *came = slot_of(at)->came;
+    if (!lagd->carry.waiting) return false;
+    queued = niw_queue_oldest(&lagd->held->queues, number);
+    at = slot_told(lagd, &queued, "niw_queue_oldest");
+    if (at != NONE) *came = slot_of(lagd, at)->came;
     return at != NONE;
 }
 
 /* Puts a packet behind those of its conversation; answers whether there was room. */
-bool put_held(uint16_t number, const uint8_t *packet, size_t length) {
-    uint32_t at = take_slot(length > SMALL_ROOM ? &large : &small), status;
+bool put_held(struct lagd *lagd, uint16_t number, const uint8_t *packet, size_t length) {
+    struct held_private *own = lagd->held;
+    uint32_t at = take_slot(lagd, length > SMALL_ROOM ? &own->large : &own->small), status;
     if (at == NONE) return false;
-    status = niw_queue_put(&queues, number, at);
-    if (status == NIW_CONVERSATION_FULL || status == NIW_ALL_FULL || !is_done(status, "niw_queue_put")) {
-        free_slot(at);
+    status = niw_queue_put(&own->queues, number, at);
+    if (status == NIW_CONVERSATION_FULL || status == NIW_ALL_FULL || !is_done(lagd, status, "niw_queue_put")) {
+        free_slot(lagd, at);
         return false;
     }
-    slot_of(at)->length = (uint32_t)length;
-    slot_of(at)->came = carry.time;
-    memcpy(slot_of(at)->packet, packet, length);
-    carry.waiting = true;
+    slot_of(lagd, at)->length = (uint32_t)length;
+    slot_of(lagd, at)->came = lagd->carry.time;
+    memcpy(slot_of(lagd, at)->packet, packet, length);
+    lagd->carry.waiting = true;
     return true;
 }
 
 /* Loses the oldest frame of a conversation, and counts why; answers whether one waited. */
-bool drop_held(uint16_t number, enum carry_count why) {
-    struct niw_queued queued = niw_queue_drop(&queues, number);
-    uint32_t at = slot_told(&queued, "niw_queue_drop");
+bool drop_held(struct lagd *lagd, uint16_t number, enum carry_count why) {
+    struct niw_queued queued = niw_queue_drop(&lagd->held->queues, number);
+    uint32_t at = slot_told(lagd, &queued, "niw_queue_drop");
     if (at == NONE) return false;
-    free_slot(at);
-    carry.counts[why]++;
+    free_slot(lagd, at);
+    lagd->carry.counts[why]++;
     return true;
 }
 
 /* Takes the oldest frame of a conversation out, to be sent; answers NULL where none is told. Its packet stays where it is until
  * free_left. */
-uint8_t *take_held(uint16_t number, size_t *length) {
-    struct niw_queued queued = niw_queue_next(&queues, number);
-    uint32_t at = slot_told(&queued, "niw_queue_next");
+uint8_t *take_held(struct lagd *lagd, uint16_t number, size_t *length) {
+    struct held_private *own = lagd->held;
+    struct niw_queued queued = niw_queue_next(&own->queues, number);
+    uint32_t at = slot_told(lagd, &queued, "niw_queue_next");
     if (at == NONE) return NULL;
-    slot_of(at)->next = leaving;
-    leaving = at;
-    *length = slot_of(at)->length;
-    return slot_of(at)->packet;
+    slot_of(lagd, at)->next = own->leaving;
+    own->leaving = at;
+    *length = slot_of(lagd, at)->length;
+    return slot_of(lagd, at)->packet;
 }
 
 /* All that was on its way was sent. */
-void free_left(void) {
-    while (leaving != NONE) {
-        uint32_t at = leaving;
-        leaving = slot_of(at)->next;
-        free_slot(at);
+void free_left(struct lagd *lagd) {
+    struct held_private *own = lagd->held;
+    while (own->leaving != NONE) {
+        uint32_t at = own->leaving;
+        own->leaving = slot_of(lagd, at)->next;
+        free_slot(lagd, at);
     }
 }

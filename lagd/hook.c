@@ -7,7 +7,7 @@
 #include <string.h>
 #include <unistd.h>
 
-#include "lagd.h"
+#include "daemon.h"
 
 /* It has no signal blocked or ignored, and a session of its own. */
 static void set_attributes(posix_spawnattr_t *attributes) {
@@ -28,7 +28,7 @@ static void set_files(posix_spawn_file_actions_t *files) {
 }
 
 /* Runs the hook, with the state of the bundle in its environment. */
-void run_hook(const char *path, enum bundle_state before) {
+void run_hook(struct lagd *lagd, const char *path, enum bundle_state before) {
     char name[NAME_ROOM + 16], state[32], previous[32], links_text[32], carrying[32], aggregator[32];
     char *words[] = {(char *)(uintptr_t)path, NULL};
     char *environment[] = {"PATH=/usr/sbin:/usr/bin:/sbin:/bin", name, state, previous, links_text, carrying, aggregator, NULL};
@@ -36,16 +36,16 @@ void run_hook(const char *path, enum bundle_state before) {
     posix_spawn_file_actions_t files;
     pid_t child;
     int fault;
-    snprintf(name, sizeof name, "LAGD_BUNDLE=%s", settings.name);
-    snprintf(state, sizeof state, "LAGD_STATE=%s", bundle_state_text(bundle.state));
+    snprintf(name, sizeof name, "LAGD_BUNDLE=%s", lagd->settings.name);
+    snprintf(state, sizeof state, "LAGD_STATE=%s", bundle_state_text(lagd->bundle.state));
     snprintf(previous, sizeof previous, "LAGD_PREVIOUS=%s", bundle_state_text(before));
-    snprintf(links_text, sizeof links_text, "LAGD_LINKS=%u", link_count);
-    snprintf(carrying, sizeof carrying, "LAGD_CARRYING=%u", bundle.carrying);
-    snprintf(aggregator, sizeof aggregator, "LAGD_AGGREGATOR=%u", bundle.aggregator);
+    snprintf(links_text, sizeof links_text, "LAGD_LINKS=%u", lagd->link_count);
+    snprintf(carrying, sizeof carrying, "LAGD_CARRYING=%u", lagd->bundle.carrying);
+    snprintf(aggregator, sizeof aggregator, "LAGD_AGGREGATOR=%u", lagd->bundle.aggregator);
     set_attributes(&attributes);
     set_files(&files);
     fault = posix_spawn(&child, path, &files, &attributes, words, environment);
-    if (fault) (void)say(LOG_WARNING | ABOUT_HOOK, "hook %s: %s", path, strerror(fault));
+    if (fault) (void)say(lagd, LOG_WARNING | ABOUT_HOOK, "hook %s: %s", path, strerror(fault));
     posix_spawn_file_actions_destroy(&files);
     posix_spawnattr_destroy(&attributes);
 }

@@ -8,7 +8,7 @@
 #include <string.h>
 #include <sys/ioctl.h>
 
-#include "lagd.h"
+#include "daemon.h"
 
 /* The most speeds of one key, and the most words of the masks of link modes, which are of no interest here. */
 #define MOST_SPEEDS 4
@@ -22,61 +22,72 @@ struct speed_key {
     struct speed speed;
 };
 
-uint16_t aggregator_count;
+/* What this file keeps for a daemon. */
+struct keys_private {
+    struct speed_key known[NIW_MOST_PORTS];
+    uint16_t known_count;
+};
 
-static struct speed_key known[NIW_MOST_PORTS];
-static uint16_t known_count;
+struct keys_private *make_keys_private(void) {
+    return make_room(sizeof(struct keys_private));
+}
 
 /* Whether aggregators of a key were made, for ports to which it was given. */
-bool has_aggregator(uint16_t given) {
-    for (uint16_t i = 0; i < known_count; i++)
-        if (known[i].given == given) return true;
+bool has_aggregator(struct lagd *lagd, uint16_t given) {
+    struct keys_private *own = lagd->keys;
+    for (uint16_t i = 0; i < own->known_count; i++)
+        if (own->known[i].given == given) return true;
     return false;
 }
 
 /* Whether a key is one of aggregators, or of a port that is not this one. */
-static bool is_taken(uint16_t key, const struct link *but) {
-    for (uint16_t i = 0; i < known_count; i++)
-        if (known[i].key == key || known[i].given == key) return true;
-    for (uint16_t i = 0; i < link_count; i++)
-        if (&links[i] != but && (links[i].key == key || links[i].settings.key == key)) return true;
+static bool is_taken(struct lagd *lagd, uint16_t key, const struct link *but) {
+    struct keys_private *own = lagd->keys;
+    for (uint16_t i = 0; i < own->known_count; i++)
+        if (own->known[i].key == key || own->known[i].given == key) return true;
+    for (uint16_t i = 0; i < lagd->link_count; i++)
+        if (&lagd->links[i] != but && (lagd->links[i].key == key || lagd->links[i].settings.key == key)) return true;
     return false;
 }
 
 /* The next key behind this one that no aggregator and no port has, but for this port, if there is one. */
-uint16_t free_key(uint16_t behind, const struct link *but) {
+uint16_t free_key(struct lagd *lagd, uint16_t behind, const struct link *but) {
     do behind++;
-    while (is_taken(behind, but));
+    while (is_taken(lagd, behind, but));
     return behind;
 }
 
 /* How many speeds of one key have aggregators. */
-static uint16_t most_speeds(void) {
-    uint16_t fit = (uint16_t)(NIW_MOST_PORTS / link_count);
-    if (!settings.key_by_speed) return 1;
+static uint16_t most_speeds(struct lagd *lagd) {
+    uint16_t fit = (uint16_t)(NIW_MOST_PORTS / lagd->link_count);
+    if (!lagd->settings.key_by_speed) return 1;
     return fit < MOST_SPEEDS ? fit : MOST_SPEEDS;
 }
 
 /* A key of aggregators, for ports to which this one was given: the first one is that one itself. */
-static uint16_t key_for(uint16_t given, uint16_t number) {
-    for (uint16_t i = 0; i < known_count; i++)
-        if (known[i].given == given && number-- == 0) return known[i].key;
+static uint16_t key_for(struct lagd *lagd, uint16_t given, uint16_t number) {
+    struct keys_private *own = lagd->keys;
+    for (uint16_t i = 0; i < own->known_count; i++)
+        if (own->known[i].given == given && number-- == 0) return own->known[i].key;
     return given;
 }
 
 /* Makes the keys of the aggregators: in the order of ports one of the key of each, and then as many of each further key that a speed may
  * have. */
-void make_keys(uint16_t keys[static NIW_MOST_PORTS]) {
-    for (uint16_t i = 0; i < link_count; i++)
-        if (!has_aggregator(links[i].key)) known[known_count++] = (struct speed_key){.given = links[i].key, .key = links[i].key};
-    for (uint16_t i = 0, given = known_count; i < given; i++) {
-        for (uint16_t speed = 1; speed < most_speeds(); speed++) {
-            known[known_count] = (struct speed_key){.given = known[i].given, .key = free_key(known[i].key, NULL)};
-            known_count++;
+void make_keys(struct lagd *lagd, uint16_t keys[static NIW_MOST_PORTS]) {
+    struct keys_private *own = lagd->keys;
+    for (uint16_t i = 0; i < lagd->link_count; i++)
+        if (!has_aggregator(lagd, lagd->links[i].key))
+            own->known[own->known_count++] = (struct speed_key){.given = lagd->links[i].key, .key = lagd->links[i].key};
+    for (uint16_t i = 0, given = own->known_count; i < given; i++) {
+        for (uint16_t speed = 1; speed < most_speeds(lagd); speed++) {
+            own->known[own->known_count] = (struct speed_key){.given = own->known[i].given, .key = free_key(lagd, own->known[i].key, NULL)};
+            own->known_count++;
         }
     }
-    for (uint16_t speed = 0; speed < most_speeds(); speed++)
-        for (uint16_t port = 0; port < link_count; port++) keys[aggregator_count++] = key_for(links[port].key, speed);
+    for (uint16_t speed = 0; speed < most_speeds(lagd); speed++)
+        for (uint16_t port = 0; port < lagd->link_count; port++)
+            keys[lagd->aggregator_count++] = key_for(lagd, lagd->links[port].key, speed);
 }
 
 static bool is_same_speed(const struct speed *one, const struct speed *other) {
@@ -84,23 +95,24 @@ static bool is_same_speed(const struct speed *one, const struct speed *other) {
 }
 
 /* Whether a port still has the speed of a key. */
-static bool is_in_use(const struct speed_key *key) {
-    for (uint16_t i = 0; key->used && i < link_count; i++)
-        if (links[i].has_speed && links[i].key == key->given && is_same_speed(&links[i].speed, &key->speed)) return true;
+static bool is_in_use(struct lagd *lagd, const struct speed_key *key) {
+    for (uint16_t i = 0; key->used && i < lagd->link_count; i++)
+        if (lagd->links[i].has_speed && lagd->links[i].key == key->given && is_same_speed(&lagd->links[i].speed, &key->speed)) return true;
     return false;
 }
 
 /* Chooses the key of a port: that of its speed, else one whose speed no port has any more, else one without an aggregator. */
-uint16_t choose_key(const struct link *link) {
+uint16_t choose_key(struct lagd *lagd, const struct link *link) {
+    struct keys_private *own = lagd->keys;
     struct speed_key *unused = NULL;
-    if (!settings.key_by_speed || !link->has_speed) return link->key;
-    for (uint16_t i = 0; i < known_count; i++) {
-        struct speed_key *key = &known[i];
+    if (!lagd->settings.key_by_speed || !link->has_speed) return link->key;
+    for (uint16_t i = 0; i < own->known_count; i++) {
+        struct speed_key *key = &own->known[i];
         if (key->given != link->key) continue;
         if (key->used && is_same_speed(&key->speed, &link->speed)) return key->key;
-        if (!unused && !is_in_use(key)) unused = key;
+        if (!unused && !is_in_use(lagd, key)) unused = key;
     }
-    if (!unused) return free_key(link->key, link);
+    if (!unused) return free_key(lagd, link->key, link);
     unused->used = true;
     unused->speed = link->speed;
     return unused->key;
@@ -146,21 +158,22 @@ bool write_speed(int socket, const char *name, uint32_t megabits) {
 }
 
 /* Gives a port its key. */
-static void give_key(struct link *link) {
-    struct niw_change change = {.key = choose_key(link), .priority = link->settings.priority, .aggregatable = link->settings.aggregatable};
-    if (!is_done(niw_configure(&own_system, link->settings.number, &change).status, "niw_configure")) return;
+static void give_key(struct lagd *lagd, struct link *link) {
+    struct niw_change change = {.key = choose_key(lagd, link), .priority = link->settings.priority,
+        .aggregatable = link->settings.aggregatable};
+    if (!is_done(lagd, niw_configure(&lagd->own_system, link->settings.number, &change).status, "niw_configure")) return;
     link->settings.key = change.key;
 }
 
 /* The link of a port comes up: it has the key of its speed from now on. */
-void take_speed(struct link *link, const char *interface) {
+void take_speed(struct lagd *lagd, struct link *link, const char *interface) {
     struct speed now;
-    if (!settings.key_by_speed || link->up) return;
+    if (!lagd->settings.key_by_speed || link->up) return;
     now = read_speed(link->socket, interface);
     if (link->has_speed && is_same_speed(&now, &link->speed)) return;
     link->has_speed = true;
     link->speed = now;
-    give_key(link);
+    give_key(lagd, link);
 }
 
 /* The speed as text, as '1000 Mb/s, full duplex'. */

@@ -155,14 +155,6 @@ struct options {
     struct settings settings;
 };
 
-extern struct niw_system own_system;
-extern struct settings settings; /* those that hold now */
-extern struct link links[NIW_MOST_PORTS];
-extern uint16_t link_count;
-extern struct bundle bundle;
-extern int epoll_file; /* the epoll by which the daemon waits */
-extern bool has_started; /* whether the interfaces that are there were taken up */
-extern bool broken;  /* whether the program cannot go on, as where the library refused a call: the peers are told, and it ends */
 /* An answer that tells whether the library refused: what depends on the call is done only where it did not. */
 #define MUST_USE __attribute__((warn_unused_result))
 
@@ -201,38 +193,38 @@ enum {
     KINDS = 0xf000,
 };
 _Noreturn void stop(int status, const char *what, const char *which);
-bool is_done(uint32_t status, const char *call) MUST_USE;
-bool is_told(struct niw_number answer, const char *call, uint64_t *number) MUST_USE;
-bool say(int level, const char *format, ...) __attribute__((format(printf, 2, 3)));
-void complain(const char *format, ...) __attribute__((format(printf, 1, 2)));
+bool is_done(struct lagd *lagd, uint32_t status, const char *call) MUST_USE;
+bool is_told(struct lagd *lagd, struct niw_number answer, const char *call, uint64_t *number) MUST_USE;
+bool say(struct lagd *lagd, int level, const char *format, ...) __attribute__((format(printf, 3, 4)));
+void complain(struct lagd *lagd, const char *format, ...) __attribute__((format(printf, 2, 3)));
 size_t escape(char *text, size_t room, const char *from, size_t length, bool lines);
 
 /* journal.c */
 enum journaled { JOURNALED, JOURNAL_IS_BUSY, NOT_JOURNALED };
-enum journaled tell_journal(int level, const char *text);
+enum journaled tell_journal(struct lagd *lagd, int level, const char *text);
 
 /* options.c */
-struct options *read_options(int argc, char **argv);
+struct options *read_options(struct lagd *lagd, int argc, char **argv);
 
 /* possible.c */
-int check_machine(const struct options *options);
+int check_machine(struct lagd *lagd, const struct options *options);
 
 /* address.c */
-void take_own_address(void);
+void take_own_address(struct lagd *lagd);
 
 /* signals.c */
-int open_signals(void);
+int open_signals(struct lagd *lagd);
 
 /* locks.c */
-int lock_interface(int index);
-const char *holder_of(int index);
+int lock_interface(struct lagd *lagd, int index);
+const char *holder_of(struct lagd *lagd, int index);
 
 /* links.c */
-bool open_link(struct link *link, int index);
-void close_link(struct link *link);
+bool open_link(struct lagd *lagd, struct link *link, int index);
+void close_link(struct lagd *lagd, struct link *link);
 bool is_bound(const struct link *link);
 bool has_new_carrier(struct link *link);
-void send_frame(struct link *link, const uint8_t *frame);
+void send_frame(struct lagd *lagd, struct link *link, const uint8_t *frame);
 
 /* frames.c */
 struct arrival {
@@ -245,186 +237,181 @@ struct arrival {
 struct msghdr;
 struct tpacket_auxdata;
 struct tpacket_auxdata aux_of(struct msghdr *message);
-void take_frame(struct link *link, const struct arrival *arrival);
-void take_frames(uint16_t port);
-void forget_partner(struct link *link);
-void tell_strangers(struct link *link);
+void take_frame(struct lagd *lagd, struct link *link, const struct arrival *arrival);
+void take_frames(struct lagd *lagd, uint16_t port);
+void forget_partner(struct lagd *lagd, struct link *link);
+void tell_strangers(struct lagd *lagd, struct link *link);
 
 /* markers.c */
-bool read_response(const struct arrival *arrival, struct niw_pdu *pdu);
-bool is_partners_response(const struct link *link, const struct arrival *arrival, const struct niw_pdu *response);
+bool read_response(struct lagd *lagd, const struct arrival *arrival, struct niw_pdu *pdu);
+bool is_partners_response(struct lagd *lagd, const struct link *link, const struct arrival *arrival, const struct niw_pdu *response);
 void note_odd_marker(struct link *link, const struct arrival *arrival, enum count count);
-bool may_answer(struct link *link, const struct arrival *arrival);
-void tell_markers(struct link *link);
+bool may_answer(struct lagd *lagd, struct link *link, const struct arrival *arrival);
+void tell_markers(struct lagd *lagd, struct link *link);
 
 /* queues.c */
-bool ends_flight(const struct link *link, uint32_t *id);
+bool ends_flight(struct lagd *lagd, const struct link *link, uint32_t *id);
 void set_identifier(uint8_t *frame, uint32_t id);
 
 /* answers.c */
-bool answer_marker(struct link *link, const uint8_t *response);
+bool answer_marker(struct lagd *lagd, struct link *link, const uint8_t *response);
 
 /* twins.c */
-void look_for_twins(void);
+void look_for_twins(struct lagd *lagd);
 
 /* probe.c */
-void note_response(const struct link *link, uint32_t id);
+void note_response(struct lagd *lagd, const struct link *link, uint32_t id);
 
 /* restore.c */
-bool is_restored(struct link *link);
+bool is_restored(struct lagd *lagd, struct link *link);
 void forget_carrier(struct link *link);
-bool has_waited(const struct link *link);
+bool has_waited(struct lagd *lagd, const struct link *link);
 
 /* revert.c */
-void pass_revert_second(void);
-void limit_links(uint16_t most);
+void pass_revert_second(struct lagd *lagd);
+void limit_links(struct lagd *lagd, uint16_t most);
 
 /* changes.c */
-int open_changes(void);
-void take_changes(void);
-void take_messages(const void *messages, size_t length);
-void watch_changes(void);
-void look_again(void);
-void suspect_carriers(void);
-void watch_carriers(bool all);
+int open_changes(struct lagd *lagd);
+void take_changes(struct lagd *lagd);
+void take_messages(struct lagd *lagd, const void *messages, size_t length);
+void watch_changes(struct lagd *lagd);
+void look_again(struct lagd *lagd);
+void suspect_carriers(struct lagd *lagd);
+void watch_carriers(struct lagd *lagd, bool all);
 
 /* keys.c */
-extern uint16_t aggregator_count;
-void make_keys(uint16_t keys[static NIW_MOST_PORTS]);
-bool has_aggregator(uint16_t given);
-uint16_t free_key(uint16_t behind, const struct link *but);
-uint16_t choose_key(const struct link *link);
+void make_keys(struct lagd *lagd, uint16_t keys[static NIW_MOST_PORTS]);
+bool has_aggregator(struct lagd *lagd, uint16_t given);
+uint16_t free_key(struct lagd *lagd, uint16_t behind, const struct link *but);
+uint16_t choose_key(struct lagd *lagd, const struct link *link);
 struct speed read_speed(int socket, const char *name);
 bool write_speed(int socket, const char *name, uint32_t megabits);
-void take_speed(struct link *link, const char *interface);
+void take_speed(struct lagd *lagd, struct link *link, const char *interface);
 const char *speed_text(const struct speed *speed, char room[static 40]);
 
 /* system.c */
-void make_system(void);
-void set_link(uint16_t port, bool up);
-bool hold_port(uint16_t port, bool hold);
-void lose_link(struct link *link);
-void send_due(void);
-void send_again(void);
-void pass_tick(void);
-uint64_t ticks_passed(void);
-uint64_t seconds_passed(void);
-uint64_t milliseconds(void);
-void tell_end(void);
-bool end_is_told(void);
-bool end_system(void);
+void make_system(struct lagd *lagd);
+void set_link(struct lagd *lagd, uint16_t port, bool up);
+bool hold_port(struct lagd *lagd, uint16_t port, bool hold);
+void lose_link(struct lagd *lagd, struct link *link);
+void send_due(struct lagd *lagd);
+void send_again(struct lagd *lagd);
+void pass_tick(struct lagd *lagd);
+uint64_t ticks_passed(struct lagd *lagd);
+uint64_t seconds_passed(struct lagd *lagd);
+uint64_t milliseconds(struct lagd *lagd);
+void tell_end(struct lagd *lagd);
+bool end_is_told(struct lagd *lagd);
+bool end_system(struct lagd *lagd);
 
 /* ports.c */
-void take_views(void);
-void print_changes(void);
-bool print_change(struct link *link);
-struct facts facts_of(const struct link *link);
-bool carries(const struct link *link);
+void take_views(struct lagd *lagd);
+void print_changes(struct lagd *lagd);
+bool print_change(struct lagd *lagd, struct link *link);
+struct facts facts_of(struct lagd *lagd, const struct link *link);
+bool carries(struct lagd *lagd, const struct link *link);
 
 /* bundle.c */
-void go_on_as(const struct bundle *last);
-void choose_aggregator(struct bundle *now);
-bool is_as_good_as_any(uint16_t aggregator);
-void look_at_bundle(void);
-void allow_bundle_line(void);
-void end_bundle(void);
+void go_on_as(struct lagd *lagd, const struct bundle *last);
+void choose_aggregator(struct lagd *lagd, struct bundle *now);
+bool is_as_good_as_any(struct lagd *lagd, uint16_t aggregator);
+void look_at_bundle(struct lagd *lagd);
+void allow_bundle_line(struct lagd *lagd);
+void end_bundle(struct lagd *lagd);
 
 /* hook.c */
-void run_hook(const char *path, enum bundle_state before);
+void run_hook(struct lagd *lagd, const char *path, enum bundle_state before);
 
 /* reload.c */
-void reload(const char *file);
+void reload(struct lagd *lagd, const char *file);
 
 /* folder.c */
-void open_folder(const char *folder);
-int folder_file(void);
+void open_folder(struct lagd *lagd, const char *folder);
+int folder_file(struct lagd *lagd);
 unsigned long network_namespace(void);
 
 /* kept.c */
-const char *boot_id(void);
+const char *boot_id(struct lagd *lagd);
 
 /* store.c */
-void open_store(void);
+void open_store(struct lagd *lagd);
 bool has_store(void);
 void put_stored(const char *kind, int number, int fd);
-int take_stored(const char *kind, int number);
-void return_stored(const char *kind, int number, int fd);
+int take_stored(struct lagd *lagd, const char *kind, int number);
+void return_stored(struct lagd *lagd, const char *kind, int number, int fd);
 void drop_stored(const char *kind, int number);
 void close_stored(const char *kind, int number, int fd);
-void drop_unclaimed(void);
-void leave_store(void);
-int packet_socket(const char *kind, int of, int index, int type);
+void drop_unclaimed(struct lagd *lagd);
+void leave_store(struct lagd *lagd);
+int packet_socket(struct lagd *lagd, const char *kind, int of, int index, int type);
 
 /* state.c */
 uint64_t boottime(void);
-void recall_state(void);
-uint32_t first_marker_left(void);
-bool was_away_briefly(void);
-bool save_state(void);
-void end_state(void);
+void recall_state(struct lagd *lagd);
+uint32_t first_marker_left(struct lagd *lagd);
+bool was_away_briefly(struct lagd *lagd);
+bool save_state(struct lagd *lagd);
+void end_state(struct lagd *lagd);
 
 /* resume.c */
-extern bool resuming; /* whether links that come up are not yet up for the library */
-extern bool has_left; /* whether the next daemon goes on from here */
-void begin_resuming(void);
-unsigned resume(void);
-void resume_data(unsigned count);
-void end_resuming(void);
-bool leave_state(void);
+void begin_resuming(struct lagd *lagd);
+unsigned resume(struct lagd *lagd);
+void resume_data(struct lagd *lagd, unsigned count);
+void end_resuming(struct lagd *lagd);
+bool leave_state(struct lagd *lagd);
 
 /* status.c */
 /* How the answer begins to who has no place. */
 #define REFUSAL "refused: "
-void open_status(const char *folder);
-void take_callers(void);
-void serve_caller(uint32_t caller);
-void pass_tick_of_callers(void);
-void tell_watchers(const char *line, size_t length);
-void tell_watchers_of(const struct link *link);
+void open_status(struct lagd *lagd, const char *folder);
+void take_callers(struct lagd *lagd);
+void serve_caller(struct lagd *lagd, uint32_t caller);
+void pass_tick_of_callers(struct lagd *lagd);
+void tell_watchers(struct lagd *lagd, const char *line, size_t length);
+void tell_watchers_of(struct lagd *lagd, const struct link *link);
 
 /* tap.c */
-int tap_index(void);
-void follow_tap(bool has_carrier, const char *discipline);
+int tap_index(struct lagd *lagd);
+void follow_tap(struct lagd *lagd, bool has_carrier, const char *discipline);
 
 /* carry.c */
-void lose_tap(void);
-void open_carry(void);
-void end_carry(void);
-bool carries_data(void);
-void look_at_carry(void);
-bool keeps_aggregator(void);
-void settle_carry(void);
-void pass_carry_tick(void);
-void serve_data(uint32_t tag);
-void lose_data(uint16_t port);
+void lose_tap(struct lagd *lagd);
+void open_carry(struct lagd *lagd);
+void end_carry(struct lagd *lagd);
+bool carries_data(struct lagd *lagd);
+void look_at_carry(struct lagd *lagd);
+bool keeps_aggregator(struct lagd *lagd);
+void settle_carry(struct lagd *lagd);
+void pass_carry_tick(struct lagd *lagd);
+void serve_data(struct lagd *lagd, uint32_t tag);
+void lose_data(struct lagd *lagd, uint16_t port);
 
 /* guard.c */
-void fit_queue(const struct link *link, const char *interface);
+void fit_queue(struct lagd *lagd, const struct link *link, const char *interface);
 
 /* members.c */
-bool open_member(struct link *link);
-void close_member(struct link *link);
-bool reopen_member(struct link *link);
-void take_marker(struct link *link, const uint8_t *frame);
-void follow_mtu(struct link *link, uint32_t mtu);
-void follow_speed(const struct link *link, const char *interface);
+bool open_member(struct lagd *lagd, struct link *link);
+void close_member(struct lagd *lagd, struct link *link);
+bool reopen_member(struct lagd *lagd, struct link *link);
+void take_marker(struct lagd *lagd, struct link *link, const uint8_t *frame);
+void follow_mtu(struct lagd *lagd, struct link *link, uint32_t mtu);
+void follow_speed(struct lagd *lagd, const struct link *link, const char *interface);
 
 /* moves.c */
-void ask_moves(void);
+void ask_moves(struct lagd *lagd);
 
 /* carry_show.c */
-void write_carry_text(void);
-void write_carry_json(void);
-void write_carry_metrics(void);
-void write_member_text(const struct link *link);
-void write_member_json(const struct link *link);
+void write_carry_text(struct lagd *lagd);
+void write_carry_json(struct lagd *lagd);
+void write_carry_metrics(struct lagd *lagd);
+void write_member_text(struct lagd *lagd, const struct link *link);
+void write_member_json(struct lagd *lagd, const struct link *link);
 
 /* report.c: what is written for whoever asks. What 64 ports of the longest names have to tell has less than 2 MiB. */
 #define REPORT_ROOM 4194304
-extern char report[REPORT_ROOM];
-extern size_t report_length;
-void add(const char *format, ...) __attribute__((format(printf, 1, 2)));
-void add_string(const char *text);
+void add(struct lagd *lagd, const char *format, ...) __attribute__((format(printf, 2, 3)));
+void add_string(struct lagd *lagd, const char *text);
 
 /* show.c, json.c, metrics.c */
 struct view {
@@ -434,28 +421,28 @@ struct view {
     uint8_t state; /* the state octet of its own side */
     struct niw_info partner;
 };
-bool view_of(const struct link *link, struct view *view) MUST_USE;
-void write_text(void);
-void write_json(void);
-void write_json_event(const struct link *link);
-void write_metrics(void);
-void add_head(const char *name, const char *kind, const char *help);
-void add_bundle_value(const char *name, const char *kind, const char *help, uint64_t value);
-void add_value_of(const char *name, const char *bundle, uint64_t value);
-void add_port_value(const char *name, const struct link *link, uint64_t value);
+bool view_of(struct lagd *lagd, const struct link *link, struct view *view) MUST_USE;
+void write_text(struct lagd *lagd);
+void write_json(struct lagd *lagd);
+void write_json_event(struct lagd *lagd, const struct link *link);
+void write_metrics(struct lagd *lagd);
+void add_head(struct lagd *lagd, const char *name, const char *kind, const char *help);
+void add_bundle_value(struct lagd *lagd, const char *name, const char *kind, const char *help, uint64_t value);
+void add_value_of(struct lagd *lagd, const char *name, const char *bundle, uint64_t value);
+void add_port_value(struct lagd *lagd, const char *name, const struct link *link, uint64_t value);
 
 /* asking.c */
-int ask_daemons(const struct options *options);
+int ask_daemons(struct lagd *lagd, const struct options *options);
 
 /* service.c: the manager of services, if there is one */
-void notify_ready(void);
+void notify_ready(struct lagd *lagd);
 void notify_reloading(void);
 void notify_stopping(void);
-void notify_state(void);
+void notify_state(struct lagd *lagd);
 void notify_alive(void);
 
 /* privileges.c */
-void drop_privileges(void);
+void drop_privileges(struct lagd *lagd);
 
 /* main.c */
 #define MOST_CALLERS 64
@@ -470,8 +457,8 @@ enum {
     RESPONSES = MEMBERS + NIW_MOST_PORTS, /* responses to markers, which waited */
     TAGS,
 };
-bool await_input(int fd, uint32_t tag);
-bool await_output(int fd, uint32_t tag);
-void await_no_more(int fd);
+bool await_input(struct lagd *lagd, int fd, uint32_t tag);
+bool await_output(struct lagd *lagd, int fd, uint32_t tag);
+void await_no_more(struct lagd *lagd, int fd);
 
 #endif

@@ -9,14 +9,12 @@
 #include <sys/stat.h>
 #include <unistd.h>
 
-#include "lagd.h"
+#include "daemon.h"
 
 /* A pipe with room has at least so many octets of it. */
 #define LONGEST_LINE 512
 /* The room of the text of a line: each octet may be written as four. */
 #define LONGEST_TEXT 400
-
-bool broken;
 
 /* Writes `length` octets of text so that a terminal only shows them: each one that is not printable ASCII as \xHH, but for the ends of
  * lines where there may be `lines`. Answers how many octets that are. */
@@ -31,15 +29,26 @@ size_t escape(char *text, size_t room, const char *from, size_t length, bool lin
     return used;
 }
 
+/* What this file keeps for a daemon. */
+struct lines_private {
+    int opened; /* of output */
+};
+
+struct lines_private *make_lines_private(void) {
+    struct lines_private *made = make_room(sizeof *made);
+    made->opened = -1;
+    return made;
+}
+
 /* Standard output; of a pipe or a terminal an opening of our own, at which no write waits. */
-static int output(void) {
-    static int opened = -1;
+static int output(struct lagd *lagd) {
+    struct lines_private *own = lagd->lines;
     struct stat file;
-    if (opened >= 0) return opened;
+    if (own->opened >= 0) return own->opened;
     if (isatty(STDOUT_FILENO) || (fstat(STDOUT_FILENO, &file) == 0 && S_ISFIFO(file.st_mode)))
-        opened = open("/proc/self/fd/1", O_WRONLY | O_NONBLOCK | O_NOCTTY | O_CLOEXEC);
-    if (opened < 0) opened = STDOUT_FILENO;
-    return opened;
+        own->opened = open("/proc/self/fd/1", O_WRONLY | O_NONBLOCK | O_NOCTTY | O_CLOEXEC);
+    if (own->opened < 0) own->opened = STDOUT_FILENO;
+    return own->opened;
 }
 
 /* Whether the journal reads standard output: then a line begins with its priority, and has no time of its own. */
@@ -79,40 +88,40 @@ _Noreturn void stop(int status, const char *what, const char *which) {
 
 /* Whether the library did what it was called for. It refuses only what this program should not ask: then the loop tells the peers, and
  * ends; before the loop the program ends at once. */
-bool is_done(uint32_t status, const char *call) {
+bool is_done(struct lagd *lagd, uint32_t status, const char *call) {
     char why[64];
-    if (status == NIW_OK || broken) return status == NIW_OK;
+    if (status == NIW_OK || lagd->broken) return status == NIW_OK;
     snprintf(why, sizeof why, "refused with %" PRIu32, status);
-    if (!has_started) stop(REFUSED, call, why);
-    broken = true;
-    (void)say(LOG_ERR | ABOUT_REFUSAL, "%s: %s; the peers are told, and the daemon ends", call, why);
+    if (!lagd->has_started) stop(REFUSED, call, why);
+    lagd->broken = true;
+    (void)say(lagd, LOG_ERR | ABOUT_REFUSAL, "%s: %s; the peers are told, and the daemon ends", call, why);
     return false;
 }
 
 /* Writes what a reader of the library tells; answers whether it told it. */
-bool is_told(struct niw_number answer, const char *call, uint64_t *number) {
+bool is_told(struct lagd *lagd, struct niw_number answer, const char *call, uint64_t *number) {
     *number = answer.number;
-    return is_done(answer.status, call);
+    return is_done(lagd, answer.status, call);
 }
 
 /* Prints a text with the time, in UTC, or for the journal with its priority; watchers get it, too. Answers whether it was printed. */
-static bool say_text(int level, const char *text) {
+static bool say_text(struct lagd *lagd, int level, const char *text) {
     char line[LONGEST_LINE], time[32];
     struct timespec now;
     int used;
     clock_gettime(CLOCK_REALTIME, &now);
     used = snprintf(line, sizeof line, "%s.%03ldZ %s\n", time_text(now.tv_sec, time), now.tv_nsec / 1000000, text);
-    if (!(level & WATCHED)) tell_watchers(line, (size_t)used);
+    if (!(level & WATCHED)) tell_watchers(lagd, line, (size_t)used);
     if (in_journal()) {
-        enum journaled told = tell_journal(level, text);
+        enum journaled told = tell_journal(lagd, level, text);
         if (told != NOT_JOURNALED) return told == JOURNALED;
         used = snprintf(line, sizeof line, "<%d>%s\n", level & LOG_PRIMASK, text);
     }
-    return write_line(output(), line, (size_t)used);
+    return write_line(output(lagd), line, (size_t)used);
 }
 
 /* Prints a line; answers whether it did. */
-bool say(int level, const char *format, ...) {
+bool say(struct lagd *lagd, int level, const char *format, ...) {
     char raw[LONGEST_TEXT], text[LONGEST_TEXT];
     va_list given;
     int length;
@@ -120,11 +129,11 @@ bool say(int level, const char *format, ...) {
     length = vsnprintf(raw, sizeof raw, format, given);
     va_end(given);
     (void)escape(text, sizeof text, raw, length < (int)sizeof raw ? (size_t)length : sizeof raw - 1, false);
-    return say_text(level, text);
+    return say_text(lagd, level, text);
 }
 
 /* Tells what is wrong with a file: at the start on standard error, and later by a line. */
-void complain(const char *format, ...) {
+void complain(struct lagd *lagd, const char *format, ...) {
     char raw[LONGEST_TEXT], text[LONGEST_TEXT];
     va_list given;
     int length;
@@ -132,8 +141,8 @@ void complain(const char *format, ...) {
     length = vsnprintf(raw, sizeof raw, format, given);
     va_end(given);
     (void)escape(text, sizeof text, raw, length < (int)sizeof raw ? (size_t)length : sizeof raw - 1, false);
-    if (has_started)
-        (void)say_text(LOG_WARNING | ABOUT_FILE, text);
+    if (lagd->has_started)
+        (void)say_text(lagd, LOG_WARNING | ABOUT_FILE, text);
     else
         write_error(text);
 }

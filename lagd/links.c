@@ -21,10 +21,10 @@
 #define TROUBLE_TICKS 50
 
 /* A packet socket of an interface, for the frames of the slow protocols alone; or -1, and errno. */
-static int open_socket(int index) {
+static int open_socket(struct lagd *lagd, int index) {
     struct sockaddr_ll address = {.sll_family = AF_PACKET, .sll_protocol = htons(ETH_P_SLOW), .sll_ifindex = index};
     struct packet_mreq member = {index, PACKET_MR_MULTICAST, 6, {0x01, 0x80, 0xc2, 0x00, 0x00, 0x02}};
-    int opened = packet_socket("lacp", index, index, SOCK_RAW);
+    int opened = packet_socket(lagd, "lacp", index, index, SOCK_RAW);
     if (opened < 0) return -1;
     (void)setsockopt(opened, SOL_SOCKET, SO_PRIORITY, &(int){TC_PRIO_CONTROL}, sizeof(int)); /* before data */
     (void)setsockopt(opened, SOL_PACKET, PACKET_IGNORE_OUTGOING, &(int){1}, sizeof(int));
@@ -110,12 +110,12 @@ static void close_files(struct link *link) {
 }
 
 /* Takes up the interface of this number; answers whether it did, and else `trouble` has why not. */
-bool open_link(struct link *link, int index) {
+bool open_link(struct lagd *lagd, struct link *link, int index) {
     bool taken;
-    link->lock = lock_interface(index);
-    link->socket = link->lock < 0 ? -1 : open_socket(index);
+    link->lock = lock_interface(lagd, index);
+    link->socket = link->lock < 0 ? -1 : open_socket(lagd, index);
     link->index = index;
-    taken = link->socket >= 0 && await_input(link->socket, link->settings.number) && open_member(link);
+    taken = link->socket >= 0 && await_input(lagd, link->socket, link->settings.number) && open_member(lagd, link);
     link->trouble = taken ? 0 : errno;
     if (taken) put_stored("lock", index, link->lock);
     if (taken) put_stored("lacp", index, link->socket);
@@ -129,9 +129,9 @@ bool open_link(struct link *link, int index) {
 }
 
 /* The interface is gone. */
-void close_link(struct link *link) {
-    close_member(link);
-    follow_mtu(link, 0);
+void close_link(struct lagd *lagd, struct link *link) {
+    close_member(lagd, link);
+    follow_mtu(lagd, link, 0);
     close_files(link);
     link->unsent = false;
     link->changed = true;
@@ -164,7 +164,7 @@ static void keep_lacpdu(struct link *link, const uint8_t *frame) {
 
 /* Sends a frame, with the address that the interface has now. An LACPDU that the kernel does not take is sent again at each tick,
  * until a newer one is due; a response is lost, as on a wire. A response tells of what came before its marker, and may pass what goes. */
-void send_frame(struct link *link, const uint8_t *frame) {
+void send_frame(struct lagd *lagd, struct link *link, const uint8_t *frame) {
     bool is_lacpdu = frame[SUBTYPE_AT] == SUBTYPE_LACP;
     uint8_t sent[NIW_FRAME];
     if (link->socket < 0) return;
@@ -176,11 +176,11 @@ void send_frame(struct link *link, const uint8_t *frame) {
     memcpy(sent + 6, link->mac, 6);
     if (is_lacpdu) link->tried = true;
     if (give_past_data(link, sent)) {
-        if (is_done(niw_count_sent(&link->counters, sent, sizeof sent), "niw_count_sent") && is_lacpdu) note_lacpdu(link);
+        if (is_done(lagd, niw_count_sent(&link->counters, sent, sizeof sent), "niw_count_sent") && is_lacpdu) note_lacpdu(link);
         return;
     }
     link->counts[FAILED_SENT]++;
-    suspect_carriers();
+    suspect_carriers(lagd);
     if (errno != ENETDOWN && errno != ENXIO) { /* of a link that is down the kernel tells, too */
         link->trouble = errno;
         link->trouble_ticks = TROUBLE_TICKS;

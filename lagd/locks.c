@@ -10,7 +10,7 @@
 #include <sys/stat.h>
 #include <unistd.h>
 
-#include "lagd.h"
+#include "daemon.h"
 
 /* Below 0x0600 there are lengths in a frame, and no types; the kernel has no use of its own for this one. */
 #define PROTOCOL 0x05ac
@@ -48,9 +48,9 @@ static bool find_lock(int index, int but, struct lock *found) {
 
 /* Takes the lock of an interface; or -1, and errno: EADDRINUSE where somebody has it. Of two that take it at once one at least sees the
  * other one, since each is bound before it looks. It looks twice: of a list that changes the kernel may leave one out. */
-int lock_interface(int index) {
+int lock_interface(struct lagd *lagd, int index) {
     struct sockaddr_ll address = {.sll_family = AF_PACKET, .sll_protocol = htons(PROTOCOL), .sll_ifindex = index};
-    int opened = packet_socket("lock", index, index, SOCK_DGRAM);
+    int opened = packet_socket(lagd, "lock", index, index, SOCK_DGRAM);
     struct lock other;
     if (opened < 0) return -1;
     if (bind(opened, (struct sockaddr *)&address, sizeof address) == 0 && find_lock(index, opened, &other)
@@ -62,13 +62,21 @@ int lock_interface(int index) {
     return -1;
 }
 
+/* What this file keeps for a daemon. */
+struct locks_private {
+    char text[64]; /* of holder_of */
+};
+
+struct locks_private *make_locks_private(void) {
+    return make_room(sizeof(struct locks_private));
+}
+
 /* Who has the lock of an interface. */
-const char *holder_of(int index) {
-    static char text[64];
+const char *holder_of(struct lagd *lagd, int index) {
     struct lock lock;
     bool own = false;
     if (!find_lock(index, -1, &lock) || lock.inode == 0) return "one that has left it now";
-    for (uint16_t i = 0; i < link_count; i++) own = own || inode_of(links[i].lock) == lock.inode;
-    snprintf(text, sizeof text, own ? "this lagd, by another name" : "one of user %u", lock.user);
-    return text;
+    for (uint16_t i = 0; i < lagd->link_count; i++) own = own || inode_of(lagd->links[i].lock) == lock.inode;
+    snprintf(lagd->locks->text, sizeof lagd->locks->text, own ? "this lagd, by another name" : "one of user %u", lock.user);
+    return lagd->locks->text;
 }

@@ -16,7 +16,7 @@
 #include <sys/timerfd.h>
 #include <unistd.h>
 
-#include "lagd.h"
+#include "daemon.h"
 
 /* The most events of a turn. */
 #define MOST_EVENTS TAGS
@@ -25,28 +25,26 @@
 /* How many ticks the peers are told of the end at most. */
 #define END_TICKS 15
 
-int epoll_file = -1;
-
 /* Waits for a file descriptor, too; answers whether the kernel takes it. */
-bool await_input(int fd, uint32_t tag) {
+bool await_input(struct lagd *lagd, int fd, uint32_t tag) {
     struct epoll_event event = {.events = EPOLLIN, .data = {.u32 = tag}};
-    return epoll_ctl(epoll_file, EPOLL_CTL_ADD, fd, &event) == 0;
+    return epoll_ctl(lagd->epoll_file, EPOLL_CTL_ADD, fd, &event) == 0;
 }
 
 /* Waits until it takes what is sent, and for nothing that comes. */
-bool await_output(int fd, uint32_t tag) {
+bool await_output(struct lagd *lagd, int fd, uint32_t tag) {
     struct epoll_event event = {.events = EPOLLOUT, .data = {.u32 = tag}};
-    return epoll_ctl(epoll_file, EPOLL_CTL_MOD, fd, &event) == 0;
+    return epoll_ctl(lagd->epoll_file, EPOLL_CTL_MOD, fd, &event) == 0;
 }
 
 /* Waits for it no longer. */
-void await_no_more(int fd) {
-    (void)epoll_ctl(epoll_file, EPOLL_CTL_DEL, fd, NULL);
+void await_no_more(struct lagd *lagd, int fd) {
+    (void)epoll_ctl(lagd->epoll_file, EPOLL_CTL_DEL, fd, NULL);
 }
 
 /* At the start, what cannot be waited for ends the program. */
-static void await_at_start(int fd, uint32_t tag) {
-    if (!await_input(fd, tag)) stop(REFUSED, "epoll", strerror(errno));
+static void await_at_start(struct lagd *lagd, int fd, uint32_t tag) {
+    if (!await_input(lagd, fd, tag)) stop(REFUSED, "epoll", strerror(errno));
 }
 
 static int open_clock(void) {
@@ -57,22 +55,22 @@ static int open_clock(void) {
 }
 
 /* Tells what changed. */
-static void tell_changes(void) {
-    take_views();
-    print_changes();
-    look_at_bundle();
+static void tell_changes(struct lagd *lagd) {
+    take_views(lagd);
+    print_changes(lagd);
+    look_at_bundle(lagd);
 }
 
 /* Makes up the ticks that passed, and then sends once. */
-static void pass_time(int clock) {
+static void pass_time(struct lagd *lagd, int clock) {
     uint64_t passed = 0;
     if (read(clock, &passed, sizeof passed) != sizeof passed) return;
     if (passed > MOST_TICKS) passed = MOST_TICKS;
-    for (; passed > 0; passed--) pass_tick();
-    send_due();
-    send_again();
-    pass_tick_of_callers();
-    tell_changes();
+    for (; passed > 0; passed--) pass_tick(lagd);
+    send_due(lagd);
+    send_again(lagd);
+    pass_tick_of_callers(lagd);
+    tell_changes(lagd);
 }
 
 /* What is ready beside frames and callers. */
@@ -92,79 +90,79 @@ static struct ready ready_of(const struct epoll_event *events, int count) {
 }
 
 /* Takes the frames of all ports, and sends once what they made due. */
-static void take_all_frames(const struct epoll_event *events, int count) {
+static void take_all_frames(struct lagd *lagd, const struct epoll_event *events, int count) {
     bool taken = false;
     for (int i = 0; i < count; i++) {
         uint32_t port = events[i].data.u32;
-        if (port > NIW_MOST_PORTS || links[port - 1].socket < 0) continue;
-        take_frames((uint16_t)port);
+        if (port > NIW_MOST_PORTS || lagd->links[port - 1].socket < 0) continue;
+        take_frames(lagd, (uint16_t)port);
         taken = true;
     }
     if (!taken) return;
-    send_due();
-    look_at_carry();
+    send_due(lagd);
+    look_at_carry(lagd);
 }
 
 /* Takes the data of all members, and then that of the host. */
-static void take_all_data(const struct epoll_event *events, int count) {
+static void take_all_data(struct lagd *lagd, const struct epoll_event *events, int count) {
     bool host = false;
     for (int i = 0; i < count; i++) {
         host |= events[i].data.u32 == HOST;
-        if (events[i].data.u32 >= MEMBERS) serve_data(events[i].data.u32);
+        if (events[i].data.u32 >= MEMBERS) serve_data(lagd, events[i].data.u32);
     }
-    settle_carry();
-    if (host) serve_data(HOST);
+    settle_carry(lagd);
+    if (host) serve_data(lagd, HOST);
 }
 
 /* Serves those who ask. */
-static void serve_callers(const struct epoll_event *events, int count) {
+static void serve_callers(struct lagd *lagd, const struct epoll_event *events, int count) {
     for (int i = 0; i < count; i++)
-        if (events[i].data.u32 >= CALLERS && events[i].data.u32 < HOST) serve_caller(events[i].data.u32 - CALLERS);
+        if (events[i].data.u32 >= CALLERS && events[i].data.u32 < HOST) serve_caller(lagd, events[i].data.u32 - CALLERS);
 }
 
 /* Takes a signal; answers whether it ends the daemon. */
-static bool is_end(int signals, const char *file) {
+static bool is_end(struct lagd *lagd, int signals, const char *file) {
     struct signalfd_siginfo signal;
     if (read(signals, &signal, sizeof signal) != sizeof signal) return true;
-    if (signal.ssi_signo == SIGUSR2) ask_moves();
+    if (signal.ssi_signo == SIGUSR2) ask_moves(lagd);
     if (signal.ssi_signo == SIGUSR2) return false;
-    if (signal.ssi_signo == SIGUSR1) return !leave_state();
+    if (signal.ssi_signo == SIGUSR1) return !leave_state(lagd);
     if (signal.ssi_signo != SIGHUP || !file) return true;
-    reload(file);
+    reload(lagd, file);
     return false;
 }
 
 /* What came in a turn, the clock after the frames that waited. */
-static void serve(const struct epoll_event *events, int count, struct ready ready, int clock) {
-    if (ready.change) take_changes();
-    take_all_frames(events, count);
-    take_all_data(events, count);
-    serve_callers(events, count);
-    if (ready.caller) take_callers();
-    watch_carriers(ready.tick);
-    if (ready.tick) pass_time(clock);
-    settle_carry();
+static void serve(struct lagd *lagd, const struct epoll_event *events, int count, struct ready ready, int clock) {
+    if (ready.change) take_changes(lagd);
+    take_all_frames(lagd, events, count);
+    take_all_data(lagd, events, count);
+    serve_callers(lagd, events, count);
+    if (ready.caller) take_callers(lagd);
+    watch_carriers(lagd, ready.tick);
+    if (ready.tick) pass_time(lagd, clock);
+    settle_carry(lagd);
 }
 
 /* Waits, and serves what comes. The first signal that ends it, or a refusal of the library, makes it tell the peers; it ends when they
  * are told, or by a second signal; or at once, where the next daemon goes on. */
-static void run(int signals, int clock, const char *file) {
+static void run(struct lagd *lagd, int signals, int clock, const char *file) {
     struct epoll_event events[MOST_EVENTS];
     bool ends = false;
-    for (unsigned end_ticks = 0; !ends || (end_ticks < END_TICKS && !end_is_told());) {
-        int count = epoll_wait(epoll_file, events, MOST_EVENTS, -1);
+    for (unsigned end_ticks = 0; !ends || (end_ticks < END_TICKS && !end_is_told(lagd));) {
+        int count = epoll_wait(lagd->epoll_file, events, MOST_EVENTS, -1);
         struct ready ready = ready_of(events, count);
         bool ends_now = count < 0 && errno != EINTR;
-        serve(events, count, ready, clock);
-        if (broken) end_carry();
+        serve(lagd, events, count, ready, clock);
+        if (lagd->broken) end_carry(lagd);
         if (ready.tick && ends) end_ticks++;
-        if (ready.signal) ends_now = is_end(signals, ends ? NULL : file);
-        if (has_left || (ends && ends_now)) return;
-        if (ends || !(ends_now || broken)) continue;
+        if (ready.signal) ends_now = is_end(lagd, signals, ends ? NULL : file);
+        if (lagd->has_left || (ends && ends_now)) return;
+        if (ends || !(ends_now || lagd->broken)) continue;
         ends = true;
         notify_stopping();
-        end_state();
-        tell_end();
+        end_state(lagd);
+        tell_end(lagd);
     }
 }
 
@@ -176,44 +174,45 @@ static void keep_standard_files(void) {
 }
 
 /* Opens what the daemon needs, and runs it. */
-static int run_daemon(const struct options *options) {
+static int run_daemon(struct lagd *lagd, const struct options *options) {
     int signals, clock;
     unsigned resumed;
-    settings = options->settings;
-    signals = open_signals();
-    epoll_file = epoll_create1(EPOLL_CLOEXEC);
-    if (epoll_file < 0) stop(REFUSED, "epoll", strerror(errno));
-    if (settings.system_auto) take_own_address();
-    open_folder(options->folder);
-    open_store();
-    recall_state();
-    make_system();
-    begin_resuming();
-    open_carry();
-    await_at_start(open_changes(), CHANGES);
-    open_status(options->folder);
+    lagd->settings = options->settings;
+    signals = open_signals(lagd);
+    lagd->epoll_file = epoll_create1(EPOLL_CLOEXEC);
+    if (lagd->epoll_file < 0) stop(REFUSED, "epoll", strerror(errno));
+    if (lagd->settings.system_auto) take_own_address(lagd);
+    open_folder(lagd, options->folder);
+    open_store(lagd);
+    recall_state(lagd);
+    make_system(lagd);
+    begin_resuming(lagd);
+    open_carry(lagd);
+    await_at_start(lagd, open_changes(lagd), CHANGES);
+    open_status(lagd, options->folder);
     clock = open_clock();
-    await_at_start(signals, SIGNALS);
-    await_at_start(clock, CLOCK);
-    drop_privileges();
-    resumed = resume();
-    has_started = true;
-    resume_data(resumed);
-    end_resuming();
-    tell_changes();
-    settle_carry();
-    notify_ready();
-    run(signals, clock, options->file);
-    if (has_left) return DONE;
-    end_carry();
-    return end_system() ? DONE : REFUSED;
+    await_at_start(lagd, signals, SIGNALS);
+    await_at_start(lagd, clock, CLOCK);
+    drop_privileges(lagd);
+    resumed = resume(lagd);
+    lagd->has_started = true;
+    resume_data(lagd, resumed);
+    end_resuming(lagd);
+    tell_changes(lagd);
+    settle_carry(lagd);
+    notify_ready(lagd);
+    run(lagd, signals, clock, options->file);
+    if (lagd->has_left) return DONE;
+    end_carry(lagd);
+    return end_system(lagd) ? DONE : REFUSED;
 }
 
 int main(int argc, char **argv) {
+    struct lagd *lagd = make_lagd();
     const struct options *options;
     keep_standard_files();
-    options = read_options(argc, argv);
-    if (options->action == RUN) return run_daemon(options);
-    if (options->action == CHECK) return check_machine(options);
-    return ask_daemons(options);
+    options = read_options(lagd, argc, argv);
+    if (options->action == RUN) return run_daemon(lagd, options);
+    if (options->action == CHECK) return check_machine(lagd, options);
+    return ask_daemons(lagd, options);
 }

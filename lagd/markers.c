@@ -5,7 +5,7 @@
 #include <net/ethernet.h>
 #include <string.h>
 
-#include "lagd.h"
+#include "daemon.h"
 
 /* The milliseconds of a slot. The slots of a second are looked at, and the one that passes, so that no second has more responses. */
 #define SLOT 100
@@ -22,17 +22,17 @@ static bool is_from_partner(const struct link *link, const struct arrival *arriv
 }
 
 /* Reads a Marker PDU; answers whether the frame is a marker response. */
-bool read_response(const struct arrival *arrival, struct niw_pdu *pdu) {
+bool read_response(struct lagd *lagd, const struct arrival *arrival, struct niw_pdu *pdu) {
     struct niw_decoded decoded;
     if (arrival->length <= SUBTYPE_AT || arrival->frame[SUBTYPE_AT] != SUBTYPE_MARKER) return false;
     decoded = niw_decode(arrival->frame + ETH_HLEN, arrival->length - ETH_HLEN, pdu);
-    return decoded.status != NIW_BAD_PAYLOAD && is_done(decoded.status, "niw_decode") && pdu->tlv_type == NIW_MARKER_RESPONSE;
+    return decoded.status != NIW_BAD_PAYLOAD && is_done(lagd, decoded.status, "niw_decode") && pdu->tlv_type == NIW_MARKER_RESPONSE;
 }
 
 /* Whether a response is the partner's, to a marker of this port and system. The number is for whoever sent the marker. */
-bool is_partners_response(const struct link *link, const struct arrival *arrival, const struct niw_pdu *response) {
+bool is_partners_response(struct lagd *lagd, const struct link *link, const struct arrival *arrival, const struct niw_pdu *response) {
     return is_from_partner(link, arrival) && response->requester_port == link->settings.number
-        && memcmp(response->requester_system, settings.config.mac, sizeof settings.config.mac) == 0;
+        && memcmp(response->requester_system, lagd->settings.config.mac, sizeof lagd->settings.config.mac) == 0;
 }
 
 /* A Marker PDU is not taken, or not answered. */
@@ -50,11 +50,11 @@ static void pass_slots(struct answered *answered, uint64_t slot) {
 
 /* Whether a marker is answered: any second has marker-responses of them at most, and a quarter at most of markers that are not the
  * partner's. */
-bool may_answer(struct link *link, const struct arrival *arrival) {
+bool may_answer(struct lagd *lagd, struct link *link, const struct arrival *arrival) {
     struct answered *answered = &link->markers.answered;
-    unsigned partner = 0, others = 0, most = settings.marker_responses * (settings.all_queues ? MARKERS_AT_ONCE : 1u);
+    unsigned partner = 0, others = 0, most = lagd->settings.marker_responses * (lagd->settings.all_queues ? MARKERS_AT_ONCE : 1u);
     bool other = !is_from_partner(link, arrival);
-    pass_slots(answered, milliseconds() / SLOT);
+    pass_slots(answered, milliseconds(lagd) / SLOT);
     for (unsigned i = 0; i < ANSWERED_SLOTS; i++) {
         partner += answered->partner[i];
         others += answered->others[i];
@@ -65,14 +65,14 @@ bool may_answer(struct link *link, const struct arrival *arrival) {
 }
 
 /* Tells of responses that are not the partner's, and of markers that are not answered: at once, and then every 10 s at most. */
-void tell_markers(struct link *link) {
+void tell_markers(struct lagd *lagd, struct link *link) {
     uint64_t foreign = link->counts[FOREIGN_RESPONSES], unanswered = link->counts[RESPONSES_UNSENT];
     char source[32];
-    if (foreign + unanswered == link->markers.told || ticks_passed() < link->markers.tell_at) return;
-    if (!say(LOG_WARNING | ABOUT_MARKERS, "port %u %s: Marker PDUs, last from %s: %" PRIu64 " responses that are not the partner's, "
+    if (foreign + unanswered == link->markers.told || ticks_passed(lagd) < link->markers.tell_at) return;
+    if (!say(lagd, LOG_WARNING | ABOUT_MARKERS, "port %u %s: Marker PDUs, last from %s: %" PRIu64 " responses that are not the partner's, "
             "%" PRIu64 " markers not answered",
             link->settings.number, link->name, mac_text(link->markers.source, source), foreign, unanswered))
         return;
     link->markers.told = foreign + unanswered;
-    link->markers.tell_at = ticks_passed() + LINE_TICKS;
+    link->markers.tell_at = ticks_passed(lagd) + LINE_TICKS;
 }

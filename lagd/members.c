@@ -10,34 +10,45 @@
 #include <sys/uio.h>
 #include <unistd.h>
 
+#include "daemon.h"
 #include "team.h"
 
 /* Of the frames that wait in a socket. */
 #define SOCKET_ROOM (8 << 20)
 
-static struct member {
-    int socket;  /* -1 while the interface is missing */
-    int markers; /* the socket for markers that the kernel hands up behind the data, or -1 */
-    int direct;  /* the one for those that come while it hands up no data, or -1 */
-    struct guard guard;
-    uint32_t mtu;      /* 0: not known */
-    uint32_t megabits; /* a second, or 0: not known */
-    bool has_marker;   /* whether one was sent */
-    uint8_t marker[NIW_FRAME];
-    uint64_t counts[MEMBER_COUNTS];
-    unsigned out; /* frames that wait to be sent */
-    struct iovec parts[BATCH];
-    struct mmsghdr messages[BATCH];
-} members[NIW_MOST_PORTS];
+/* What this file keeps for a daemon. */
+struct members_private {
+    struct member {
+        int socket;  /* -1 while the interface is missing */
+        int markers; /* the socket for markers that the kernel hands up behind the data, or -1 */
+        int direct;  /* the one for those that come while it hands up no data, or -1 */
+        struct guard guard;
+        uint32_t mtu;      /* 0: not known */
+        uint32_t megabits; /* a second, or 0: not known */
+        bool has_marker;   /* whether one was sent */
+        uint8_t marker[NIW_FRAME];
+        uint64_t counts[MEMBER_COUNTS];
+        unsigned out; /* frames that wait to be sent */
+        struct iovec parts[BATCH];
+        struct mmsghdr messages[BATCH];
+    } members[NIW_MOST_PORTS];
+    uint8_t *member_packets; /* for the packets of a batch */
+    struct mmsghdr messages[BATCH]; /* of take_packets */
+    struct iovec parts[BATCH]; /* of take_packets */
+    struct sockaddr_ll from[BATCH]; /* of take_packets */
+    _Alignas(struct cmsghdr) uint8_t controls[BATCH][CMSG_SPACE(sizeof(struct tpacket_auxdata))]; /* of take_packets */
+};
 
-static uint8_t *member_packets; /* for the packets of a batch */
-
-static struct member *member_of(const struct link *link) {
-    return &members[link - links];
+struct members_private *make_members_private(void) {
+    return make_room(sizeof(struct members_private));
 }
 
-uint64_t member_count(uint16_t port, enum member_count count) {
-    return members[port - 1].counts[count];
+static struct member *member_of(struct lagd *lagd, const struct link *link) {
+    return &lagd->members->members[link - lagd->links];
+}
+
+uint64_t member_count(struct lagd *lagd, uint16_t port, enum member_count count) {
+    return lagd->members->members[port - 1].counts[count];
 }
 
 /* Lets a socket have data and markers, or all slow protocols but markers: so a marker comes in one row with the data before it, and no
@@ -97,10 +108,10 @@ static bool set_ways(int fd, bool in_order) {
 }
 
 /* A packet socket for the data of an interface, and its markers; or -1, and errno. Where the kernel hands up what comes, it only sends. */
-static int open_data(int index, const struct guard *guard) {
+static int open_data(struct lagd *lagd, int index, const struct guard *guard) {
     struct sockaddr_ll address = {.sll_family = AF_PACKET, .sll_protocol = htons(ETH_P_ALL), .sll_ifindex = index};
     struct packet_mreq all = {index, PACKET_MR_PROMISC, 0, {0}};
-    int fd = packet_socket("data", index, index, SOCK_RAW);
+    int fd = packet_socket(lagd, "data", index, index, SOCK_RAW);
     if (fd < 0) return -1;
     enlarge(fd, SO_RCVBUFFORCE, SO_RCVBUF);
     enlarge(fd, SO_SNDBUFFORCE, SO_SNDBUF);
@@ -115,10 +126,10 @@ static int open_data(int index, const struct guard *guard) {
 
 /* A packet socket for the markers that the kernel hands up to the TAP device, behind the data of this port, or, with 0, for those that come
  * to a member while no data goes up; or -1, and errno. */
-static int open_markers(const struct link *link, int index, uint16_t port) {
+static int open_markers(struct lagd *lagd, const struct link *link, int index, uint16_t port) {
     struct sockaddr_ll address = {.sll_family = AF_PACKET, .sll_protocol = htons(ETH_P_SLOW), .sll_ifindex = index};
     const char *kind = port > 0 ? "markers" : "direct";
-    int fd = packet_socket(kind, link->index, index, SOCK_RAW);
+    int fd = packet_socket(lagd, kind, link->index, index, SOCK_RAW);
     if (fd < 0) return -1;
     if ((port > 0 ? filter_marked(fd, port) : filter(fd, true)) && setsockopt(fd, SOL_PACKET, PACKET_AUXDATA, &(int){1}, sizeof(int)) == 0
         && bind(fd, (struct sockaddr *)&address, sizeof address) == 0)
@@ -128,16 +139,17 @@ static int open_markers(const struct link *link, int index, uint16_t port) {
 }
 
 /* No interface is taken up yet. */
-void start_members(void) {
-    member_packets = make_rooms();
+void start_members(struct lagd *lagd) {
+    struct members_private *own = lagd->members;
+    own->member_packets = make_rooms();
     for (unsigned i = 0; i < NIW_MOST_PORTS; i++) {
-        members[i].socket = members[i].markers = members[i].direct = -1;
-        members[i].guard.opened = -1;
+        own->members[i].socket = own->members[i].markers = own->members[i].direct = -1;
+        own->members[i].guard.opened = -1;
     }
 }
 
-static void close_sockets(struct member *member) {
-    int index = links[member - members].index, fault = errno;
+static void close_sockets(struct lagd *lagd, struct member *member) {
+    int index = lagd->links[member - lagd->members->members].index, fault = errno;
     if (member->socket >= 0) close_stored("data", index, member->socket);
     if (member->markers >= 0) close_stored("markers", index, member->markers);
     if (member->direct >= 0) close_stored("direct", index, member->direct);
@@ -153,40 +165,40 @@ static void store_sockets(const struct member *member, int index) {
 }
 
 /* Opens the sockets of a member; answers whether it did. */
-static bool open_sockets(struct member *member, const struct link *link) {
+static bool open_sockets(struct lagd *lagd, struct member *member, const struct link *link) {
     bool fast = member->guard.fast;
-    uint32_t tag = MEMBERS + (uint32_t)(member - members);
-    member->socket = open_data(link->index, &member->guard);
-    if (member->socket < 0 || !fast) return member->socket >= 0 && await_input(member->socket, tag);
-    member->markers = open_markers(link, tap_index(), link->settings.number);
-    member->direct = open_markers(link, link->index, 0);
-    return member->markers >= 0 && member->direct >= 0 && await_input(member->markers, tag) && await_input(member->direct, tag);
+    uint32_t tag = MEMBERS + (uint32_t)(member - lagd->members->members);
+    member->socket = open_data(lagd, link->index, &member->guard);
+    if (member->socket < 0 || !fast) return member->socket >= 0 && await_input(lagd, member->socket, tag);
+    member->markers = open_markers(lagd, link, tap_index(lagd), link->settings.number);
+    member->direct = open_markers(lagd, link, link->index, 0);
+    return member->markers >= 0 && member->direct >= 0 && await_input(lagd, member->markers, tag) && await_input(lagd, member->direct, tag);
 }
 
 /* Opens the sockets of a member whose programs run; answers whether it did. Else, it is no member any more, and errno tells why. */
-static bool open_or_close(struct member *member, const struct link *link) {
+static bool open_or_close(struct lagd *lagd, struct member *member, const struct link *link) {
     int fault;
-    if (open_sockets(member, link)) {
+    if (open_sockets(lagd, member, link)) {
         store_sockets(member, link->index);
-        begin_queues(link->settings.number, member->guard.queues);
+        begin_queues(lagd, link->settings.number, member->guard.queues);
         return true;
     }
     fault = errno;
-    close_sockets(member);
-    close_guard(link, &member->guard);
+    close_sockets(lagd, member);
+    close_guard(lagd, link, &member->guard);
     errno = fault;
     return false;
 }
 
 /* Takes up an interface for data, if data is carried; answers whether it did, and else errno tells why not. */
-bool open_member(struct link *link) {
-    struct member *member = member_of(link);
-    if (!carries_data()) return true;
-    if (carries_by_team()) return open_team_port(link);
+bool open_member(struct lagd *lagd, struct link *link) {
+    struct member *member = member_of(lagd, link);
+    if (!carries_data(lagd)) return true;
+    if (carries_by_team(lagd)) return open_team_port(lagd, link);
     if (!filter(link->socket, false)) return false;
-    open_guard(link, &member->guard);
+    open_guard(lagd, link, &member->guard);
     member->has_marker = false;
-    return open_or_close(member, link);
+    return open_or_close(lagd, member, link);
 }
 
 /* Frames that came while the socket was full. */
@@ -198,129 +210,135 @@ static void count_loss(struct member *member) {
 }
 
 /* The programs and sockets of a member are chosen anew; answers whether it is still taken up. */
-static bool renew_member(struct link *link) {
-    struct member *member = member_of(link);
-    withdraw_port(link->settings.number);
+static bool renew_member(struct lagd *lagd, struct link *link) {
+    struct member *member = member_of(lagd, link);
+    withdraw_port(lagd, link->settings.number);
     count_loss(member);
-    close_sockets(member);
-    reopen_guard(link, &member->guard);
-    look_at_carry();
-    return open_or_close(member, link);
+    close_sockets(lagd, member);
+    reopen_guard(lagd, link, &member->guard);
+    look_at_carry(lagd);
+    return open_or_close(lagd, member, link);
 }
 
 /* The interface has another queueing discipline: how data is sent is seen anew. Answers whether the member is still taken up. */
-bool reopen_member(struct link *link) {
-    struct member *member = member_of(link);
+bool reopen_member(struct lagd *lagd, struct link *link) {
+    struct member *member = member_of(lagd, link);
     char before[DISCIPLINE_ROOM];
     memcpy(before, link->discipline, sizeof before);
-    if (!read_discipline(link->index, link->discipline) || strcmp(before, link->discipline) == 0) return true;
-    if (!carries_data() || member->socket < 0) return true;
-    if (is_fast() || settings.all_queues) return renew_member(link);
-    look_at_discipline(link, &member->guard);
+    if (!read_discipline(lagd, link->index, link->discipline) || strcmp(before, link->discipline) == 0) return true;
+    if (!carries_data(lagd) || member->socket < 0) return true;
+    if (is_fast(lagd) || lagd->settings.all_queues) return renew_member(lagd, link);
+    look_at_discipline(lagd, link, &member->guard);
     return set_bypass(member->socket, member->guard.in_order);
 }
 
 /* Looks at the queues of all members, each second: one whose queues others changed is taken up anew. */
-void watch_queues(void) {
-    if (!settings.all_queues || ticks_passed() % SECOND != 0) return;
-    for (uint16_t i = 0; i < link_count; i++) {
-        struct link *link = &links[i];
-        if (members[i].socket < 0 || !is_spread_anew(link, &members[i].guard)) continue;
-        (void)say(LOG_NOTICE | ABOUT_DATA, "port %u %s: its queues were changed", link->settings.number, link->name);
-        if (renew_member(link)) continue;
-        look_again();
-        lose_link(link);
+void watch_queues(struct lagd *lagd) {
+    struct members_private *own = lagd->members;
+    if (!lagd->settings.all_queues || ticks_passed(lagd) % SECOND != 0) return;
+    for (uint16_t i = 0; i < lagd->link_count; i++) {
+        struct link *link = &lagd->links[i];
+        if (own->members[i].socket < 0 || !is_spread_anew(lagd, link, &own->members[i].guard)) continue;
+        (void)say(lagd, LOG_NOTICE | ABOUT_DATA, "port %u %s: its queues were changed", link->settings.number, link->name);
+        if (renew_member(lagd, link)) continue;
+        look_again(lagd);
+        lose_link(lagd, link);
     }
 }
 
 /* By how many queues of a member its data goes. */
-unsigned member_queues(uint16_t port) {
-    return members[port - 1].socket < 0 ? 0 : members[port - 1].guard.queues;
+unsigned member_queues(struct lagd *lagd, uint16_t port) {
+    struct members_private *own = lagd->members;
+    return own->members[port - 1].socket < 0 ? 0 : own->members[port - 1].guard.queues;
 }
 
 /* Whether the kernel may pass on what goes on a port. */
-bool has_fast_member(uint16_t port) {
-    return members[port - 1].socket >= 0 && members[port - 1].guard.fast;
+bool has_fast_member(struct lagd *lagd, uint16_t port) {
+    struct members_private *own = lagd->members;
+    return own->members[port - 1].socket >= 0 && own->members[port - 1].guard.fast;
 }
 
-void count_losses(void) {
-    for (uint16_t i = 0; i < link_count; i++) count_loss(&members[i]);
+void count_losses(struct lagd *lagd) {
+    for (uint16_t i = 0; i < lagd->link_count; i++) count_loss(&lagd->members->members[i]);
 }
 
 /* The interface is gone, or the daemon ends. */
-void close_member(struct link *link) {
-    struct member *member = member_of(link);
-    if (carries_by_team()) close_team_port(link);
-    if (!carries_data() || member->socket < 0) return;
-    withdraw_port(link->settings.number);
-    forget_answers(link->settings.number);
+void close_member(struct lagd *lagd, struct link *link) {
+    struct member *member = member_of(lagd, link);
+    if (carries_by_team(lagd)) close_team_port(lagd, link);
+    if (!carries_data(lagd) || member->socket < 0) return;
+    withdraw_port(lagd, link->settings.number);
+    forget_answers(lagd, link->settings.number);
     count_loss(member);
-    close_sockets(member);
-    close_guard(link, &member->guard);
+    close_sockets(lagd, member);
+    close_guard(lagd, link, &member->guard);
 }
 
 /* The program ends, by whatever it is refused, and no other one goes on: its members get what they had. */
-void put_back_members(void) {
-    if (has_left) return;
-    for (uint16_t i = 0; i < link_count; i++) {
-        if (members[i].socket < 0) continue;
-        close_sockets(&members[i]);
-        close_guard(&links[i], &members[i].guard);
+void put_back_members(struct lagd *lagd) {
+    struct members_private *own = lagd->members;
+    if (lagd->has_left) return;
+    for (uint16_t i = 0; i < lagd->link_count; i++) {
+        if (own->members[i].socket < 0) continue;
+        close_sockets(lagd, &own->members[i]);
+        close_guard(lagd, &lagd->links[i], &own->members[i].guard);
     }
 }
 
 /* The TAP device takes what each member takes; 0: there is no such member any more. */
-void follow_mtu(struct link *link, uint32_t mtu) {
+void follow_mtu(struct lagd *lagd, struct link *link, uint32_t mtu) {
+    struct members_private *own = lagd->members;
     uint32_t least = 0;
-    if (!carries_data() || carries_by_team() || member_of(link)->mtu == mtu) return;
-    member_of(link)->mtu = mtu;
-    for (uint16_t i = 0; i < link_count; i++)
-        if (members[i].mtu > 0 && (least == 0 || members[i].mtu < least)) least = members[i].mtu;
-    if (least != 0) limit_mtu(least);
+    if (!carries_data(lagd) || carries_by_team(lagd) || member_of(lagd, link)->mtu == mtu) return;
+    member_of(lagd, link)->mtu = mtu;
+    for (uint16_t i = 0; i < lagd->link_count; i++)
+        if (own->members[i].mtu > 0 && (least == 0 || own->members[i].mtu < least)) least = own->members[i].mtu;
+    if (least != 0) limit_mtu(lagd, least);
 }
 
 /* The kernel told of an interface whose link is up, which may have another speed. */
-void follow_speed(const struct link *link, const char *interface) {
+void follow_speed(struct lagd *lagd, const struct link *link, const char *interface) {
     uint32_t now;
-    if (!carries_data()) return;
+    if (!carries_data(lagd)) return;
     now = read_speed(link->socket, interface).megabits;
-    member_of(link)->megabits = now == (uint32_t)SPEED_UNKNOWN ? 0 : now;
-    look_at_carry();
+    member_of(lagd, link)->megabits = now == (uint32_t)SPEED_UNKNOWN ? 0 : now;
+    look_at_carry(lagd);
 }
 
 /* How fast the ports that carry are together, in Mb/s. One whose speed is not known counts nothing; where none is, that is SPEED_UNKNOWN. */
-uint32_t sum_speeds(void) {
+uint32_t sum_speeds(struct lagd *lagd) {
     uint64_t sum = 0;
-    for (uint16_t i = 0; i < carry.port_count; i++) sum += members[carry.ports[i] - 1].megabits;
+    for (uint16_t i = 0; i < lagd->carry.port_count; i++) sum += lagd->members->members[lagd->carry.ports[i] - 1].megabits;
     if (sum == 0) return (uint32_t)SPEED_UNKNOWN;
     return sum < INT32_MAX ? (uint32_t)sum : INT32_MAX;
 }
 
 /* What the kernel alone handed up, or lost, of what came on a port, since the last time. */
-void add_fast_counts(uint16_t port, const struct fast_member *more) {
-    uint64_t *counts = members[port - 1].counts;
+void add_fast_counts(struct lagd *lagd, uint16_t port, const struct fast_member *more) {
+    uint64_t *counts = lagd->members->members[port - 1].counts;
     counts[DATA_RECEIVED] += more->passed_up + more->uncollected + more->wrong_length;
     counts[PASSED_UP] += more->passed_up;
     counts[UNCOLLECTED] += more->uncollected;
     counts[WRONG_LENGTH] += more->wrong_length;
-    carry.counts[HANDED_UP] += more->passed_up;
-    if (more->uncollected > 0) suspect_aggregator(links[port - 1].view.aggregator);
+    lagd->carry.counts[HANDED_UP] += more->passed_up;
+    if (more->uncollected > 0) suspect_aggregator(lagd, lagd->links[port - 1].view.aggregator);
 }
 
 /* So many frames more were passed on by the kernel alone, on a port. */
-void note_passed(uint16_t port, uint64_t frames) {
-    members[port - 1].counts[DATA_SENT] += frames;
-    members[port - 1].counts[PASSED_ON] += frames;
-    carry.counts[FROM_HOST] += frames;
+void note_passed(struct lagd *lagd, uint16_t port, uint64_t frames) {
+    struct members_private *own = lagd->members;
+    own->members[port - 1].counts[DATA_SENT] += frames;
+    own->members[port - 1].counts[PASSED_ON] += frames;
+    lagd->carry.counts[FROM_HOST] += frames;
 }
 
 /* Sends what waits for a member. A frame that the kernel does not take is lost, as on a wire. */
-static void flush_member(struct member *member) {
+static void flush_member(struct lagd *lagd, struct member *member) {
     unsigned at = 0;
     while (at < member->out) {
         int sent = member->socket < 0 ? -1 : sendmmsg(member->socket, member->messages + at, member->out - at, 0);
         if (sent < 0 && member->socket >= 0 && errno == EINTR) continue;
-        if (sent < 0) suspect_carriers();
+        if (sent < 0) suspect_carriers(lagd);
         member->counts[sent > 0 ? DATA_SENT : DATA_UNSENT] += sent > 0 ? (unsigned)sent : 1;
         at += sent > 0 ? (unsigned)sent : 1;
     }
@@ -328,25 +346,26 @@ static void flush_member(struct member *member) {
 }
 
 /* Sends what waits for any member. */
-void flush_data(void) {
-    for (uint16_t i = 0; i < link_count; i++)
-        if (members[i].out > 0) flush_member(&members[i]);
-    free_left();
+void flush_data(struct lagd *lagd) {
+    struct members_private *own = lagd->members;
+    for (uint16_t i = 0; i < lagd->link_count; i++)
+        if (own->members[i].out > 0) flush_member(lagd, &own->members[i]);
+    free_left(lagd);
 }
 
 /* Puts a packet of a conversation behind those that wait for a port. It stays where it is until flush_data. */
-void put_data(uint16_t port, uint16_t number, uint8_t *packet, size_t length) {
-    struct member *member = &members[port - 1];
-    if (member->out == BATCH) flush_member(member);
+void put_data(struct lagd *lagd, uint16_t port, uint16_t number, uint8_t *packet, size_t length) {
+    struct member *member = &lagd->members->members[port - 1];
+    if (member->out == BATCH) flush_member(lagd, member);
     member->parts[member->out] = (struct iovec){packet, length};
     member->messages[member->out].msg_hdr = (struct msghdr){.msg_iov = &member->parts[member->out], .msg_iovlen = 1};
-    if (settings.all_queues) mark_conversation(port, number, &member->messages[member->out].msg_hdr);
+    if (lagd->settings.all_queues) mark_conversation(lagd, port, number, &member->messages[member->out].msg_hdr);
     member->out++;
 }
 
 /* Gives the kernel a marker for a member, as the message has it beside the frame; answers whether it took it. */
-bool give_marker(struct link *link, const uint8_t *marker, struct msghdr *message) {
-    const struct member *member = member_of(link);
+bool give_marker(struct lagd *lagd, struct link *link, const uint8_t *marker, struct msghdr *message) {
+    const struct member *member = member_of(lagd, link);
     uint8_t sent[sizeof(struct virtio_net_hdr) + NIW_FRAME] = {0};
     struct iovec part = {sent, head_octets() + NIW_FRAME};
     message->msg_iov = &part;
@@ -354,56 +373,58 @@ bool give_marker(struct link *link, const uint8_t *marker, struct msghdr *messag
     memcpy(sent + head_octets(), marker, NIW_FRAME);
     memcpy(sent + head_octets() + ETH_ALEN, link->mac, ETH_ALEN);
     if (member->socket < 0 || sendmsg(member->socket, message, 0) != (ssize_t)part.iov_len) return false;
-    return is_done(niw_count_sent(&link->counters, marker, NIW_FRAME), "niw_count_sent");
+    return is_done(lagd, niw_count_sent(&link->counters, marker, NIW_FRAME), "niw_count_sent");
 }
 
 /* Sends a marker behind the data of its port, by the same socket: by another one, of another priority, it would overtake them. What the
  * kernel passes on and no longer may is taken back before. */
-static bool send_marker(struct link *link, const uint8_t *marker, bool again) {
+static bool send_marker(struct lagd *lagd, struct link *link, const uint8_t *marker, bool again) {
     struct msghdr message = {0};
-    flush_member(member_of(link));
-    withdraw();
-    if (!settings.all_queues) return give_marker(link, marker, &message);
-    return again ? send_by_queues_again(link, marker) : send_by_queues(link, marker);
+    flush_member(lagd, member_of(lagd, link));
+    withdraw(lagd);
+    if (!lagd->settings.all_queues) return give_marker(lagd, link, marker, &message);
+    return again ? send_by_queues_again(lagd, link, marker) : send_by_queues(lagd, link, marker);
 }
 
 /* A marker is due on a port. */
-void take_marker(struct link *link, const uint8_t *frame) {
-    struct member *member = member_of(link);
+void take_marker(struct lagd *lagd, struct link *link, const uint8_t *frame) {
+    struct member *member = member_of(lagd, link);
     memcpy(member->marker, frame, sizeof member->marker);
     member->has_marker = true;
-    carry.counts[MARKERS_SENT]++;
-    (void)send_marker(link, member->marker, false);
+    lagd->carry.counts[MARKERS_SENT]++;
+    (void)send_marker(lagd, link, member->marker, false);
 }
 
 /* Sends the last marker of a port again: a cable may repeat control frames, and may lose one. Answers whether it went. */
-bool send_marker_again(uint16_t port) {
-    return members[port - 1].has_marker && send_marker(&links[port - 1], members[port - 1].marker, true);
+bool send_marker_again(struct lagd *lagd, uint16_t port) {
+    struct members_private *own = lagd->members;
+    return own->members[port - 1].has_marker && send_marker(lagd, &lagd->links[port - 1], own->members[port - 1].marker, true);
 }
 
 /* Hands a frame of data to the library, and up. */
-static void take_one(struct link *link, const uint8_t *packet, size_t length) {
-    struct member *member = member_of(link);
+static void take_one(struct lagd *lagd, struct link *link, const uint8_t *packet, size_t length) {
+    struct member *member = member_of(lagd, link);
     uint8_t response[NIW_FRAME];
     size_t octets = length - head_octets() < LONGEST_SHOWN ? length - head_octets() : LONGEST_SHOWN;
-    struct niw_received received = niw_receive(&own_system, link->settings.number, packet + head_octets(), octets, response,
+    struct niw_received received = niw_receive(&lagd->own_system, link->settings.number, packet + head_octets(), octets, response,
         sizeof response);
-    if (is_done(received.status, "niw_receive") && received.what == NIW_RECEIVED_HANDED_UP)
-        hand_up(received.number, packet, length);
+    if (is_done(lagd, received.status, "niw_receive") && received.what == NIW_RECEIVED_HANDED_UP)
+        hand_up(lagd, received.number, packet, length);
     else
         member->counts[UNCOLLECTED]++;
 }
 
 /* A marker goes the way of all slow protocols. One that the kernel handed up to the TAP device came by its member. */
-static void take_slow(struct link *link, const struct sockaddr_ll *from, bool handed_up, const uint8_t *frame, size_t length) {
+static void take_slow(struct lagd *lagd, struct link *link, const struct sockaddr_ll *from, bool handed_up, const uint8_t *frame,
+    size_t length) {
     struct arrival arrival = {frame, length, from->sll_pkttype, handed_up ? link->index : from->sll_ifindex, false};
-    take_frame(link, &arrival);
-    carry.changed = true;
+    take_frame(lagd, link, &arrival);
+    lagd->carry.changed = true;
 }
 
 /* Takes a packet that came: a marker alone, without a head, where the kernel hands up the data. */
-static void take_message(struct link *link, struct mmsghdr *message, bool handed_up) {
-    struct member *member = member_of(link);
+static void take_message(struct lagd *lagd, struct link *link, struct mmsghdr *message, bool handed_up) {
+    struct member *member = member_of(lagd, link);
     const struct sockaddr_ll *from = message->msg_hdr.msg_name;
     struct tpacket_auxdata aux = aux_of(&message->msg_hdr);
     size_t head = handed_up ? 0 : head_octets(), length = message->msg_len;
@@ -411,7 +432,7 @@ static void take_message(struct link *link, struct mmsghdr *message, bool handed
     bool tagged = (aux.tp_status & TP_STATUS_VLAN_VALID) != 0;
     if (from->sll_pkttype == PACKET_OUTGOING) return; /* an old kernel shows what was sent */
     if (!tagged && length >= head + ETH_HLEN && ((unsigned)packet[head + 12] << 8 | packet[head + 13]) == ETH_P_SLOW) {
-        take_slow(link, from, handed_up, packet + head, length - head);
+        take_slow(lagd, link, from, handed_up, packet + head, length - head);
         return;
     }
     if (handed_up) return;
@@ -425,7 +446,7 @@ static void take_message(struct link *link, struct mmsghdr *message, bool handed
     if (message->msg_hdr.msg_flags & MSG_TRUNC || !has_right_length(packet, length, member->mtu != 0 ? member->mtu : ETH_DATA_LEN))
         member->counts[WRONG_LENGTH]++;
     else
-        take_one(link, packet, length);
+        take_one(lagd, link, packet, length);
 }
 
 /* The kernel has a frame of segments that it cannot describe: it is lost. */
@@ -435,39 +456,36 @@ static bool is_unreadable(int got) {
 
 /* Takes the packets that wait in a socket of a member, some at most. What the kernel tells of links comes before them: what was sent after
  * a link went is not handed up before it. */
-static void take_packets(uint16_t port, const int *fd, bool only_markers) {
-    static struct mmsghdr messages[BATCH];
-    static struct iovec parts[BATCH];
-    static struct sockaddr_ll from[BATCH];
-    static _Alignas(struct cmsghdr) uint8_t controls[BATCH][CMSG_SPACE(sizeof(struct tpacket_auxdata))];
-    struct link *link = &links[port - 1];
-    struct member *member = &members[port - 1];
+static void take_packets(struct lagd *lagd, uint16_t port, const int *fd, bool only_markers) {
+    struct members_private *own = lagd->members;
+    struct link *link = &lagd->links[port - 1];
+    struct member *member = &own->members[port - 1];
     for (int turn = 0, got = BATCH; turn < MOST_BATCHES && got == BATCH && *fd >= 0; turn++) {
         for (unsigned i = 0; i < BATCH; i++) {
-            parts[i] = (struct iovec){member_packets + i * (packet_room() + TAG_OCTETS) + TAG_OCTETS, packet_room()};
-            messages[i].msg_hdr = (struct msghdr){.msg_name = &from[i], .msg_namelen = sizeof from[i], .msg_iov = &parts[i],
-                .msg_iovlen = 1, .msg_control = controls[i], .msg_controllen = sizeof controls[i]};
+            own->parts[i] = (struct iovec){own->member_packets + i * (packet_room() + TAG_OCTETS) + TAG_OCTETS, packet_room()};
+            own->messages[i].msg_hdr = (struct msghdr){.msg_name = &own->from[i], .msg_namelen = sizeof own->from[i],
+                .msg_iov = &own->parts[i], .msg_iovlen = 1, .msg_control = own->controls[i], .msg_controllen = sizeof own->controls[i]};
         }
-        got = recvmmsg(*fd, messages, BATCH, MSG_DONTWAIT, NULL);
-        if (!only_markers) note_unread(port, got > 0 ? (unsigned)got : 0, got >= 0 ? got < BATCH : errno == EAGAIN);
+        got = recvmmsg(*fd, own->messages, BATCH, MSG_DONTWAIT, NULL);
+        if (!only_markers) note_unread(lagd, port, got > 0 ? (unsigned)got : 0, got >= 0 ? got < BATCH : errno == EAGAIN);
         if (is_unreadable(got)) {
             member->counts[DATA_RECEIVED]++;
             member->counts[WRONG_LENGTH]++;
             got = BATCH;
             continue;
         }
-        if (got > 0) take_changes();
-        for (int i = 0; i < got; i++) take_message(link, &messages[i], only_markers);
+        if (got > 0) take_changes(lagd);
+        for (int i = 0; i < got; i++) take_message(lagd, link, &own->messages[i], only_markers);
     }
 }
 
 /* Takes what waits at a member. */
-void take_data(uint16_t port) {
-    struct member *member = &members[port - 1];
+void take_data(struct lagd *lagd, uint16_t port) {
+    struct member *member = &lagd->members->members[port - 1];
     if (member->markers < 0) {
-        take_packets(port, &member->socket, false);
+        take_packets(lagd, port, &member->socket, false);
         return;
     }
-    take_packets(port, &member->markers, true);
-    take_packets(port, &member->direct, true);
+    take_packets(lagd, port, &member->markers, true);
+    take_packets(lagd, port, &member->direct, true);
 }

@@ -3,92 +3,98 @@
 #include <inttypes.h>
 #include <stdio.h>
 
-#include "lagd.h"
+#include "daemon.h"
 
-void add_head(const char *name, const char *kind, const char *help) {
-    add("# HELP lagd_%s %s\n# TYPE lagd_%s %s\n", name, help, name, kind);
+void add_head(struct lagd *lagd, const char *name, const char *kind, const char *help) {
+    add(lagd, "# HELP lagd_%s %s\n# TYPE lagd_%s %s\n", name, help, name, kind);
 }
 
 /* The value of a label: any octet that is not printable ASCII becomes '?'. */
-static void add_label(const char *name, const char *text) {
-    add("%s=\"", name);
+static void add_label(struct lagd *lagd, const char *name, const char *text) {
+    add(lagd, "%s=\"", name);
     for (; *text; text++) {
         unsigned char octet = (unsigned char)*text;
-        if (octet == '"' || octet == '\\') add("\\");
-        add("%c", octet < 0x20 || octet > 0x7e ? '?' : octet);
+        if (octet == '"' || octet == '\\') add(lagd, "\\");
+        add(lagd, "%c", octet < 0x20 || octet > 0x7e ? '?' : octet);
     }
-    add("\"");
+    add(lagd, "\"");
 }
 
-void add_value_of(const char *name, const char *bundle, uint64_t value) {
-    add("lagd_%s{", name);
-    add_label("bundle", bundle);
-    add("} %" PRIu64 "\n", value);
+void add_value_of(struct lagd *lagd, const char *name, const char *bundle, uint64_t value) {
+    add(lagd, "lagd_%s{", name);
+    add_label(lagd, "bundle", bundle);
+    add(lagd, "} %" PRIu64 "\n", value);
 }
 
-void add_bundle_value(const char *name, const char *kind, const char *help, uint64_t value) {
-    add_head(name, kind, help);
-    add_value_of(name, settings.name, value);
+void add_bundle_value(struct lagd *lagd, const char *name, const char *kind, const char *help, uint64_t value) {
+    add_head(lagd, name, kind, help);
+    add_value_of(lagd, name, lagd->settings.name, value);
 }
 
-void add_port_value(const char *name, const struct link *link, uint64_t value) {
-    add("lagd_%s{", name);
-    add_label("bundle", settings.name);
-    add(",");
-    add_label("interface", link->name);
-    add(",port=\"%u\"} %" PRIu64 "\n", link->settings.number, value);
+void add_port_value(struct lagd *lagd, const char *name, const struct link *link, uint64_t value) {
+    add(lagd, "lagd_%s{", name);
+    add_label(lagd, "bundle", lagd->settings.name);
+    add(lagd, ",");
+    add_label(lagd, "interface", link->name);
+    add(lagd, ",port=\"%u\"} %" PRIu64 "\n", link->settings.number, value);
 }
 
-static void add_bundle_states(void) {
-    add_head("bundle_state", "gauge", "1 for the state of the bundle, 0 for the others");
+static void add_bundle_states(struct lagd *lagd) {
+    add_head(lagd, "bundle_state", "gauge", "1 for the state of the bundle, 0 for the others");
     for (unsigned state = 0; state < BUNDLE_STATES; state++) {
-        add("lagd_bundle_state{");
-        add_label("bundle", settings.name);
-        add(",state=\"%s\"} %u\n", bundle_state_text(state), state == bundle.state);
+        add(lagd, "lagd_bundle_state{");
+        add_label(lagd, "bundle", lagd->settings.name);
+        add(lagd, ",state=\"%s\"} %u\n", bundle_state_text(state), state == lagd->bundle.state);
     }
-    add_head("bundle_state_changes_total", "counter", "how often the bundle came to be so");
+    add_head(lagd, "bundle_state_changes_total", "counter", "how often the bundle came to be so");
     for (unsigned state = 0; state < BUNDLE_STATES; state++) {
-        add("lagd_bundle_state_changes_total{");
-        add_label("bundle", settings.name);
-        add(",state=\"%s\"} %" PRIu64 "\n", bundle_state_text(state), bundle.counts[state]);
+        add(lagd, "lagd_bundle_state_changes_total{");
+        add_label(lagd, "bundle", lagd->settings.name);
+        add(lagd, ",state=\"%s\"} %" PRIu64 "\n", bundle_state_text(state), lagd->bundle.counts[state]);
     }
 }
 
-static uint64_t is_link_up(const struct link *link) {
+static uint64_t is_link_up(struct lagd *lagd, const struct link *link) {
+    (void)lagd;
     return link->up;
 }
 
-static uint64_t is_carrying(const struct link *link) {
-    return carries(link);
+static uint64_t is_carrying(struct lagd *lagd, const struct link *link) {
+    return carries(lagd, link);
 }
 
-static uint64_t has_partner(const struct link *link) {
+static uint64_t has_partner(struct lagd *lagd, const struct link *link) {
+    (void)lagd;
     return !link->view.defaulted;
 }
 
-static uint64_t status_number(const struct link *link) {
-    return facts_of(link).status;
+static uint64_t status_number(struct lagd *lagd, const struct link *link) {
+    return facts_of(lagd, link).status;
 }
 
-static uint64_t aggregator_number(const struct link *link) {
+static uint64_t aggregator_number(struct lagd *lagd, const struct link *link) {
+    (void)lagd;
     return link->view.aggregator;
 }
 
-static uint64_t change_time(const struct link *link) {
+static uint64_t change_time(struct lagd *lagd, const struct link *link) {
+    (void)lagd;
     return (uint64_t)link->changed_at;
 }
 
-static uint64_t is_actor_churning(const struct link *link) {
+static uint64_t is_actor_churning(struct lagd *lagd, const struct link *link) {
+    (void)lagd;
     return link->churn.actor.state == NIW_CHURN_CHURN;
 }
 
-static uint64_t is_partner_churning(const struct link *link) {
+static uint64_t is_partner_churning(struct lagd *lagd, const struct link *link) {
+    (void)lagd;
     return link->churn.partner.state == NIW_CHURN_CHURN;
 }
 
 static const struct {
     const char *name, *help;
-    uint64_t (*value)(const struct link *link);
+    uint64_t (*value)(struct lagd *lagd, const struct link *link);
 } GAUGES[] = {
     {"port_link_up", "whether the link is up", is_link_up},
     {"port_carrying", "whether the port carries", is_carrying},
@@ -101,22 +107,23 @@ static const struct {
 };
 
 /* All of it. */
-void write_metrics(void) {
-    add_bundle_states();
-    add_bundle_value("bundle_links", "gauge", "how many links the bundle has", link_count);
-    add_bundle_value("bundle_links_carrying", "gauge", "how many of them carry", bundle.carrying);
-    add_bundle_value("bundle_min_links", "gauge", "with fewer the bundle is down", settings.min_links);
-    add_bundle_value("bundle_last_change_timestamp_seconds", "gauge", "when the state of the bundle changed last",
-        (uint64_t)bundle.changed_at);
+void write_metrics(struct lagd *lagd) {
+    add_bundle_states(lagd);
+    add_bundle_value(lagd, "bundle_links", "gauge", "how many links the bundle has", lagd->link_count);
+    add_bundle_value(lagd, "bundle_links_carrying", "gauge", "how many of them carry", lagd->bundle.carrying);
+    add_bundle_value(lagd, "bundle_min_links", "gauge", "with fewer the bundle is down", lagd->settings.min_links);
+    add_bundle_value(lagd, "bundle_last_change_timestamp_seconds", "gauge", "when the state of the bundle changed last",
+        (uint64_t)lagd->bundle.changed_at);
     for (size_t gauge = 0; gauge < sizeof GAUGES / sizeof *GAUGES; gauge++) {
-        add_head(GAUGES[gauge].name, "gauge", GAUGES[gauge].help);
-        for (uint16_t i = 0; i < link_count; i++) add_port_value(GAUGES[gauge].name, &links[i], GAUGES[gauge].value(&links[i]));
+        add_head(lagd, GAUGES[gauge].name, "gauge", GAUGES[gauge].help);
+        for (uint16_t i = 0; i < lagd->link_count; i++)
+            add_port_value(lagd, GAUGES[gauge].name, &lagd->links[i], GAUGES[gauge].value(lagd, &lagd->links[i]));
     }
     for (unsigned count = 0; count < ALL_COUNTS; count++) {
         char name[64];
         snprintf(name, sizeof name, "port_%s_total", count_name(count));
-        add_head(name, "counter", count_help(count));
-        for (uint16_t i = 0; i < link_count; i++) add_port_value(name, &links[i], count_at(&links[i], count));
+        add_head(lagd, name, "counter", count_help(count));
+        for (uint16_t i = 0; i < lagd->link_count; i++) add_port_value(lagd, name, &lagd->links[i], count_at(&lagd->links[i], count));
     }
-    write_carry_metrics();
+    write_carry_metrics(lagd);
 }

@@ -6,6 +6,7 @@
 #include <string.h>
 #include <sys/socket.h>
 
+#include "daemon.h"
 #include "netlink.h"
 
 /* The octets of a part of an answer: the kernel makes none longer. */
@@ -50,26 +51,35 @@ static struct mnl_socket *open_netlink(int bus) {
     return NULL;
 }
 
+/* What this file keeps for a daemon. */
+struct netlink_private {
+    _Alignas(struct nlmsghdr) uint8_t part[PART_ROOM]; /* of read_answer */
+};
+
+struct netlink_private *make_netlink_private(void) {
+    return make_room(sizeof(struct netlink_private));
+}
+
 /* Reads the answer up to its last message, which the kernel has sent once it took the question; answers its error, or 0. */
-static int read_answer(const struct mnl_socket *asked, message_reader read_one, void *into) {
-    static _Alignas(struct nlmsghdr) uint8_t part[PART_ROOM];
+static int read_answer(struct lagd *lagd, const struct mnl_socket *asked, message_reader read_one, void *into) {
+    struct netlink_private *own = lagd->netlink;
     for (int turn = 0; turn < MOST_PARTS; turn++) {
-        int left = (int)mnl_socket_recvfrom(asked, part, sizeof part);
+        int left = (int)mnl_socket_recvfrom(asked, own->part, sizeof own->part);
         if (left < 0) return errno;
-        for (const struct nlmsghdr *message = (void *)part; is_whole(message, left); message = mnl_nlmsg_next(message, &left)) {
+        for (const struct nlmsghdr *message = (void *)own->part; is_whole(message, left); message = mnl_nlmsg_next(message, &left)) {
             if (message->nlmsg_type == NLMSG_ERROR || message->nlmsg_type == NLMSG_DONE) return -error_of(message);
-            if (read_one) read_one(message, into);
+            if (read_one) read_one(lagd, message, into);
         }
     }
     return EPROTO;
 }
 
 /* Asks the kernel; answers whether it did so, and else errno tells why not. */
-bool ask_netlink(int bus, const union message *question, message_reader read_one, void *into) {
+bool ask_netlink(struct lagd *lagd, int bus, const union message *question, message_reader read_one, void *into) {
     struct mnl_socket *asked = open_netlink(bus);
     int fault;
     if (!asked) return false;
-    fault = mnl_socket_sendto(asked, question, question->head.nlmsg_len) < 0 ? errno : read_answer(asked, read_one, into);
+    fault = mnl_socket_sendto(asked, question, question->head.nlmsg_len) < 0 ? errno : read_answer(lagd, asked, read_one, into);
     (void)mnl_socket_close(asked);
     errno = fault;
     return fault == 0;

@@ -5,7 +5,7 @@
 #include <stdlib.h>
 #include <string.h>
 
-#include "lagd.h"
+#include "daemon.h"
 
 static const char HELP_BEGINS[] =
     "lagd: Link Aggregation Control Protocol for interfaces of Linux\n"
@@ -48,16 +48,29 @@ static const struct option_text BEHIND_KEYS[] = {
 };
 
 enum { OPTION_ROOM = MOST_BUNDLE_KEYS + sizeof BEFORE_KEYS / sizeof *BEFORE_KEYS + sizeof BEHIND_KEYS / sizeof *BEHIND_KEYS };
-static struct option_text rows[OPTION_ROOM];
-static size_t row_count;
+/* What this file keeps for a daemon. */
+struct options_private {
+    struct option_text rows[OPTION_ROOM];
+    size_t row_count;
+    struct options options;
+    bool has_words; /* whether an option stands there that a file has, too */
+};
+
+struct options_private *make_options_private(void) {
+    struct options_private *made = make_room(sizeof *made);
+    made->options.folder = "/run/lagd";
+    return made;
+}
 
 /* The options in the order of the help, from the tables above and from that of the keys. */
-static void make_rows(void) {
-    for (size_t i = 0; i < sizeof BEFORE_KEYS / sizeof *BEFORE_KEYS; i++) rows[row_count++] = BEFORE_KEYS[i];
+static void make_rows(struct lagd *lagd) {
+    struct options_private *own = lagd->options;
+    for (size_t i = 0; i < sizeof BEFORE_KEYS / sizeof *BEFORE_KEYS; i++) own->rows[own->row_count++] = BEFORE_KEYS[i];
     for (size_t i = 0; bundle_key(i); i++)
         if (bundle_key(i)->letter)
-            rows[row_count++] = (struct option_text){bundle_key(i)->letter, bundle_key(i)->name, bundle_key(i)->value, bundle_key(i)->help};
-    for (size_t i = 0; i < sizeof BEHIND_KEYS / sizeof *BEHIND_KEYS; i++) rows[row_count++] = BEHIND_KEYS[i];
+            own->rows[own->row_count++] = (struct option_text){bundle_key(i)->letter, bundle_key(i)->name, bundle_key(i)->value,
+                bundle_key(i)->help};
+    for (size_t i = 0; i < sizeof BEHIND_KEYS / sizeof *BEHIND_KEYS; i++) own->rows[own->row_count++] = BEHIND_KEYS[i];
 }
 
 /* The column of the help in which texts begin, if there is room before it. */
@@ -72,18 +85,16 @@ static void print_row(const struct option_text *row) {
     printf("%s\n", text);
 }
 
-static void print_help(void) {
+static void print_help(struct lagd *lagd) {
+    struct options_private *own = lagd->options;
     fputs(HELP_BEGINS, stdout);
-    for (size_t i = 0; i < row_count; i++)
-        if (rows[i].help) print_row(&rows[i]);
+    for (size_t i = 0; i < own->row_count; i++)
+        if (own->rows[i].help) print_row(&own->rows[i]);
     fputs(HELP_ENDS, stdout);
 }
 
 /* A command line is one line. */
 enum { THE_LINE = 1 };
-
-static struct options options = {.folder = "/run/lagd"};
-static bool has_words; /* whether an option stands there that a file has, too */
 
 /* Ends the program where a value is not what was expected. */
 static void expect(const char *expected, const char *name, const char *value) {
@@ -95,17 +106,19 @@ static void expect(const char *expected, const char *name, const char *value) {
 }
 
 /* An option that is a key of the bundle. */
-static void take_option(int letter, const char *text) {
-    const struct option_text *row = rows;
+static void take_option(struct lagd *lagd, int letter, const char *text) {
+    struct options_private *own = lagd->options;
+    const struct option_text *row = own->rows;
     while (row->letter != letter) row++;
     text = row->value ? text : "yes";
-    has_words = true;
-    expect(set_bundle(&options.settings, row->name, text, THE_LINE), row->name, text);
+    own->has_words = true;
+    expect(set_bundle(lagd, &own->options.settings, row->name, text, THE_LINE), row->name, text);
 }
 
-static void choose(enum action action) {
-    if (options.action != RUN) stop(WRONG_WORD, "usage", "one of --check, --status, --watch and --metrics; lagd --help tells more");
-    options.action = action;
+static void choose(struct lagd *lagd, enum action action) {
+    struct options_private *own = lagd->options;
+    if (own->options.action != RUN) stop(WRONG_WORD, "usage", "one of --check, --status, --watch and --metrics; lagd --help tells more");
+    own->options.action = action;
 }
 
 static _Noreturn void end_printing(void) {
@@ -113,79 +126,83 @@ static _Noreturn void end_printing(void) {
 }
 
 /* One option. --help and --version end the program. */
-static void read_option(int option, const char *last) {
+static void read_option(struct lagd *lagd, int option, const char *last) {
+    struct options_private *own = lagd->options;
     const char letter[] = {'-', (char)optopt, 0};
     switch (option) {
-    case 'c': options.file = optarg; break;
-    case 'k': choose(CHECK); options.file = optarg; break;
-    case 'f': options.folder = optarg; break;
-    case 's': choose(SHOW); break;
-    case 'w': choose(WATCH); break;
-    case 'M': choose(METRICS); break;
-    case 'j': options.json = true; break;
-    case 'h': print_help(); end_printing();
+    case 'c': own->options.file = optarg; break;
+    case 'k': choose(lagd, CHECK); own->options.file = optarg; break;
+    case 'f': own->options.folder = optarg; break;
+    case 's': choose(lagd, SHOW); break;
+    case 'w': choose(lagd, WATCH); break;
+    case 'M': choose(lagd, METRICS); break;
+    case 'j': own->options.json = true; break;
+    case 'h': print_help(lagd); end_printing();
     case 'V': puts("lagd " VERSION); end_printing();
     case '?': case ':': stop(WRONG_WORD, "not an option, or its word is missing", optopt ? letter : last);
-    default: take_option(option, optarg); break;
+    default: take_option(lagd, option, optarg); break;
     }
 }
 
 /* A word of an interface: a key of its own, or one of the words that stand for a key and its value. */
-static const char *read_port_word(const char *word, struct port_settings *port) {
-    if (strncmp(word, "key=", 4) == 0) return set_port(port, "key", word + 4);
-    if (strncmp(word, "priority=", 9) == 0) return set_port(port, "priority", word + 9);
-    if (strcmp(word, "short") == 0 || strcmp(word, "long") == 0) return set_port(port, "timeout", word);
-    if (strcmp(word, "active") == 0 || strcmp(word, "passive") == 0) return set_port(port, "activity", word);
-    if (strcmp(word, "individual") == 0) return set_port(port, "individual", "yes");
+static const char *read_port_word(struct lagd *lagd, const char *word, struct port_settings *port) {
+    if (strncmp(word, "key=", 4) == 0) return set_port(lagd, port, "key", word + 4);
+    if (strncmp(word, "priority=", 9) == 0) return set_port(lagd, port, "priority", word + 9);
+    if (strcmp(word, "short") == 0 || strcmp(word, "long") == 0) return set_port(lagd, port, "timeout", word);
+    if (strcmp(word, "active") == 0 || strcmp(word, "passive") == 0) return set_port(lagd, port, "activity", word);
+    if (strcmp(word, "individual") == 0) return set_port(lagd, port, "individual", "yes");
     return "key=N, priority=N, short, long, active, passive or individual";
 }
 
 /* INTERFACE[:WORD,..], for the next port. */
-static void read_link(char *text) {
+static void read_link(struct lagd *lagd, char *text) {
+    struct options_private *own = lagd->options;
     size_t length = strcspn(text, ":");
     char *rest = text[length] ? text + length + 1 : NULL;
-    expect(add_port(&options.settings, text, length), NULL, text);
+    expect(add_port(&own->options.settings, text, length), NULL, text);
     for (char *word; (word = strsep(&rest, ","));)
-        expect(read_port_word(word, &options.settings.ports[options.settings.port_count - 1]), NULL, word);
+        expect(read_port_word(lagd, word, &own->options.settings.ports[own->options.settings.port_count - 1]), NULL, word);
 }
 
 /* KEY PRIORITY,MAC INTERFACE[:WORD,..].. */
-static void read_words(int count, char **words) {
-    struct settings *given = &options.settings;
+static void read_words(struct lagd *lagd, int count, char **words) {
+    struct settings *given = &lagd->options->options.settings;
     struct lack lack;
     if (count < 3) stop(WRONG_WORD, "usage", "lagd [OPTION..] KEY PRIORITY,MAC INTERFACE.., or lagd --config FILE; lagd --help tells more");
-    expect(set_bundle(given, "key", words[0], THE_LINE), "KEY", words[0]);
-    expect(set_bundle(given, "system", words[1], THE_LINE), "system", words[1]);
-    for (int i = 2; i < count; i++) read_link(words[i]);
+    expect(set_bundle(lagd, given, "key", words[0], THE_LINE), "KEY", words[0]);
+    expect(set_bundle(lagd, given, "system", words[1], THE_LINE), "system", words[1]);
+    for (int i = 2; i < count; i++) read_link(lagd, words[i]);
     lack = lack_of(given);
     expect(lack.expected, NULL, lack.key);
     strcpy(given->name, given->ports[0].name);
 }
 
 /* Reads each option, by the rows. */
-static void read_rows(int argc, char **argv) {
+static void read_rows(struct lagd *lagd, int argc, char **argv) {
+    struct options_private *own = lagd->options;
     struct option names[OPTION_ROOM + 1] = {{NULL, 0, NULL, 0}};
     char letters[2 * OPTION_ROOM + 1] = "";
     size_t length = 0;
-    make_rows();
-    for (size_t i = 0; i < row_count; i++) {
-        names[i] = (struct option){rows[i].name, rows[i].value ? required_argument : no_argument, NULL, rows[i].letter};
-        letters[length++] = rows[i].letter;
-        if (rows[i].value) letters[length++] = ':';
+    make_rows(lagd);
+    for (size_t i = 0; i < own->row_count; i++) {
+        names[i] = (struct option){own->rows[i].name, own->rows[i].value ? required_argument : no_argument, NULL, own->rows[i].letter};
+        letters[length++] = own->rows[i].letter;
+        if (own->rows[i].value) letters[length++] = ':';
     }
     opterr = 0;
-    for (int option; (option = getopt_long(argc, argv, letters, names, NULL)) >= 0;) read_option(option, argv[optind - 1]);
+    for (int option; (option = getopt_long(argc, argv, letters, names, NULL)) >= 0;) read_option(lagd, option, argv[optind - 1]);
 }
 
 /* Reads the command line, and the file that it names. */
-struct options *read_options(int argc, char **argv) {
-    options.settings = usual_settings();
-    read_rows(argc, argv);
-    if (options.json && options.action != SHOW && options.action != WATCH)
+struct options *read_options(struct lagd *lagd, int argc, char **argv) {
+    struct options_private *own = lagd->options;
+    own->options.settings = usual_settings();
+    read_rows(lagd, argc, argv);
+    if (own->options.json && own->options.action != SHOW && own->options.action != WATCH)
         stop(WRONG_WORD, "usage", "lagd --status --json, or lagd --watch --json");
-    if ((options.action != RUN || options.file) && (optind < argc || has_words))
+    if ((own->options.action != RUN || own->options.file) && (optind < argc || own->has_words))
         stop(WRONG_WORD, "usage", "a file has all of its bundle, and a question has none of it; lagd --help tells more");
-    if (options.file && !read_file(options.file, &options.settings)) exit(WRONG_WORD);
-    if (options.action == RUN && !options.file) read_words(argc - optind, argv + optind);
-    return &options;
+    if (own->options.file && !read_file(lagd, own->options.file, &own->options.settings)) exit(WRONG_WORD);
+    if (own->options.action == RUN && !own->options.file) read_words(lagd, argc - optind, argv + optind);
+    return &own->options;
 }

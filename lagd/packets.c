@@ -6,7 +6,7 @@
 #include <string.h>
 #include <sys/mman.h>
 
-#include "carry.h"
+#include "daemon.h"
 
 /* The octets of a packet of several segments, without its head: those of an IP packet, and of its header of Ethernet with two tags. */
 #define LONGEST_SEGMENTED (65536 + ETH_HLEN + 2 * TAG_OCTETS)
@@ -18,8 +18,8 @@
 static const size_t head = sizeof(struct virtio_net_hdr);
 
 /* Whether the host hands over frames of several segments. */
-bool passes_segments(void) {
-    return settings.offload || settings.fast;
+bool passes_segments(struct lagd *lagd) {
+    return lagd->settings.offload || lagd->settings.fast;
 }
 
 /* The octets before each frame. */

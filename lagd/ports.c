@@ -4,30 +4,37 @@
 #include <stdio.h>
 #include <string.h>
 
-#include "lagd.h"
+#include "daemon.h"
 
-static struct niw_view views[NIW_MOST_PORTS];
+/* What this file keeps for a daemon. */
+struct ports_private {
+    struct niw_view views[NIW_MOST_PORTS];
+};
+
+struct ports_private *make_ports_private(void) {
+    return make_room(sizeof(struct ports_private));
+}
 
 /* The status of a port, with what the library does not know of it. */
-static uint8_t status_of(const struct link *link) {
+static uint8_t status_of(struct lagd *lagd, const struct link *link) {
     uint8_t status = link->view.port_status;
     if (link->socket < 0) return MISSING;
     if (link->waits) return RESTORING;
     if (status != NIW_PORT_STATUS_DISTRIBUTING || !link->view.defaulted) return status;
-    return settings.partner_required ? PARTNER_WANTED : WITHOUT_PARTNER;
+    return lagd->settings.partner_required ? PARTNER_WANTED : WITHOUT_PARTNER;
 }
 
 /* Whether a port carries, as far as LACP is concerned. */
-bool carries(const struct link *link) {
-    uint8_t status = status_of(link);
+bool carries(struct lagd *lagd, const struct link *link) {
+    uint8_t status = status_of(lagd, link);
     return status == NIW_PORT_STATUS_DISTRIBUTING || status == WITHOUT_PARTNER;
 }
 
 /* What there is to print of a port. */
-struct facts facts_of(const struct link *link) {
+struct facts facts_of(struct lagd *lagd, const struct link *link) {
     const struct niw_view *view = &link->view;
     struct facts facts = {
-        .status = status_of(link),
+        .status = status_of(lagd, link),
         .aggregator = view->aggregator,
         .defaulted = view->defaulted,
         .partner = {.priority = view->partner_priority},
@@ -40,26 +47,27 @@ struct facts facts_of(const struct link *link) {
 }
 
 /* Counts what became of a port. Its link that comes up has it EXPIRED, as one does of which no LACPDU came in time. */
-static void count_change(struct link *link, const struct niw_view *now) {
+static void count_change(struct lagd *lagd, struct link *link, const struct niw_view *now) {
     const struct niw_view *before = &link->view;
     if (now->receive_state == NIW_RECEIVE_EXPIRED && before->receive_state == NIW_RECEIVE_CURRENT) link->counts[EXPIRED]++;
     if (now->receive_state == NIW_RECEIVE_DEFAULTED && before->receive_state != NIW_RECEIVE_DEFAULTED) {
         link->counts[DEFAULTED]++;
-        forget_partner(link);
+        forget_partner(lagd, link);
     }
     if (now->mux_state == NIW_MUX_COLLECTING_DISTRIBUTING && before->mux_state != NIW_MUX_COLLECTING_DISTRIBUTING)
         link->counts[DISTRIBUTED]++;
 }
 
 /* Takes what the library tells of the ports that changed. */
-void take_views(void) {
+void take_views(struct lagd *lagd) {
+    struct ports_private *own = lagd->ports;
     uint64_t changed;
-    if (!is_told(niw_views(&own_system, views, NIW_MOST_PORTS), "niw_views", &changed)) return;
-    for (uint16_t i = 0; i < link_count; i++) {
+    if (!is_told(lagd, niw_views(&lagd->own_system, own->views, NIW_MOST_PORTS), "niw_views", &changed)) return;
+    for (uint16_t i = 0; i < lagd->link_count; i++) {
         if (!(changed >> i & 1)) continue;
-        count_change(&links[i], &views[i]);
-        links[i].view = views[i];
-        links[i].changed = true;
+        count_change(lagd, &lagd->links[i], &own->views[i]);
+        lagd->links[i].view = own->views[i];
+        lagd->links[i].changed = true;
     }
 }
 
@@ -72,38 +80,38 @@ static bool is_same(const struct facts *one, const struct facts *other) {
 }
 
 /* Why a port is in trouble, behind a comma. */
-static const char *trouble_text(const struct link *link, char *room, size_t size) {
+static const char *trouble_text(struct lagd *lagd, const struct link *link, char *room, size_t size) {
     room[0] = 0;
     if (link->trouble == EADDRINUSE)
-        snprintf(room, size, ", another lagd has the interface: %s", holder_of(link->index));
+        snprintf(room, size, ", another lagd has the interface: %s", holder_of(lagd, link->index));
     else if (link->trouble)
         snprintf(room, size, ", %s", strerror(link->trouble));
     return room;
 }
 
 /* Prints a port; answers whether it could. */
-static bool print_facts(const struct link *link, const struct facts *facts, bool watched) {
+static bool print_facts(struct lagd *lagd, const struct link *link, const struct facts *facts, bool watched) {
     char whose[96] = "no partner", system[32], trouble[128];
     int level = (facts->status == NIW_PORT_STATUS_DISTRIBUTING ? LOG_NOTICE : LOG_WARNING) | (watched ? WATCHED : 0) | ABOUT_PORT;
     if (!facts->defaulted)
         snprintf(whose, sizeof whose, "partner %s key %u port %u", system_text(&facts->partner, system), facts->partner_key,
             facts->partner_port);
-    return say(level, "port %u %s: %s, aggregator %u, %s%s", link->settings.number, link->name, status_text(facts->status),
-        facts->aggregator, whose, trouble_text(link, trouble, sizeof trouble));
+    return say(lagd, level, "port %u %s: %s, aggregator %u, %s%s", link->settings.number, link->name, status_text(facts->status),
+        facts->aggregator, whose, trouble_text(lagd, link, trouble, sizeof trouble));
 }
 
 /* Looks at a port, and prints it if it changed; answers whether it did. What could not be printed is looked at again. */
-bool print_change(struct link *link) {
-    struct facts facts = facts_of(link);
+bool print_change(struct lagd *lagd, struct link *link) {
+    struct facts facts = facts_of(lagd, link);
     bool same = link->told && is_same(&facts, &link->printed), watched = link->watched && is_same(&facts, &link->shown);
-    if (!has_started) return false;
+    if (!lagd->has_started) return false;
     if (!same && !watched) {
         link->changed_at = time(NULL);
-        tell_watchers_of(link);
+        tell_watchers_of(lagd, link);
     }
     link->watched = true;
     link->shown = facts;
-    link->changed = !same && !print_facts(link, &facts, watched);
+    link->changed = !same && !print_facts(lagd, link, &facts, watched);
     if (same || link->changed) return false;
     link->told = true;
     link->printed = facts;
@@ -111,11 +119,11 @@ bool print_change(struct link *link) {
 }
 
 /* Prints the ports that changed. What is printed too often is printed later. */
-void print_changes(void) {
-    for (uint16_t i = 0; i < link_count; i++) {
-        struct link *link = &links[i];
-        if (link->changed && link->lines > 0 && print_change(link)) link->lines--;
-        tell_strangers(link);
-        tell_markers(link);
+void print_changes(struct lagd *lagd) {
+    for (uint16_t i = 0; i < lagd->link_count; i++) {
+        struct link *link = &lagd->links[i];
+        if (link->changed && link->lines > 0 && print_change(lagd, link)) link->lines--;
+        tell_strangers(lagd, link);
+        tell_markers(lagd, link);
     }
 }

@@ -15,13 +15,13 @@
 #define NO_PROGRAMS "the kernel has no program of an interface, which Linux has from 6.6 on"
 
 /* Tells what is lacking, or not known, for a key of the file. */
-static void tell(const struct options *options, const char *key, const char *what) {
-    complain("%s:%u: %s: %s", options->file, line_of(&options->settings, key), key, what);
+static void tell(struct lagd *lagd, const struct options *options, const char *key, const char *what) {
+    complain(lagd, "%s:%u: %s: %s", options->file, line_of(&options->settings, key), key, what);
 }
 
 /* Whether the kernel has a program run at an interface, as Linux does from 6.6 on: then it misses the interface alone. 0, or errno. */
-int fault_of_programs(void) {
-    int program = load_program("dropper", NULL, 0), fault = errno;
+int fault_of_programs(struct lagd *lagd) {
+    int program = load_program(lagd, "dropper", NULL, 0), fault = errno;
     if (program < 0) return fault;
     fault = attach_program(program, NO_INDEX, false) < 0 && errno != ENODEV ? errno : 0;
     close(program);
@@ -29,49 +29,49 @@ int fault_of_programs(void) {
 }
 
 /* Whether the kernel can pass data on by itself: answers how the program ends. */
-static int check_fast(const struct options *options) {
-    int fault = fault_of_programs();
+static int check_fast(struct lagd *lagd, const struct options *options) {
+    int fault = fault_of_programs(lagd);
     if (fault == EPERM) {
-        tell(options, "fast", "not known without CAP_BPF and CAP_NET_ADMIN");
+        tell(lagd, options, "fast", "not known without CAP_BPF and CAP_NET_ADMIN");
         return DONE;
     }
     if (fault != 0) {
-        tell(options, "fast", NO_PROGRAMS);
+        tell(lagd, options, "fast", NO_PROGRAMS);
         return REFUSED;
     }
     if (syscall(SYS_membarrier, MEMBARRIER_CMD_GLOBAL, 0, 0) == 0) return DONE;
-    tell(options, "fast", "the kernel cannot wait for its programs (membarrier)");
+    tell(lagd, options, "fast", "the kernel cannot wait for its programs (membarrier)");
     return REFUSED;
 }
 
 /* Whether the kernel has a program choose the queue of a frame: answers how the program ends. */
-static int check_queues(const struct options *options) {
-    int fault = fault_of_programs();
+static int check_queues(struct lagd *lagd, const struct options *options) {
+    int fault = fault_of_programs(lagd);
     if (fault == 0) return DONE;
-    tell(options, "queues", fault == EPERM ? "not known without CAP_BPF and CAP_NET_ADMIN" : NO_PROGRAMS);
+    tell(lagd, options, "queues", fault == EPERM ? "not known without CAP_BPF and CAP_NET_ADMIN" : NO_PROGRAMS);
     return fault == EPERM ? DONE : REFUSED;
 }
 
 /* Whether the kernel has the team driver, and its mode, which is another module: answers how the program ends. The mode is tried in a network
  * namespace that ends with the program, where that may be made. */
-static int check_team(const struct options *options) {
-    bool is_apart = unshare(CLONE_NEWNET) == 0, has_driver = find_team_driver();
+static int check_team(struct lagd *lagd, const struct options *options) {
+    bool is_apart = unshare(CLONE_NEWNET) == 0, has_driver = find_team_driver(lagd);
     if (!has_driver && errno == EPERM) {
-        tell(options, "plane", "not known without CAP_NET_ADMIN");
+        tell(lagd, options, "plane", "not known without CAP_NET_ADMIN");
         return DONE;
     }
-    if (has_driver && (!is_apart || has_team_mode())) return DONE;
-    tell(options, "plane", has_driver ? "the team driver of this kernel has no mode loadbalance" : "this kernel has no team driver");
+    if (has_driver && (!is_apart || has_team_mode(lagd))) return DONE;
+    tell(lagd, options, "plane", has_driver ? "the team driver of this kernel has no mode loadbalance" : "this kernel has no team driver");
     return REFUSED;
 }
 
 /* Says what this machine lacks for a file that is right: answers how the program ends. */
-int check_machine(const struct options *options) {
-    if (options->settings.plane == PLANE_TEAM) return check_team(options);
+int check_machine(struct lagd *lagd, const struct options *options) {
+    if (options->settings.plane == PLANE_TEAM) return check_team(lagd, options);
     if (options->settings.carry[0] && access("/dev/net/tun", F_OK) < 0) {
-        tell(options, "carry", "there is no /dev/net/tun");
+        tell(lagd, options, "carry", "there is no /dev/net/tun");
         return REFUSED;
     }
-    if (options->settings.fast && check_fast(options) != DONE) return REFUSED;
-    return options->settings.all_queues ? check_queues(options) : DONE;
+    if (options->settings.fast && check_fast(lagd, options) != DONE) return REFUSED;
+    return options->settings.all_queues ? check_queues(lagd, options) : DONE;
 }

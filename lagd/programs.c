@@ -7,14 +7,14 @@
 #include <stdlib.h>
 #include <string.h>
 
-#include "carry.h"
+#include "daemon.h"
 #include "programs.skel.h"
 
 /* The room of what the verifier of the kernel writes, and of the line of it that is told. */
 #define LOG_ROOM (1 << 20)
 #define REASON_ROOM 160
 
-static char reason[REASON_ROOM];
+static char reason[REASON_ROOM]; /* static: libbpf_set_print hands its function no data */
 
 /* Why the kernel did not take the last program that it did not take. */
 const char *program_fault(void) {
@@ -54,21 +54,22 @@ static bool share_maps(const struct programs *made, const struct fast_maps *maps
 }
 
 /* Says which program is loaded, and what it has of the settings; answers whether all of it can be. */
-static bool prepare(const struct programs *made, const char *name, const struct fast_maps *maps, uint16_t port) {
+static bool prepare(struct lagd *lagd, const struct programs *made, const char *name, const struct fast_maps *maps, uint16_t port) {
     struct bpf_program *program;
-    bpf_object__for_each_program(program, made->obj) (void)bpf_program__set_autoload(program, strcmp(bpf_program__name(program), name) == 0);
-    made->rodata->way = settings.hash;
-    made->rodata->hash_seed = settings.hash_seed;
+    bpf_object__for_each_program(program, made->obj) (void)bpf_program__set_autoload(program,
+        strcmp(bpf_program__name(program), name) == 0);
+    made->rodata->way = lagd->settings.hash;
+    made->rodata->hash_seed = lagd->settings.hash_seed;
     made->rodata->port = port;
-    made->rodata->all_queues = settings.all_queues;
+    made->rodata->all_queues = lagd->settings.all_queues;
     return share_maps(made, maps);
 }
 
-static int load_with_log(const char *name, const struct fast_maps *maps, uint16_t port, char *log) {
+static int load_with_log(struct lagd *lagd, const char *name, const struct fast_maps *maps, uint16_t port, char *log) {
     const struct bpf_object_open_opts options = {.sz = sizeof options, .kernel_log_buf = log, .kernel_log_size = LOG_ROOM};
     struct programs *made = programs__open_opts(&options);
     int loaded = -1, fault;
-    if (made && prepare(made, name, maps, port) && programs__load(made) == 0)
+    if (made && prepare(lagd, made, name, maps, port) && programs__load(made) == 0)
         loaded = fcntl(bpf_program__fd(bpf_object__find_program_by_name(made->obj, name)), F_DUPFD_CLOEXEC, 0);
     fault = errno;
     programs__destroy(made);
@@ -78,12 +79,12 @@ static int load_with_log(const char *name, const struct fast_maps *maps, uint16_
 
 /* Loads one program, with the tables that it has, if it has some, and the receiver for a port; answers its file, or -1, and errno, and a
  * reason. */
-int load_program(const char *name, const struct fast_maps *maps, uint16_t port) {
+int load_program(struct lagd *lagd, const char *name, const struct fast_maps *maps, uint16_t port) {
     char *log = calloc(1, LOG_ROOM); /* the kernel fills what it needs of it */
     int loaded = -1, fault = ENOMEM;
     reason[0] = 0;
     (void)libbpf_set_print(keep_first);
-    if (log) loaded = load_with_log(name, maps, port, log);
+    if (log) loaded = load_with_log(lagd, name, maps, port, log);
     if (log) fault = errno;
     if (log && loaded < 0) keep_last(log);
     if (loaded < 0 && !reason[0]) keep_line(strerror(fault));

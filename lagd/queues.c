@@ -5,7 +5,7 @@
 #include <string.h>
 #include <sys/socket.h>
 
-#include "carry.h"
+#include "daemon.h"
 
 /* Where a Marker PDU has the identifier of its requester (IEEE 802.1AX-2014, 6.5.3.3), and which of its bits are the queue. */
 #define IDENTIFIER_AT (ETH_HLEN + 12)
@@ -23,19 +23,28 @@ struct flight {
     uint64_t place; /* which one it is of all that were sent */
 };
 
-static struct queues {
-    unsigned count; /* by how many the data of the member goes */
-    uint32_t dirty; /* those that have frames behind which no marker went, a bit for each */
-    struct flight flights[MOST_FLIGHTS];
-} ports[NIW_MOST_PORTS];
+/* What this file keeps for a daemon. */
+struct queues_private {
+    struct queues {
+        unsigned count; /* by how many the data of the member goes */
+        uint32_t dirty; /* those that have frames behind which no marker went, a bit for each */
+        struct flight flights[MOST_FLIGHTS];
+    } ports[NIW_MOST_PORTS];
+    _Alignas(struct cmsghdr) uint8_t marks[MOST_QUEUES][CMSG_SPACE(sizeof(uint32_t))]; /* of mark_queue */
+    uint64_t all; /* of send_by_queues */
+};
+
+struct queues_private *make_queues_private(void) {
+    return make_room(sizeof(struct queues_private));
+}
 
 static uint32_t all_of(unsigned count) {
     return (1u << count) - 1;
 }
 
 /* A member is taken up: nobody knows what its queues have. */
-void begin_queues(uint16_t port, unsigned count) {
-    struct queues *queues = &ports[port - 1];
+void begin_queues(struct lagd *lagd, uint16_t port, unsigned count) {
+    struct queues *queues = &lagd->queues->ports[port - 1];
     queues->count = count;
     queues->dirty = all_of(count);
     for (size_t i = 0; i < MOST_FLIGHTS; i++)
@@ -43,13 +52,13 @@ void begin_queues(uint16_t port, unsigned count) {
 }
 
 /* Has a frame go by a queue of a member, if there are several. */
-static void mark_queue(const struct queues *queues, unsigned queue, struct msghdr *message) {
-    static _Alignas(struct cmsghdr) uint8_t marks[MOST_QUEUES][CMSG_SPACE(sizeof(uint32_t))];
+static void mark_queue(struct lagd *lagd, const struct queues *queues, unsigned queue, struct msghdr *message) {
+    struct queues_private *own = lagd->queues;
     struct cmsghdr *head;
     uint32_t mark = QUEUE_MARK | (queue + 1);
     if (queues->count < 2) return;
-    message->msg_control = marks[queue];
-    message->msg_controllen = sizeof marks[queue];
+    message->msg_control = own->marks[queue];
+    message->msg_controllen = sizeof own->marks[queue];
     head = CMSG_FIRSTHDR(message);
     head->cmsg_len = CMSG_LEN(sizeof mark);
     head->cmsg_level = SOL_SOCKET;
@@ -58,11 +67,11 @@ static void mark_queue(const struct queues *queues, unsigned queue, struct msghd
 }
 
 /* Has a frame of a conversation go by its queue, as the programs of the kernel have it. */
-void mark_conversation(uint16_t port, uint16_t number, struct msghdr *message) {
-    struct queues *queues = &ports[port - 1];
+void mark_conversation(struct lagd *lagd, uint16_t port, uint16_t number, struct msghdr *message) {
+    struct queues *queues = &lagd->queues->ports[port - 1];
     unsigned queue = number % MOST_QUEUES % queues->count;
     queues->dirty |= 1u << queue;
-    mark_queue(queues, queue, message);
+    mark_queue(lagd, queues, queue, message);
 }
 
 static uint32_t identifier_of(const uint8_t *frame) {
@@ -76,8 +85,8 @@ void set_identifier(uint8_t *frame, uint32_t id) {
 }
 
 /* Sends the marker of a flight by each queue that has no response yet; answers whether all went. */
-static bool send_flight(struct link *link, const uint8_t *marker, const struct flight *flight) {
-    const struct queues *queues = &ports[link->settings.number - 1];
+static bool send_flight(struct lagd *lagd, struct link *link, const uint8_t *marker, const struct flight *flight) {
+    const struct queues *queues = &lagd->queues->ports[link->settings.number - 1];
     uint8_t frame[NIW_FRAME];
     bool done = true;
     memcpy(frame, marker, sizeof frame);
@@ -85,8 +94,8 @@ static bool send_flight(struct link *link, const uint8_t *marker, const struct f
         struct msghdr message = {0};
         if (!(flight->waiting >> queue & 1)) continue;
         set_identifier(frame, (flight->id & IDENTIFIER_BITS) | (uint32_t)queue << QUEUE_SHIFT);
-        mark_queue(queues, queue, &message);
-        done = give_marker(link, frame, &message) && done;
+        mark_queue(lagd, queues, queue, &message);
+        done = give_marker(lagd, link, frame, &message) && done;
     }
     return done;
 }
@@ -104,10 +113,10 @@ static struct flight *next_flight(struct queues *queues) {
 
 /* The queues with frames of which no response has told yet. Where the kernel passes frames on, that is any: how many there are is seen
  * anew, since it goes by as many as there are now. */
-static uint32_t unanswered(const struct link *link, struct queues *queues) {
+static uint32_t unanswered(struct lagd *lagd, const struct link *link, struct queues *queues) {
     uint32_t found = queues->dirty;
     for (size_t i = 0; i < MOST_FLIGHTS; i++) found |= queues->flights[i].waiting;
-    if (has_fast_member(link->settings.number)) {
+    if (has_fast_member(lagd, link->settings.number)) {
         unsigned now = count_entries(link->index, "tx-");
         if (now > MOST_QUEUES) now = MOST_QUEUES;
         if (now > queues->count && queues->count > 1) queues->count = now;
@@ -117,34 +126,34 @@ static uint32_t unanswered(const struct link *link, struct queues *queues) {
 }
 
 /* Sends a marker that is due; answers whether all of it went. */
-bool send_by_queues(struct link *link, const uint8_t *marker) {
-    static uint64_t all;
-    struct queues *queues = &ports[link->settings.number - 1];
-    struct flight flight = {identifier_of(marker), unanswered(link, queues), carry.time, all++};
+bool send_by_queues(struct lagd *lagd, struct link *link, const uint8_t *marker) {
+    struct queues_private *own = lagd->queues;
+    struct queues *queues = &own->ports[link->settings.number - 1];
+    struct flight flight = {identifier_of(marker), unanswered(lagd, link, queues), lagd->carry.time, own->all++};
     struct flight *place = next_flight(queues);
     queues->dirty = 0;
     *place = flight;
-    return send_flight(link, marker, place);
+    return send_flight(lagd, link, marker, place);
 }
 
 /* Sends again what has no response, of each marker that may still get one; answers whether all of it went. */
-bool send_by_queues_again(struct link *link, const uint8_t *marker) {
-    struct queues *queues = &ports[link->settings.number - 1];
+bool send_by_queues_again(struct lagd *lagd, struct link *link, const uint8_t *marker) {
+    struct queues *queues = &lagd->queues->ports[link->settings.number - 1];
     bool done = true;
     for (size_t i = 0; i < MOST_FLIGHTS; i++) {
         struct flight *flight = &queues->flights[i];
-        if (flight->waiting != 0 && carry.time - flight->since > LONGEST_FLIGHT) {
+        if (flight->waiting != 0 && lagd->carry.time - flight->since > LONGEST_FLIGHT) {
             queues->dirty |= flight->waiting;
             flight->waiting = 0;
         }
-        if (flight->waiting != 0) done = send_flight(link, marker, flight) && done;
+        if (flight->waiting != 0) done = send_flight(lagd, link, marker, flight) && done;
     }
     return done;
 }
 
 /* A response to the marker of a queue came: answers whether it is the last one that was missing, and gives back the identifier of the library. */
-bool ends_flight(const struct link *link, uint32_t *id) {
-    struct queues *queues = &ports[link->settings.number - 1];
+bool ends_flight(struct lagd *lagd, const struct link *link, uint32_t *id) {
+    struct queues *queues = &lagd->queues->ports[link->settings.number - 1];
     uint32_t bit = 1u << (*id >> QUEUE_SHIFT);
     for (size_t i = 0; i < MOST_FLIGHTS; i++) {
         struct flight *flight = &queues->flights[i];

@@ -3,48 +3,46 @@
 #include <stdarg.h>
 #include <stdio.h>
 
-#include "lagd.h"
-
-char report[REPORT_ROOM];
-size_t report_length;
+#include "daemon.h"
 
 /* Adds to the report, as far as there is room. */
-void add(const char *format, ...) {
+void add(struct lagd *lagd, const char *format, ...) {
     va_list given;
     int length;
     va_start(given, format);
-    length = vsnprintf(report + report_length, sizeof report - report_length, format, given);
+    length = vsnprintf(lagd->report + lagd->report_length, sizeof lagd->report - lagd->report_length, format, given);
     va_end(given);
-    report_length += (size_t)length < sizeof report - report_length ? (size_t)length : sizeof report - report_length - 1;
+    lagd->report_length += (size_t)length < sizeof lagd->report - lagd->report_length ? (size_t)length
+        : sizeof lagd->report - lagd->report_length - 1;
 }
 
 /* Adds a string of JSON. The kernel allows any octets in a name. */
-void add_string(const char *text) {
-    add("\"");
+void add_string(struct lagd *lagd, const char *text) {
+    add(lagd, "\"");
     for (; *text; text++) {
         unsigned char octet = (unsigned char)*text;
         if (octet < 0x20 || octet > 0x7e || octet == '"' || octet == '\\')
-            add("\\u%04x", octet);
+            add(lagd, "\\u%04x", octet);
         else
-            add("%c", octet);
+            add(lagd, "%c", octet);
     }
-    add("\"");
+    add(lagd, "\"");
 }
 
 /* Writes what there is to tell of a port; answers whether the library told it. */
-bool view_of(const struct link *link, struct view *view) {
+bool view_of(struct lagd *lagd, const struct link *link, struct view *view) {
     uint16_t port = link->settings.number;
     uint64_t state = 0;
     bool told;
-    view->facts = facts_of(link);
-    view->own = niw_party(&own_system, port);
-    view->partner = niw_partner(&own_system, port);
-    told = is_done(view->own.status, "niw_party") && is_done(view->partner.status, "niw_partner")
-        && is_told(niw_receive_state(&own_system, port), "niw_receive_state", &view->receive)
-        && is_told(niw_mux_state(&own_system, port), "niw_mux_state", &view->mux)
-        && is_told(niw_current_while(&own_system, port), "niw_current_while", &view->current_while)
-        && is_told(niw_wait_while(&own_system, port), "niw_wait_while", &view->wait_while)
-        && is_told(niw_state(&own_system, port), "niw_state", &state);
+    view->facts = facts_of(lagd, link);
+    view->own = niw_party(&lagd->own_system, port);
+    view->partner = niw_partner(&lagd->own_system, port);
+    told = is_done(lagd, view->own.status, "niw_party") && is_done(lagd, view->partner.status, "niw_partner")
+        && is_told(lagd, niw_receive_state(&lagd->own_system, port), "niw_receive_state", &view->receive)
+        && is_told(lagd, niw_mux_state(&lagd->own_system, port), "niw_mux_state", &view->mux)
+        && is_told(lagd, niw_current_while(&lagd->own_system, port), "niw_current_while", &view->current_while)
+        && is_told(lagd, niw_wait_while(&lagd->own_system, port), "niw_wait_while", &view->wait_while)
+        && is_told(lagd, niw_state(&lagd->own_system, port), "niw_state", &state);
     view->state = (uint8_t)state;
     return told;
 }

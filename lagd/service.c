@@ -4,16 +4,17 @@
 #include <systemd/sd-daemon.h>
 #endif
 
-#include "lagd.h"
+#include "daemon.h"
 
 #ifdef HAVE_SYSTEMD
-static void notify_bundle(const char *head) {
-    (void)sd_notifyf(0, "%sSTATUS=%s, %u of %u links carry", head, bundle_state_text(bundle.state), bundle.carrying, link_count);
+static void notify_bundle(struct lagd *lagd, const char *head) {
+    (void)sd_notifyf(0, "%sSTATUS=%s, %u of %u links carry", head, bundle_state_text(lagd->bundle.state), lagd->bundle.carrying,
+        lagd->link_count);
 }
 
 /* The interfaces that are there were taken up, or the file was read again. */
-void notify_ready(void) {
-    notify_bundle("READY=1\n");
+void notify_ready(struct lagd *lagd) {
+    notify_bundle(lagd, "READY=1\n");
 }
 
 void notify_reloading(void) {
@@ -25,8 +26,8 @@ void notify_stopping(void) {
 }
 
 /* The bundle is up, degraded or down now. */
-void notify_state(void) {
-    notify_bundle("");
+void notify_state(struct lagd *lagd) {
+    notify_bundle(lagd, "");
 }
 
 /* Once a second. */
@@ -34,7 +35,8 @@ void notify_alive(void) {
     (void)sd_notify(0, "WATCHDOG=1");
 }
 #else
-void notify_ready(void) {
+void notify_ready(struct lagd *lagd) {
+    (void)lagd;
 }
 
 void notify_reloading(void) {
@@ -43,7 +45,8 @@ void notify_reloading(void) {
 void notify_stopping(void) {
 }
 
-void notify_state(void) {
+void notify_state(struct lagd *lagd) {
+    (void)lagd;
 }
 
 void notify_alive(void) {

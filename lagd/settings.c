@@ -1,5 +1,6 @@
 /* The keys of a bundle and of a port, and their values. The command line and the file have the same ones. */
 #define _GNU_SOURCE
+#include "daemon.h"
 #include "settings.h"
 
 #include <ctype.h>
@@ -202,7 +203,8 @@ static const struct bundle_key BUNDLE_KEYS[] = {
         "the most links of an aggregator, 1 to 64; 0, as if not given: no limit"},
     {"min-links", "a number from 1 to 64", take_min_links, 'n', "N",
         "with fewer links that carry the bundle is down: 1 to 64; 1, if not given"},
-    {"revert", YES_OR_NO, take_revert, 'R', NULL, "with max-links the ports with the lowest priorities are used, not those that come first"},
+    {"revert", YES_OR_NO, take_revert, 'R', NULL,
+        "with max-links the ports with the lowest priorities are used, not those that come first"},
     {"wait-to-restore", "a number of seconds from 0 to 3600", take_wait_to_restore, 'W', "SECONDS",
         "how long the carrier of a link that comes back has to be steady; 0 if not given"},
     {"partner", "any, first or " A_SYSTEM, take_partner, 'r', "any|first|PRIORITY,MAC",
@@ -262,28 +264,37 @@ static const char *name_of_port_key(size_t index) {
     return PORT_KEYS[index].name;
 }
 
+/* What this file keeps for a daemon. */
+struct settings_private {
+    char text[512]; /* of expected_keys */
+};
+
+struct settings_private *make_settings_private(void) {
+    return make_room(sizeof(struct settings_private));
+}
+
 /* What is expected in the place of a key that is none: the names of all. */
-static const char *expected_keys(const char *(*name)(size_t index), size_t count, const char *end) {
-    static char text[512];
+static const char *expected_keys(struct lagd *lagd, const char *(*name)(size_t index), size_t count, const char *end) {
+    struct settings_private *own = lagd->settings_private;
     size_t length = 0;
-    for (size_t i = 0; i < count && length < sizeof text; i++) {
+    for (size_t i = 0; i < count && length < sizeof own->text; i++) {
         const char *joint = i == 0 ? "" : i + 1 < count ? ", " : " or ";
-        length += (size_t)snprintf(text + length, sizeof text - length, "%s%s", joint, name(i));
+        length += (size_t)snprintf(own->text + length, sizeof own->text - length, "%s%s", joint, name(i));
     }
-    if (length < sizeof text) snprintf(text + length, sizeof text - length, "%s", end);
-    return text;
+    if (length < sizeof own->text) snprintf(own->text + length, sizeof own->text - length, "%s", end);
+    return own->text;
 }
 
 /* Gives a key of the bundle a value, in a line from 1; answers NULL, or what was expected. A command line is one line: of a key that
  * stands there twice the last value holds. */
-const char *set_bundle(struct settings *settings, const char *name, const char *text, unsigned line) {
+const char *set_bundle(struct lagd *lagd, struct settings *settings, const char *name, const char *text, unsigned line) {
     for (size_t i = 0; i < BUNDLE_KEY_COUNT; i++) {
         if (strcmp(name, BUNDLE_KEYS[i].name) != 0) continue;
         if (settings->lines[i] && settings->lines[i] < line) return EACH_KEY_ONCE;
         settings->lines[i] = line;
         return BUNDLE_KEYS[i].take(text, settings) ? NULL : BUNDLE_KEYS[i].expected;
     }
-    return expected_keys(name_of_bundle_key, BUNDLE_KEY_COUNT, " as a key of [Bundle]");
+    return expected_keys(lagd, name_of_bundle_key, BUNDLE_KEY_COUNT, " as a key of [Bundle]");
 }
 
 /* The line that gives a key of the bundle, or 0. */
@@ -294,13 +305,13 @@ unsigned line_of(const struct settings *settings, const char *name) {
 }
 
 /* Gives a key of a port a value; answers NULL, or what was expected. */
-const char *set_port(struct port_settings *port, const char *name, const char *text) {
+const char *set_port(struct lagd *lagd, struct port_settings *port, const char *name, const char *text) {
     size_t i = 0;
     uint16_t number;
     bool is_first;
     int *value;
     while (i < PORT_KEY_COUNT && strcmp(name, PORT_KEYS[i].name) != 0) i++;
-    if (i == PORT_KEY_COUNT) return expected_keys(name_of_port_key, PORT_KEY_COUNT, " as a key of [Port]");
+    if (i == PORT_KEY_COUNT) return expected_keys(lagd, name_of_port_key, PORT_KEY_COUNT, " as a key of [Port]");
     value = (int *)(void *)((char *)port + PORT_KEYS[i].at);
     if (*value != AS_BUNDLE) return EACH_KEY_ONCE;
     if (!PORT_KEYS[i].first) {
@@ -371,14 +382,17 @@ struct lack lack_of(const struct settings *settings) {
     for (uint16_t i = 0; i < settings->port_count; i++)
         if (strcmp(settings->ports[i].name, settings->carry) == 0)
             return (struct lack){"carry=NAME that is not the interface of a port", "carry"};
-    if (data && !settings->carry[0]) return (struct lack){"carry=NAME beside plane, hash, hash-seed, flight, offload, fast, queues or answer-after", data};
-    if (settings->hash_seed && settings->hash == HASH_LAYER2) return (struct lack){"another hash than layer2 beside hash-seed", "hash-seed"};
+    if (data && !settings->carry[0])
+        return (struct lack){"carry=NAME beside plane, hash, hash-seed, flight, offload, fast, queues or answer-after", data};
+    if (settings->hash_seed && settings->hash == HASH_LAYER2)
+        return (struct lack){"another hash than layer2 beside hash-seed", "hash-seed"};
     if (settings->plane == PLANE_TEAM && (settings->offload || settings->fast))
         return (struct lack){"neither offload nor fast beside plane=team, by which the kernel carries all", "plane"};
     if (settings->plane == PLANE_TEAM && settings->all_queues)
         return (struct lack){"no queues=all beside plane=team, which leaves queues as they are", "queues"};
     if (line_of(settings, "answer-after") && !settings->all_queues) return (struct lack){"queues=all beside answer-after", "answer-after"};
-    if (settings->plane == PLANE_TEAM && settings->hash == HASH_ENCAP3_4) return (struct lack){"another hash than encap3+4 beside plane=team", "hash"};
+    if (settings->plane == PLANE_TEAM && settings->hash == HASH_ENCAP3_4)
+        return (struct lack){"another hash than encap3+4 beside plane=team", "hash"};
     if (settings->min_links > settings->port_count)
         return (struct lack){"min-links that is at most the number of interfaces", "min-links"};
     if (settings->config.max_links && settings->min_links > settings->config.max_links)

@@ -9,6 +9,9 @@
 #include "lag.h"
 #include "shared.h"
 
+/* What one daemon is (daemon.h). */
+struct lagd;
+
 /* The room of a name of an interface, of its alternative names too: ALTIFNAMSIZ of linux/if.h. */
 #define NAME_ROOM 128
 /* The room of the path of a hook. */
@@ -102,15 +105,15 @@ struct settings usual_settings(void);
 const char *hash_text(enum hash hash);
 const char *way_text(const struct settings *settings);
 const struct bundle_key *bundle_key(size_t index);
-const char *set_bundle(struct settings *settings, const char *name, const char *text, unsigned line);
+const char *set_bundle(struct lagd *lagd, struct settings *settings, const char *name, const char *text, unsigned line);
 unsigned line_of(const struct settings *settings, const char *name);
-const char *set_port(struct port_settings *port, const char *name, const char *text);
+const char *set_port(struct lagd *lagd, struct port_settings *port, const char *name, const char *text);
 const char *add_port(struct settings *settings, const char *name, size_t length);
 struct lack lack_of(const struct settings *settings);
 struct niw_port port_of(const struct settings *settings, uint16_t port);
 bool wants_hold(const struct settings *settings, uint16_t port);
 
 /* file.c */
-bool read_file(const char *path, struct settings *wanted);
+bool read_file(struct lagd *lagd, const char *path, struct settings *wanted);
 
 #endif

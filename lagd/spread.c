@@ -9,7 +9,7 @@
 #include <string.h>
 #include <unistd.h>
 
-#include "carry.h"
+#include "daemon.h"
 
 /* The head of the file; then each line has a setting and what it was. */
 #define HEAD "boot=%s\nmac=%s\n"
@@ -20,17 +20,32 @@
 /* What a queue has: the processors that take what it received (RPS), and those, and the queues that received, whose frames it sends (XPS). */
 enum setting { TAKEN_BY, SENT_FOR, SENT_BEHIND, SETTINGS };
 
-static int program = -1;
-static unsigned usual; /* by how many queues the kernel passes data on, or 0: not known yet */
+/* What this file keeps for a daemon. */
+struct spread_private {
+    int program;
+    unsigned usual; /* by how many queues the kernel passes data on, or 0: not known yet */
+    char wanted_of_mask[16]; /* of wanted_of */
+    char do_all_now[PROCESSORS_ROOM]; /* of do_all */
+    char is_known_mask[PROCESSORS_ROOM]; /* of is_known */
+    char is_spread_anew_now[PROCESSORS_ROOM]; /* of is_spread_anew */
+    char gather_back_mask[PROCESSORS_ROOM], gather_back_now[PROCESSORS_ROOM]; /* of gather_back */
+};
+
+struct spread_private *make_spread_private(void) {
+    struct spread_private *made = make_room(sizeof *made);
+    made->program = -1;
+    return made;
+}
 
 /* Loads the program that chooses queues, while the daemon may. */
-void start_spreading(void) {
+void start_spreading(struct lagd *lagd) {
+    struct spread_private *own = lagd->spread;
     int fault;
-    if (!settings.all_queues) return;
-    fault = fault_of_programs();
+    if (!lagd->settings.all_queues) return;
+    fault = fault_of_programs(lagd);
     if (fault != 0) stop(REFUSED, "queues=all: no program of an interface, which Linux has from 6.6 on", strerror(fault));
-    program = load_program("chooser", NULL, 0);
-    if (program < 0) stop(REFUSED, "queues=all: the kernel takes no program", program_fault());
+    own->program = load_program(lagd, "chooser", NULL, 0);
+    if (own->program < 0) stop(REFUSED, "queues=all: the kernel takes no program", program_fault());
 }
 
 static void name_setting(enum setting setting, unsigned queue, char name[static NAME_OCTETS]) {
@@ -51,21 +66,22 @@ static bool is_setting(const char *name) {
 }
 
 /* What a queue is to have in the place of what it has now: NULL where that may stay. */
-static const char *wanted_of(const struct link *link, enum setting setting, unsigned queue, const char *now) {
-    static char mask[16];
+static const char *wanted_of(struct lagd *lagd, const struct link *link, enum setting setting, unsigned queue, const char *now) {
+    struct spread_private *own = lagd->spread;
     if (setting != TAKEN_BY) return is_none(now) ? NULL : "0";
     if (is_one(now) || (has_card(link->index) && is_none(now))) return NULL;
-    mask_of(link->settings.number - 1u + queue, mask);
-    return mask;
+    mask_of(link->settings.number - 1u + queue, own->wanted_of_mask);
+    return own->wanted_of_mask;
 }
 
 /* What is done with a setting that is to be changed; answers whether it was done. */
-typedef bool doing(const struct link *link, const char *name, const char *path, const char *now, const char *wanted, FILE *next);
+typedef bool doing(struct lagd *lagd, const struct link *link, const char *name, const char *path, const char *now, const char *wanted,
+    FILE *next);
 
 /* Does it with each setting of an interface that is to be changed; answers whether all was done. One that the kernel does not show for an
  * interface, as XPS for one queue, is off. */
-static bool do_all(const struct link *link, doing *act, FILE *next) {
-    static char now[PROCESSORS_ROOM];
+static bool do_all(struct lagd *lagd, const struct link *link, doing *act, FILE *next) {
+    struct spread_private *own = lagd->spread;
     char name[NAME_OCTETS], path[128];
     bool done = true;
     for (enum setting setting = 0; setting < SETTINGS; setting++) {
@@ -73,45 +89,50 @@ static bool do_all(const struct link *link, doing *act, FILE *next) {
         for (unsigned queue = 0; queue < count; queue++) {
             const char *wanted;
             name_setting(setting, queue, name);
-            if (!path_of_queue(link->index, name, path, sizeof path) || !read_processors(path, now, sizeof now)) continue;
-            wanted = wanted_of(link, setting, queue, now);
-            if (wanted) done = act(link, name, path, now, wanted, next) && done;
+            if (!path_of_queue(link->index, name, path, sizeof path) || !read_processors(path, own->do_all_now, sizeof own->do_all_now))
+                continue;
+            wanted = wanted_of(lagd, link, setting, queue, own->do_all_now);
+            if (wanted) done = act(lagd, link, name, path, own->do_all_now, wanted, next) && done;
         }
     }
     return done;
 }
 
 /* Opens what an interface had, behind the head; or answers NULL. What is of another boot, or another interface, counts for nothing. */
-static FILE *open_former(const struct link *link) {
+static FILE *open_former(struct lagd *lagd, const struct link *link) {
     char boot[64], mac[32], own[32];
-    FILE *file = open_kept(link, "queues", O_RDONLY, "r");
+    FILE *file = open_kept(lagd, link, "queues", O_RDONLY, "r");
     if (!file) return NULL;
-    if (fscanf(file, READ_HEAD, boot, mac) == 2 && strcmp(boot, boot_id()) == 0 && strcmp(mac, mac_text(link->mac, own)) == 0) return file;
+    if (fscanf(file, READ_HEAD, boot, mac) == 2 && strcmp(boot, boot_id(lagd)) == 0 && strcmp(mac, mac_text(link->mac, own)) == 0)
+        return file;
     fclose(file);
     return NULL;
 }
 
 /* Whether it is known what a setting was before an earlier daemon changed it; with `next`, all that is known is written there. */
-static bool is_known(const struct link *link, const char *wanted, FILE *next) {
-    static char mask[PROCESSORS_ROOM];
+static bool is_known(struct lagd *lagd, const struct link *link, const char *wanted, FILE *next) {
+    struct spread_private *own = lagd->spread;
     char name[NAME_OCTETS];
     bool found = false;
-    FILE *file = open_former(link);
-    while (file && fscanf(file, READ_LINE, name, mask) == 2) {
-        if (next) fprintf(next, "%s %s\n", name, mask);
+    FILE *file = open_former(lagd, link);
+    while (file && fscanf(file, READ_LINE, name, own->is_known_mask) == 2) {
+        if (next) fprintf(next, "%s %s\n", name, own->is_known_mask);
         found = found || (wanted && strcmp(name, wanted) == 0);
     }
     if (file) fclose(file);
     return found;
 }
 
-static bool keep_one(const struct link *link, const char *name, const char *path, const char *now, const char *wanted, FILE *next) {
+static bool keep_one(struct lagd *lagd, const struct link *link, const char *name, const char *path, const char *now, const char *wanted,
+    FILE *next) {
     (void)path;
     (void)wanted;
-    return is_known(link, name, NULL) || fprintf(next, "%s %s\n", name, now) > 0;
+    return is_known(lagd, link, name, NULL) || fprintf(next, "%s %s\n", name, now) > 0;
 }
 
-static bool set_one(const struct link *link, const char *name, const char *path, const char *now, const char *wanted, FILE *next) {
+static bool set_one(struct lagd *lagd, const struct link *link, const char *name, const char *path, const char *now, const char *wanted,
+    FILE *next) {
+    (void)lagd;
     (void)link;
     (void)name;
     (void)now;
@@ -120,15 +141,15 @@ static bool set_one(const struct link *link, const char *name, const char *path,
 }
 
 /* Keeps what the queues have now, before it is changed, beside what they had before an earlier daemon changed it; answers whether it did. */
-static bool keep_all(const struct link *link) {
-    FILE *next = open_kept(link, "queues.new", O_WRONLY | O_CREAT | O_TRUNC, "w");
+static bool keep_all(struct lagd *lagd, const struct link *link) {
+    FILE *next = open_kept(lagd, link, "queues.new", O_WRONLY | O_CREAT | O_TRUNC, "w");
     char mac[32];
     bool done;
     if (!next) return false;
-    fprintf(next, HEAD, boot_id(), mac_text(link->mac, mac));
-    (void)is_known(link, NULL, next);
-    done = do_all(link, keep_one, next) && !ferror(next);
-    return fclose(next) == 0 && done && replace_kept(link, "queues.new", "queues");
+    fprintf(next, HEAD, boot_id(lagd), mac_text(link->mac, mac));
+    (void)is_known(lagd, link, NULL, next);
+    done = do_all(lagd, link, keep_one, next) && !ferror(next);
+    return fclose(next) == 0 && done && replace_kept(lagd, link, "queues.new", "queues");
 }
 
 /* How many queues an interface has, those that send above those that receive; 0 where the kernel does not tell of both. */
@@ -138,32 +159,32 @@ static unsigned channels_of(int index) {
 }
 
 /* Why a member may not keep all its queues, or NULL. */
-static const char *fault_of_spreading(const struct link *link, const struct guard *guard) {
+static const char *fault_of_spreading(struct lagd *lagd, const struct link *link, const struct guard *guard) {
     if (link->stacked) return "it stands on another interface, whose queues are not seen";
     if (count_entries(link->index, "tx-") == 0) return "/sys does not show its queues";
     if (!guard->in_order) return "its queueing discipline is neither noqueue, bfifo nor pfifo";
-    if (!keep_all(link)) return "what its queues have cannot be kept";
-    if (!do_all(link, set_one, NULL)) return "RPS or XPS of its queues cannot be set";
+    if (!keep_all(lagd, link)) return "what its queues have cannot be kept";
+    if (!do_all(lagd, link, set_one, NULL)) return "RPS or XPS of its queues cannot be set";
     return NULL;
 }
 
 /* Has a program choose the queue of each frame that the daemon sends at a member; answers whether it does. */
-static bool choose_queues(const struct link *link, struct guard *guard) {
-    if (guard->queues > 1 && guard->chooser < 0) guard->chooser = attach_stored("queues", program, link->index, true);
+static bool choose_queues(struct lagd *lagd, const struct link *link, struct guard *guard) {
+    if (guard->queues > 1 && guard->chooser < 0) guard->chooser = attach_stored(lagd, "queues", lagd->spread->program, link->index, true);
     return guard->queues == 1 || guard->chooser >= 0;
 }
 
 /* Lets a member keep all its queues, where it can. */
-void spread(const struct link *link, struct guard *guard) {
-    const char *fault = fault_of_spreading(link, guard);
+void spread(struct lagd *lagd, const struct link *link, struct guard *guard) {
+    const char *fault = fault_of_spreading(lagd, link, guard);
     unsigned count = count_entries(link->index, "tx-");
     guard->queues = fault ? 1 : count < MOST_QUEUES ? count : MOST_QUEUES;
-    if (!fault && !choose_queues(link, guard)) fault = strerror(errno);
+    if (!fault && !choose_queues(lagd, link, guard)) fault = strerror(errno);
     guard->spread = !fault;
     if (!fault) return;
     guard->queues = 1;
     stop_spreading(link, guard);
-    (void)say(LOG_WARNING | ABOUT_DATA, "port %u %s: it gets one queue: %s", link->settings.number, link->name, fault);
+    (void)say(lagd, LOG_WARNING | ABOUT_DATA, "port %u %s: it gets one queue: %s", link->settings.number, link->name, fault);
 }
 
 /* Frames of the daemon go by any queue again. */
@@ -179,38 +200,43 @@ void note_channels(const struct link *link, struct guard *guard) {
 }
 
 /* Whether somebody else changed the queues of a member, or what chooses them. Each time another queue is looked at. */
-bool is_spread_anew(const struct link *link, const struct guard *guard) {
-    static char now[PROCESSORS_ROOM];
+bool is_spread_anew(struct lagd *lagd, const struct link *link, const struct guard *guard) {
+    struct spread_private *own = lagd->spread;
     char name[NAME_OCTETS], path[128];
     unsigned channels = channels_of(link->index);
     if (channels == 0) return false;
     if (channels != guard->channels) return true;
     if (guard->chooser < 0) return false;
     for (enum setting setting = SENT_FOR; setting < SETTINGS; setting++) {
-        name_setting(setting, (unsigned)seconds_passed() % (channels >> 16), name);
-        if (path_of_queue(link->index, name, path, sizeof path) && read_processors(path, now, sizeof now) && !is_none(now)) return true;
+        name_setting(setting, (unsigned)seconds_passed(lagd) % (channels >> 16), name);
+        if (path_of_queue(link->index, name, path, sizeof path)
+            && read_processors(path, own->is_spread_anew_now, sizeof own->is_spread_anew_now) && !is_none(own->is_spread_anew_now))
+            return true;
     }
     return false;
 }
 
 /* Whether the kernel may choose the queue of a member as that of others: it keeps the queue of a connection, also where that goes on by another
  * member. */
-bool has_usual_queues(const struct guard *guard) {
-    if (usual == 0) usual = guard->queues;
-    return guard->queues == usual;
+bool has_usual_queues(struct lagd *lagd, const struct guard *guard) {
+    struct spread_private *own = lagd->spread;
+    if (own->usual == 0) own->usual = guard->queues;
+    return guard->queues == own->usual;
 }
 
 /* The queues of an interface get back what they had before. What cannot be set back stays kept. */
-void gather_back(const struct link *link) {
-    static char mask[PROCESSORS_ROOM], now[PROCESSORS_ROOM];
+void gather_back(struct lagd *lagd, const struct link *link) {
+    struct spread_private *own = lagd->spread;
     char name[NAME_OCTETS], path[128], interface[IF_NAMESIZE];
     bool done = true;
-    FILE *file = open_former(link);
-    while (file && fscanf(file, READ_LINE, name, mask) == 2) {
+    FILE *file = open_former(lagd, link);
+    while (file && fscanf(file, READ_LINE, name, own->gather_back_mask) == 2) {
         if (!is_setting(name) || !path_of_queue(link->index, name, path, sizeof path)) continue;
-        if (write_processors(path, mask)) continue;
-        if (read_processors(path, now, sizeof now) && strcmp(now, mask) != 0) done = false;
+        if (write_processors(path, own->gather_back_mask)) continue;
+        if (read_processors(path, own->gather_back_now, sizeof own->gather_back_now)
+            && strcmp(own->gather_back_now, own->gather_back_mask) != 0)
+            done = false;
     }
     if (file) fclose(file);
-    if (done || !if_indextoname((unsigned)link->index, interface)) drop_kept(link, "queues");
+    if (done || !if_indextoname((unsigned)link->index, interface)) drop_kept(lagd, link, "queues");
 }

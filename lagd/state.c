@@ -9,7 +9,7 @@
 #include <sys/stat.h>
 #include <unistd.h>
 
-#include "state.h"
+#include "daemon.h"
 #include "team.h"
 
 /* It rises with each change of the file, and of what programs of the kernel share with the daemon. */
@@ -24,11 +24,17 @@
 /* For how long frames may have waited, in milliseconds: with the second in which a state is written. */
 #define MOST_AWAY 3000
 
-struct inherited inherited;
+/* What this file keeps for a daemon. */
+struct state_private {
+    bool over; /* whether the peers are told of the end */
+    bool failed; /* whether the last writing did, which has a line */
+    char name[NAME_ROOM + 32], new_name[NAME_ROOM + 40];
+    char text[WAY_ROOM]; /* of way */
+};
 
-static bool over; /* whether the peers are told of the end */
-static bool failed; /* whether the last writing did, which has a line */
-static char name[NAME_ROOM + 32], new_name[NAME_ROOM + 40];
+struct state_private *make_state_private(void) {
+    return make_room(sizeof(struct state_private));
+}
 
 uint64_t boottime(void) {
     struct timespec now;
@@ -37,14 +43,13 @@ uint64_t boottime(void) {
 }
 
 /* The settings by which the rest means something. */
-static const char *way(void) {
-    static char text[WAY_ROOM];
+static const char *way(struct lagd *lagd) {
     char system[32];
-    struct system_id own = {.priority = settings.config.priority};
-    memcpy(own.mac, settings.config.mac, sizeof own.mac);
-    snprintf(text, sizeof text, "%s/%s/%s/%u/%s", system_text(&own, system), settings.carry[0] ? settings.carry : "-",
-        hash_text(settings.hash), settings.hash_seed, way_text(&settings));
-    return text;
+    struct system_id own = {.priority = lagd->settings.config.priority};
+    memcpy(own.mac, lagd->settings.config.mac, sizeof own.mac);
+    snprintf(lagd->state->text, sizeof lagd->state->text, "%s/%s/%s/%u/%s", system_text(&own, system), lagd->settings.carry[0]
+        ? lagd->settings.carry : "-", hash_text(lagd->settings.hash), lagd->settings.hash_seed, way_text(&lagd->settings));
+    return lagd->state->text;
 }
 
 /* Whether settings are those of a bundle whose data the team driver carries. */
@@ -54,8 +59,8 @@ static bool is_way_of_team(const char *given) {
 }
 
 /* Whether the next daemon is to take the device away at its end: a daemon made it. */
-static bool is_made(void) {
-    return carries_by_team() ? has_made_team() : tap_persists();
+static bool is_made(struct lagd *lagd) {
+    return carries_by_team(lagd) ? has_made_team(lagd) : tap_persists(lagd);
 }
 
 static void write_link(FILE *file, const struct link *link) {
@@ -70,63 +75,66 @@ static void write_link(FILE *file, const struct link *link) {
 }
 
 /* Writes the interface of each conversation: the one that it leaves, while it is held. */
-static void write_conversations(FILE *file) {
+static void write_conversations(struct lagd *lagd, FILE *file) {
     for (uint16_t number = 0; number < CONVERSATIONS; number++) {
         struct niw_assignment state;
-        uint16_t home = carry.conversations[number].home;
-        if (home == 0 || !ask_state(home, number, &state) || state.what == NIW_CONVERSATION_FREE) continue;
-        if (state.port > 0 && state.port <= link_count) fprintf(file, "on %u %d\n", number, links[state.port - 1].index);
+        uint16_t home = lagd->carry.conversations[number].home;
+        if (home == 0 || !ask_state(lagd, home, number, &state) || state.what == NIW_CONVERSATION_FREE) continue;
+        if (state.port > 0 && state.port <= lagd->link_count) fprintf(file, "on %u %d\n", number, lagd->links[state.port - 1].index);
     }
 }
 
-static void write_state(FILE *file) {
-    struct niw_marker marker = niw_next_marker(&own_system);
-    fprintf(file, "lagd %u\nboot %s\nway %s\n", FORM_VERSION, boot_id(), way());
+static void write_state(struct lagd *lagd, FILE *file) {
+    struct niw_marker marker = niw_next_marker(&lagd->own_system);
+    fprintf(file, "lagd %u\nboot %s\nway %s\n", FORM_VERSION, boot_id(lagd), way(lagd));
     fprintf(file, "written %" PRIu64 "\n", boottime());
-    fprintf(file, "marker %" PRIu32 "\n", is_done(marker.status, "niw_next_marker") && marker.left ? marker.id : 0);
-    fprintf(file, "bundle %u %u %lld\n", bundle.state, bundle.aggregator, (long long)bundle.changed_at);
-    if (carries_data())
-        fprintf(file, "tap %d %d %" PRIu32 " %u\n", tap_index(), is_made(), mtu_of_administrator(), peer_answering());
-    for (uint16_t i = 0; i < link_count; i++)
-        if (links[i].socket >= 0) write_link(file, &links[i]);
-    if (carries_data()) write_conversations(file);
+    fprintf(file, "marker %" PRIu32 "\n", is_done(lagd, marker.status, "niw_next_marker") && marker.left ? marker.id : 0);
+    fprintf(file, "bundle %u %u %lld\n", lagd->bundle.state, lagd->bundle.aggregator, (long long)lagd->bundle.changed_at);
+    if (carries_data(lagd))
+        fprintf(file, "tap %d %d %" PRIu32 " %u\n", tap_index(lagd), is_made(lagd), mtu_of_administrator(lagd), peer_answering(lagd));
+    for (uint16_t i = 0; i < lagd->link_count; i++)
+        if (lagd->links[i].socket >= 0) write_link(file, &lagd->links[i]);
+    if (carries_data(lagd)) write_conversations(lagd, file);
     fputs("end\n", file);
 }
 
 /* Puts a whole file in the place of the last one; answers whether it did. */
-static bool replace_file(void) {
-    int fd = openat(folder_file(), new_name, O_WRONLY | O_CREAT | O_TRUNC | O_NOFOLLOW | O_CLOEXEC, 0600);
+static bool replace_file(struct lagd *lagd) {
+    struct state_private *own = lagd->state;
+    int fd = openat(folder_file(lagd), own->new_name, O_WRONLY | O_CREAT | O_TRUNC | O_NOFOLLOW | O_CLOEXEC, 0600);
     FILE *file = fd < 0 ? NULL : fdopen(fd, "w");
     bool written;
     if (!file) {
         if (fd >= 0) close(fd);
         return false;
     }
-    write_state(file);
+    write_state(lagd, file);
     written = !ferror(file);
-    written = fclose(file) == 0 && written && !broken;
-    return written && renameat(folder_file(), new_name, folder_file(), name) == 0;
+    written = fclose(file) == 0 && written && !lagd->broken;
+    return written && renameat(folder_file(lagd), own->new_name, folder_file(lagd), own->name) == 0;
 }
 
 /* Writes the state; answers whether it did. Where that fails there is none. */
-bool save_state(void) {
-    if (over || broken || !has_started) return false;
-    if (replace_file()) {
-        failed = false;
+bool save_state(struct lagd *lagd) {
+    struct state_private *own = lagd->state;
+    if (own->over || lagd->broken || !lagd->has_started) return false;
+    if (replace_file(lagd)) {
+        own->failed = false;
         return true;
     }
-    if (!failed)
-        (void)say(LOG_WARNING | ABOUT_HANDOVER, "its state cannot be kept, so the next daemon starts anew: %s", strerror(errno));
-    failed = true;
-    (void)unlinkat(folder_file(), new_name, 0);
-    (void)unlinkat(folder_file(), name, 0);
+    if (!own->failed)
+        (void)say(lagd, LOG_WARNING | ABOUT_HANDOVER, "its state cannot be kept, so the next daemon starts anew: %s", strerror(errno));
+    own->failed = true;
+    (void)unlinkat(folder_file(lagd), own->new_name, 0);
+    (void)unlinkat(folder_file(lagd), own->name, 0);
     return false;
 }
 
 /* The peers are told of the end: no daemon goes on from here. */
-void end_state(void) {
-    over = true;
-    (void)unlinkat(folder_file(), name, 0);
+void end_state(struct lagd *lagd) {
+    struct state_private *own = lagd->state;
+    own->over = true;
+    (void)unlinkat(folder_file(lagd), own->name, 0);
 }
 
 static bool read_hex(const char *text, uint8_t *octets) {
@@ -138,52 +146,55 @@ static bool read_hex(const char *text, uint8_t *octets) {
     return true;
 }
 
-static bool read_link(FILE *file) {
-    struct inherited_link *link = &inherited.links[inherited.link_count];
+static bool read_link(struct lagd *lagd, FILE *file) {
+    struct inherited_link *link = &lagd->inherited.links[lagd->inherited.link_count];
     char mac[32], own[32], hex[HEX_ROOM];
     unsigned octets[6];
     int carried;
-    if (inherited.link_count == NIW_MOST_PORTS) return false;
+    if (lagd->inherited.link_count == NIW_MOST_PORTS) return false;
     if (fscanf(file, "%d %31s %" SCNu32 " %d %" SCNu64 " %" SCNu64 " %" HEX_LENGTH "s", &link->index, mac, &link->losses, &carried,
             &link->heard, &link->spoken, hex) != 7 || strlen(hex) != HEX_ROOM - 1 || !read_hex(hex, link->lacpdu))
         return false;
     if (sscanf(mac, "%2x:%2x:%2x:%2x:%2x:%2x", octets, octets + 1, octets + 2, octets + 3, octets + 4, octets + 5) != 6) return false;
     for (size_t i = 0; i < sizeof link->mac; i++) link->mac[i] = (uint8_t)octets[i];
     link->carried = carried == 1;
-    inherited.link_count++;
+    lagd->inherited.link_count++;
     return strcmp(mac, mac_text(link->mac, own)) == 0;
 }
 
-static bool read_conversation(FILE *file) {
+static bool read_conversation(struct lagd *lagd, FILE *file) {
     unsigned number;
     int index;
     if (fscanf(file, "%u %d", &number, &index) != 2 || number >= CONVERSATIONS || index <= 0) return false;
-    inherited.members[number] = index;
+    lagd->inherited.members[number] = index;
     return true;
 }
 
-static bool read_bundle(FILE *file) {
+static bool read_bundle(struct lagd *lagd, FILE *file) {
     unsigned state, aggregator;
     long long changed;
-    if (fscanf(file, "%u %u %lld", &state, &aggregator, &changed) != 3 || state >= BUNDLE_STATES || aggregator > NIW_MOST_PORTS) return false;
-    inherited.bundle = (struct bundle){.state = (enum bundle_state)state, .aggregator = (uint16_t)aggregator, .changed_at = (time_t)changed};
+    if (fscanf(file, "%u %u %lld", &state, &aggregator, &changed) != 3 || state >= BUNDLE_STATES || aggregator > NIW_MOST_PORTS)
+        return false;
+    lagd->inherited.bundle = (struct bundle){.state = (enum bundle_state)state, .aggregator = (uint16_t)aggregator,
+        .changed_at = (time_t)changed};
     return true;
 }
 
 /* Reads the lines behind the first three; answers whether the last one is there. */
-static bool read_rest(FILE *file) {
+static bool read_rest(struct lagd *lagd, FILE *file) {
     char word[16];
     while (fscanf(file, "%15s", word) == 1) {
         bool read = false;
         if (strcmp(word, "end") == 0) return true;
-        if (strcmp(word, "written") == 0) read = fscanf(file, "%" SCNu64, &inherited.written) == 1;
-        if (strcmp(word, "marker") == 0) read = fscanf(file, "%" SCNu32, &inherited.marker) == 1;
-        if (strcmp(word, "bundle") == 0) read = read_bundle(file);
+        if (strcmp(word, "written") == 0) read = fscanf(file, "%" SCNu64, &lagd->inherited.written) == 1;
+        if (strcmp(word, "marker") == 0) read = fscanf(file, "%" SCNu32, &lagd->inherited.marker) == 1;
+        if (strcmp(word, "bundle") == 0) read = read_bundle(lagd, file);
         if (strcmp(word, "tap") == 0)
-            read = fscanf(file, "%d %d %" SCNu32 " %u", &inherited.tap, &inherited.persists, &inherited.mtu, &inherited.answering) == 4
-                && inherited.answering <= MUTE;
-        if (strcmp(word, "link") == 0) read = read_link(file);
-        if (strcmp(word, "on") == 0) read = read_conversation(file);
+            read = fscanf(file, "%d %d %" SCNu32 " %u", &lagd->inherited.tap, &lagd->inherited.persists, &lagd->inherited.mtu,
+                &lagd->inherited.answering) == 4
+                && lagd->inherited.answering <= MUTE;
+        if (strcmp(word, "link") == 0) read = read_link(lagd, file);
+        if (strcmp(word, "on") == 0) read = read_conversation(lagd, file);
         if (!read) return false;
     }
     return false;
@@ -191,37 +202,37 @@ static bool read_rest(FILE *file) {
 
 /* By other settings nothing goes on: what stays to be done is to put back what the last daemon changed. It has a line once these interfaces
  * are found. */
-static void keep_interfaces(bool team) {
-    inherited.others = true;
+static void keep_interfaces(struct lagd *lagd, bool team) {
+    lagd->inherited.others = true;
     if (team)
-        leave_team(inherited.tap, inherited.persists);
-    else if (inherited.persists)
-        end_tap(inherited.tap);
-    for (unsigned i = 0; i < inherited.link_count; i++) inherited.links[i].carried = false;
-    memset(inherited.members, 0, sizeof inherited.members);
-    inherited.bundle = (struct bundle){0};
-    inherited.answering = NOT_ASKED;
-    inherited.tap = inherited.persists = 0;
-    inherited.mtu = 0;
+        leave_team(lagd, lagd->inherited.tap, lagd->inherited.persists);
+    else if (lagd->inherited.persists)
+        end_tap(lagd->inherited.tap);
+    for (unsigned i = 0; i < lagd->inherited.link_count; i++) lagd->inherited.links[i].carried = false;
+    memset(lagd->inherited.members, 0, sizeof lagd->inherited.members);
+    lagd->inherited.bundle = (struct bundle){0};
+    lagd->inherited.answering = NOT_ASKED;
+    lagd->inherited.tap = lagd->inherited.persists = 0;
+    lagd->inherited.mtu = 0;
 }
 
 /* Reads a state; answers NULL, or why it counts for nothing. */
-static const char *read_state(FILE *file) {
+static const char *read_state(struct lagd *lagd, FILE *file) {
     unsigned version;
     char boot[64], given[WAY_ROOM];
     if (fscanf(file, "lagd %u", &version) != 1) return "it is no state of lagd";
     if (version != FORM_VERSION) return "it is of another version";
     if (fscanf(file, " boot %63s way %95s", boot, given) != 2) return "it is cut off";
-    if (strcmp(boot, boot_id()) != 0) return "it is of another boot";
-    if (!read_rest(file)) return "it is cut off, or wrong";
-    if (strcmp(given, way()) != 0) keep_interfaces(is_way_of_team(given));
+    if (strcmp(boot, boot_id(lagd)) != 0) return "it is of another boot";
+    if (!read_rest(lagd, file)) return "it is cut off, or wrong";
+    if (strcmp(given, way(lagd)) != 0) keep_interfaces(lagd, is_way_of_team(given));
     return NULL;
 }
 
 /* Opens the file, if it is one of root or of this user, who alone may write it. */
-static FILE *open_state(void) {
+static FILE *open_state(struct lagd *lagd) {
     struct stat found;
-    int fd = openat(folder_file(), name, O_RDONLY | O_NOFOLLOW | O_NONBLOCK | O_CLOEXEC);
+    int fd = openat(folder_file(lagd), lagd->state->name, O_RDONLY | O_NOFOLLOW | O_NONBLOCK | O_CLOEXEC);
     FILE *file = NULL;
     if (fd >= 0 && fstat(fd, &found) == 0 && S_ISREG(found.st_mode) && (found.st_uid == 0 || found.st_uid == geteuid())
         && !(found.st_mode & (S_IWGRP | S_IWOTH)))
@@ -231,27 +242,28 @@ static FILE *open_state(void) {
 }
 
 /* Reads what the last daemon left. What counts for nothing has a line, and the daemon starts anew. */
-void recall_state(void) {
+void recall_state(struct lagd *lagd) {
+    struct state_private *own = lagd->state;
     const char *fault;
     FILE *file;
-    snprintf(name, sizeof name, "%lu.%s.state", network_namespace(), settings.name);
-    snprintf(new_name, sizeof new_name, "%s.new", name);
-    file = open_state();
+    snprintf(own->name, sizeof own->name, "%lu.%s.state", network_namespace(), lagd->settings.name);
+    snprintf(own->new_name, sizeof own->new_name, "%s.new", own->name);
+    file = open_state(lagd);
     if (!file) return;
-    fault = read_state(file);
+    fault = read_state(lagd, file);
     fclose(file);
     if (!fault) return;
-    inherited = (struct inherited){0};
-    (void)say(LOG_WARNING | ABOUT_HANDOVER, "the state that the last daemon left is not used: %s", fault);
+    lagd->inherited = (struct inherited){0};
+    (void)say(lagd, LOG_WARNING | ABOUT_HANDOVER, "the state that the last daemon left is not used: %s", fault);
 }
 
 /* Whether there was no daemon for a moment only: what waits in sockets and in the TAP device is still of use. */
-bool was_away_briefly(void) {
+bool was_away_briefly(struct lagd *lagd) {
     uint64_t now = boottime();
-    return inherited.written != 0 && inherited.written <= now && now - inherited.written < MOST_AWAY;
+    return lagd->inherited.written != 0 && lagd->inherited.written <= now && now - lagd->inherited.written < MOST_AWAY;
 }
 
 /* The identifier of the first marker: none that the last daemon sent, or 0 where that is not known. */
-uint32_t first_marker_left(void) {
-    return inherited.marker == 0 || inherited.marker > UINT32_MAX / 2 ? 0 : inherited.marker + UNWRITTEN_MARKERS;
+uint32_t first_marker_left(struct lagd *lagd) {
+    return lagd->inherited.marker == 0 || lagd->inherited.marker > UINT32_MAX / 2 ? 0 : lagd->inherited.marker + UNWRITTEN_MARKERS;
 }

@@ -29,6 +29,4 @@ struct inherited {
     int members[CONVERSATIONS];   /* of each conversation the interface that it was on, or 0 */
 };
 
-extern struct inherited inherited; /* what the last daemon left; all 0 where there is nothing */
-
 #endif

@@ -9,7 +9,7 @@
 #include <sys/un.h>
 #include <unistd.h>
 
-#include "lagd.h"
+#include "daemon.h"
 
 /* The most connections of one user, so that none takes all of them; how many of these may watch, so that the others can ask; and how many
  * of all are root's alone. */
@@ -34,11 +34,21 @@ struct caller {
     size_t sent, answer_length;
 };
 
-static struct caller callers[MOST_CALLERS];
-static int listener = -1;
-static unsigned left_in_tick = MOST_IN_TICK;
-static bool listens;
-static char own_name[NAME_ROOM + 32];
+/* What this file keeps for a daemon. */
+struct status_private {
+    struct caller callers[MOST_CALLERS];
+    int listener;
+    unsigned left_in_tick;
+    bool listens;
+    char own_name[NAME_ROOM + 32];
+};
+
+struct status_private *make_status_private(void) {
+    struct status_private *made = make_room(sizeof *made);
+    made->listener = -1;
+    made->left_in_tick = MOST_IN_TICK;
+    return made;
+}
 
 static void close_caller(struct caller *caller) {
     close(caller->fd);
@@ -47,23 +57,25 @@ static void close_caller(struct caller *caller) {
 }
 
 /* How many connections a user has, or how many of them watch. */
-static unsigned count_of(uid_t user, bool watching) {
+static unsigned count_of(struct lagd *lagd, uid_t user, bool watching) {
+    struct status_private *own = lagd->status;
     unsigned count = 0;
     for (unsigned i = 0; i < MOST_CALLERS; i++)
-        count += callers[i].fd >= 0 && callers[i].user == user && (!watching || callers[i].watches);
+        count += own->callers[i].fd >= 0 && own->callers[i].user == user && (!watching || own->callers[i].watches);
     return count;
 }
 
 /* A free place for a user, or NULL, and why there is none. */
-static struct caller *place_for(uid_t user, const char **why) {
+static struct caller *place_for(struct lagd *lagd, uid_t user, const char **why) {
+    struct status_private *own = lagd->status;
     struct caller *found = NULL;
     unsigned free_ones = 0;
     for (unsigned i = 0; i < MOST_CALLERS; i++) {
-        if (callers[i].fd >= 0) continue;
-        found = &callers[i];
+        if (own->callers[i].fd >= 0) continue;
+        found = &own->callers[i];
         free_ones++;
     }
-    if (count_of(user, false) >= MOST_OF_USER)
+    if (count_of(lagd, user, false) >= MOST_OF_USER)
         *why = "this user has too many connections";
     else if (!found || (user != 0 && free_ones <= ROOTS_OWN))
         *why = "all connections are taken";
@@ -79,12 +91,12 @@ static void refuse(int fd, const char *why) {
     (void)send(fd, text, (size_t)length, MSG_NOSIGNAL | MSG_DONTWAIT);
 }
 
-static void take_caller(int fd) {
+static void take_caller(struct lagd *lagd, int fd) {
     struct ucred who = {0};
     socklen_t length = sizeof who;
     const char *why = NULL;
-    struct caller *place = getsockopt(fd, SOL_SOCKET, SO_PEERCRED, &who, &length) == 0 ? place_for(who.uid, &why) : NULL;
-    if (!place || !await_input(fd, CALLERS + (uint32_t)(place - callers))) {
+    struct caller *place = getsockopt(fd, SOL_SOCKET, SO_PEERCRED, &who, &length) == 0 ? place_for(lagd, who.uid, &why) : NULL;
+    if (!place || !await_input(lagd, fd, CALLERS + (uint32_t)(place - lagd->status->callers))) {
         refuse(fd, why ? why : strerror(errno));
         close(fd);
         return;
@@ -93,33 +105,35 @@ static void take_caller(int fd) {
 }
 
 /* Takes connections, in the order in which they came. */
-void take_callers(void) {
-    while (left_in_tick > 0) {
-        int fd = accept4(listener, NULL, NULL, SOCK_NONBLOCK | SOCK_CLOEXEC);
+void take_callers(struct lagd *lagd) {
+    struct status_private *own = lagd->status;
+    while (own->left_in_tick > 0) {
+        int fd = accept4(own->listener, NULL, NULL, SOCK_NONBLOCK | SOCK_CLOEXEC);
         if (fd < 0) return;
-        left_in_tick--;
-        take_caller(fd);
+        own->left_in_tick--;
+        take_caller(lagd, fd);
     }
-    if (listens) await_no_more(listener);
-    listens = false;
+    if (own->listens) await_no_more(lagd, own->listener);
+    own->listens = false;
 }
 
 /* Sends what is left of an answer, as far as the socket has room, and closes the connection behind it. */
-static void send_rest(struct caller *caller) {
+static void send_rest(struct lagd *lagd, struct caller *caller) {
     ssize_t sent = send(caller->fd, caller->rest + caller->sent, caller->answer_length - caller->sent, MSG_NOSIGNAL | MSG_DONTWAIT);
     bool waits = sent >= 0 || errno == EAGAIN || errno == EINTR;
     if (sent > 0) {
         caller->sent += (size_t)sent;
         caller->ticks = PATIENCE;
     }
-    if (!waits || caller->sent == caller->answer_length || !await_output(caller->fd, CALLERS + (uint32_t)(caller - callers)))
+    if (!waits || caller->sent == caller->answer_length
+        || !await_output(lagd, caller->fd, CALLERS + (uint32_t)(caller - lagd->status->callers)))
         close_caller(caller);
 }
 
 /* Answers a question, a word of one line. */
-static void answer_caller(struct caller *caller) {
+static void answer_caller(struct lagd *lagd, struct caller *caller) {
     const char *asked = caller->question;
-    unsigned watching = count_of(caller->user, true);
+    unsigned watching = count_of(lagd, caller->user, true);
     caller->watches = strcmp(asked, "watch") == 0 || strcmp(asked, "watch-json") == 0;
     caller->json = strcmp(asked, "watch-json") == 0;
     if (caller->watches && watching >= MOST_WATCHERS) {
@@ -128,28 +142,28 @@ static void answer_caller(struct caller *caller) {
         return;
     }
     if (caller->watches) return;
-    report_length = 0;
-    if (strcmp(asked, "text") == 0) write_text();
-    if (strcmp(asked, "json") == 0) write_json();
-    if (strcmp(asked, "metrics") == 0) write_metrics();
-    if (broken) report_length = 0; /* what the library refuses to tell is not told half */
-    caller->rest = report_length > 0 ? malloc(report_length) : NULL;
-    caller->answer_length = report_length;
-    if (caller->rest) memcpy(caller->rest, report, report_length);
+    lagd->report_length = 0;
+    if (strcmp(asked, "text") == 0) write_text(lagd);
+    if (strcmp(asked, "json") == 0) write_json(lagd);
+    if (strcmp(asked, "metrics") == 0) write_metrics(lagd);
+    if (lagd->broken) lagd->report_length = 0; /* what the library refuses to tell is not told half */
+    caller->rest = lagd->report_length > 0 ? malloc(lagd->report_length) : NULL;
+    caller->answer_length = lagd->report_length;
+    if (caller->rest) memcpy(caller->rest, lagd->report, lagd->report_length);
     if (caller->rest)
-        send_rest(caller);
+        send_rest(lagd, caller);
     else
         close_caller(caller);
 }
 
 /* Takes what somebody sends, or goes on with an answer. Who watches sends nothing more, but for the end. */
-void serve_caller(uint32_t number) {
-    struct caller *caller = &callers[number];
+void serve_caller(struct lagd *lagd, uint32_t number) {
+    struct caller *caller = &lagd->status->callers[number];
     char *end, scrap[64];
     ssize_t got;
     if (caller->fd < 0) return;
     if (caller->rest) {
-        send_rest(caller);
+        send_rest(lagd, caller);
         return;
     }
     if (caller->watches) {
@@ -163,45 +177,47 @@ void serve_caller(uint32_t number) {
     end = strchr(caller->question, '\n');
     if (end) *end = 0;
     if (end)
-        answer_caller(caller);
+        answer_caller(lagd, caller);
     else if (got <= 0 || caller->length == sizeof caller->question - 1)
         close_caller(caller);
 }
 
 /* 100 ms passed: who asked nothing for 2 s is let go, and more may come. */
-void pass_tick_of_callers(void) {
+void pass_tick_of_callers(struct lagd *lagd) {
+    struct status_private *own = lagd->status;
     for (unsigned i = 0; i < MOST_CALLERS; i++)
-        if (callers[i].fd >= 0 && !callers[i].watches && --callers[i].ticks == 0) close_caller(&callers[i]);
-    left_in_tick = MOST_IN_TICK;
-    if (!listens) listens = await_input(listener, STATUS);
+        if (own->callers[i].fd >= 0 && !own->callers[i].watches && --own->callers[i].ticks == 0) close_caller(&own->callers[i]);
+    own->left_in_tick = MOST_IN_TICK;
+    if (!own->listens) own->listens = await_input(lagd, own->listener, STATUS);
 }
 
 /* Tells those who watch; who does not keep up is let go. */
-static void tell(const char *text, size_t length, bool json) {
+static void tell(struct lagd *lagd, const char *text, size_t length, bool json) {
     for (unsigned i = 0; i < MOST_CALLERS; i++) {
-        struct caller *caller = &callers[i];
+        struct caller *caller = &lagd->status->callers[i];
         if (caller->fd < 0 || !caller->watches || caller->json != json) continue;
         if (send(caller->fd, text, length, MSG_NOSIGNAL | MSG_DONTWAIT) != (ssize_t)length) close_caller(caller);
     }
 }
 
 /* Tells those who watch a line. */
-void tell_watchers(const char *line, size_t length) {
-    tell(line, length, false);
+void tell_watchers(struct lagd *lagd, const char *line, size_t length) {
+    tell(lagd, line, length, false);
 }
 
 /* Tells those who watch in JSON how a port is now, or the bundle, where `link` is null. */
-void tell_watchers_of(const struct link *link) {
+void tell_watchers_of(struct lagd *lagd, const struct link *link) {
+    struct status_private *own = lagd->status;
     bool any = false;
-    for (unsigned i = 0; i < MOST_CALLERS; i++) any = any || (callers[i].fd >= 0 && callers[i].watches && callers[i].json);
+    for (unsigned i = 0; i < MOST_CALLERS; i++) any = any || (own->callers[i].fd >= 0 && own->callers[i].watches && own->callers[i].json);
     if (!any) return;
-    report_length = 0;
-    write_json_event(link);
-    if (!broken) tell(report, report_length, true);
+    lagd->report_length = 0;
+    write_json_event(lagd, link);
+    if (!lagd->broken) tell(lagd, lagd->report, lagd->report_length, true);
 }
 
-static void remove_socket(void) {
-    (void)unlinkat(folder_file(), own_name, 0);
+static void remove_socket(struct lagd *lagd) {
+    (void)unlinkat(folder_file(lagd), lagd->status->own_name, 0);
 }
 
 /* Whether somebody listens at an address. */
@@ -214,21 +230,23 @@ static bool is_taken(const struct sockaddr_un *address) {
 
 /* The status socket, named for the namespace and the bundle: one that is left there, at which nobody listens, is nobody's. Its user and
  * group may ask, whatever the umask is. */
-void open_status(const char *folder) {
+void open_status(struct lagd *lagd, const char *folder) {
+    struct status_private *own = lagd->status;
     struct sockaddr_un address = {.sun_family = AF_UNIX};
     int length, fault;
     mode_t mask;
-    for (unsigned i = 0; i < MOST_CALLERS; i++) callers[i].fd = -1;
-    snprintf(own_name, sizeof own_name, "%lu.%.*s.sock", network_namespace(), LONGEST_NAME, settings.name);
-    length = snprintf(address.sun_path, sizeof address.sun_path, "/proc/self/fd/%d/%s", folder_file(), own_name);
-    if (length >= (int)sizeof address.sun_path) stop(WRONG_WORD, "too long", own_name);
-    if (is_taken(&address)) stop(REFUSED, "another lagd has this bundle", settings.name);
-    (void)unlinkat(folder_file(), own_name, 0);
-    listener = socket(AF_UNIX, SOCK_STREAM | SOCK_NONBLOCK | SOCK_CLOEXEC, 0);
+    for (unsigned i = 0; i < MOST_CALLERS; i++) own->callers[i].fd = -1;
+    snprintf(own->own_name, sizeof own->own_name, "%lu.%.*s.sock", network_namespace(), LONGEST_NAME, lagd->settings.name);
+    length = snprintf(address.sun_path, sizeof address.sun_path, "/proc/self/fd/%d/%s", folder_file(lagd), own->own_name);
+    if (length >= (int)sizeof address.sun_path) stop(WRONG_WORD, "too long", own->own_name);
+    if (is_taken(&address)) stop(REFUSED, "another lagd has this bundle", lagd->settings.name);
+    (void)unlinkat(folder_file(lagd), own->own_name, 0);
+    own->listener = socket(AF_UNIX, SOCK_STREAM | SOCK_NONBLOCK | SOCK_CLOEXEC, 0);
     mask = umask(0117);
-    fault = listener < 0 || bind(listener, (struct sockaddr *)&address, sizeof address) < 0 || listen(listener, 64) < 0 ? errno : 0;
+    fault = own->listener < 0 || bind(own->listener, (struct sockaddr *)&address, sizeof address) < 0 || listen(own->listener, 64) < 0
+        ? errno : 0;
     umask(mask);
     if (fault) stop(REFUSED, folder, strerror(fault));
-    (void)atexit(remove_socket);
-    listens = await_input(listener, STATUS);
+    (void)call_at_exit(lagd, remove_socket);
+    own->listens = await_input(lagd, own->listener, STATUS);
 }

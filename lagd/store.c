@@ -13,7 +13,7 @@
 #include <sys/socket.h>
 #include <unistd.h>
 
-#include "carry.h"
+#include "daemon.h"
 
 #ifdef HAVE_SYSTEMD
 #define NAME_OF_FILE 64
@@ -21,12 +21,19 @@
 #define MOST_FILES 512
 
 /* A file that the last daemon left. */
-static struct stored {
-    char name[NAME_OF_FILE];
-    int fd; /* -1: it is taken, or closed */
-} stored[MOST_FILES];
-static size_t count;
-static bool stays; /* whether the next daemon gets what is there */
+/* What this file keeps for a daemon. */
+struct store_private {
+    struct stored {
+        char name[NAME_OF_FILE];
+        int fd; /* -1: it is taken, or closed */
+    } stored[MOST_FILES];
+    size_t count;
+    bool stays; /* whether the next daemon gets what is there */
+};
+
+struct store_private *make_store_private(void) {
+    return make_room(sizeof(struct store_private));
+}
 
 static void name_stored(const char *kind, int number, char room[static NAME_OF_FILE]) {
     snprintf(room, NAME_OF_FILE, "%s-%lu-%d", kind, network_namespace(), number);
@@ -56,70 +63,79 @@ void drop_stored(const char *kind, int number) {
 }
 
 /* Takes a file that the last daemon left; or -1. */
-int take_stored(const char *kind, int number) {
+int take_stored(struct lagd *lagd, const char *kind, int number) {
+    struct store_private *own = lagd->store;
     char name[NAME_OF_FILE];
     name_stored(kind, number, name);
-    for (size_t i = 0; i < count; i++) {
-        int fd = stored[i].fd;
-        if (fd < 0 || strcmp(stored[i].name, name) != 0) continue;
-        stored[i].fd = -1;
+    for (size_t i = 0; i < own->count; i++) {
+        int fd = own->stored[i].fd;
+        if (fd < 0 || strcmp(own->stored[i].name, name) != 0) continue;
+        own->stored[i].fd = -1;
         return fd;
     }
     return -1;
 }
 
 /* Gives back what was taken, for who takes it next. The manager closes what it is to keep no more a moment later, and a lock is held until then. */
-void return_stored(const char *kind, int number, int fd) {
+void return_stored(struct lagd *lagd, const char *kind, int number, int fd) {
+    struct store_private *own = lagd->store;
     char name[NAME_OF_FILE];
     name_stored(kind, number, name);
-    for (size_t i = 0; i < count; i++) {
-        if (stored[i].fd >= 0 || strcmp(stored[i].name, name) != 0) continue;
-        stored[i].fd = fd;
+    for (size_t i = 0; i < own->count; i++) {
+        if (own->stored[i].fd >= 0 || strcmp(own->stored[i].name, name) != 0) continue;
+        own->stored[i].fd = fd;
         return;
     }
     close(fd);
 }
 
-static void drop_at(size_t place) {
-    if (stored[place].fd < 0) return;
-    (void)sd_notifyf(0, "FDSTOREREMOVE=1\nFDNAME=%s", stored[place].name);
-    detach_program(stored[place].fd);
-    close(stored[place].fd);
-    stored[place].fd = -1;
+static void drop_at(struct lagd *lagd, size_t place) {
+    struct store_private *own = lagd->store;
+    if (own->stored[place].fd < 0) return;
+    (void)sd_notifyf(0, "FDSTOREREMOVE=1\nFDNAME=%s", own->stored[place].name);
+    detach_program(own->stored[place].fd);
+    close(own->stored[place].fd);
+    own->stored[place].fd = -1;
 }
 
 /* What nobody took is kept no more. */
-void drop_unclaimed(void) {
-    for (size_t i = 0; i < count; i++) drop_at(i);
+void drop_unclaimed(struct lagd *lagd) {
+    for (size_t i = 0; i < lagd->store->count; i++) drop_at(lagd, i);
 }
 
 /* The next daemon goes on with what there is. */
-void leave_store(void) {
-    stays = true;
+void leave_store(struct lagd *lagd) {
+    lagd->store->stays = true;
 }
 
 /* The program ends, by whatever it is refused: nothing goes on without it, as the carrier of its device. */
-static void empty_store(void) {
-    if (stays) return;
-    for (size_t i = 0; i < count; i++) (void)sd_notifyf(0, "FDSTOREREMOVE=1\nFDNAME=%s", stored[i].name);
+static void empty_store(struct lagd *lagd) {
+    struct store_private *own = lagd->store;
+    if (own->stays) return;
+    for (size_t i = 0; i < own->count; i++) (void)sd_notifyf(0, "FDSTOREREMOVE=1\nFDNAME=%s", own->stored[i].name);
 }
 
 /* Takes over what the last daemon left with the manager. */
-void open_store(void) {
+void open_store(struct lagd *lagd) {
+    struct store_private *own = lagd->store;
     char **names = NULL;
     int found = sd_listen_fds_with_names(1, &names);
     for (int i = 0; i < found; i++) {
         int fd = SD_LISTEN_FDS_START + i;
-        if (count == MOST_FILES) close(fd);
-        if (count == MOST_FILES) continue;
-        snprintf(stored[count].name, sizeof stored[count].name, "%s", names[i]);
-        stored[count++].fd = fd;
+        if (own->count == MOST_FILES) close(fd);
+        if (own->count == MOST_FILES) continue;
+        snprintf(own->stored[own->count].name, sizeof own->stored[own->count].name, "%s", names[i]);
+        own->stored[own->count++].fd = fd;
     }
     for (int i = 0; i < found; i++) free(names[i]);
     free(names);
-    if (atexit(empty_store) != 0) stop(REFUSED, "no memory", "for what is stored");
+    if (call_at_exit(lagd, empty_store) != 0) stop(REFUSED, "no memory", "for what is stored");
 }
 #else
+struct store_private *make_store_private(void) {
+    return NULL;
+}
+
 bool has_store(void) {
     return false;
 }
@@ -135,25 +151,30 @@ void drop_stored(const char *kind, int number) {
     (void)number;
 }
 
-int take_stored(const char *kind, int number) {
+int take_stored(struct lagd *lagd, const char *kind, int number) {
+    (void)lagd;
     (void)kind;
     (void)number;
     return -1;
 }
 
-void return_stored(const char *kind, int number, int fd) {
+void return_stored(struct lagd *lagd, const char *kind, int number, int fd) {
+    (void)lagd;
     (void)kind;
     (void)number;
     close(fd);
 }
 
-void drop_unclaimed(void) {
+void drop_unclaimed(struct lagd *lagd) {
+    (void)lagd;
 }
 
-void leave_store(void) {
+void leave_store(struct lagd *lagd) {
+    (void)lagd;
 }
 
-void open_store(void) {
+void open_store(struct lagd *lagd) {
+    (void)lagd;
 }
 #endif
 
@@ -174,16 +195,16 @@ static bool is_of(int fd, int index) {
 
 /* A packet socket for an interface, stored for a link with an index: the one that the last daemon left, with what came meanwhile unless that
  * is old, or a new one, which takes nothing before it is bound; or -1, and errno. */
-int packet_socket(const char *kind, int of, int index, int type) {
-    int fd = take_stored(kind, of);
-    if (fd >= 0 && is_of(fd, index) && (type == SOCK_DGRAM || was_away_briefly())) return fd;
+int packet_socket(struct lagd *lagd, const char *kind, int of, int index, int type) {
+    int fd = take_stored(lagd, kind, of);
+    if (fd >= 0 && is_of(fd, index) && (type == SOCK_DGRAM || was_away_briefly(lagd))) return fd;
     if (fd >= 0) close_stored(kind, of, fd);
     return socket(AF_PACKET, type | SOCK_NONBLOCK | SOCK_CLOEXEC, 0);
 }
 
 /* As attach_program, in the place of the program of the last daemon, where that left one; the manager of services keeps it, too. */
-int attach_stored(const char *kind, int program, int index, bool egress) {
-    int attached = take_stored(kind, index);
+int attach_stored(struct lagd *lagd, const char *kind, int program, int index, bool egress) {
+    int attached = take_stored(lagd, kind, index);
     if (attached >= 0 && exchange_program(attached, program, index)) return attached;
     if (attached >= 0) detach_stored(kind, index, attached);
     attached = attach_program(program, index, egress);

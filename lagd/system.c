@@ -4,32 +4,34 @@
 #include <sys/random.h>
 #include <unistd.h>
 
-#include "lagd.h"
+#include "daemon.h"
 
-struct niw_system own_system = NIW_EMPTY;
-struct settings settings;
-struct link links[NIW_MOST_PORTS];
-uint16_t link_count;
-bool has_started;
+/* What this file keeps for a daemon. */
+struct system_private {
+    uint64_t ticks;
+    struct timespec began;
+};
 
-static uint64_t ticks;
-static struct timespec began;
+struct system_private *make_system_private(void) {
+    return make_room(sizeof(struct system_private));
+}
 
 /* How many ticks passed since the start. */
-uint64_t ticks_passed(void) {
-    return ticks;
+uint64_t ticks_passed(struct lagd *lagd) {
+    return lagd->system->ticks;
 }
 
 /* How many seconds passed since the start, also while the daemon was stopped. */
-uint64_t seconds_passed(void) {
+uint64_t seconds_passed(struct lagd *lagd) {
     struct timespec now;
     clock_gettime(CLOCK_MONOTONIC, &now);
-    return (uint64_t)(now.tv_sec - began.tv_sec);
+    return (uint64_t)(now.tv_sec - lagd->system->began.tv_sec);
 }
 
 /* The time now, in milliseconds of CLOCK_MONOTONIC. */
-uint64_t milliseconds(void) {
+uint64_t milliseconds(struct lagd *lagd) {
     struct timespec now;
+    (void)lagd;
     clock_gettime(CLOCK_MONOTONIC, &now);
     return (uint64_t)now.tv_sec * 1000 + (uint64_t)now.tv_nsec / 1000000;
 }
@@ -46,91 +48,93 @@ static uint32_t random_marker(void) {
 }
 
 /* Takes a port out of use, whatever its link does, or lets it be used again; answers whether that is done. */
-bool hold_port(uint16_t port, bool hold) {
-    if (!is_done(niw_hold(&own_system, port, hold), "niw_hold")) return false;
-    links[port - 1].held = hold;
+bool hold_port(struct lagd *lagd, uint16_t port, bool hold) {
+    if (!is_done(lagd, niw_hold(&lagd->own_system, port, hold), "niw_hold")) return false;
+    lagd->links[port - 1].held = hold;
     return true;
 }
 
 /* Makes the system of the settings. */
-void make_system(void) {
+void make_system(struct lagd *lagd) {
     struct niw_port ports[NIW_MOST_PORTS];
     uint16_t keys[NIW_MOST_PORTS];
-    clock_gettime(CLOCK_MONOTONIC, &began);
-    settings.config.first_marker = first_marker_left();
-    if (settings.config.first_marker == 0) settings.config.first_marker = random_marker();
-    link_count = settings.port_count;
-    for (uint16_t i = 0; i < link_count; i++) {
-        ports[i] = port_of(&settings, (uint16_t)(i + 1));
-        links[i].name = settings.ports[i].name;
-        links[i].settings = ports[i];
-        links[i].key = ports[i].key;
-        links[i].socket = links[i].lock = links[i].carrier_file = -1;
-        links[i].lines = MOST_LINES;
-        links[i].changed = true;
-        forget_partner(&links[i]);
+    clock_gettime(CLOCK_MONOTONIC, &lagd->system->began);
+    lagd->settings.config.first_marker = first_marker_left(lagd);
+    if (lagd->settings.config.first_marker == 0) lagd->settings.config.first_marker = random_marker();
+    lagd->link_count = lagd->settings.port_count;
+    for (uint16_t i = 0; i < lagd->link_count; i++) {
+        ports[i] = port_of(&lagd->settings, (uint16_t)(i + 1));
+        lagd->links[i].name = lagd->settings.ports[i].name;
+        lagd->links[i].settings = ports[i];
+        lagd->links[i].key = ports[i].key;
+        lagd->links[i].socket = lagd->links[i].lock = lagd->links[i].carrier_file = -1;
+        lagd->links[i].lines = MOST_LINES;
+        lagd->links[i].changed = true;
+        forget_partner(lagd, &lagd->links[i]);
     }
-    make_keys(keys);
-    if (!is_done(niw_new(&own_system, &settings.config, keys, aggregator_count, ports, link_count).status, "niw_new")) return;
-    for (uint16_t port = 1; port <= link_count; port++)
-        if (wants_hold(&settings, port) && !hold_port(port, true)) return;
-    take_views();
+    make_keys(lagd, keys);
+    if (!is_done(lagd, niw_new(&lagd->own_system, &lagd->settings.config, keys, lagd->aggregator_count, ports, lagd->link_count).status,
+        "niw_new"))
+        return;
+    for (uint16_t port = 1; port <= lagd->link_count; port++)
+        if (wants_hold(&lagd->settings, port) && !hold_port(lagd, port, true)) return;
+    take_views(lagd);
 }
 
 /* Sends what is due on a port. */
-static void send_due_of(uint16_t port) {
+static void send_due_of(struct lagd *lagd, uint16_t port) {
     uint8_t frame[NIW_FRAME];
     for (;;) {
-        struct niw_sent due = niw_transmit(&own_system, port, frame, sizeof frame);
-        if (!is_done(due.status, "niw_transmit") || !due.is) return;
+        struct niw_sent due = niw_transmit(&lagd->own_system, port, frame, sizeof frame);
+        if (!is_done(lagd, due.status, "niw_transmit") || !due.is) return;
         if (due.what == NIW_SENT_MARKER)
-            take_marker(&links[port - 1], frame);
+            take_marker(lagd, &lagd->links[port - 1], frame);
         else
-            send_frame(&links[port - 1], frame);
+            send_frame(lagd, &lagd->links[port - 1], frame);
     }
 }
 
 /* Sends what is due: after each call that may change anything, since one about a port may make a frame due on another. */
-void send_due(void) {
+void send_due(struct lagd *lagd) {
     uint64_t due;
-    if (resuming) return;
-    if (!is_told(niw_due(&own_system), "niw_due", &due)) return;
-    for (uint16_t i = 0; i < link_count; i++)
-        if (due >> i & 1) send_due_of((uint16_t)(i + 1));
+    if (lagd->resuming) return;
+    if (!is_told(lagd, niw_due(&lagd->own_system), "niw_due", &due)) return;
+    for (uint16_t i = 0; i < lagd->link_count; i++)
+        if (due >> i & 1) send_due_of(lagd, (uint16_t)(i + 1));
 }
 
 /* Sends again what did not go before this tick, if nothing newer was due since. */
-void send_again(void) {
-    for (uint16_t i = 0; i < link_count; i++)
-        if (links[i].unsent && !links[i].tried) send_frame(&links[i], links[i].frame);
+void send_again(struct lagd *lagd) {
+    for (uint16_t i = 0; i < lagd->link_count; i++)
+        if (lagd->links[i].unsent && !lagd->links[i].tried) send_frame(lagd, &lagd->links[i], lagd->links[i].frame);
 }
 
 /* The link of a port is up or down now. */
-void set_link(uint16_t port, bool up) {
-    struct link *link = &links[port - 1];
+void set_link(struct lagd *lagd, uint16_t port, bool up) {
+    struct link *link = &lagd->links[port - 1];
     if (link->up == up) return;
     link->up = up;
     link->unsent = false;
     link->changed = true;
     if (!up) {
         link->counts[LOSSES]++;
-        forget_partner(link);
+        forget_partner(lagd, link);
     }
-    if (!up) lose_data(port);
-    if (resuming) return;
-    if (!is_done(niw_set_link(&own_system, port, up), "niw_set_link")) return;
-    look_at_carry();
-    send_due();
-    take_views();
-    (void)print_change(link);
+    if (!up) lose_data(lagd, port);
+    if (lagd->resuming) return;
+    if (!is_done(lagd, niw_set_link(&lagd->own_system, port, up), "niw_set_link")) return;
+    look_at_carry(lagd);
+    send_due(lagd);
+    take_views(lagd);
+    (void)print_change(lagd, link);
 }
 
 /* The interface of a port is gone, or has another name now. */
-void lose_link(struct link *link) {
+void lose_link(struct lagd *lagd, struct link *link) {
     forget_carrier(link);
-    set_link(link->settings.number, false);
-    close_link(link);
-    (void)print_change(link);
+    set_link(lagd, link->settings.number, false);
+    close_link(lagd, link);
+    (void)print_change(lagd, link);
 }
 
 /* 100 ms passed for a link: what failed is forgotten after a while. */
@@ -141,60 +145,62 @@ static void pass_tick_of(struct link *link) {
     link->changed = true;
 }
 
-static void pass_second(void) {
-    for (uint16_t i = 0; i < link_count; i++) {
-        if (links[i].lines < MOST_LINES) links[i].lines++;
+static void pass_second(struct lagd *lagd) {
+    for (uint16_t i = 0; i < lagd->link_count; i++) {
+        if (lagd->links[i].lines < MOST_LINES) lagd->links[i].lines++;
     }
-    look_for_twins();
-    allow_bundle_line();
-    pass_revert_second();
-    watch_changes();
-    (void)save_state();
+    look_for_twins(lagd);
+    allow_bundle_line(lagd);
+    pass_revert_second(lagd);
+    watch_changes(lagd);
+    (void)save_state(lagd);
     notify_alive();
 }
 
 /* 100 ms passed for churn detection: by what the library tells of the ports after its own tick. */
-static void watch_churn(void) {
-    take_views();
-    for (uint16_t i = 0; i < link_count; i++) {
-        const struct niw_view *view = &links[i].view;
-        if (!is_done(niw_churn_tick(&links[i].churn, view->up, view->state, view->partner_state), "niw_churn_tick")) return;
+static void watch_churn(struct lagd *lagd) {
+    take_views(lagd);
+    for (uint16_t i = 0; i < lagd->link_count; i++) {
+        const struct niw_view *view = &lagd->links[i].view;
+        if (!is_done(lagd, niw_churn_tick(&lagd->links[i].churn, view->up, view->state, view->partner_state), "niw_churn_tick")) return;
     }
 }
 
 /* 100 ms passed. */
-void pass_tick(void) {
-    if (!is_done(niw_tick(&own_system), "niw_tick")) return;
-    watch_churn();
-    for (uint16_t i = 0; i < link_count; i++) pass_tick_of(&links[i]);
-    pass_carry_tick();
-    if (++ticks % SECOND == 0) pass_second();
+void pass_tick(struct lagd *lagd) {
+    if (!is_done(lagd, niw_tick(&lagd->own_system), "niw_tick")) return;
+    watch_churn(lagd);
+    for (uint16_t i = 0; i < lagd->link_count; i++) pass_tick_of(&lagd->links[i]);
+    pass_carry_tick(lagd);
+    if (++lagd->system->ticks % SECOND == 0) pass_second(lagd);
 }
 
 /* Takes each port out of its aggregator, by a key that none has, and so tells the peers that they have to stop. */
-void tell_end(void) {
-    struct niw_change leave = {.key = free_key(0, NULL)};
-    for (uint16_t port = 1; port <= link_count; port++) {
-        struct link *link = &links[port - 1];
+void tell_end(struct lagd *lagd) {
+    struct niw_change leave = {.key = free_key(lagd, 0, NULL)};
+    for (uint16_t port = 1; port <= lagd->link_count; port++) {
+        struct link *link = &lagd->links[port - 1];
         bool has_partner = link->up && link->view.mux_state >= NIW_MUX_ATTACHED;
         link->sent_before_end = link->counters.lacpdus_sent;
         leave.priority = link->settings.priority;
         leave.aggregatable = link->settings.aggregatable;
-        link->to_tell = is_done(niw_configure(&own_system, port, &leave).status, "niw_configure") && has_partner;
+        link->to_tell = is_done(lagd, niw_configure(&lagd->own_system, port, &leave).status, "niw_configure") && has_partner;
     }
-    send_due();
+    send_due(lagd);
 }
 
 /* Whether each peer was told. Where three LACPDUs were sent within a second, the next one waits. */
-bool end_is_told(void) {
-    for (uint16_t i = 0; i < link_count; i++)
-        if (links[i].to_tell && links[i].up && links[i].counters.lacpdus_sent == links[i].sent_before_end) return false;
+bool end_is_told(struct lagd *lagd) {
+    for (uint16_t i = 0; i < lagd->link_count; i++)
+        if (lagd->links[i].to_tell && lagd->links[i].up && lagd->links[i].counters.lacpdus_sent == lagd->links[i].sent_before_end)
+            return false;
     return true;
 }
 
 /* Says of each port that the daemon has ended, and frees the system; answers whether the library never refused a call. */
-bool end_system(void) {
-    for (uint16_t i = 0; i < link_count; i++) (void)say(LOG_NOTICE | ABOUT_END, "port %u %s: ended", i + 1, links[i].name);
-    end_bundle();
-    return is_done(niw_free(&own_system), "niw_free") && !broken;
+bool end_system(struct lagd *lagd) {
+    for (uint16_t i = 0; i < lagd->link_count; i++)
+        (void)say(lagd, LOG_NOTICE | ABOUT_END, "port %u %s: ended", i + 1, lagd->links[i].name);
+    end_bundle(lagd);
+    return is_done(lagd, niw_free(&lagd->own_system), "niw_free") && !lagd->broken;
 }

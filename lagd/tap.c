@@ -11,7 +11,7 @@
 #include <sys/stat.h>
 #include <unistd.h>
 
-#include "state.h"
+#include "daemon.h"
 #include "team.h"
 
 /* Of Linux 5.2, and not in older headers: the network namespace of a device. */
@@ -30,16 +30,29 @@
 /* For how many ticks the carrier may be another one than was set: the kernel takes up to a second to tell. */
 #define CARRIER_TICKS 15
 
-static int tap = -1, asker = -1; /* `asker`: a socket for questions about interfaces */
-static int number;               /* of the device, its index; 0: there is none */
-static bool carrier;             /* which was set last */
-static bool carrier_told;        /* which it had, as the kernel told last */
-static unsigned carrier_ticks;   /* for how long it was up and had none, and was to have one */
-static uint32_t most_mtu = ETH_DATA_LEN; /* the longest payload that each member takes, and the device may */
-static uint32_t less_mtu;                /* one below that which an administrator set, or 0 */
-static uint32_t set_mtu;                 /* what was set last */
-static bool persists;                    /* whether the daemon made it outlive itself */
-static uint32_t speed;                   /* in Mb/s, as it was to be last; 0: as the kernel made the device */
+/* What this file keeps for a daemon. */
+struct tap_private {
+    int tap, asker; /* `asker`: a socket for questions about interfaces */
+    int number; /* of the device, its index; 0: there is none */
+    bool carrier; /* which was set last */
+    bool carrier_told; /* which it had, as the kernel told last */
+    unsigned carrier_ticks; /* for how long it was up and had none, and was to have one */
+    uint32_t most_mtu; /* the longest payload that each member takes, and the device may */
+    uint32_t less_mtu; /* one below that which an administrator set, or 0 */
+    uint32_t set_mtu; /* what was set last */
+    bool persists; /* whether the daemon made it outlive itself */
+    uint32_t speed; /* in Mb/s, as it was to be last; 0: as the kernel made the device */
+    bool refused; /* of set_carrier */
+    bool told; /* of set_speed */
+};
+
+struct tap_private *make_tap_private(void) {
+    struct tap_private *made = make_room(sizeof *made);
+    made->tap = -1;
+    made->asker = -1;
+    made->most_mtu = ETH_DATA_LEN;
+    return made;
+}
 
 static struct ifreq request_of(const char *name) {
     struct ifreq request;
@@ -49,121 +62,131 @@ static struct ifreq request_of(const char *name) {
 }
 
 /* Asks the kernel something of the device, or for something. The device goes by its index: it may have another name than it was given. */
-static bool ask_tap(unsigned long what, struct ifreq *request) {
-    struct ifreq named = {.ifr_ifindex = number};
-    if (number == 0 || ioctl(asker, SIOCGIFNAME, &named) < 0) return false;
+static bool ask_tap(struct lagd *lagd, unsigned long what, struct ifreq *request) {
+    struct tap_private *own = lagd->tap;
+    struct ifreq named = {.ifr_ifindex = own->number};
+    if (own->number == 0 || ioctl(own->asker, SIOCGIFNAME, &named) < 0) return false;
     memcpy(request->ifr_name, named.ifr_name, sizeof request->ifr_name);
-    return ioctl(asker, what, request) == 0;
+    return ioctl(own->asker, what, request) == 0;
 }
 
 /* Has the device a carrier, or none; answers whether the kernel does so. */
-static bool give_carrier(bool on) {
-    return carries_by_team() ? set_device_carrier(number, on) : ioctl(tap, TUNSETCARRIER, &(int){on}) == 0;
+static bool give_carrier(struct lagd *lagd, bool on) {
+    struct tap_private *own = lagd->tap;
+    return carries_by_team(lagd) ? set_device_carrier(lagd, own->number, on) : ioctl(own->tap, TUNSETCARRIER, &(int){on}) == 0;
 }
 
 /* The carrier of the device, which is on while data is carried. What the kernel refuses has one line, and is tried again at each tick. */
-void set_carrier(bool on) {
-    static bool refused;
-    if (carrier == on || number == 0) return;
-    if (!on) open_host(false);
-    if (give_carrier(on)) {
-        carrier = on;
-        carrier_ticks = 0;
-        refused = false;
-    } else if (!refused) {
-        refused = true;
-        (void)say(LOG_ERR | ABOUT_CARRIER, "carry %s: its carrier cannot be set %s: %s", settings.carry, on ? "on" : "off", strerror(errno));
+void set_carrier(struct lagd *lagd, bool on) {
+    struct tap_private *own = lagd->tap;
+    if (own->carrier == on || own->number == 0) return;
+    if (!on) open_host(lagd, false);
+    if (give_carrier(lagd, on)) {
+        own->carrier = on;
+        own->carrier_ticks = 0;
+        own->refused = false;
+    } else if (!own->refused) {
+        own->refused = true;
+        (void)say(lagd, LOG_ERR | ABOUT_CARRIER, "carry %s: its carrier cannot be set %s: %s", lagd->settings.carry, on ? "on" : "off",
+            strerror(errno));
     }
 }
 
 /* The device has this speed from now on, in Mb/s, or none that is known. A kernel that does not take it has one line. */
-void set_speed(uint32_t megabits) {
-    static bool told;
-    struct ifreq named = {.ifr_ifindex = number};
-    if (speed == megabits || number == 0) return;
-    speed = megabits;
+void set_speed(struct lagd *lagd, uint32_t megabits) {
+    struct tap_private *own = lagd->tap;
+    struct ifreq named = {.ifr_ifindex = own->number};
+    if (own->speed == megabits || own->number == 0) return;
+    own->speed = megabits;
     errno = EOPNOTSUPP; /* where the kernel tells none, either */
-    if ((ioctl(asker, SIOCGIFNAME, &named) == 0 && write_speed(asker, named.ifr_name, megabits)) || told) return;
-    told = true;
-    (void)say(LOG_WARNING | ABOUT_CARRIER, "carry %s: its speed stays: %s", settings.carry, strerror(errno));
+    if ((ioctl(own->asker, SIOCGIFNAME, &named) == 0 && write_speed(own->asker, named.ifr_name, megabits)) || own->told) return;
+    own->told = true;
+    (void)say(lagd, LOG_WARNING | ABOUT_CARRIER, "carry %s: its speed stays: %s", lagd->settings.carry, strerror(errno));
 }
 
 /* Whether the device has a carrier: an administrator may have taken it away. */
-bool has_carrier(void) {
-    return carrier && carrier_told;
+bool has_carrier(struct lagd *lagd) {
+    struct tap_private *own = lagd->tap;
+    return own->carrier && own->carrier_told;
 }
 
 /* The MTU of the device is the longest that each member takes, or a lower one that an administrator set. A higher one would lose frames. */
-static void settle_mtu(void) {
+static void settle_mtu(struct lagd *lagd) {
+    struct tap_private *own = lagd->tap;
     struct ifreq now = {0}, wanted = {0};
     uint32_t mtu, least;
-    if (carries_by_team() || !ask_tap(SIOCGIFMTU, &now)) return; /* members have the MTU of a team device */
+    if (carries_by_team(lagd) || !ask_tap(lagd, SIOCGIFMTU, &now)) return; /* members have the MTU of a team device */
     mtu = (uint32_t)now.ifr_mtu;
-    if (set_mtu != 0 && mtu != set_mtu) less_mtu = mtu < most_mtu ? mtu : 0;
-    if (set_mtu != 0 && mtu != set_mtu && mtu > most_mtu)
-        (void)say(LOG_WARNING | ABOUT_CARRIER, "carry %s: its members take no MTU of %u: it has %u again", settings.carry, mtu, most_mtu);
-    least = less_mtu != 0 && less_mtu < most_mtu ? less_mtu : most_mtu;
+    if (own->set_mtu != 0 && mtu != own->set_mtu) own->less_mtu = mtu < own->most_mtu ? mtu : 0;
+    if (own->set_mtu != 0 && mtu != own->set_mtu && mtu > own->most_mtu)
+        (void)say(lagd, LOG_WARNING | ABOUT_CARRIER, "carry %s: its members take no MTU of %u: it has %u again", lagd->settings.carry, mtu,
+            own->most_mtu);
+    least = own->less_mtu != 0 && own->less_mtu < own->most_mtu ? own->less_mtu : own->most_mtu;
     wanted.ifr_mtu = (int)least;
-    if (mtu == least || ask_tap(SIOCSIFMTU, &wanted)) set_mtu = least;
+    if (mtu == least || ask_tap(lagd, SIOCSIFMTU, &wanted)) own->set_mtu = least;
 }
 
 /* The longest payload that each member takes is another one now. */
-void limit_mtu(uint32_t most) {
-    most_mtu = most < LONGEST_PAYLOAD ? most : LONGEST_PAYLOAD;
-    settle_mtu();
+void limit_mtu(struct lagd *lagd, uint32_t most) {
+    lagd->tap->most_mtu = most < LONGEST_PAYLOAD ? most : LONGEST_PAYLOAD;
+    settle_mtu(lagd);
 }
 
-uint32_t longest_payload(void) {
-    return most_mtu;
+uint32_t longest_payload(struct lagd *lagd) {
+    return lagd->tap->most_mtu;
 }
 
 /* The kernel told of the device. */
-void follow_tap(bool has_now, const char *discipline) {
-    carrier_told = has_now;
-    follow_host_queue(discipline);
-    if (carrier && has_now) open_host(true);
-    settle_mtu();
+void follow_tap(struct lagd *lagd, bool has_now, const char *discipline) {
+    struct tap_private *own = lagd->tap;
+    own->carrier_told = has_now;
+    follow_host_queue(lagd, discipline);
+    if (own->carrier && has_now) open_host(lagd, true);
+    settle_mtu(lagd);
 }
 
 /* 100 ms passed. Of a device that is not up the kernel tells no carrier, whoever set one. */
-void pass_tap_tick(void) {
-    carrier_ticks = carrier && !carrier_told && is_tap_up() ? carrier_ticks + 1 : 0;
-    if (carrier_ticks == CARRIER_TICKS)
-        (void)say(LOG_WARNING | ABOUT_CARRIER, "carry %s: it has no carrier, though links carry: who took it away may set it on again",
-            settings.carry);
+void pass_tap_tick(struct lagd *lagd) {
+    struct tap_private *own = lagd->tap;
+    own->carrier_ticks = own->carrier && !own->carrier_told && is_tap_up(lagd) ? own->carrier_ticks + 1 : 0;
+    if (own->carrier_ticks == CARRIER_TICKS)
+        (void)say(lagd, LOG_WARNING | ABOUT_CARRIER,
+            "carry %s: it has no carrier, though links carry: who took it away may set it on again", lagd->settings.carry);
 }
 
 /* The index of the device. */
-int tap_index(void) {
-    return number;
+int tap_index(struct lagd *lagd) {
+    return lagd->tap->number;
 }
 
 /* The device is there no more. */
-void forget_tap(void) {
-    number = 0;
-    carrier = false;
+void forget_tap(struct lagd *lagd) {
+    struct tap_private *own = lagd->tap;
+    own->number = 0;
+    own->carrier = false;
 }
 
 /* The MAC address that the device has now: whoever administers it may change it. */
-bool read_tap_mac(uint8_t *mac) {
+bool read_tap_mac(struct lagd *lagd, uint8_t *mac) {
     struct ifreq request = {0};
-    if (!ask_tap(SIOCGIFHWADDR, &request)) return false;
+    if (!ask_tap(lagd, SIOCGIFHWADDR, &request)) return false;
     memcpy(mac, request.ifr_hwaddr.sa_data, ETH_ALEN);
     return true;
 }
 
 /* Whether the host has the device up, whatever its name is now. */
-bool is_tap_up(void) {
+bool is_tap_up(struct lagd *lagd) {
     struct ifreq request = {0};
-    return ask_tap(SIOCGIFFLAGS, &request) && (request.ifr_flags & IFF_UP) != 0;
+    return ask_tap(lagd, SIOCGIFFLAGS, &request) && (request.ifr_flags & IFF_UP) != 0;
 }
 
 /* Has the host hand over frames of several segments, and without checksums, where they are passed; each packet tells before its frame. */
-static void choose_segments(void) {
-    unsigned long wanted = passes_segments() ? TUN_F_CSUM | TUN_F_TSO4 | TUN_F_TSO6 | TUN_F_TSO_ECN : 0;
-    unsigned long more = passes_segments() ? TUN_F_USO4 | TUN_F_USO6 : 0;
-    if (ioctl(tap, TUNSETVNETHDRSZ, &(int){(int)head_octets()}) < 0
-        || (ioctl(tap, TUNSETOFFLOAD, wanted | more) < 0 && ioctl(tap, TUNSETOFFLOAD, wanted) < 0))
+static void choose_segments(struct lagd *lagd) {
+    struct tap_private *own = lagd->tap;
+    unsigned long wanted = passes_segments(lagd) ? TUN_F_CSUM | TUN_F_TSO4 | TUN_F_TSO6 | TUN_F_TSO_ECN : 0;
+    unsigned long more = passes_segments(lagd) ? TUN_F_USO4 | TUN_F_USO6 : 0;
+    if (ioctl(own->tap, TUNSETVNETHDRSZ, &(int){(int)head_octets()}) < 0
+        || (ioctl(own->tap, TUNSETOFFLOAD, wanted | more) < 0 && ioctl(own->tap, TUNSETOFFLOAD, wanted) < 0))
         stop(REFUSED, "no frames of several segments", strerror(errno));
 }
 
@@ -177,99 +200,106 @@ static bool is_here(int fd, struct ifreq *device) {
 }
 
 /* The index of the device of this name, or 0. */
-static int index_of(const char *name) {
+static int index_of(struct lagd *lagd, const char *name) {
     struct ifreq found = request_of(name);
-    return ioctl(asker, SIOCGIFINDEX, &found) == 0 ? found.ifr_ifindex : 0;
+    return ioctl(lagd->tap->asker, SIOCGIFINDEX, &found) == 0 ? found.ifr_ifindex : 0;
 }
 
 /* The device is the one of the last daemon: it has all that was set of it, and outlives this one no more. */
-static void go_on_with_tap(void) {
+static void go_on_with_tap(struct lagd *lagd) {
+    struct tap_private *own = lagd->tap;
     struct ifreq now = {0};
-    if (inherited.persists) (void)ioctl(tap, TUNSETPERSIST, 0);
-    less_mtu = inherited.mtu;
-    if (ask_tap(SIOCGIFMTU, &now)) set_mtu = most_mtu = (uint32_t)now.ifr_mtu;
-    choose_segments();
+    if (lagd->inherited.persists) (void)ioctl(own->tap, TUNSETPERSIST, 0);
+    own->less_mtu = lagd->inherited.mtu;
+    if (ask_tap(lagd, SIOCGIFMTU, &now)) own->set_mtu = own->most_mtu = (uint32_t)now.ifr_mtu;
+    choose_segments(lagd);
 }
 
 /* Sets up a device that is new to the daemon, or to its settings, without carrier. It gets its MAC address before anything else: whoever
  * brings it up has a link-local address of it. */
-static void set_up(const uint8_t *mac) {
+static void set_up(struct lagd *lagd, const uint8_t *mac) {
+    struct tap_private *own = lagd->tap;
     struct ifreq address = {0}, queue = {0};
     address.ifr_hwaddr.sa_family = ARPHRD_ETHER;
     memcpy(address.ifr_hwaddr.sa_data, mac, ETH_ALEN);
-    if (!ask_tap(SIOCSIFHWADDR, &address)) stop(REFUSED, "no address of the TAP device", strerror(errno));
-    carrier = true;
-    set_carrier(false);
-    choose_segments();
+    if (!ask_tap(lagd, SIOCSIFHWADDR, &address)) stop(REFUSED, "no address of the TAP device", strerror(errno));
+    own->carrier = true;
+    set_carrier(lagd, false);
+    choose_segments(lagd);
     queue.ifr_qlen = HOST_QUEUE;
-    (void)ask_tap(SIOCSIFTXQLEN, &queue);
-    settle_mtu();
-    if (settings.fast) give_no_queue(number); /* the usual one of a machine may hold frames */
+    (void)ask_tap(lagd, SIOCSIFTXQLEN, &queue);
+    settle_mtu(lagd);
+    if (lagd->settings.fast) give_no_queue(lagd, own->number); /* the usual one of a machine may hold frames */
 }
 
 /* What waits in the device is lost. */
-static void lose_waiting(void) {
+static void lose_waiting(struct lagd *lagd) {
     uint8_t scrap[ETH_HLEN];
-    for (unsigned frames = 0; frames < 2 * HOST_QUEUE && read(tap, scrap, sizeof scrap) > 0; frames++) continue;
+    for (unsigned frames = 0; frames < 2 * HOST_QUEUE && read(lagd->tap->tap, scrap, sizeof scrap) > 0; frames++) continue;
 }
 
 /* Takes the device that the last daemon left with the manager of services, whatever an administrator named it since, and the frames that
  * wait there unless they are old; answers whether there is one. Its carrier goes where nothing goes on. */
-static bool take_inherited(const char *name, const uint8_t *mac) {
+static bool take_inherited(struct lagd *lagd, const char *name, const uint8_t *mac) {
+    struct tap_private *own = lagd->tap;
     struct ifreq device = {0};
-    int fd = take_stored("tap", 0);
+    int fd = take_stored(lagd, "tap", 0);
     if (fd < 0) return false;
-    if (!is_here(fd, &device) || (inherited.tap == 0 ? strcmp(device.ifr_name, name) != 0 : index_of(device.ifr_name) != inherited.tap)) {
+    if (!is_here(fd, &device)
+        || (lagd->inherited.tap == 0 ? strcmp(device.ifr_name, name) != 0 : index_of(lagd, device.ifr_name) != lagd->inherited.tap)) {
         close_stored("tap", 0, fd);
         return false;
     }
-    tap = fd;
-    number = index_of(device.ifr_name);
-    carrier = true;
-    if (!resuming) set_carrier(false);
-    if (!was_away_briefly()) lose_waiting();
-    if (inherited.tap == number)
-        go_on_with_tap();
+    own->tap = fd;
+    own->number = index_of(lagd, device.ifr_name);
+    own->carrier = true;
+    if (!lagd->resuming) set_carrier(lagd, false);
+    if (!was_away_briefly(lagd)) lose_waiting(lagd);
+    if (lagd->inherited.tap == own->number)
+        go_on_with_tap(lagd);
     else
-        set_up(mac);
+        set_up(lagd, mac);
     return true;
 }
 
 /* Makes the device, without carrier, or takes one that is there and that nobody has, as that of the last daemon, which may have another name
  * now. One that was made is gone when the daemon ends, unless the next one goes on. */
-static void make_tap(const char *name, const uint8_t *mac) {
+static void make_tap(struct lagd *lagd, const char *name, const uint8_t *mac) {
+    struct tap_private *own = lagd->tap;
     char room[IF_NAMESIZE];
-    struct ifreq device = request_of(inherited.persists && if_indextoname((unsigned)inherited.tap, room) ? room : name);
-    tap = open("/dev/net/tun", O_RDWR | O_NONBLOCK | O_CLOEXEC);
-    if (tap < 0) stop(REFUSED, "no TAP device", strerror(errno));
+    struct ifreq device = request_of(lagd->inherited.persists && if_indextoname((unsigned)lagd->inherited.tap, room) ? room : name);
+    own->tap = open("/dev/net/tun", O_RDWR | O_NONBLOCK | O_CLOEXEC);
+    if (own->tap < 0) stop(REFUSED, "no TAP device", strerror(errno));
     device.ifr_flags = IFF_TAP | IFF_NO_PI | IFF_VNET_HDR | NO_CARRIER;
-    if (ioctl(tap, TUNSETIFF, &device) < 0) stop(REFUSED, name, strerror(errno));
-    number = index_of(device.ifr_name);
-    if (number == 0) stop(REFUSED, name, strerror(errno));
-    carrier = true; /* which older kernels set here */
-    set_carrier(false);
-    if (inherited.tap == number)
-        go_on_with_tap();
+    if (ioctl(own->tap, TUNSETIFF, &device) < 0) stop(REFUSED, name, strerror(errno));
+    own->number = index_of(lagd, device.ifr_name);
+    if (own->number == 0) stop(REFUSED, name, strerror(errno));
+    own->carrier = true; /* which older kernels set here */
+    set_carrier(lagd, false);
+    if (lagd->inherited.tap == own->number)
+        go_on_with_tap(lagd);
     else
-        set_up(mac);
+        set_up(lagd, mac);
 }
 
 /* Opens the device. */
-int open_tap(const char *name, const uint8_t *mac) {
-    asker = socket(AF_UNIX, SOCK_DGRAM | SOCK_CLOEXEC, 0);
-    if (asker < 0) stop(REFUSED, "no TAP device", strerror(errno));
-    if (!take_inherited(name, mac)) make_tap(name, mac);
-    put_stored("tap", 0, tap);
-    return tap;
+int open_tap(struct lagd *lagd, const char *name, const uint8_t *mac) {
+    struct tap_private *own = lagd->tap;
+    own->asker = socket(AF_UNIX, SOCK_DGRAM | SOCK_CLOEXEC, 0);
+    if (own->asker < 0) stop(REFUSED, "no TAP device", strerror(errno));
+    if (!take_inherited(lagd, name, mac)) make_tap(lagd, name, mac);
+    put_stored("tap", 0, own->tap);
+    return own->tap;
 }
 
 /* The device is one of the team driver. Its carrier stays where the data of the last daemon goes on. */
-void use_team_device(int index) {
-    asker = socket(AF_UNIX, SOCK_DGRAM | SOCK_CLOEXEC, 0);
-    if (asker < 0) stop(REFUSED, "no team device", strerror(errno));
-    number = index;
-    carrier = true;
-    if (!resuming) set_carrier(false);
+void use_team_device(struct lagd *lagd, int index) {
+    struct tap_private *own = lagd->tap;
+    own->asker = socket(AF_UNIX, SOCK_DGRAM | SOCK_CLOEXEC, 0);
+    if (own->asker < 0) stop(REFUSED, "no team device", strerror(errno));
+    own->number = index;
+    own->carrier = true;
+    if (!lagd->resuming) set_carrier(lagd, false);
 }
 
 /* The device that the last daemon made outlive itself goes. */
@@ -285,18 +315,20 @@ void end_tap(int index) {
 }
 
 /* The next daemon gets the device as it is, by its name where no manager of services keeps it; or it is to go with this one. */
-void keep_tap(bool keeps) {
+void keep_tap(struct lagd *lagd, bool keeps) {
+    struct tap_private *own = lagd->tap;
     struct ifreq device = {0};
-    if (carries_by_team()) return;
-    if (persists == keeps || ioctl(tap, TUNGETIFF, &device) < 0 || (keeps && (has_store() || (device.ifr_flags & IFF_PERSIST)))) return;
-    if (ioctl(tap, TUNSETPERSIST, keeps) == 0) persists = keeps;
+    if (carries_by_team(lagd)) return;
+    if (own->persists == keeps || ioctl(own->tap, TUNGETIFF, &device) < 0 || (keeps && (has_store() || (device.ifr_flags & IFF_PERSIST))))
+        return;
+    if (ioctl(own->tap, TUNSETPERSIST, keeps) == 0) own->persists = keeps;
 }
 
-bool tap_persists(void) {
-    return persists;
+bool tap_persists(struct lagd *lagd) {
+    return lagd->tap->persists;
 }
 
 /* A lower MTU than the members take, which an administrator set, or 0. */
-uint32_t mtu_of_administrator(void) {
-    return less_mtu;
+uint32_t mtu_of_administrator(struct lagd *lagd) {
+    return lagd->tap->less_mtu;
 }

@@ -9,7 +9,7 @@
 #include <string.h>
 
 #include "netlink.h"
-#include "state.h"
+#include "daemon.h"
 #include "team.h"
 
 #define MODE "loadbalance"
@@ -20,22 +20,31 @@
 /* How often a name is tried that the TAP device of the last daemon has still, each 100 ms. */
 #define MOST_TRIES 10
 
-static bool opened;
-static bool made;                   /* whether a daemon made the device, so that it goes at the end */
-static bool taken[NIW_MOST_PORTS]; /* whether the interface of a port is a port of the device */
-static int lock = -1, locked;       /* by which no other lagd has the device, whatever members are there; and its index */
+/* What this file keeps for a daemon. */
+struct team_private {
+    bool opened;
+    bool made; /* whether a daemon made the device, so that it goes at the end */
+    bool taken[NIW_MOST_PORTS]; /* whether the interface of a port is a port of the device */
+    int lock, locked; /* by which no other lagd has the device, whatever members are there; and its index */
+};
 
-bool carries_by_team(void) {
-    return opened;
+struct team_private *make_team_private(void) {
+    struct team_private *made = make_room(sizeof *made);
+    made->lock = -1;
+    return made;
 }
 
-bool is_team_port(uint16_t port) {
-    return taken[port - 1];
+bool carries_by_team(struct lagd *lagd) {
+    return lagd->team->opened;
+}
+
+bool is_team_port(struct lagd *lagd, uint16_t port) {
+    return lagd->team->taken[port - 1];
 }
 
 /* Whether a daemon made the device. */
-bool has_made_team(void) {
-    return made;
+bool has_made_team(struct lagd *lagd) {
+    return lagd->team->made;
 }
 
 static void need(bool done, const char *what) {
@@ -43,43 +52,46 @@ static void need(bool done, const char *what) {
 }
 
 /* Whether the driver takes the mode: at a device of its own, which stays. */
-bool has_team_mode(void) {
+bool has_team_mode(struct lagd *lagd) {
     static const uint8_t mac[ETH_ALEN] = {2, 0, 0, 0, 0, 1};
     struct interface device;
-    return make_team_device("team0", mac, ETH_DATA_LEN) && ask_interface(0, "team0", &device) && set_team_text(device.index, "mode", MODE);
+    return make_team_device(lagd, "team0", mac, ETH_DATA_LEN) && ask_interface(lagd, 0, "team0", &device)
+        && set_team_text(lagd, device.index, "mode", MODE);
 }
 
 /* The lowest MTU of the interfaces that are there: the driver gives its ports that of the device. */
-static uint32_t least_mtu(void) {
+static uint32_t least_mtu(struct lagd *lagd) {
     uint32_t least = 0;
-    for (uint16_t i = 0; i < settings.port_count; i++) {
+    for (uint16_t i = 0; i < lagd->settings.port_count; i++) {
         struct interface member;
-        if (ask_interface(0, settings.ports[i].name, &member) && member.mtu != 0 && (least == 0 || member.mtu < least)) least = member.mtu;
+        if (ask_interface(lagd, 0, lagd->settings.ports[i].name, &member) && member.mtu != 0 && (least == 0 || member.mtu < least))
+            least = member.mtu;
     }
     return least == 0 ? ETH_DATA_LEN : least;
 }
 
 /* Takes the lock of a device. */
-static void lock_device(int index) {
+static void lock_device(struct lagd *lagd, int index) {
+    struct team_private *own = lagd->team;
     char what[128];
-    lock = lock_interface(index);
-    if (lock < 0 && errno == EADDRINUSE) {
-        snprintf(what, sizeof what, "another lagd has the interface, %s", holder_of(index));
-        stop(REFUSED, what, settings.carry);
+    own->lock = lock_interface(lagd, index);
+    if (own->lock < 0 && errno == EADDRINUSE) {
+        snprintf(what, sizeof what, "another lagd has the interface, %s", holder_of(lagd, index));
+        stop(REFUSED, what, lagd->settings.carry);
     }
-    need(lock >= 0, settings.carry);
-    locked = index;
-    put_stored("lock", index, lock);
+    need(own->lock >= 0, lagd->settings.carry);
+    own->locked = index;
+    put_stored("lock", index, own->lock);
 }
 
 /* Whether each port of a device is an interface of this bundle. */
-static bool has_own_ports(const struct team_now *now) {
+static bool has_own_ports(struct lagd *lagd, const struct team_now *now) {
     bool all = true;
     for (unsigned at = 0; at < now->port_count; at++) {
         bool own = false;
-        for (uint16_t i = 0; i < settings.port_count && !own; i++) {
+        for (uint16_t i = 0; i < lagd->settings.port_count && !own; i++) {
             struct interface member;
-            own = ask_interface(0, settings.ports[i].name, &member) && member.index == now->ports[at];
+            own = ask_interface(lagd, 0, lagd->settings.ports[i].name, &member) && member.index == now->ports[at];
         }
         all = all && own;
     }
@@ -87,26 +99,29 @@ static bool has_own_ports(const struct team_now *now) {
 }
 
 /* Takes a device that is there: that of the last daemon, or one that is of no use to others. */
-static void take_device(const struct interface *device, const uint8_t *mac) {
+static void take_device(struct lagd *lagd, const struct interface *device, const uint8_t *mac) {
     struct team_now now;
-    bool known = device->index == inherited.tap;
-    if (strcmp(device->kind, TEAM_KIND) != 0) stop(REFUSED, settings.carry, "an interface of this name is there, and is no team device");
-    lock_device(device->index);
-    need(read_team(device->index, &now), settings.carry);
-    if (strcmp(now.mode, MODE) != 0 && strcmp(now.mode, NO_MODE) != 0) stop(REFUSED, settings.carry, "a team device of another mode is there");
-    if (!has_own_ports(&now) && !known) stop(REFUSED, settings.carry, "a team device with ports of others is there");
-    made = known && inherited.persists;
-    need(known || set_address(device->index, mac), settings.carry);
-    use_team_device(device->index);
+    bool known = device->index == lagd->inherited.tap;
+    if (strcmp(device->kind, TEAM_KIND) != 0)
+        stop(REFUSED, lagd->settings.carry, "an interface of this name is there, and is no team device");
+    lock_device(lagd, device->index);
+    need(read_team(lagd, device->index, &now), lagd->settings.carry);
+    if (strcmp(now.mode, MODE) != 0 && strcmp(now.mode, NO_MODE) != 0)
+        stop(REFUSED, lagd->settings.carry, "a team device of another mode is there");
+    if (!has_own_ports(lagd, &now) && !known) stop(REFUSED, lagd->settings.carry, "a team device with ports of others is there");
+    lagd->team->made = known && lagd->inherited.persists;
+    need(known || set_address(lagd, device->index, mac), lagd->settings.carry);
+    use_team_device(lagd, device->index);
 }
 
 /* Finds the device of the last daemon, whatever an administrator named it since, or else one of this name; answers whether there is one. A
  * TAP device of the last daemon goes. */
-static bool find_device(const char *name, struct interface *device) {
-    int tap = take_stored("tap", 0);
+static bool find_device(struct lagd *lagd, const char *name, struct interface *device) {
+    int tap = take_stored(lagd, "tap", 0);
     if (tap >= 0) close_stored("tap", 0, tap);
-    if (inherited.tap != 0 && ask_interface(inherited.tap, NULL, device) && strcmp(device->kind, TEAM_KIND) == 0) return true;
-    for (int tries = 0; ask_interface(0, name, device); tries++) {
+    if (lagd->inherited.tap != 0 && ask_interface(lagd, lagd->inherited.tap, NULL, device) && strcmp(device->kind, TEAM_KIND) == 0)
+        return true;
+    for (int tries = 0; ask_interface(lagd, 0, name, device); tries++) {
         if (strcmp(device->kind, "tun") != 0 || tries == MOST_TRIES) return true;
         (void)poll(NULL, 0, NIW_TICK_MILLISECONDS);
     }
@@ -114,144 +129,153 @@ static bool find_device(const char *name, struct interface *device) {
 }
 
 /* Has the driver spread frames over buckets, and tell what each of them sent. */
-static void set_options(const char *mode_now) {
+static void set_options(struct lagd *lagd, const char *mode_now) {
     struct sock_filter steps[MOST_HASH_STEPS];
-    int index = tap_index();
-    need(strcmp(mode_now, MODE) == 0 || set_team_text(index, "mode", MODE), "team: mode " MODE);
-    need(set_team_hash(index, steps, make_team_hash(steps)), "team: bpf_hash_func");
-    need(set_team_text(index, "lb_tx_method", "hash_to_port_mapping"), "team: lb_tx_method");
-    need(set_team_number(index, "lb_stats_refresh_interval", COUNTED_EVERY), "team: lb_stats_refresh_interval");
+    int index = tap_index(lagd);
+    need(strcmp(mode_now, MODE) == 0 || set_team_text(lagd, index, "mode", MODE), "team: mode " MODE);
+    need(set_team_hash(lagd, index, steps, make_team_hash(lagd, steps)), "team: bpf_hash_func");
+    need(set_team_text(lagd, index, "lb_tx_method", "hash_to_port_mapping"), "team: lb_tx_method");
+    need(set_team_number(lagd, index, "lb_stats_refresh_interval", COUNTED_EVERY), "team: lb_stats_refresh_interval");
 }
 
 /* Opens the device: it has no carrier, unless the data of the last daemon goes on. */
-void open_team(const char *name, const uint8_t *mac) {
+void open_team(struct lagd *lagd, const char *name, const uint8_t *mac) {
+    struct team_private *own = lagd->team;
     struct interface device;
     struct team_now now;
-    need(find_team_driver(), "plane=team: this kernel has no team driver");
-    if (atexit(end_team) != 0) stop(REFUSED, "no memory", "for the team device");
-    opened = true;
-    if (find_device(name, &device)) {
-        take_device(&device, mac);
+    need(find_team_driver(lagd), "plane=team: this kernel has no team driver");
+    if (call_at_exit(lagd, end_team) != 0) stop(REFUSED, "no memory", "for the team device");
+    own->opened = true;
+    if (find_device(lagd, name, &device)) {
+        take_device(lagd, &device, mac);
     } else {
-        need(make_team_device(name, mac, least_mtu()) && ask_interface(0, name, &device), name);
-        made = true;
-        use_team_device(device.index);
-        lock_device(device.index);
+        need(make_team_device(lagd, name, mac, least_mtu(lagd)) && ask_interface(lagd, 0, name, &device), name);
+        own->made = true;
+        use_team_device(lagd, device.index);
+        lock_device(lagd, device.index);
     }
-    need(read_team(tap_index(), &now), "team");
-    set_options(now.mode);
-    start_buckets();
+    need(read_team(lagd, tap_index(lagd), &now), "team");
+    set_options(lagd, now.mode);
+    start_buckets(lagd);
 }
 
 /* Gives a port the address of the device: frames to that would be of another host for the network stack. The driver puts back what it had. Some
  * cards take an address only while they are down; one that takes none even then is up again. */
-static bool give_address(int index, const uint8_t *mac) {
+static bool give_address(struct lagd *lagd, int index, const uint8_t *mac) {
     int fault = 0;
-    if (set_address(index, mac)) return true;
-    if (errno != EBUSY || !set_interface_up(index, false)) return false;
-    if (!set_address(index, mac)) fault = errno;
-    if (!set_interface_up(index, true) && fault == 0) fault = errno;
+    if (set_address(lagd, index, mac)) return true;
+    if (errno != EBUSY || !set_interface_up(lagd, index, false)) return false;
+    if (!set_address(lagd, index, mac)) fault = errno;
+    if (!set_interface_up(lagd, index, true) && fault == 0) fault = errno;
     errno = fault;
     return fault == 0;
 }
 
 /* The device has another address than some ports: who administers it may change it. A port that does not take it would lose what comes: it is
  * taken up anew. */
-void give_team_addresses(void) {
+void give_team_addresses(struct lagd *lagd) {
     uint8_t mac[ETH_ALEN];
-    if (!read_tap_mac(mac)) return;
-    for (uint16_t i = 0; i < link_count; i++) {
-        if (!taken[i] || memcmp(links[i].mac, mac, sizeof mac) == 0 || give_address(links[i].index, mac)) continue;
-        (void)say(LOG_WARNING | ABOUT_DATA, "port %u %s: it does not take the address of %s: %s", links[i].settings.number, links[i].name,
-            settings.carry, strerror(errno));
-        lose_link(&links[i]);
-        look_again();
+    if (!read_tap_mac(lagd, mac)) return;
+    for (uint16_t i = 0; i < lagd->link_count; i++) {
+        if (!lagd->team->taken[i] || memcmp(lagd->links[i].mac, mac, sizeof mac) == 0 || give_address(lagd, lagd->links[i].index, mac))
+            continue;
+        (void)say(lagd, LOG_WARNING | ABOUT_DATA, "port %u %s: it does not take the address of %s: %s", lagd->links[i].settings.number,
+            lagd->links[i].name, lagd->settings.carry, strerror(errno));
+        lose_link(lagd, &lagd->links[i]);
+        look_again(lagd);
     }
 }
 
 /* Takes an interface out of the device, by which it goes down: also where the device is gone, or somebody else took it out. */
-void leave_team_port(int index) {
+void leave_team_port(struct lagd *lagd, int index) {
     struct interface port;
     bool up;
-    if (!opened || !ask_interface(index, NULL, &port) || (port.master != 0 && port.master != tap_index())) return;
+    if (!lagd->team->opened || !ask_interface(lagd, index, NULL, &port) || (port.master != 0 && port.master != tap_index(lagd))) return;
     up = port.master == 0 || (port.flags & IFF_UP);
-    if ((port.master == 0 || set_master(index, 0)) && up) (void)set_interface_up(index, true);
+    if ((port.master == 0 || set_master(lagd, index, 0)) && up) (void)set_interface_up(lagd, index, true);
 }
 
 /* Makes an interface a new port of the device, which takes it while it is down, and passes no data on it until it is told to: the driver would
  * at once. */
-static bool make_port(int index, bool up) {
-    return (!up || set_interface_up(index, false)) && set_master(index, tap_index()) && set_port_enabled(tap_index(), index, false);
+static bool make_port(struct lagd *lagd, int index, bool up) {
+    return (!up || set_interface_up(lagd, index, false)) && set_master(lagd, index, tap_index(lagd))
+        && set_port_enabled(lagd, tap_index(lagd), index, false);
 }
 
 /* Makes an interface a port of the device; answers whether it is one, and else errno tells why not. One that belongs to another device stays
  * there. */
-bool open_team_port(struct link *link) {
+bool open_team_port(struct lagd *lagd, struct link *link) {
+    struct team_private *own = lagd->team;
     struct interface port;
     uint8_t mac[ETH_ALEN];
     bool up, done;
-    if (!ask_interface(link->index, NULL, &port) || !read_tap_mac(mac)) return false;
+    if (!ask_interface(lagd, link->index, NULL, &port) || !read_tap_mac(lagd, mac)) return false;
     up = (port.flags & IFF_UP) != 0;
     errno = EBUSY;
-    if (port.master != 0 && port.master != tap_index()) return false;
-    done = port.master != 0 || make_port(link->index, up);
-    taken[link - links] = done && (memcmp(port.mac, mac, sizeof mac) == 0 || give_address(link->index, mac));
-    forget_port(link->settings.number);
-    if (!taken[link - links]) {
+    if (port.master != 0 && port.master != tap_index(lagd)) return false;
+    done = port.master != 0 || make_port(lagd, link->index, up);
+    own->taken[link - lagd->links] = done && (memcmp(port.mac, mac, sizeof mac) == 0 || give_address(lagd, link->index, mac));
+    forget_port(lagd, link->settings.number);
+    if (!own->taken[link - lagd->links]) {
         int fault = errno;
-        leave_team_port(link->index);
-        if (up) (void)set_interface_up(link->index, true);
+        leave_team_port(lagd, link->index);
+        if (up) (void)set_interface_up(lagd, link->index, true);
         errno = fault;
     }
-    return taken[link - links];
+    return own->taken[link - lagd->links];
 }
 
 /* The interface is no member any more, or the daemon ends. */
-void close_team_port(struct link *link) {
-    if (!taken[link - links]) return;
-    taken[link - links] = false;
-    forget_port(link->settings.number);
-    leave_team_port(link->index);
+void close_team_port(struct lagd *lagd, struct link *link) {
+    struct team_private *own = lagd->team;
+    if (!own->taken[link - lagd->links]) return;
+    own->taken[link - lagd->links] = false;
+    forget_port(lagd, link->settings.number);
+    leave_team_port(lagd, link->index);
 }
 
 /* Whether an interface is still a port of the device, as the kernel tells another master, or none: that may be older than what the daemon
  * did. */
-bool is_still_team_port(const struct link *link, int master) {
+bool is_still_team_port(struct lagd *lagd, const struct link *link, int master) {
+    struct team_private *own = lagd->team;
     struct interface now;
-    if (!opened || !taken[link - links] || master == tap_index() || !ask_interface(link->index, NULL, &now)) return true;
-    if (now.master == tap_index()) return true;
-    (void)say(LOG_WARNING | ABOUT_DATA, "port %u %s: it was taken out of %s", link->settings.number, link->name, settings.carry);
+    if (!own->opened || !own->taken[link - lagd->links] || master == tap_index(lagd) || !ask_interface(lagd, link->index, NULL, &now))
+        return true;
+    if (now.master == tap_index(lagd)) return true;
+    (void)say(lagd, LOG_WARNING | ABOUT_DATA, "port %u %s: it was taken out of %s", link->settings.number, link->name,
+        lagd->settings.carry);
     return false;
 }
 
 /* The ports that a device has of the last daemon are free. */
-static void free_inherited_ports(int index) {
+static void free_inherited_ports(struct lagd *lagd, int index) {
     struct interface port;
-    for (unsigned i = 0; i < inherited.link_count; i++)
-        if (ask_interface(inherited.links[i].index, NULL, &port) && port.master == index && set_master(port.index, 0))
-            (void)set_interface_up(port.index, true);
+    for (unsigned i = 0; i < lagd->inherited.link_count; i++)
+        if (ask_interface(lagd, lagd->inherited.links[i].index, NULL, &port) && port.master == index && set_master(lagd, port.index, 0))
+            (void)set_interface_up(lagd, port.index, true);
 }
 
 /* By other settings nothing goes on: the ports of the device are free, and it goes if the last daemon made it. Where another daemon has it,
  * all stays as it is. */
-void leave_team(int index, bool with_device) {
+void leave_team(struct lagd *lagd, int index, bool with_device) {
     struct interface device;
     int held;
-    if (!find_team_driver() || !ask_interface(index, NULL, &device) || strcmp(device.kind, TEAM_KIND) != 0) return;
-    held = lock_interface(index);
+    if (!find_team_driver(lagd) || !ask_interface(lagd, index, NULL, &device) || strcmp(device.kind, TEAM_KIND) != 0) return;
+    held = lock_interface(lagd, index);
     if (held < 0) return;
-    free_inherited_ports(index);
-    if (with_device) (void)remove_device(index);
+    free_inherited_ports(lagd, index);
+    if (with_device) (void)remove_device(lagd, index);
     close_stored("lock", index, held);
 }
 
 /* The program ends, and no other one goes on: its ports are free, also those that a start did not come to, and the device goes if a daemon made
  * it. */
-void end_team(void) {
-    if (!opened || has_left) return;
-    for (uint16_t i = 0; i < link_count; i++) close_team_port(&links[i]);
-    if (tap_index() != 0) free_inherited_ports(tap_index());
-    if (made && tap_index() != 0) (void)remove_device(tap_index());
-    if (lock >= 0) close_stored("lock", locked, lock);
-    opened = false;
+void end_team(struct lagd *lagd) {
+    struct team_private *own = lagd->team;
+    if (!own->opened || lagd->has_left) return;
+    for (uint16_t i = 0; i < lagd->link_count; i++) close_team_port(lagd, &lagd->links[i]);
+    if (tap_index(lagd) != 0) free_inherited_ports(lagd, tap_index(lagd));
+    if (own->made && tap_index(lagd) != 0) (void)remove_device(lagd, tap_index(lagd));
+    if (own->lock >= 0) close_stored("lock", own->locked, own->lock);
+    own->opened = false;
 }

@@ -5,6 +5,7 @@
 #include <netinet/in.h>
 #include <string.h>
 
+#include "daemon.h"
 #include "team.h"
 
 /* The words that the program has for itself. */
@@ -25,7 +26,8 @@ enum { HASH, SKIPPED, PORTS, PROTOCOL, IS_IP, VLAN_FOUND };
 
 /* The last octets of both MAC addresses: as the library has it. */
 static const struct sock_filter BY_MACS[] = {
-    LOAD(BPF_B, ETH_ALEN - 1), BPF_STMT(BPF_MISC | BPF_TAX, 0), LOAD(BPF_B, 2 * ETH_ALEN - 1), COUNT_X(BPF_XOR), BPF_STMT(BPF_RET | BPF_A, 0)};
+    LOAD(BPF_B, ETH_ALEN - 1), BPF_STMT(BPF_MISC | BPF_TAX, 0), LOAD(BPF_B, 2 * ETH_ALEN - 1), COUNT_X(BPF_XOR),
+        BPF_STMT(BPF_RET | BPF_A, 0)};
 
 static const struct sock_filter CLEAR[] = {NUMBER(0), KEEP(SKIPPED), KEEP(PORTS), KEEP(PROTOCOL), KEEP(IS_IP), KEEP(VLAN_FOUND)};
 
@@ -77,25 +79,25 @@ static void append(struct sock_filter *steps, size_t *count, const struct sock_f
 }
 
 /* Writes the program of the settings; answers how many steps it has. */
-size_t make_team_hash(struct sock_filter steps[static MOST_HASH_STEPS]) {
-    const struct sock_filter begin[] = {NUMBER(HASH_START ^ settings.hash_seed), KEEP(HASH)};
+size_t make_team_hash(struct lagd *lagd, struct sock_filter steps[static MOST_HASH_STEPS]) {
+    const struct sock_filter begin[] = {NUMBER(HASH_START ^ lagd->settings.hash_seed), KEEP(HASH)};
     static const struct sock_filter end[] = {RECALL(HASH), BPF_STMT(BPF_RET | BPF_A, 0)};
     size_t count = 0;
-    if (settings.hash == HASH_LAYER2) {
+    if (lagd->settings.hash == HASH_LAYER2) {
         ADD(steps, count, BY_MACS);
         return count;
     }
     ADD(steps, count, CLEAR);
     ADD(steps, count, begin);
-    if (settings.hash == HASH_VLAN_SRCMAC) {
+    if (lagd->settings.hash == HASH_VLAN_SRCMAC) {
         ADD(steps, count, ADD_VLAN_AND_SOURCE);
     } else {
         ADD(steps, count, FIND_HEADER);
         ADD(steps, count, ADD_IPV4);
         ADD(steps, count, ADD_IPV6);
-        if (settings.hash == HASH_LAYER3_4) ADD(steps, count, UNLESS_IP);
+        if (lagd->settings.hash == HASH_LAYER3_4) ADD(steps, count, UNLESS_IP);
         ADD(steps, count, ADD_MACS);
-        if (settings.hash == HASH_LAYER3_4) ADD(steps, count, ADD_PORTS);
+        if (lagd->settings.hash == HASH_LAYER3_4) ADD(steps, count, ADD_PORTS);
     }
     ADD(steps, count, end);
     return count;

@@ -6,12 +6,14 @@
 #include <string.h>
 #include <sys/socket.h>
 
+#include "daemon.h"
 #include "team.h"
 
 #define BITS 8
 #define ROOM 2048
 
-struct settings settings;
+/* The daemon, as far as it is here. */
+static struct lagd tested, *lagd = &tested;
 
 /* Opens a pair of sockets of which one takes the frames whose bucket has a bit: the octets of what the program answers are joined. */
 static int open_bit(unsigned bit, int pair[2]) {
@@ -19,7 +21,7 @@ static int open_bit(unsigned bit, int pair[2]) {
     const struct sock_filter rest[] = {BPF_STMT(BPF_ST, 0), BPF_STMT(BPF_ALU | BPF_RSH | BPF_K, 16), BPF_STMT(BPF_LDX | BPF_MEM, 0),
         BPF_STMT(BPF_ALU | BPF_XOR | BPF_X, 0), BPF_STMT(BPF_ST, 0), BPF_STMT(BPF_ALU | BPF_RSH | BPF_K, 8), BPF_STMT(BPF_LDX | BPF_MEM, 0),
         BPF_STMT(BPF_ALU | BPF_XOR | BPF_X, 0), BPF_STMT(BPF_ALU | BPF_AND | BPF_K, 1u << bit), BPF_STMT(BPF_RET | BPF_A, 0)};
-    size_t count = make_team_hash(steps) - 1; /* without the one that answers */
+    size_t count = make_team_hash(lagd, steps) - 1; /* without the one that answers */
     struct sock_fprog program = {(unsigned short)(count + sizeof rest / sizeof *rest), steps};
     memcpy(steps + count, rest, sizeof rest);
     return socketpair(AF_UNIX, SOCK_DGRAM | SOCK_NONBLOCK, 0, pair) == 0
@@ -30,8 +32,8 @@ int main(int argc, char **argv) {
     char line[2 * ROOM + 2];
     int pairs[BITS][2];
     if (argc != 3) return 2;
-    settings.hash = (enum hash)atoi(argv[1]);
-    settings.hash_seed = (uint16_t)atoi(argv[2]);
+    lagd->settings.hash = (enum hash)atoi(argv[1]);
+    lagd->settings.hash_seed = (uint16_t)atoi(argv[2]);
     for (unsigned bit = 0; bit < BITS; bit++)
         if (!open_bit(bit, pairs[bit])) return 1;
     while (fgets(line, sizeof line, stdin)) {

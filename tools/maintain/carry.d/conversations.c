@@ -4,16 +4,16 @@
 #include <stdlib.h>
 #include <string.h>
 
-#include "carry.h"
+#include "daemon.h"
 
-struct settings settings;
-struct niw_system own_system = NIW_EMPTY;
+/* The daemon, as far as it is here. */
+static struct lagd tested, *lagd = &tested;
 
 int main(int argc, char **argv) {
     char line[4096];
     if (argc != 3) return 2;
-    settings.hash = (enum hash)atoi(argv[1]);
-    settings.hash_seed = (uint16_t)atoi(argv[2]);
+    lagd->settings.hash = (enum hash)atoi(argv[1]);
+    lagd->settings.hash_seed = (uint16_t)atoi(argv[2]);
     while (fgets(line, sizeof line, stdin)) {
         size_t length = strcspn(line, "\n") / 2;
         uint8_t *frame = malloc(length + 1);
@@ -21,7 +21,7 @@ int main(int argc, char **argv) {
             const char digits[] = {line[2 * i], line[2 * i + 1], 0};
             frame[i] = (uint8_t)strtoul(digits, NULL, 16);
         }
-        if (frame) printf("%u\n", (unsigned)conversation_of(frame, length).number);
+        if (frame) printf("%u\n", (unsigned)conversation_of(lagd, frame, length).number);
         free(frame);
     }
     return 0;

@@ -9,6 +9,7 @@
 #include <string.h>
 
 #include "checks.h"
+#include "daemon.h"
 #include "netlink.h"
 #include "team.h"
 
@@ -21,18 +22,16 @@
 /* After so many ticks in which nothing happens each bucket is on its own port. */
 #define CALM 30
 
+/* The daemon, as far as it is here. */
+static struct lagd tested, *lagd = &tested;
+
 const char *const program = "buckets";
-struct carry carry;
-struct settings settings = {.flight = FLIGHT};
-struct niw_system own_system;
-struct link links[NIW_MOST_PORTS];
-uint16_t link_count = PORTS;
-bool broken;
 
 /* The driver. */
 static bool enabled[PORTS + 1];
 static int member_of[CONVERSATIONS];
-static uint64_t sent[CONVERSATIONS], counted[CONVERSATIONS], last_counted[CONVERSATIONS]; /* the last: the time of the last frame that is counted */
+/* the last: the time of the last frame that is counted */
+static uint64_t sent[CONVERSATIONS], counted[CONVERSATIONS], last_counted[CONVERSATIONS];
 static uint64_t last_sent[CONVERSATIONS], all_sent, counted_at;
 static uint16_t placed_in; /* the aggregator that was active last */
 static unsigned refusals, shortages; /* how many orders are refused from now on, and for how many the kernel has no memory */
@@ -59,8 +58,8 @@ struct niw_number lagffi_offer_conversation(struct niw_system *handle, uint16_t 
     struct niw_number answer = {.status = NIW_OK};
     (void)handle;
     if (on[agg][conv] != 0 && !is_on(agg, conv)) answer.status = NIW_HELD;
-    if (on[agg][conv] == 0 && carry.port_count == 0) answer.status = NIW_NONE_DISTRIBUTING;
-    if (answer.status == NIW_OK && on[agg][conv] == 0) on[agg][conv] = carry.ports[conv % carry.port_count];
+    if (on[agg][conv] == 0 && lagd->carry.port_count == 0) answer.status = NIW_NONE_DISTRIBUTING;
+    if (answer.status == NIW_OK && on[agg][conv] == 0) on[agg][conv] = lagd->carry.ports[conv % lagd->carry.port_count];
     answer.number = on[agg][conv];
     return answer;
 }
@@ -79,7 +78,8 @@ uint32_t lagffi_rest(struct niw_system *handle, uint16_t agg, uint16_t conv) {
     return has ? NIW_OK : NIW_NOT_ASSIGNED;
 }
 
-bool ask_state(uint16_t agg, uint16_t number, struct niw_assignment *state) {
+bool ask_state(struct lagd *lagd, uint16_t agg, uint16_t number, struct niw_assignment *state) {
+    (void)lagd;
     *state = (struct niw_assignment){.port = on[agg][number], .what = NIW_CONVERSATION_FREE};
     if (on[agg][number] != 0) state->what = is_on(agg, number) ? NIW_CONVERSATION_ON : NIW_CONVERSATION_WANTED;
     return true;
@@ -89,7 +89,8 @@ bool is_held(const struct niw_assignment *state) {
     return state->what == NIW_CONVERSATION_WANTED;
 }
 
-bool is_done(uint32_t status, const char *call) {
+bool is_done(struct lagd *lagd, uint32_t status, const char *call) {
+    (void)lagd;
     if (status == NIW_OK) return true;
     check(false, call, "the library does it");
     exit(tell_checks());
@@ -102,34 +103,37 @@ static bool refuses(void) {
     return refusals > 0 && refusals-- > 0;
 }
 
-bool set_port_enabled(int index, int port, bool wanted) {
+bool set_port_enabled(struct lagd *lagd, int index, int port, bool wanted) {
     uint16_t number = (uint16_t)(port - INDEX);
     if (index != DEVICE || !is_port[number] || refuses()) return false;
     for (uint16_t bucket = 0; !wanted && bucket < CONVERSATIONS; bucket++) {
         if (member_of[bucket] != port) continue;
-        stranded = stranded || carry.port_count > 0;
+        stranded = stranded || lagd->carry.port_count > 0;
         member_of[bucket] = 0;
     }
     enabled[number] = wanted;
     return true;
 }
 
-bool set_bucket(int index, uint16_t bucket, int port) {
+bool set_bucket(struct lagd *lagd, int index, uint16_t bucket, int port) {
     uint16_t before = member_of[bucket] == 0 ? 0 : (uint16_t)(member_of[bucket] - INDEX);
     bool leaves = before != 0 && before != port - INDEX && distributes[before] && placed_in == aggregator;
+    (void)lagd;
     if (index != DEVICE || !enabled[port - INDEX] || refuses()) return false;
     if (leaves && last_counted[bucket] + FLIGHT > counted_at) early = true;
     member_of[bucket] = port;
     return true;
 }
 
-bool ask_interface(int index, const char *name, struct interface *device) {
+bool ask_interface(struct lagd *lagd, int index, const char *name, struct interface *device) {
+    (void)lagd;
     (void)name;
     *device = (struct interface){.index = index, .octets_sent = all_sent};
     return true;
 }
 
-bool read_team(int index, struct team_now *now) {
+bool read_team(struct lagd *lagd, int index, struct team_now *now) {
+    (void)lagd;
     *now = (struct team_now){0};
     errno = ENOBUFS;
     if (unread > 0 && unread-- > 0) return false;
@@ -144,63 +148,69 @@ bool read_team(int index, struct team_now *now) {
 }
 
 /* What the daemon has beside. */
-uint64_t milliseconds(void) {
-    return carry.time;
+uint64_t milliseconds(struct lagd *lagd) {
+    return lagd->carry.time;
 }
-uint64_t ticks_passed(void) {
-    return carry.time / TICK;
+uint64_t ticks_passed(struct lagd *lagd) {
+    return lagd->carry.time / TICK;
 }
-int tap_index(void) {
+int tap_index(struct lagd *lagd) {
+    (void)lagd;
     return DEVICE;
 }
-bool is_team_port(uint16_t port) {
+bool is_team_port(struct lagd *lagd, uint16_t port) {
+    (void)lagd;
     return is_port[port];
 }
-void give_team_addresses(void) {
+void give_team_addresses(struct lagd *lagd) {
+    (void)lagd;
 }
-void look_at_carry(void) {
-    carry.changed = true;
+void look_at_carry(struct lagd *lagd) {
+    lagd->carry.changed = true;
 }
-void look_again(void) {
+void look_again(struct lagd *lagd) {
+    (void)lagd;
 }
-void set_carrier(bool on) {
+void set_carrier(struct lagd *lagd, bool on) {
+    (void)lagd;
     carrier = on;
 }
-bool say(int level, const char *format, ...) {
+bool say(struct lagd *lagd, int level, const char *format, ...) {
+    (void)lagd;
     (void)level;
     unread_told += strstr(format, "does not tell") != NULL;
     return true;
 }
 
 static void choose_ports(void) {
-    carry.port_count = 0;
+    lagd->carry.port_count = 0;
     for (uint16_t port = 1; port <= PORTS; port++)
-        if (distributes[port]) carry.ports[carry.port_count++] = port;
-    carry.active = carry.port_count > 0 ? aggregator : 0;
+        if (distributes[port]) lagd->carry.ports[lagd->carry.port_count++] = port;
+    lagd->carry.active = lagd->carry.port_count > 0 ? aggregator : 0;
 }
 
 /* The driver refused something of a port: its link is lost, and so is its place. */
-void lose_link(struct link *link) {
-    uint16_t port = (uint16_t)(link - links + 1);
+void lose_link(struct lagd *lagd, struct link *link) {
+    uint16_t port = (uint16_t)(link - lagd->links + 1);
     lost++;
     distributes[port] = is_port[port] = enabled[port] = false;
     for (uint16_t bucket = 0; bucket < CONVERSATIONS; bucket++)
         if (member_of[bucket] == port + INDEX) member_of[bucket] = 0;
-    forget_port(port);
+    forget_port(lagd, port);
 }
 
 /* An interface becomes a port again: the driver enables it. */
 static void take_port(uint16_t port) {
     if (is_port[port]) return;
     is_port[port] = enabled[port] = true;
-    forget_port(port);
+    forget_port(lagd, port);
 }
 
 /* The driver counts what was sent. */
 static void count(void) {
     memcpy(counted, sent, sizeof counted);
     memcpy(last_counted, last_sent, sizeof last_counted);
-    counted_at = carry.time;
+    counted_at = lagd->carry.time;
 }
 
 /* Some conversations send for a while, and are still for a while. */
@@ -209,10 +219,10 @@ static void send_some(void) {
     for (uint16_t number = 0; number < CONVERSATIONS; number++) {
         if (random_below(8) == 0) sends[number] = random_below(3) == 0;
         if (random_below(1000) == 0) all_sent += 60; /* by the queue that the frame asks for, and so by no bucket */
-        if (!sends[number] || carry.port_count == 0) continue;
+        if (!sends[number] || lagd->carry.port_count == 0) continue;
         sent[number] += 60;
         all_sent += 60;
-        last_sent[number] = carry.time;
+        last_sent[number] = lagd->carry.time;
     }
 }
 
@@ -223,36 +233,36 @@ static void happen(void) {
     if (random_below(100) == 0) aggregator = 3 - aggregator;
     if (random_below(200) == 0) refusals = 1 + random_below(2);
     if (random_below(50) == 0 && is_port[port] && !distributes[port]) enabled[port] = true;
-    if (random_below(50) == 0 && enabled[port] && carry.port_count > 0 && !distributes[port]) member_of[bucket] = port + INDEX;
+    if (random_below(50) == 0 && enabled[port] && lagd->carry.port_count > 0 && !distributes[port]) member_of[bucket] = port + INDEX;
 }
 
 static void settle(void) {
     for (unsigned turn = 0; turn < 8; turn++) {
-        carry.changed = false;
+        lagd->carry.changed = false;
         choose_ports();
-        settle_buckets();
-        if (!carry.changed) break;
+        settle_buckets(lagd);
+        if (!lagd->carry.changed) break;
     }
-    if (carry.active != 0) placed_in = aggregator;
+    if (lagd->carry.active != 0) placed_in = aggregator;
 }
 
 /* 100 ms pass. */
 static void pass(bool eventful) {
-    carry.time += TICK;
+    lagd->carry.time += TICK;
     if (eventful) happen();
     if (eventful) send_some();
     if (!eventful || random_below(4) > 0) count();
     choose_ports();
-    pass_bucket_tick();
+    pass_bucket_tick(lagd);
     settle();
 }
 
 static bool are_placed(void) {
-    bool right = carrier == (carry.port_count > 0);
+    bool right = carrier == (lagd->carry.port_count > 0);
     for (uint16_t bucket = 0; bucket < CONVERSATIONS; bucket++) {
         uint16_t port = on[aggregator][bucket];
         right = right && on[3 - aggregator][bucket] == 0;
-        right = right && (carry.port_count == 0 || (port != 0 && member_of[bucket] == port + INDEX && distributes[port]));
+        right = right && (lagd->carry.port_count == 0 || (port != 0 && member_of[bucket] == port + INDEX && distributes[port]));
     }
     for (uint16_t port = 1; port <= PORTS; port++) right = right && (!is_port[port] || enabled[port] == distributes[port]);
     return right;
@@ -260,8 +270,8 @@ static bool are_placed(void) {
 
 /* Whether each bucket is on the port of its number. */
 static bool are_spread(void) {
-    for (uint16_t bucket = 0; carry.port_count > 0 && bucket < CONVERSATIONS; bucket++)
-        if (member_of[bucket] != carry.ports[bucket % carry.port_count] + INDEX) return false;
+    for (uint16_t bucket = 0; lagd->carry.port_count > 0 && bucket < CONVERSATIONS; bucket++)
+        if (member_of[bucket] != lagd->carry.ports[bucket % lagd->carry.port_count] + INDEX) return false;
     return true;
 }
 
@@ -303,15 +313,19 @@ static void check_unread(void) {
 
 int main(void) {
     unsigned wrong = 0, unspread = 0, calms = 0;
+    lagd->buckets = make_buckets_private();
+    lagd->settings.flight = FLIGHT;
+    lagd->link_count = PORTS;
     srandom(1);
-    carry.time = 1000;
-    for (uint16_t i = 0; i < PORTS; i++) links[i] = (struct link){.name = "port", .index = i + 1 + INDEX};
+    lagd->carry.time = 1000;
+    for (uint16_t i = 0; i < PORTS; i++) lagd->links[i] = (struct link){.name = "port", .index = i + 1 + INDEX};
     for (uint16_t port = 1; port <= PORTS; port++) take_port(port);
-    start_buckets();
+    start_buckets(lagd);
     for (unsigned turn = 0; turn < TURNS; turn++) {
         bool calm = turn % 200 >= 200 - 2 * CALM;
         for (uint16_t port = 1; calm && port <= PORTS; port++) take_port(port);
-        for (uint16_t port = 1; turn % 200 == 200 - 2 * CALM && port <= PORTS; port++) distributes[port] = turn % 600 > 200 && (port == 1 || random_below(2) == 0);
+        for (uint16_t port = 1; turn % 200 == 200 - 2 * CALM && port <= PORTS; port++)
+            distributes[port] = turn % 600 > 200 && (port == 1 || random_below(2) == 0);
         if (calm) refusals = 0;
         pass(!calm);
         if (turn % 200 >= 200 - CALM) wrong += !are_placed(); /* what others set is set back within a second */
@@ -323,7 +337,7 @@ int main(void) {
     CHECK(wrong == 0 && !stranded);
     CHECK(!early);
     CHECK(calms == TURNS / 200 && unspread == 0);
-    CHECK(carry.counts[MOVES] > 1000 && carry.counts[RESTED] > 1000 && carry.counts[FORCED] > 1000);
+    CHECK(lagd->carry.counts[MOVES] > 1000 && lagd->carry.counts[RESTED] > 1000 && lagd->carry.counts[FORCED] > 1000);
     check_shortages();
     check_unread();
     return tell_checks();

@@ -8,18 +8,17 @@
 #include <string.h>
 #include <sys/socket.h>
 
-#include "carry.h"
 #include "checks.h"
+#include "daemon.h"
 
 /* Where a Marker PDU has its identifier: behind 14 octets of Ethernet and 12 of its own (IEEE 802.1AX-2014, 6.5.3.3). */
 #define AT 26
 #define PORT 3
 #define AFTER 50
 
-struct carry carry;
-struct settings settings = {.all_queues = true, .answer_after = AFTER};
-struct link links[NIW_MOST_PORTS];
-uint16_t link_count = PORT;
+/* The daemon, as far as it is here. */
+static struct lagd tested, *lagd = &tested;
+
 const char *const program = "flights";
 
 static uint64_t now = 1000;
@@ -27,11 +26,13 @@ static bool is_fast_member;
 static unsigned sent, by_mark, answered, entries = 4;
 static uint32_t ids[64], marks[64];
 
-uint64_t milliseconds(void) {
+uint64_t milliseconds(struct lagd *lagd) {
+    (void)lagd;
     return now;
 }
 
-bool has_fast_member(uint16_t port) {
+bool has_fast_member(struct lagd *lagd, uint16_t port) {
+    (void)lagd;
     (void)port;
     return is_fast_member;
 }
@@ -42,7 +43,8 @@ unsigned count_entries(int index, const char *begin) {
     return entries;
 }
 
-bool await_input(int fd, uint32_t tag) {
+bool await_input(struct lagd *lagd, int fd, uint32_t tag) {
+    (void)lagd;
     return fd >= 0 && tag == RESPONSES;
 }
 
@@ -51,11 +53,13 @@ void stop(int status, const char *what, const char *which) {
     _Exit(status);
 }
 
-void take_data(uint16_t port) {
+void take_data(struct lagd *lagd, uint16_t port) {
+    (void)lagd;
     (void)port;
 }
 
-void send_frame(struct link *link, const uint8_t *frame) {
+void send_frame(struct lagd *lagd, struct link *link, const uint8_t *frame) {
+    (void)lagd;
     (void)link;
     (void)frame;
     answered++;
@@ -68,8 +72,9 @@ static uint32_t mark_of(struct msghdr *message) {
     return mark;
 }
 
-bool give_marker(struct link *link, const uint8_t *marker, struct msghdr *message) {
+bool give_marker(struct lagd *lagd, struct link *link, const uint8_t *marker, struct msghdr *message) {
     const uint8_t *at = marker + AT;
+    (void)lagd;
     (void)link;
     ids[sent % 64] = (uint32_t)at[0] << 24 | (uint32_t)at[1] << 16 | (uint32_t)at[2] << 8 | at[3];
     marks[sent++ % 64] = mark_of(message);
@@ -80,7 +85,7 @@ bool give_marker(struct link *link, const uint8_t *marker, struct msghdr *messag
 /* A frame of a conversation goes; answers the mark that it has. */
 static uint32_t go(uint16_t number) {
     struct msghdr message = {0};
-    mark_conversation(PORT, number, &message);
+    mark_conversation(lagd, PORT, number, &message);
     return mark_of(&message);
 }
 
@@ -89,21 +94,21 @@ static unsigned ask(uint32_t id, bool again) {
     uint8_t frame[NIW_FRAME] = {0};
     set_identifier(frame, id);
     sent = by_mark = 0;
-    carry.time = now;
+    lagd->carry.time = now;
     if (again)
-        (void)send_by_queues_again(&links[PORT - 1], frame);
+        (void)send_by_queues_again(lagd, &lagd->links[PORT - 1], frame);
     else
-        (void)send_by_queues(&links[PORT - 1], frame);
+        (void)send_by_queues(lagd, &lagd->links[PORT - 1], frame);
     return sent;
 }
 
 /* A response comes; answers the identifier that the library gets, or 0 where it gets none. */
 static uint32_t hear(uint32_t id) {
-    return ends_flight(&links[PORT - 1], &id) ? id : 0;
+    return ends_flight(lagd, &lagd->links[PORT - 1], &id) ? id : 0;
 }
 
 static void try_one_flight(void) {
-    begin_queues(PORT, 4);
+    begin_queues(lagd, PORT, 4);
     check(ask(0x51234567, false) == 4, __func__, "nobody knows what a new member has in its queues: a marker goes by each");
     check(ids[0] == 0x01234567 && ids[1] == 0x11234567 && ids[3] == 0x31234567, __func__, "its identifier has the queue");
     check(marks[0] == (QUEUE_MARK | 1) && marks[3] == (QUEUE_MARK | 4), __func__, "its mark has the queue, from 1 on");
@@ -115,7 +120,8 @@ static void try_one_flight(void) {
 }
 
 static void try_dirty(void) {
-    check(go(5) == (QUEUE_MARK | 2) && go(5 + 16) == (QUEUE_MARK | 2) && go(255) == (QUEUE_MARK | 4), __func__, "a conversation has its queue");
+    check(go(5) == (QUEUE_MARK | 2) && go(5 + 16) == (QUEUE_MARK | 2) && go(255) == (QUEUE_MARK | 4), __func__,
+        "a conversation has its queue");
     check(ask(7, false) == 2 && ids[0] == 0x10000007 && ids[1] == 0x30000007, __func__, "a marker goes by the queues that had frames");
     check(go(2) == (QUEUE_MARK | 3) && ask(8, false) == 3, __func__, "the next one by those that are not answered for, too");
     check(hear(0x10000008) == 0 && hear(0x20000008) == 0 && hear(0x30000008) == 8, __func__, "it may be answered before the first one");
@@ -133,45 +139,50 @@ static void try_dirty(void) {
 }
 
 static void try_many(void) {
-    begin_queues(PORT, 1);
+    begin_queues(lagd, PORT, 1);
     for (uint32_t id = 21; id < 27; id++) check(ask(id, false) == 1 && by_mark == 0, __func__, "by one queue a marker has no mark");
     check(hear(21) == 0 && hear(22) == 0 && hear(23) == 23 && hear(26) == 26, __func__, "the last four markers may be answered");
-    begin_queues(PORT, 16);
+    begin_queues(lagd, PORT, 16);
     check(ask(30, false) == 16 && ids[15] == 0xf000001e, __func__, "there are sixteen queues at most");
 }
 
 static void try_answers(void) {
     uint8_t frame[NIW_FRAME] = {0};
     unsigned taken = 0;
-    start_answers();
-    while (taken < 100 && answer_marker(&links[PORT - 1], frame)) taken++;
+    start_answers(lagd);
+    while (taken < 100 && answer_marker(lagd, &lagd->links[PORT - 1], frame)) taken++;
     check(taken == 64, __func__, "sixty-four responses wait, and no more");
-    serve_answers();
+    serve_answers(lagd);
     check(answered == 0, __func__, "none goes before its time");
     now += AFTER + 1;
-    serve_answers();
+    serve_answers(lagd);
     check(answered == 0, __func__, "nor while its socket may have what came before");
-    note_unread(PORT, 64, false);
-    serve_answers();
+    note_unread(lagd, PORT, 64, false);
+    serve_answers(lagd);
     check(answered == 0, __func__, "or was not read to its end");
-    note_unread(PORT, 3, true);
-    serve_answers();
+    note_unread(lagd, PORT, 3, true);
+    serve_answers(lagd);
     check(answered == 64, __func__, "then all go");
-    check(answer_marker(&links[PORT - 1], frame), __func__, "there is room again");
-    forget_answers(PORT);
+    check(answer_marker(lagd, &lagd->links[PORT - 1], frame), __func__, "there is room again");
+    forget_answers(lagd, PORT);
     now += 10 * AFTER;
-    note_unread(PORT, 0, true);
-    serve_answers();
+    note_unread(lagd, PORT, 0, true);
+    serve_answers(lagd);
     check(answered == 64, __func__, "with the link down none goes");
-    check(answer_marker(&links[PORT - 1], frame), __func__, "there is room then");
+    check(answer_marker(lagd, &lagd->links[PORT - 1], frame), __func__, "there is room then");
     now += AFTER + 1;
-    for (unsigned read = 0; read < 32768; read += 64) note_unread(PORT, 64, false);
-    serve_answers();
+    for (unsigned read = 0; read < 32768; read += 64) note_unread(lagd, PORT, 64, false);
+    serve_answers(lagd);
     check(answered == 65, __func__, "a flood of data does not hold a response for ever");
 }
 
 int main(void) {
-    for (uint16_t i = 0; i < link_count; i++) links[i].settings.number = (uint16_t)(i + 1);
+    lagd->answers = make_answers_private();
+    lagd->queues = make_queues_private();
+    lagd->settings.all_queues = true;
+    lagd->settings.answer_after = AFTER;
+    lagd->link_count = PORT;
+    for (uint16_t i = 0; i < lagd->link_count; i++) lagd->links[i].settings.number = (uint16_t)(i + 1);
     try_one_flight();
     try_dirty();
     try_many();

@@ -12,9 +12,12 @@
 #include <sys/un.h>
 #include <unistd.h>
 
+#include "daemon.h"
 #include "netlink.h"
-#include "state.h"
 #include "team.h"
+
+/* The daemon. What is wrapped gets none. */
+static struct lagd *lagd;
 
 int LLVMFuzzerTestOneInput(const uint8_t *octets, size_t length);
 ssize_t __real_recvmsg(int fd, struct msghdr *message, int flags);
@@ -27,17 +30,19 @@ static int wire[2];                             /* the packet socket of the firs
 static const uint8_t *waiting;                  /* what waits there, or is the answer of the kernel; or NULL */
 static size_t waiting_length;
 
-bool await_input(int fd, uint32_t tag) {
+bool await_input(struct lagd *lagd, int fd, uint32_t tag) {
+    (void)lagd;
     (void)fd;
     (void)tag;
     return true;
 }
 
-bool await_output(int fd, uint32_t tag) {
-    return await_input(fd, tag);
+bool await_output(struct lagd *lagd, int fd, uint32_t tag) {
+    return await_input(lagd, fd, tag);
 }
 
-void await_no_more(int fd) {
+void await_no_more(struct lagd *lagd, int fd) {
+    (void)lagd;
     (void)fd;
 }
 
@@ -48,7 +53,7 @@ static size_t least(size_t one, size_t other) {
 /* A frame with auxiliary data. The first octet says what kind of packet it is, the second one how many octets of auxiliary data follow;
  * the others are the frame. */
 ssize_t __wrap_recvmsg(int fd, struct msghdr *message, int flags) {
-    struct sockaddr_ll from = {.sll_family = AF_PACKET, .sll_ifindex = links[0].index};
+    struct sockaddr_ll from = {.sll_family = AF_PACKET, .sll_ifindex = lagd->links[0].index};
     size_t more, frame;
     if (fd != wire[0]) return __real_recvmsg(fd, message, flags);
     errno = EAGAIN;
@@ -70,20 +75,21 @@ static void remove_folder(void) {
 
 /* A system of two ports, whose links are up, and its status socket. */
 static void make_ports(void) {
-    settings = usual_settings();
-    settings.policy = PARTNER_FIRST;
-    strcpy(settings.name, "fuzz");
-    settings.config.mac[0] = 2;
-    (void)add_port(&settings, "fuzz0", 5);
-    (void)add_port(&settings, "fuzz1", 5);
-    make_system();
+    lagd = make_lagd();
+    lagd->settings = usual_settings();
+    lagd->settings.policy = PARTNER_FIRST;
+    strcpy(lagd->settings.name, "fuzz");
+    lagd->settings.config.mac[0] = 2;
+    (void)add_port(&lagd->settings, "fuzz0", 5);
+    (void)add_port(&lagd->settings, "fuzz1", 5);
+    make_system(lagd);
     if (!mkdtemp(folder) || socketpair(AF_UNIX, SOCK_DGRAM | SOCK_NONBLOCK, 0, wire) < 0) abort();
     (void)atexit(remove_folder);
-    open_folder(folder);
-    open_status(folder);
-    has_started = true;
-    set_link(1, true);
-    set_link(2, true);
+    open_folder(lagd, folder);
+    open_status(lagd, folder);
+    lagd->has_started = true;
+    set_link(lagd, 1, true);
+    set_link(lagd, 2, true);
 }
 
 static void fuzz_file(const uint8_t *octets, size_t length) {
@@ -92,30 +98,30 @@ static void fuzz_file(const uint8_t *octets, size_t length) {
     int file = memfd_create("fuzz", MFD_CLOEXEC);
     if (file >= 0 && write(file, octets, length) == (ssize_t)length) {
         snprintf(path, sizeof path, "/proc/self/fd/%d", file);
-        (void)read_file(path, &read);
+        (void)read_file(lagd, path, &read);
     }
     close(file);
 }
 
 static void fuzz_frame(const uint8_t *octets, size_t length) {
-    struct arrival arrival = {octets, length, PACKET_MULTICAST, links[0].index, false};
-    take_frame(&links[0], &arrival);
-    send_due();
+    struct arrival arrival = {octets, length, PACKET_MULTICAST, lagd->links[0].index, false};
+    take_frame(lagd, &lagd->links[0], &arrival);
+    send_due(lagd);
 }
 
 static void fuzz_auxiliary(const uint8_t *octets, size_t length) {
     char scrap[NIW_FRAME];
-    links[0].socket = wire[0];
+    lagd->links[0].socket = wire[0];
     waiting = octets;
     waiting_length = length;
-    take_frames(1);
-    links[0].socket = -1;
+    take_frames(lagd, 1);
+    lagd->links[0].socket = -1;
     while (recv(wire[1], scrap, sizeof scrap, MSG_DONTWAIT) > 0) continue;
 }
 
 static void serve_all(void) {
-    take_callers();
-    for (uint32_t caller = 0; caller < MOST_CALLERS; caller++) serve_caller(caller);
+    take_callers(lagd);
+    for (uint32_t caller = 0; caller < MOST_CALLERS; caller++) serve_caller(lagd, caller);
 }
 
 /* What somebody sends to the status socket, in two parts: the first octet tells the length of the first one. */
@@ -126,34 +132,34 @@ static void fuzz_caller(const uint8_t *octets, size_t length) {
     size_t first;
     if (length == 0) return;
     first = least(octets[0], length - 1);
-    snprintf(address.sun_path, sizeof address.sun_path, "%s/%lu.%s.sock", folder, network_namespace(), settings.name);
+    snprintf(address.sun_path, sizeof address.sun_path, "%s/%lu.%s.sock", folder, network_namespace(), lagd->settings.name);
     if (asker < 0 || connect(asker, (struct sockaddr *)&address, sizeof address) < 0) abort();
     if (send(asker, octets + 1, first, MSG_NOSIGNAL) != (ssize_t)first) abort();
     serve_all();
     (void)send(asker, octets + 1 + first, length - 1 - first, MSG_NOSIGNAL);
     serve_all();
     for (int part = 0; part < 4 && recv(asker, scrap, sizeof scrap, 0) > 0; part++) serve_all();
-    set_link(2, !links[1].up); /* whoever watches is told */
+    set_link(lagd, 2, !lagd->links[1].up); /* whoever watches is told */
     close(asker);
     serve_all();
-    pass_tick_of_callers();
+    pass_tick_of_callers(lagd);
 }
 
 /* What the last daemon left, behind the number of this boot; and a daemon that goes on from it. */
 static void fuzz_state(const uint8_t *octets, size_t length) {
     char name[64];
     FILE *file;
-    snprintf(name, sizeof name, "%s/%lu.%s.state", folder, network_namespace(), settings.name);
+    snprintf(name, sizeof name, "%s/%lu.%s.state", folder, network_namespace(), lagd->settings.name);
     file = fopen(name, "we");
     if (!file) abort();
-    fprintf(file, "lagd 1\nboot %s\n", boot_id());
+    fprintf(file, "lagd 1\nboot %s\n", boot_id(lagd));
     (void)fwrite(octets, 1, length, file);
     fclose(file);
-    inherited = (struct inherited){0};
-    recall_state();
+    lagd->inherited = (struct inherited){0};
+    recall_state(lagd);
     (void)unlink(name);
-    begin_resuming();
-    resume_data(resume());
+    begin_resuming(lagd);
+    resume_data(lagd, resume(lagd));
 }
 
 /* The kernel gets no question. */
@@ -182,11 +188,11 @@ static void fuzz_answers(const uint8_t *octets, size_t length) {
     static struct team_now now;
     waiting_length = length;
     waiting = octets;
-    (void)ask_interface(1, NULL, &interface);
+    (void)ask_interface(lagd, 1, NULL, &interface);
     waiting = octets;
-    (void)read_team(1, &now);
+    (void)read_team(lagd, 1, &now);
     waiting = octets;
-    drop_classifier(1);
+    drop_classifier(lagd, 1);
     waiting = NULL;
 }
 
@@ -195,7 +201,7 @@ static void fuzz_messages(const uint8_t *octets, size_t length) {
     uint8_t *messages = malloc(length);
     if (!messages) return;
     memcpy(messages, octets, length);
-    take_messages(messages, length);
+    take_messages(lagd, messages, length);
     free(messages);
 }
 

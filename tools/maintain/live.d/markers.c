@@ -7,18 +7,16 @@
 #include <stdlib.h>
 #include <string.h>
 
-#include "carry.h"
 #include "checks.h"
+#include "daemon.h"
 
 #define TICK 100u
 #define MINUTE 60000u
 #define FIRST_ID 0x12345678u
 
-struct carry carry;
-struct settings settings;
-struct link links[NIW_MOST_PORTS];
-struct niw_system own_system;
-bool broken;
+/* The daemon, as far as it is here. */
+static struct lagd tested, *lagd = &tested;
+
 const char *const program = "markers";
 
 static uint64_t now = 5 * MINUTE;
@@ -28,21 +26,25 @@ static unsigned sent, again;
 
 static const uint8_t OWN[6] = {2, 0, 0, 0, 0, 0xaa}, PARTNER[6] = {2, 0, 0, 0, 0, 0xbb}, STRANGER[6] = {2, 0, 0, 0, 0, 0xcc};
 
-uint64_t milliseconds(void) {
+uint64_t milliseconds(struct lagd *lagd) {
+    (void)lagd;
     return now;
 }
 
-uint64_t ticks_passed(void) {
+uint64_t ticks_passed(struct lagd *lagd) {
+    (void)lagd;
     return now / TICK;
 }
 
-bool is_done(uint32_t status, const char *call) {
+bool is_done(struct lagd *lagd, uint32_t status, const char *call) {
+    (void)lagd;
     if (status == NIW_OK) return true;
     printf("markers: %s: %s\n", call, niw_status_text(status));
     exit(1);
 }
 
-bool say(int level, const char *format, ...) {
+bool say(struct lagd *lagd, int level, const char *format, ...) {
+    (void)lagd;
     (void)level;
     (void)format;
     lines++;
@@ -54,13 +56,15 @@ const char *mac_text(const uint8_t *mac, char room[static 32]) {
     return room[0] = 0, room;
 }
 
-void take_marker(struct link *link, const uint8_t *frame) {
+void take_marker(struct lagd *lagd, struct link *link, const uint8_t *frame) {
+    (void)lagd;
     (void)link;
     (void)frame;
     sent++;
 }
 
-bool send_marker_again(uint16_t port) {
+bool send_marker_again(struct lagd *lagd, uint16_t port) {
+    (void)lagd;
     (void)port;
     return again++, true;
 }
@@ -88,74 +92,74 @@ static bool respond(const uint8_t *source, uint16_t port, uint32_t id) {
     struct arrival arrival = {.frame = frame, .length = sizeof frame};
     struct niw_pdu response;
     write_frame(frame, source, NIW_MARKER_RESPONSE, port, id);
-    CHECK(read_response(&arrival, &response));
-    if (!is_partners_response(&links[0], &arrival, &response)) {
-        note_odd_marker(&links[0], &arrival, FOREIGN_RESPONSES);
+    CHECK(read_response(lagd, &arrival, &response));
+    if (!is_partners_response(lagd, &lagd->links[0], &arrival, &response)) {
+        note_odd_marker(&lagd->links[0], &arrival, FOREIGN_RESPONSES);
         return false;
     }
-    note_response(&links[0], response.transaction_id);
+    note_response(lagd, &lagd->links[0], response.transaction_id);
     return true;
 }
 
 static void pass(unsigned ticks) {
     for (; ticks > 0; ticks--) {
         now += TICK;
-        carry.time = now;
-        pass_probe_tick();
+        lagd->carry.time = now;
+        pass_probe_tick(lagd);
     }
 }
 
 /* A peer that nobody asked yet, on a link whose partner is known. */
 static void begin(void) {
-    memset(links, 0, sizeof links);
-    links[0].settings.number = 1;
-    links[0].heard = true;
-    memcpy(links[0].source, PARTNER, sizeof PARTNER);
-    carry.active = carry.port_count = carry.ports[0] = 1;
-    links[0].view.partner_key++;
+    memset(lagd->links, 0, sizeof lagd->links);
+    lagd->links[0].settings.number = 1;
+    lagd->links[0].heard = true;
+    memcpy(lagd->links[0].source, PARTNER, sizeof PARTNER);
+    lagd->carry.active = lagd->carry.port_count = lagd->carry.ports[0] = 1;
+    lagd->links[0].view.partner_key++;
     now += MINUTE;
-    carry.time = now;
-    look_at_partner();
-    links[0].view.partner_key = (uint16_t)now;
-    look_at_partner();
+    lagd->carry.time = now;
+    look_at_partner(lagd);
+    lagd->links[0].view.partner_key = (uint16_t)now;
+    look_at_partner(lagd);
     sent = again = lines = 0;
-    CHECK(peer_answering() == NOT_ASKED);
+    CHECK(peer_answering(lagd) == NOT_ASKED);
 }
 
 /* A peer that answers after three ticks answers markers, and nothing else is said meanwhile. */
 static void check_slow(void) {
     begin();
     pass(4);
-    CHECK(peer_answering() == ASKED && lines == 0 && sent == 1 && again == 1);
-    CHECK(respond(PARTNER, 1, last_id) && peer_answering() == ANSWERS && lines == 1);
+    CHECK(peer_answering(lagd) == ASKED && lines == 0 && sent == 1 && again == 1);
+    CHECK(respond(PARTNER, 1, last_id) && peer_answering(lagd) == ANSWERS && lines == 1);
     pass(1200);
-    CHECK(peer_answering() == ANSWERS && lines == 1 && sent == 1);
+    CHECK(peer_answering(lagd) == ANSWERS && lines == 1 && sent == 1);
 }
 
 /* A peer that never answers is told of once, and is not taken for another one while it is asked again, each minute. */
 static void check_mute(void) {
     begin();
     pass(12);
-    CHECK(peer_answering() == MUTE && lines == 1 && sent == 1);
+    CHECK(peer_answering(lagd) == MUTE && lines == 1 && sent == 1);
     for (unsigned tick = 0; tick < 2400; tick++) {
         pass(1);
-        CHECK(peer_answering() == MUTE);
+        CHECK(peer_answering(lagd) == MUTE);
     }
     CHECK(lines == 1 && sent == 4 + 1);
-    CHECK(respond(PARTNER, 1, last_id) && peer_answering() == ANSWERS && lines == 2);
+    CHECK(respond(PARTNER, 1, last_id) && peer_answering(lagd) == ANSWERS && lines == 2);
 }
 
 /* No response of another one, of another port or of another number makes a mute peer one that answers; a late one does. */
 static void check_forged(void) {
     begin();
     pass(12);
-    CHECK(!respond(STRANGER, 1, last_id) && !respond(PARTNER, 2, last_id) && !respond(STRANGER, 0, 0) && peer_answering() == MUTE);
-    for (uint32_t id = 0; id < 1000; id++) CHECK(respond(PARTNER, 1, id) && peer_answering() == MUTE);
-    CHECK(lines == 1 && links[0].counts[FOREIGN_RESPONSES] == 3);
-    tell_markers(&links[0]);
-    tell_markers(&links[0]);
+    CHECK(!respond(STRANGER, 1, last_id) && !respond(PARTNER, 2, last_id) && !respond(STRANGER, 0, 0) && peer_answering(lagd) == MUTE);
+    for (uint32_t id = 0; id < 1000; id++) CHECK(respond(PARTNER, 1, id) && peer_answering(lagd) == MUTE);
+    CHECK(lines == 1 && lagd->links[0].counts[FOREIGN_RESPONSES] == 3);
+    tell_markers(lagd, &lagd->links[0]);
+    tell_markers(lagd, &lagd->links[0]);
     CHECK(lines == 2);
-    CHECK(respond(PARTNER, 1, last_id) && peer_answering() == ANSWERS);
+    CHECK(respond(PARTNER, 1, last_id) && peer_answering(lagd) == ANSWERS);
 }
 
 /* Markers come each `step` milliseconds for a minute; the most that were answered within any second, and how many in all. */
@@ -167,7 +171,7 @@ static unsigned most_answered(const uint8_t *source, unsigned step, unsigned *al
     write_frame(frame, source, NIW_MARKER_INFORMATION, 1, 1);
     for (unsigned passed = 0; passed < MINUTE; passed += step) {
         now += step;
-        if (may_answer(&links[0], &arrival)) times[count++] = now;
+        if (may_answer(lagd, &lagd->links[0], &arrival)) times[count++] = now;
     }
     for (unsigned first = 0; first < count; first++) {
         unsigned end = first;
@@ -184,7 +188,7 @@ static void check_budgets(void) {
     unsigned all, most;
     uint8_t frame[NIW_FRAME];
     struct arrival strange = {.frame = frame, .length = sizeof frame};
-    settings.marker_responses = 10;
+    lagd->settings.marker_responses = 10;
     for (size_t i = 0; i < sizeof STEPS / sizeof *STEPS; i++) {
         begin();
         most = most_answered(PARTNER, STEPS[i], &all);
@@ -198,16 +202,17 @@ static void check_budgets(void) {
         uint8_t marker[NIW_FRAME];
         struct arrival arrival = {.frame = marker, .length = sizeof marker};
         write_frame(marker, PARTNER, NIW_MARKER_INFORMATION, 1, turn);
-        for (unsigned forged = 0; forged < 30; forged++, now += 5) (void)may_answer(&links[0], &strange);
-        CHECK(may_answer(&links[0], &arrival));
+        for (unsigned forged = 0; forged < 30; forged++, now += 5) (void)may_answer(lagd, &lagd->links[0], &strange);
+        CHECK(may_answer(lagd, &lagd->links[0], &arrival));
     }
-    links[0].heard = false;
+    lagd->links[0].heard = false;
     now += MINUTE;
     CHECK(most_answered(STRANGER, 3, &all) == 10);
 }
 
 int main(void) {
-    memcpy(settings.config.mac, OWN, sizeof OWN);
+    lagd->probe = make_probe_private();
+    memcpy(lagd->settings.config.mac, OWN, sizeof OWN);
     check_slow();
     check_mute();
     check_forged();

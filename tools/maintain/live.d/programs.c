@@ -19,8 +19,8 @@
 #include <stdlib.h>
 #include <string.h>
 
-#include "carry.h"
 #include "checks.h"
+#include "daemon.h"
 #include "tagging.skel.h"
 
 #define ROOM 3200
@@ -34,8 +34,9 @@
 #define REFUSED_FRAME (-99)
 #define SEGMENTS(count) ((uint64_t)(count) << 32)
 
-struct niw_system own_system = NIW_EMPTY;
-struct settings settings;
+/* The daemon, as far as it is here. */
+static struct lagd tested, *lagd = &tested;
+
 const char *const program = "programs";
 
 static struct fast_row *rows;
@@ -88,7 +89,7 @@ static void print_conversations(const uint8_t *frame, size_t length) {
     bool is_tagged = length >= ETH_HLEN + TAG_OCTETS && ((frame[12] == 0x81 && frame[13] == 0) || (frame[12] == 0x88 && frame[13] == 0xa8));
     int found = run(sender, frame, length) == REFUSED_FRAME ? -1 : counted_row();
     if (is_tagged && run_beside(frame, length) != REFUSED_FRAME && counted_row() != found && found >= 0) found = -2;
-    printf("%u %d\n", (unsigned)conversation_of(frame, length).number, found);
+    printf("%u %d\n", (unsigned)conversation_of(lagd, frame, length).number, found);
 }
 
 static int print_all(void) {
@@ -244,12 +245,12 @@ static void check_refusals(void) {
     CHECK(take_map(sizeof *rows, CONVERSATIONS, maps.rows) != NULL && take_map(sizeof *rows, CONVERSATIONS, maps.members) == NULL);
     CHECK(take_map(sizeof *rows + 8, CONVERSATIONS, maps.rows) == NULL && take_map(sizeof *rows, CONVERSATIONS, 0) == NULL);
     CHECK(make_map(8, CONVERSATIONS, &wrong.rows) != NULL);
-    CHECK(load_program("sender", &wrong, 0) < 0 && errno == EACCES);
+    CHECK(load_program(lagd, "sender", &wrong, 0) < 0 && errno == EACCES);
     CHECK(strstr(program_fault(), "outside of the allowed memory range") || strstr(program_fault(), "invalid access to map value"));
 }
 
 static int loaded(const char *name, const struct fast_maps *of) {
-    int fd = load_program(name, of, PORT);
+    int fd = load_program(lagd, name, of, PORT);
     if (fd < 0) printf("%s: failed: %s: %s\n", program, name, program_fault());
     CHECK(fd >= 0);
     return fd;
@@ -279,7 +280,7 @@ static bool make_own_system(void) {
     struct settings usual = usual_settings();
     struct niw_port port = {.number = 1, .key = 1, .aggregatable = true, .active = true};
     usual.config.mac[0] = 2;
-    return niw_new(&own_system, &usual.config, &port.key, 1, &port, 1).status == NIW_OK;
+    return niw_new(&lagd->own_system, &usual.config, &port.key, 1, &port, 1).status == NIW_OK;
 }
 
 static bool load_all(void) {
@@ -294,16 +295,17 @@ static bool load_all(void) {
 
 int main(int argc, char **argv) {
     int status = 3;
+    lagd->settings_private = make_settings_private();
     if (argc != 2 && argc != 3) return 2;
     if (argc == 3) {
-        settings.hash_seed = (uint16_t)atoi(argv[2]);
-        for (settings.hash = HASH_LAYER2; strcmp(hash_text(settings.hash), argv[1]) != 0; settings.hash++) continue;
+        lagd->settings.hash_seed = (uint16_t)atoi(argv[2]);
+        for (lagd->settings.hash = HASH_LAYER2; strcmp(hash_text(lagd->settings.hash), argv[1]) != 0; lagd->settings.hash++) continue;
     }
     if (make_own_system() && load_all()) {
         host->open_until = UINT64_MAX;
         status = argc == 3 ? print_all() : check_all(argv[1]);
     }
     tagging__destroy(tagging);
-    (void)niw_free(&own_system);
+    (void)niw_free(&lagd->own_system);
     return status;
 }
