@@ -1,9 +1,6 @@
 /* Data: on which port each frame of the host goes, which frames wait, and what is handed up. */
 #define _GNU_SOURCE
-#include <errno.h>
-#include <stdlib.h>
 #include <string.h>
-#include <unistd.h>
 
 #include "daemon.h"
 #include "team.h"
@@ -13,8 +10,6 @@
 
 /* What this file keeps for a daemon. */
 struct carry_private {
-    int tap;
-    uint8_t *packets; /* for the packets of a batch */
     bool to_balance; /* whether a tick passed since the last look at the loads */
     uint16_t previous; /* the aggregator that was active before nothing or another one was, or 0 */
     uint64_t heard_at; /* the time at which frames came in the active aggregator last, or 0 */
@@ -23,13 +18,7 @@ struct carry_private {
 };
 
 struct carry_private *make_carry_private(void) {
-    struct carry_private *made = make_room(sizeof *made);
-    made->tap = -1;
-    return made;
-}
-
-bool carries_data(struct lagd *lagd) {
-    return lagd->carry_private->tap >= 0 || carries_by_team(lagd);
+    return make_room(sizeof(struct carry_private));
 }
 
 /* Something was called that may let conversations go or come. */
@@ -121,7 +110,7 @@ static void take_fit(struct lagd *lagd, struct conversation *conversation, uint1
 }
 
 /* A packet came from the host. */
-static void take_from_host(struct lagd *lagd, uint8_t *packet, size_t length) {
+void take_from_host(struct lagd *lagd, uint8_t *packet, size_t length) {
     uint64_t number;
     struct conversation *conversation;
     lagd->carry.counts[FROM_HOST]++;
@@ -140,44 +129,6 @@ static void take_from_host(struct lagd *lagd, uint8_t *packet, size_t length) {
         take_fit(lagd, conversation, (uint16_t)number, packet, length);
     else
         lagd->carry.counts[UNFIT]++;
-}
-
-/* The TAP device is gone, or it is in another namespace, where interfaces of others have the numbers of our members: first of all nothing
- * is passed on any more. Then the peers are told, and the daemon ends, so that whoever started it starts it again, with a new device. */
-void lose_tap(struct lagd *lagd) {
-    struct carry_private *own = lagd->carry_private;
-    if (!carries_data(lagd) || lagd->broken) return;
-    lagd->broken = true;
-    end_fast(lagd);
-    forget_tap(lagd);
-    drop_stored("tap", 0);
-    if (own->tap >= 0) await_no_more(lagd, own->tap);
-    (void)say(lagd, LOG_ERR | ABOUT_CARRIER, "carry %s: the device was deleted, or moved to another namespace; the peers are told, and the "
-        "daemon ends", lagd->settings.carry);
-}
-
-/* Takes one packet of the TAP device; answers whether there was one. */
-static bool take_next(struct lagd *lagd, uint8_t *packet) {
-    ssize_t length;
-    if (lagd->broken) return false;
-    length = read(lagd->carry_private->tap, packet, packet_room());
-    if (length < 0 && (errno == EAGAIN || errno == EINTR)) return false;
-    if (length < 0 && (errno == EBADFD || errno == EIO || errno == ENODEV)) {
-        lose_tap(lagd);
-        return false;
-    }
-    take_from_host(lagd, packet, length < 0 ? 0 : (size_t)length); /* one that cannot be read has no octets */
-    return true;
-}
-
-/* Takes the packets that wait in the TAP device, some at most. */
-static void take_host(struct lagd *lagd) {
-    for (int turn = 0, got = BATCH; turn < MOST_BATCHES && got == BATCH; turn++) {
-        for (got = 0; got < BATCH && take_next(lagd, lagd->carry_private->packets + (size_t)got * packet_room()); got++) continue;
-        flush_data(lagd);
-        note_read(lagd, (unsigned)got, got < BATCH);
-        pass_on(lagd);
-    }
 }
 
 /* How many frames of the peer came in an aggregator that was active. */
@@ -220,7 +171,7 @@ void hand_up(struct lagd *lagd, uint32_t aggregator, const uint8_t *packet, size
     if (aggregator != lagd->carry.active) {
         lagd->carry.counts[OTHER_AGGREGATOR]++;
         suspect_aggregator(lagd, aggregator);
-    } else if (!lagd->broken && write(lagd->carry_private->tap, packet, length) == (ssize_t)length) {
+    } else if (!lagd->broken && give_host(lagd, packet, length)) {
         lagd->carry.counts[HANDED_UP]++;
     } else {
         lagd->carry.counts[HOST_UNTAKEN]++;
@@ -361,58 +312,4 @@ void pass_carry_tick(struct lagd *lagd) {
     }
     wake_ports(lagd);
     lagd->carry.changed = lagd->carry_private->to_balance = true;
-}
-
-/* Serves what is ready: a member, or the TAP device, whose frames come after what was released. */
-void serve_data(struct lagd *lagd, uint32_t tag) {
-    if (!carries_data(lagd) || lagd->broken) return;
-    if (tag == RESPONSES) serve_answers(lagd);
-    if (tag >= MEMBERS && tag < RESPONSES) {
-        take_data(lagd, (uint16_t)(tag - MEMBERS + 1));
-        if (lagd->carry.changed) send_due(lagd);
-    }
-    settle_carry(lagd);
-    if (tag == HOST) take_host(lagd);
-}
-
-/* The link of a port goes down: nothing goes there from here on. */
-void lose_data(struct lagd *lagd, uint16_t port) {
-    if (!carries_data(lagd)) return;
-    withdraw_port(lagd, port);
-    forget_answers(lagd, port);
-}
-
-/* Makes the TAP device, and all room that frames ever take, where data is carried. */
-void open_carry(struct lagd *lagd) {
-    struct carry_private *own = lagd->carry_private;
-    if (!lagd->settings.carry[0]) return;
-    start_held(lagd);
-    start_members(lagd);
-    if (lagd->settings.plane == PLANE_TEAM) {
-        open_team(lagd, lagd->settings.carry, lagd->settings.config.mac);
-        return;
-    }
-    own->packets = make_rooms();
-    load_guard(lagd);
-    start_spreading(lagd);
-    start_answers(lagd);
-    if (call_at_exit(lagd, put_back_members) != 0) stop(REFUSED, "no memory", "for what members had");
-    own->tap = open_tap(lagd, lagd->settings.carry, lagd->settings.config.mac);
-    gather(lagd, tap_index(lagd));
-    if (lagd->settings.fast) start_fast(lagd);
-    if (!await_input(lagd, own->tap, HOST)) stop(REFUSED, "epoll", strerror(errno));
-}
-
-/* The daemon ends, or the library refused a call: no data goes or comes from here on. Members are as they were before, and the device goes
- * with the program. */
-void end_carry(struct lagd *lagd) {
-    struct carry_private *own = lagd->carry_private;
-    if (!carries_data(lagd)) return;
-    if (own->tap >= 0) await_no_more(lagd, own->tap);
-    set_carrier(lagd, false);
-    for (uint16_t i = 0; i < lagd->link_count; i++)
-        if (lagd->links[i].socket >= 0) close_member(lagd, &lagd->links[i]);
-    end_team(lagd);
-    end_fast(lagd);
-    end_held(lagd);
 }

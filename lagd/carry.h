@@ -64,7 +64,12 @@ bool is_held(const struct niw_assignment *state);
 bool is_home(struct lagd *lagd, const struct conversation *conversation, uint16_t number);
 bool is_busy(struct lagd *lagd, const struct conversation *conversation);
 void suspect_aggregator(struct lagd *lagd, uint32_t aggregator);
+void take_from_host(struct lagd *lagd, uint8_t *packet, size_t length);
 void hand_up(struct lagd *lagd, uint32_t aggregator, const uint8_t *packet, size_t length);
+
+/* host.c */
+void take_host(struct lagd *lagd);
+bool give_host(struct lagd *lagd, const uint8_t *packet, size_t length);
 
 /* hash.c */
 struct niw_number conversation_of(struct lagd *lagd, const uint8_t *frame, size_t length);

@@ -29,6 +29,7 @@ static void make_private(struct lagd *lagd) {
     lagd->folder = make_folder_private();
     lagd->guard = make_guard_private();
     lagd->held = make_held_private();
+    lagd->host = make_host_private();
     lagd->journal = make_journal_private();
     lagd->kept = make_kept_private();
     lagd->keys = make_keys_private();

@@ -39,6 +39,7 @@ struct lagd {
     struct folder_private *folder;
     struct guard_private *guard;
     struct held_private *held;
+    struct host_private *host;
     struct journal_private *journal;
     struct kept_private *kept;
     struct keys_private *keys;
@@ -86,6 +87,7 @@ struct flight_private *make_flight_private(void);
 struct folder_private *make_folder_private(void);
 struct guard_private *make_guard_private(void);
 struct held_private *make_held_private(void);
+struct host_private *make_host_private(void);
 struct journal_private *make_journal_private(void);
 struct kept_private *make_kept_private(void);
 struct keys_private *make_keys_private(void);

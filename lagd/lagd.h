@@ -376,14 +376,16 @@ int tap_index(struct lagd *lagd);
 void follow_tap(struct lagd *lagd, bool has_carrier, const char *discipline);
 
 /* carry.c */
-void lose_tap(struct lagd *lagd);
-void open_carry(struct lagd *lagd);
-void end_carry(struct lagd *lagd);
-bool carries_data(struct lagd *lagd);
 void look_at_carry(struct lagd *lagd);
 bool keeps_aggregator(struct lagd *lagd);
 void settle_carry(struct lagd *lagd);
 void pass_carry_tick(struct lagd *lagd);
+
+/* host.c */
+void lose_tap(struct lagd *lagd);
+void open_carry(struct lagd *lagd);
+void end_carry(struct lagd *lagd);
+bool carries_data(struct lagd *lagd);
 void serve_data(struct lagd *lagd, uint32_t tag);
 void lose_data(struct lagd *lagd, uint16_t port);
 

@@ -1,0 +1,121 @@
+/* The host's end of data: the TAP device, whose frames are read and written here. */
+#define _GNU_SOURCE
+#include <errno.h>
+#include <string.h>
+#include <unistd.h>
+
+#include "daemon.h"
+#include "team.h"
+
+/* What this file keeps for a daemon. */
+struct host_private {
+    int tap;
+    uint8_t *packets; /* for the packets of a batch */
+};
+
+struct host_private *make_host_private(void) {
+    struct host_private *made = make_room(sizeof *made);
+    made->tap = -1;
+    return made;
+}
+
+bool carries_data(struct lagd *lagd) {
+    return lagd->host->tap >= 0 || carries_by_team(lagd);
+}
+
+/* The TAP device is gone, or it is in another namespace, where interfaces of others have the numbers of our members: first of all nothing
+ * is passed on any more. Then the peers are told, and the daemon ends, so that whoever started it starts it again, with a new device. */
+void lose_tap(struct lagd *lagd) {
+    struct host_private *own = lagd->host;
+    if (!carries_data(lagd) || lagd->broken) return;
+    lagd->broken = true;
+    end_fast(lagd);
+    forget_tap(lagd);
+    drop_stored("tap", 0);
+    if (own->tap >= 0) await_no_more(lagd, own->tap);
+    (void)say(lagd, LOG_ERR | ABOUT_CARRIER, "carry %s: the device was deleted, or moved to another namespace; the peers are told, and the "
+        "daemon ends", lagd->settings.carry);
+}
+
+/* Takes one packet of the TAP device; answers whether there was one. */
+static bool take_next(struct lagd *lagd, uint8_t *packet) {
+    ssize_t length;
+    if (lagd->broken) return false;
+    length = read(lagd->host->tap, packet, packet_room());
+    if (length < 0 && (errno == EAGAIN || errno == EINTR)) return false;
+    if (length < 0 && (errno == EBADFD || errno == EIO || errno == ENODEV)) {
+        lose_tap(lagd);
+        return false;
+    }
+    take_from_host(lagd, packet, length < 0 ? 0 : (size_t)length); /* one that cannot be read has no octets */
+    return true;
+}
+
+/* Takes the packets that wait in the TAP device, some at most. */
+void take_host(struct lagd *lagd) {
+    for (int turn = 0, got = BATCH; turn < MOST_BATCHES && got == BATCH; turn++) {
+        for (got = 0; got < BATCH && take_next(lagd, lagd->host->packets + (size_t)got * packet_room()); got++) continue;
+        flush_data(lagd);
+        note_read(lagd, (unsigned)got, got < BATCH);
+        pass_on(lagd);
+    }
+}
+
+/* Hands a packet up; answers whether the device took it. */
+bool give_host(struct lagd *lagd, const uint8_t *packet, size_t length) {
+    return write(lagd->host->tap, packet, length) == (ssize_t)length;
+}
+
+/* Serves what is ready: a member, or the TAP device, whose frames come after what was released. */
+void serve_data(struct lagd *lagd, uint32_t tag) {
+    if (!carries_data(lagd) || lagd->broken) return;
+    if (tag == RESPONSES) serve_answers(lagd);
+    if (tag >= MEMBERS && tag < RESPONSES) {
+        take_data(lagd, (uint16_t)(tag - MEMBERS + 1));
+        if (lagd->carry.changed) send_due(lagd);
+    }
+    settle_carry(lagd);
+    if (tag == HOST) take_host(lagd);
+}
+
+/* The link of a port goes down: nothing goes there from here on. */
+void lose_data(struct lagd *lagd, uint16_t port) {
+    if (!carries_data(lagd)) return;
+    withdraw_port(lagd, port);
+    forget_answers(lagd, port);
+}
+
+/* Makes the TAP device, and all room that frames ever take, where data is carried. */
+void open_carry(struct lagd *lagd) {
+    struct host_private *own = lagd->host;
+    if (!lagd->settings.carry[0]) return;
+    start_held(lagd);
+    start_members(lagd);
+    if (lagd->settings.plane == PLANE_TEAM) {
+        open_team(lagd, lagd->settings.carry, lagd->settings.config.mac);
+        return;
+    }
+    own->packets = make_rooms();
+    load_guard(lagd);
+    start_spreading(lagd);
+    start_answers(lagd);
+    if (call_at_exit(lagd, put_back_members) != 0) stop(REFUSED, "no memory", "for what members had");
+    own->tap = open_tap(lagd, lagd->settings.carry, lagd->settings.config.mac);
+    gather(lagd, tap_index(lagd));
+    if (lagd->settings.fast) start_fast(lagd);
+    if (!await_input(lagd, own->tap, HOST)) stop(REFUSED, "epoll", strerror(errno));
+}
+
+/* The daemon ends, or the library refused a call: no data goes or comes from here on. Members are as they were before, and the device goes
+ * with the program. */
+void end_carry(struct lagd *lagd) {
+    struct host_private *own = lagd->host;
+    if (!carries_data(lagd)) return;
+    if (own->tap >= 0) await_no_more(lagd, own->tap);
+    set_carrier(lagd, false);
+    for (uint16_t i = 0; i < lagd->link_count; i++)
+        if (lagd->links[i].socket >= 0) close_member(lagd, &lagd->links[i]);
+    end_team(lagd);
+    end_fast(lagd);
+    end_held(lagd);
+}

@@ -1,0 +1,578 @@
+/* Two ends of a bundle in memory: what the daemon decides of data (lagd/carry.c, moves.c, flight.c, probe.c, held.c, bundle.c, and what it
+ * takes of Marker PDUs: frames.c, markers.c), over the library, with a clock and cables of its own. Random events come: frames of the hosts,
+ * links that go and come, ticks that are late, peers that answer no markers, or late, or by the wrong link, and sends that fail. After each
+ * one no frame goes on a port while one of its conversation can still come by another one, none comes twice or behind a later one, each is
+ * sent, waits or is counted as lost, the carrier is on only where a port distributes, and no frame waits for longer than it may. Now and
+ * then all calms down: then what is sent comes.
+ *
+ *     policy EVENTS SEED
+ *
+ * It prints a line for each kind of check that fails, and then 'policy: N passed, M failed'; status 1 if one failed. */
+#include <linux/if_packet.h>
+#include <stdio.h>
+#include <stdlib.h>
+#include <string.h>
+
+#include "checks.h"
+#include "daemon.h"
+
+#define PORTS 4
+#define KEYS 2 /* so many aggregators, with as many ports each */
+#define TICK 100u
+#define FLIGHT 500u
+#define SLOWEST 400u /* a frame is on its way for so many milliseconds at most */
+#define BUSY_ONES 48 /* conversations of which frames come */
+#define OCTETS 64
+#define ON_WIRE 4096 /* frames at most, on a cable one way; what comes then is lost */
+#define STALL 900u   /* milliseconds for which ticks are late at most */
+/* Where a frame has its conversation, and its number in that. */
+#define CONVERSATION_AT 14
+#define NUMBER_AT 16
+#define CALM_EACH 20000 /* events */
+
+const char *const program = "policy";
+
+/* A frame that is on its way. */
+struct flying {
+    uint64_t at; /* when it comes */
+    size_t length;
+    uint8_t octets[NIW_FRAME];
+};
+
+/* A cable, one way. */
+struct wire {
+    struct flying ring[ON_WIRE];
+    unsigned first, count;
+    uint64_t last; /* when the last one comes */
+    unsigned delay;
+};
+
+struct waiting_packet {
+    uint16_t port;
+    uint8_t *packet;
+};
+
+/* One end, and what is known of its frames. */
+struct end {
+    struct lagd lagd;
+    struct wire wires[PORTS + 1]; /* what it sent */
+    struct waiting_packet out[BATCH * PORTS];
+    unsigned out_count;
+    uint8_t marker[PORTS + 1][NIW_FRAME];
+    uint8_t response[NIW_FRAME]; /* one that goes later, on a port */
+    uint16_t response_port;
+    uint64_t response_at;
+    uint64_t next_tick, mute_until, short_until;
+    uint64_t notices[PORTS + 1]; /* when it sees how a link is now, or 0 */
+    uint64_t made[CONVERSATIONS], put[CONVERSATIONS], got[CONVERSATIONS]; /* numbers of the last frames: of the host, sent, and of the other end */
+    unsigned flying[CONVERSATIONS];
+    uint16_t flies_on[CONVERSATIONS];
+    uint64_t given, arrived;
+    bool carrier;
+};
+
+static struct end ends[2];
+static bool cable_up[PORTS + 1];
+static uint64_t now = 100000, events, most_waited;
+static uint64_t random_state;
+
+static uint64_t random_number(void) {
+    random_state ^= random_state << 13;
+    random_state ^= random_state >> 7;
+    random_state ^= random_state << 17;
+    return random_state;
+}
+
+static unsigned below(unsigned bound) {
+    return (unsigned)(random_number() % bound);
+}
+
+static struct end *end_of(struct lagd *lagd) {
+    return lagd == &ends[0].lagd ? &ends[0] : &ends[1];
+}
+
+static struct end *other_of(struct end *end) {
+    return end == &ends[0] ? &ends[1] : &ends[0];
+}
+
+static uint16_t conversation_at(const uint8_t *frame) {
+    uint16_t number;
+    memcpy(&number, frame + CONVERSATION_AT, sizeof number);
+    return number;
+}
+
+static uint64_t number_at(const uint8_t *frame) {
+    uint64_t number;
+    memcpy(&number, frame + NUMBER_AT, sizeof number);
+    return number;
+}
+
+static bool is_slow(const uint8_t *frame) {
+    return ((unsigned)frame[12] << 8 | frame[13]) == ETH_P_SLOW;
+}
+
+/* A frame is on its way no more. */
+static void land(struct end *from, const uint8_t *frame) {
+    if (!is_slow(frame)) from->flying[conversation_at(frame)]--;
+}
+
+/* Puts a frame on a cable; answers whether it is on its way. */
+static bool put_on_wire(struct end *end, uint16_t port, const uint8_t *frame, size_t length) {
+    struct wire *wire = &end->wires[port];
+    struct flying *next = &wire->ring[(wire->first + wire->count) % ON_WIRE];
+    if (now < end->short_until && below(2) == 0) return false;
+    if (!cable_up[port] || wire->count == ON_WIRE) return true; /* lost on its way */
+    next->at = now + 1 + below(wire->delay);
+    if (next->at < wire->last) next->at = wire->last;
+    wire->last = next->at;
+    next->length = length;
+    memcpy(next->octets, frame, length);
+    wire->count++;
+    if (is_slow(frame)) return true;
+    CHECK(end->flying[conversation_at(frame)] == 0 || end->flies_on[conversation_at(frame)] == port);
+    end->flying[conversation_at(frame)]++;
+    end->flies_on[conversation_at(frame)] = port;
+    return true;
+}
+
+static void put_slow(struct end *end, uint16_t port, uint8_t *frame) {
+    memcpy(frame + ETH_ALEN, end->lagd.links[port - 1].mac, ETH_ALEN);
+    (void)put_on_wire(end, port, frame, NIW_FRAME);
+}
+
+/* What the policy asks of the rest of the daemon: the clock, */
+uint64_t milliseconds(struct lagd *lagd) {
+    (void)lagd;
+    return now;
+}
+uint64_t ticks_passed(struct lagd *lagd) {
+    (void)lagd;
+    return now / TICK;
+}
+uint64_t boottime(void) {
+    return now;
+}
+
+/* data and markers, */
+void put_data(struct lagd *lagd, uint16_t port, uint8_t *packet, size_t length) {
+    struct end *end = end_of(lagd);
+    uint16_t number = conversation_at(packet);
+    CHECK(length == OCTETS && port >= 1 && port <= PORTS && number_at(packet) > end->put[number]);
+    end->put[number] = number_at(packet);
+    end->given++;
+    if (end->out_count == sizeof end->out / sizeof *end->out) flush_data(lagd);
+    end->out[end->out_count++] = (struct waiting_packet){port, packet};
+}
+void flush_data(struct lagd *lagd) {
+    struct end *end = end_of(lagd);
+    for (unsigned i = 0; i < end->out_count; i++) (void)put_on_wire(end, end->out[i].port, end->out[i].packet, OCTETS);
+    end->out_count = 0;
+    free_left(lagd);
+}
+void take_marker(struct lagd *lagd, struct link *link, const uint8_t *frame) {
+    struct end *end = end_of(lagd);
+    flush_data(lagd);
+    memcpy(end->marker[link->settings.number], frame, NIW_FRAME);
+    put_slow(end, link->settings.number, end->marker[link->settings.number]);
+}
+bool send_marker_again(struct lagd *lagd, uint16_t port) {
+    struct end *end = end_of(lagd);
+    flush_data(lagd);
+    put_slow(end, port, end->marker[port]);
+    return true;
+}
+void send_frame(struct lagd *lagd, struct link *link, const uint8_t *frame) {
+    struct end *end = end_of(lagd);
+    uint8_t sent[NIW_FRAME];
+    memcpy(sent, frame, sizeof sent);
+    if (sent[SUBTYPE_AT] == SUBTYPE_MARKER && now < end->mute_until) return;
+    if (sent[SUBTYPE_AT] == SUBTYPE_MARKER && below(4) == 0) { /* it goes later, or by another link, too */
+        memcpy(end->response, frame, sizeof sent);
+        end->response_port = below(2) == 0 ? link->settings.number : (uint16_t)(1 + below(PORTS));
+        end->response_at = now + below(2500);
+        if (below(3) > 0) return;
+    }
+    put_slow(end, link->settings.number, sent);
+}
+bool give_host(struct lagd *lagd, const uint8_t *packet, size_t length) {
+    struct end *end = end_of(lagd);
+    uint16_t number = conversation_at(packet);
+    CHECK(length == OCTETS && number_at(packet) > end->got[number]);
+    end->got[number] = number_at(packet);
+    end->arrived++;
+    return true;
+}
+
+/* lines, and the carrier of the device, */
+bool say(struct lagd *lagd, int level, const char *format, ...) {
+    (void)lagd;
+    (void)level;
+    (void)format;
+    return true;
+}
+static bool any_distributes(struct lagd *lagd) {
+    for (uint16_t port = 1; port <= PORTS; port++)
+        if (niw_distributes(&lagd->own_system, port).is) return true;
+    return false;
+}
+void set_carrier(struct lagd *lagd, bool on) {
+    CHECK(!on || (lagd->carry.port_count > 0 && any_distributes(lagd)));
+    end_of(lagd)->carrier = on;
+}
+void notify_state(struct lagd *lagd) {
+    CHECK(lagd->bundle.state == BUNDLE_DOWN || any_distributes(lagd));
+}
+
+/* the library, */
+bool is_done(struct lagd *lagd, uint32_t status, const char *call) {
+    (void)lagd;
+    if (status != NIW_OK) check(false, call, niw_status_text(status));
+    return status == NIW_OK;
+}
+bool is_told(struct lagd *lagd, struct niw_number answer, const char *call, uint64_t *number) {
+    *number = answer.number;
+    return is_done(lagd, answer.status, call);
+}
+bool carries(struct lagd *lagd, const struct link *link) {
+    (void)lagd;
+    return link->view.port_status == NIW_PORT_STATUS_DISTRIBUTING;
+}
+void take_views(struct lagd *lagd) {
+    struct niw_view views[NIW_MOST_PORTS];
+    uint64_t changed;
+    if (!is_told(lagd, niw_views(&lagd->own_system, views, NIW_MOST_PORTS), "niw_views", &changed)) return;
+    for (uint16_t i = 0; i < PORTS; i++)
+        if (changed >> i & 1) lagd->links[i].view = views[i];
+}
+void send_due(struct lagd *lagd) {
+    uint8_t frame[NIW_FRAME];
+    for (uint16_t port = 1; port <= PORTS; port++) {
+        for (;;) {
+            struct niw_sent due = niw_transmit(&lagd->own_system, port, frame, sizeof frame);
+            if (!is_done(lagd, due.status, "niw_transmit") || !due.is) break;
+            if (due.what == NIW_SENT_MARKER)
+                take_marker(lagd, &lagd->links[port - 1], frame);
+            else
+                put_slow(end_of(lagd), port, frame);
+        }
+    }
+}
+
+/* packets, of which each is a frame without a head, */
+size_t head_octets(void) {
+    return 0;
+}
+size_t packet_room(void) {
+    return 2048;
+}
+bool has_segments(const uint8_t *packet) {
+    (void)packet;
+    return false;
+}
+uint32_t count_segments(const uint8_t *packet, size_t length) {
+    (void)packet;
+    (void)length;
+    return 1;
+}
+bool has_right_length(const uint8_t *packet, size_t length, uint32_t mtu) {
+    (void)packet;
+    return length <= mtu + ETH_HLEN;
+}
+uint32_t longest_payload(struct lagd *lagd) {
+    (void)lagd;
+    return ETH_DATA_LEN;
+}
+struct niw_number conversation_of(struct lagd *lagd, const uint8_t *frame, size_t length) {
+    (void)lagd;
+    (void)length;
+    return (struct niw_number){.status = NIW_OK, .number = conversation_at(frame)};
+}
+bool carries_data(struct lagd *lagd) {
+    (void)lagd;
+    return true;
+}
+
+/* and what is not here: the kernel's plane, the team driver, the settings of the device. */
+#define NOTHING(name) \
+    void name(struct lagd *lagd) { (void)lagd; }
+#define NEVER(name) \
+    bool name(struct lagd *lagd) { (void)lagd; return false; }
+NOTHING(announce_soon)
+NOTHING(count_losses)
+NOTHING(look_at_driver)
+NOTHING(pass_announcing_tick)
+NOTHING(pass_bucket_tick)
+NOTHING(pass_fast_tick)
+NOTHING(pass_on)
+NOTHING(pass_tap_tick)
+NOTHING(set_collecting)
+NOTHING(settle_buckets)
+NOTHING(take_fast_counts)
+NOTHING(take_host)
+NOTHING(withdraw)
+NEVER(carries_by_team)
+NEVER(is_fast)
+void note_taken(struct conversation *conversation, uint32_t segments) {
+    (void)conversation;
+    (void)segments;
+}
+uint64_t team_frames_received(struct lagd *lagd) {
+    (void)lagd;
+    return 0;
+}
+uint32_t sum_speeds(struct lagd *lagd) {
+    (void)lagd;
+    return 1000;
+}
+void set_speed(struct lagd *lagd, uint32_t megabits) {
+    (void)lagd;
+    (void)megabits;
+}
+void run_hook(struct lagd *lagd, const char *path, enum bundle_state before) {
+    (void)lagd;
+    (void)path;
+    (void)before;
+}
+void tell_watchers_of(struct lagd *lagd, const struct link *link) {
+    (void)lagd;
+    (void)link;
+}
+_Noreturn void stop(int status, const char *what, const char *which) {
+    printf("policy: %s: %s\n", what, which);
+    exit(status);
+}
+
+/* The link of a port is up or down for an end. */
+static void set_link_of(struct end *end, uint16_t port, bool up) {
+    struct link *link = &end->lagd.links[port - 1];
+    if (link->up == up) return;
+    link->up = up;
+    if (!up) forget_partner(&end->lagd, link);
+    if (!is_done(&end->lagd, niw_set_link(&end->lagd.own_system, port, up), "niw_set_link")) return;
+    look_at_carry(&end->lagd);
+    send_due(&end->lagd);
+    take_views(&end->lagd);
+    settle_carry(&end->lagd);
+}
+
+static void make_end(struct end *end, uint8_t which) {
+    struct lagd *lagd = &end->lagd;
+    struct niw_port ports[PORTS];
+    const uint16_t keys[KEYS] = {1, 2};
+    lagd->bundle_private = make_bundle_private();
+    lagd->carry_private = make_carry_private();
+    lagd->flight = make_flight_private();
+    lagd->held = make_held_private();
+    lagd->probe = make_probe_private();
+    lagd->carry.changed = lagd->has_started = true;
+    lagd->link_count = lagd->settings.port_count = PORTS;
+    lagd->settings.flight = FLIGHT;
+    lagd->settings.min_links = 1;
+    lagd->settings.marker_responses = 50;
+    lagd->settings.config = (struct niw_config){.priority = 1, .mac = {2, which}, .first_marker = 1, .conversations = CONVERSATIONS};
+    for (uint16_t i = 0; i < PORTS; i++) {
+        ports[i] = (struct niw_port){.number = (uint16_t)(i + 1), .priority = 1, .mac = {2, which, (uint8_t)i},
+            .key = keys[i * KEYS / PORTS], .aggregatable = true, .active = true, .short_timeout = true};
+        lagd->links[i].settings = ports[i];
+        memcpy(lagd->links[i].mac, ports[i].mac, sizeof ports[i].mac);
+        end->wires[i + 1].delay = 20;
+    }
+    CHECK(niw_new(&lagd->own_system, &lagd->settings.config, keys, KEYS, ports, PORTS).status == NIW_OK);
+    start_held(lagd);
+    end->next_tick = now + below(TICK);
+}
+
+/* Each frame of the host was sent, waits, or is lost for a reason that is counted. */
+static void check_counts(struct end *end) {
+    const uint64_t *counts = end->lagd.carry.counts;
+    uint64_t waiting = 0;
+    CHECK(count_all_held(&end->lagd, &waiting));
+    CHECK(counts[FROM_HOST] == counts[UNFIT] + counts[NONE_CARRIES] + counts[QUEUE_FULL] + counts[HELD_TOO_LONG] + waiting + end->given);
+    CHECK(end->out_count == 0 && counts[UNFIT] == 0);
+    if (waiting > most_waited) most_waited = waiting;
+}
+
+/* No frame waits for longer than a flight and a second. */
+static void check_waiting(struct end *end) {
+    uint64_t came;
+    for (uint16_t number = 0; number < CONVERSATIONS; number++)
+        if (oldest_held(&end->lagd, number, &came)) CHECK(now - came < FLIGHT + 1000);
+}
+
+/* Frames of the host come. */
+static void send_burst(struct end *end, unsigned most) {
+    static uint8_t packets[BATCH][OCTETS];
+    unsigned count = 1 + below(most);
+    uint16_t number = (uint16_t)below(BUSY_ONES);
+    for (unsigned i = 0; i < count; i++) {
+        uint8_t *packet = packets[i];
+        memset(packet, 0, OCTETS);
+        packet[0] = packet[6] = 2;
+        packet[12] = 8;
+        if (below(3) == 0) number = (uint16_t)below(BUSY_ONES);
+        end->made[number]++;
+        memcpy(packet + CONVERSATION_AT, &number, sizeof number);
+        memcpy(packet + NUMBER_AT, &end->made[number], sizeof end->made[number]);
+        take_from_host(&end->lagd, packet, OCTETS);
+        events++;
+    }
+    flush_data(&end->lagd);
+}
+
+/* A frame comes to an end. */
+static void take(struct end *end, uint16_t port, const uint8_t *frame, size_t length) {
+    struct lagd *lagd = &end->lagd;
+    struct link *link = &lagd->links[port - 1];
+    struct arrival arrival = {frame, length, PACKET_MULTICAST, link->index, false};
+    struct niw_received received;
+    uint8_t response[NIW_FRAME];
+    events++;
+    if (is_slow(frame)) {
+        take_frame(lagd, link, &arrival);
+        lagd->carry.changed = true;
+        send_due(lagd);
+    } else {
+        received = niw_receive(&lagd->own_system, port, frame, length, response, sizeof response);
+        if (is_done(lagd, received.status, "niw_receive") && received.what == NIW_RECEIVED_HANDED_UP)
+            hand_up(lagd, received.number, frame, length);
+    }
+    settle_carry(lagd);
+}
+
+/* Takes what has come by a cable. */
+static void take_wire(struct end *from, uint16_t port) {
+    struct wire *wire = &from->wires[port];
+    while (wire->count > 0 && wire->ring[wire->first].at <= now) {
+        struct flying frame = wire->ring[wire->first];
+        wire->first = (wire->first + 1) % ON_WIRE;
+        wire->count--;
+        land(from, frame.octets);
+        take(other_of(from), port, frame.octets, frame.length);
+    }
+}
+
+/* A cable goes, and with it what is on its way. */
+static void cut(uint16_t port) {
+    cable_up[port] = false;
+    for (unsigned which = 0; which < 2; which++) {
+        struct wire *wire = &ends[which].wires[port];
+        for (; wire->count > 0; wire->count--) {
+            land(&ends[which], wire->ring[wire->first].octets);
+            wire->first = (wire->first + 1) % ON_WIRE;
+        }
+        wire->last = now;
+    }
+}
+
+/* How a link is now is seen later, but before it is another way. */
+static void change_cable(uint16_t port) {
+    if (ends[0].notices[port] != 0 || ends[1].notices[port] != 0) return;
+    if (cable_up[port])
+        cut(port);
+    else
+        cable_up[port] = true;
+    ends[0].notices[port] = now + 1 + below(60);
+    ends[1].notices[port] = now + 1 + below(60);
+    events++;
+}
+
+/* Some ticks passed, and are made up, as lagd/main.c does. */
+static void pass_time(struct end *end, unsigned ticks) {
+    struct lagd *lagd = &end->lagd;
+    for (; ticks > 0; ticks--) {
+        CHECK(niw_tick(&lagd->own_system) == NIW_OK);
+        take_views(lagd);
+        pass_carry_tick(lagd);
+        if (now / 1000 != (now - TICK) / 1000) allow_bundle_line(lagd);
+        events++;
+    }
+    check_waiting(end);
+    send_due(lagd);
+    take_views(lagd);
+    look_at_bundle(lagd);
+    settle_carry(lagd);
+    CHECK(!end->carrier || any_distributes(lagd));
+}
+
+/* What is due at an end. */
+static void serve(struct end *end) {
+    for (uint16_t port = 1; port <= PORTS; port++) take_wire(other_of(end), port);
+    for (uint16_t port = 1; port <= PORTS; port++) {
+        if (end->notices[port] == 0 || end->notices[port] > now) continue;
+        end->notices[port] = 0;
+        set_link_of(end, port, cable_up[port]);
+    }
+    if (end->response_at != 0 && end->response_at <= now) {
+        end->response_at = 0;
+        put_slow(end, end->response_port, end->response);
+    }
+    if (end->next_tick > now) return;
+    pass_time(end, 1 + (unsigned)(now - end->next_tick) / TICK);
+    end->next_tick += TICK * (1 + (now - end->next_tick) / TICK);
+}
+
+/* Something happens. */
+static void happen(struct end *end) {
+    unsigned what = below(1000);
+    uint16_t port = (uint16_t)(1 + below(PORTS));
+    if (what < 700) send_burst(end, what < 20 ? BATCH : 6);
+    if (what >= 700 && what < 702) change_cable(port);
+    if (what >= 710 && what < 713) ask_moves(&end->lagd);
+    if (what == 720) end->mute_until = now + below(20000);
+    if (what == 721) end->mute_until = 0;
+    if (what == 722) end->short_until = now + below(300);
+    if (what >= 730 && what < 733) end->wires[port].delay = 1 + below(below(3) == 0 ? SLOWEST : 20);
+    if (what == 740) now += below(STALL);
+    if (what >= 700) events++;
+}
+
+static void step(bool calm) {
+    now += below(3);
+    for (unsigned which = 0; which < 2; which++) serve(&ends[which]);
+    if (calm) return;
+    happen(&ends[below(2)]);
+    for (unsigned which = 0; which < 2; which++) check_counts(&ends[which]);
+}
+
+/* Nothing is in the way of data any more: what is sent comes, and nothing waits. */
+static void calm_down(void) {
+    uint64_t until, arrived[2];
+    for (uint16_t port = 1; port <= PORTS; port++) {
+        for (until = now + 100; now < until;) step(true);
+        if (!cable_up[port]) change_cable(port);
+        ends[0].wires[port].delay = ends[1].wires[port].delay = 5;
+    }
+    for (unsigned which = 0; which < 2; which++) ends[which].mute_until = ends[which].short_until = 0;
+    for (until = now + 12000; now < until;) step(true);
+    for (unsigned which = 0; which < 2; which++) {
+        arrived[which] = ends[which].arrived;
+        CHECK(ends[which].carrier && ends[which].lagd.bundle.state != BUNDLE_DOWN && !ends[which].lagd.carry.waiting);
+        send_burst(&ends[which], 1);
+    }
+    for (until = now + 2000; now < until;) step(true);
+    CHECK(ends[0].arrived == arrived[0] + 1 && ends[1].arrived == arrived[1] + 1);
+}
+
+int main(int argc, char **argv) {
+    uint64_t most = argc > 1 ? strtoull(argv[1], NULL, 10) : 1000000, seed = argc > 2 ? strtoull(argv[2], NULL, 10) : 1;
+    random_state = seed * 0x9e3779b97f4a7c15u + 1;
+    for (unsigned which = 0; which < 2; which++) make_end(&ends[which], (uint8_t)(which + 1));
+    for (uint16_t port = 1; port <= PORTS; port++) change_cable(port);
+    calm_down();
+    for (uint64_t next = CALM_EACH; events < most;) {
+        step(false);
+        if (events < next) continue;
+        calm_down();
+        next = events + CALM_EACH;
+    }
+    for (unsigned which = 0; which < 2; which++) {
+        const uint64_t *counts = ends[which].lagd.carry.counts;
+        printf("end %u: %llu from the host, %llu sent, %llu came, %llu moves, %llu rested, %llu forced, %llu held, %llu switches\n", which,
+            (unsigned long long)counts[FROM_HOST], (unsigned long long)ends[which].given, (unsigned long long)ends[which].arrived,
+            (unsigned long long)counts[MOVES], (unsigned long long)counts[RESTED], (unsigned long long)counts[FORCED],
+            (unsigned long long)counts[HELD_FRAMES], (unsigned long long)counts[SWITCHES]);
+    }
+    printf("seed %llu: %llu events in %llu s of its clock, %llu frames waited at most\n", (unsigned long long)seed,
+        (unsigned long long)events, (unsigned long long)(now - 100000) / 1000, (unsigned long long)most_waited);
+    return tell_checks();
+}
