@@ -188,6 +188,7 @@ static bool release_one(struct lagd *lagd, struct conversation *conversation, ui
     if (offered == LOST) return drop_held(lagd, number, NONE_CARRIES);
     packet = take_held(lagd, number, &length);
     if (!packet) return false;
+    conversation->used = true; /* from now on it is on its way */
     send_on(lagd, conversation, packet, length);
     return true;
 }

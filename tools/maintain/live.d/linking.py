@@ -122,6 +122,14 @@ def build_flights(folder: str) -> str:
     return build(os.path.join(folder, "flights"), sources, [], *STRICT, f"-I{DAEMON}", *SANITIZED)
 
 
+def build_policy(folder: str, libraries: Sequence[str]) -> str:
+    """Builds what the daemon decides of data alone, with ASan and UBSan, over cables in memory; answers the path of the program. What it is
+    not linked with it does not call."""
+    decides = ("bundle", "carry", "flight", "frames", "held", "markers", "moves", "names", "probe")
+    sources = [*(f"{MAINTAIN}/live.d/{name}.c" for name in ("policy", "checks")), *(f"{DAEMON}/{name}.c" for name in decides)]
+    return build(os.path.join(folder, "policy"), sources, libraries, *STRICT, f"-I{DAEMON}", *SANITIZED)
+
+
 def build_memory(folder: str, libraries: Sequence[str]) -> str:
     """Builds what counts the memory that the library asks for; answers the path of the program."""
     sources = [f"{MAINTAIN}/live.d/{name}.c" for name in ("memory", "checks")]

@@ -20,11 +20,13 @@
 #define KEYS 2 /* so many aggregators, with as many ports each */
 #define TICK 100u
 #define FLIGHT 500u
-#define SLOWEST 400u /* a frame is on its way for so many milliseconds at most */
+/* A frame is on a cable for so many milliseconds at most, and then waits for a daemon that stalls for so long: less than a flight. */
+#define SLOWEST 240u
+#define STALL 240u
 #define BUSY_ONES 48 /* conversations of which frames come */
 #define OCTETS 64
 #define ON_WIRE 4096 /* frames at most, on a cable one way; what comes then is lost */
-#define STALL 900u   /* milliseconds for which ticks are late at most */
+#define LATE 900u    /* milliseconds for which ticks are late at most, while frames are taken */
 /* Where a frame has its conversation, and its number in that. */
 #define CONVERSATION_AT 14
 #define NUMBER_AT 16
@@ -62,7 +64,7 @@ struct end {
     uint8_t response[NIW_FRAME]; /* one that goes later, on a port */
     uint16_t response_port;
     uint64_t response_at;
-    uint64_t next_tick, mute_until, short_until;
+    uint64_t next_tick, mute_until, short_until, stalled_until, late_until;
     uint64_t notices[PORTS + 1]; /* when it sees how a link is now, or 0 */
     uint64_t made[CONVERSATIONS], put[CONVERSATIONS], got[CONVERSATIONS]; /* numbers of the last frames: of the host, sent, and of the other end */
     unsigned flying[CONVERSATIONS];
@@ -71,7 +73,16 @@ struct end {
     bool carrier;
 };
 
+/* What is likely until all calms down next. */
+struct weather {
+    bool mute, slow;   /* neither peer answers markers; frames are long on their way */
+    unsigned burst;    /* of so many thousand events those that are frames of the host, */
+    unsigned changes;  /* and those that are changes of links */
+    unsigned busy;     /* of so many conversations they are */
+};
+
 static struct end ends[2];
+static struct weather weather = {.burst = 700, .changes = 2, .busy = BUSY_ONES};
 static bool cable_up[PORTS + 1];
 static uint64_t now = 100000, events, most_waited;
 static uint64_t random_state;
@@ -185,7 +196,7 @@ void send_frame(struct lagd *lagd, struct link *link, const uint8_t *frame) {
     struct end *end = end_of(lagd);
     uint8_t sent[NIW_FRAME];
     memcpy(sent, frame, sizeof sent);
-    if (sent[SUBTYPE_AT] == SUBTYPE_MARKER && now < end->mute_until) return;
+    if (sent[SUBTYPE_AT] == SUBTYPE_MARKER && (weather.mute || now < end->mute_until)) return;
     if (sent[SUBTYPE_AT] == SUBTYPE_MARKER && below(4) == 0) { /* it goes later, or by another link, too */
         memcpy(end->response, frame, sizeof sent);
         end->response_port = below(2) == 0 ? link->settings.number : (uint16_t)(1 + below(PORTS));
@@ -403,13 +414,13 @@ static void check_waiting(struct end *end) {
 static void send_burst(struct end *end, unsigned most) {
     static uint8_t packets[BATCH][OCTETS];
     unsigned count = 1 + below(most);
-    uint16_t number = (uint16_t)below(BUSY_ONES);
+    uint16_t number = (uint16_t)below(weather.busy);
     for (unsigned i = 0; i < count; i++) {
         uint8_t *packet = packets[i];
         memset(packet, 0, OCTETS);
         packet[0] = packet[6] = 2;
         packet[12] = 8;
-        if (below(3) == 0) number = (uint16_t)below(BUSY_ONES);
+        if (below(3) == 0) number = (uint16_t)below(weather.busy);
         end->made[number]++;
         memcpy(packet + CONVERSATION_AT, &number, sizeof number);
         memcpy(packet + NUMBER_AT, &end->made[number], sizeof end->made[number]);
@@ -471,8 +482,8 @@ static void change_cable(uint16_t port) {
         cut(port);
     else
         cable_up[port] = true;
-    ends[0].notices[port] = now + 1 + below(60);
-    ends[1].notices[port] = now + 1 + below(60);
+    ends[0].notices[port] = now + 1 + below(weather.slow ? 700 : 60);
+    ends[1].notices[port] = now + 1 + below(weather.slow ? 700 : 60);
     events++;
 }
 
@@ -496,6 +507,7 @@ static void pass_time(struct end *end, unsigned ticks) {
 
 /* What is due at an end. */
 static void serve(struct end *end) {
+    if (now < end->stalled_until) return;
     for (uint16_t port = 1; port <= PORTS; port++) take_wire(other_of(end), port);
     for (uint16_t port = 1; port <= PORTS; port++) {
         if (end->notices[port] == 0 || end->notices[port] > now) continue;
@@ -506,8 +518,8 @@ static void serve(struct end *end) {
         end->response_at = 0;
         put_slow(end, end->response_port, end->response);
     }
-    if (end->next_tick > now) return;
-    pass_time(end, 1 + (unsigned)(now - end->next_tick) / TICK);
+    if (end->next_tick > now || now < end->late_until) return;
+    pass_time(end, 1 + (unsigned)(now - end->next_tick) / TICK); /* fewer than lagd/main.c makes up at most */
     end->next_tick += TICK * (1 + (now - end->next_tick) / TICK);
 }
 
@@ -515,34 +527,44 @@ static void serve(struct end *end) {
 static void happen(struct end *end) {
     unsigned what = below(1000);
     uint16_t port = (uint16_t)(1 + below(PORTS));
-    if (what < 700) send_burst(end, what < 20 ? BATCH : 6);
-    if (what >= 700 && what < 702) change_cable(port);
+    if (what < weather.burst) send_burst(end, what < 20 ? BATCH : 6);
+    for (bool more = below(1000) < weather.changes; more; more = below(2) == 0) change_cable((uint16_t)(1 + below(PORTS)));
     if (what >= 710 && what < 713) ask_moves(&end->lagd);
     if (what == 720) end->mute_until = now + below(20000);
     if (what == 721) end->mute_until = 0;
     if (what == 722) end->short_until = now + below(300);
-    if (what >= 730 && what < 733) end->wires[port].delay = 1 + below(below(3) == 0 ? SLOWEST : 20);
-    if (what == 740) now += below(STALL);
+    if (what >= 730 && what < 733) end->wires[port].delay = 1 + below(weather.slow || below(3) == 0 ? SLOWEST : 20);
+    if (what == 740) end->stalled_until = now + below(STALL);
+    if (what == 741) end->late_until = now + below(LATE);
     if (what >= 700) events++;
 }
 
 static void step(bool calm) {
+    unsigned which;
     now += below(3);
-    for (unsigned which = 0; which < 2; which++) serve(&ends[which]);
+    for (which = 0; which < 2; which++) serve(&ends[which]);
     if (calm) return;
-    happen(&ends[below(2)]);
-    for (unsigned which = 0; which < 2; which++) check_counts(&ends[which]);
+    which = below(2);
+    if (now >= ends[which].stalled_until) happen(&ends[which]);
+    for (which = 0; which < 2; which++) check_counts(&ends[which]);
+}
+
+/* Until now all was calm. */
+static void change_weather(void) {
+    const unsigned bursts[] = {700, 200, 20}, changes[] = {2, 10, 1}, busy[] = {BUSY_ONES, 8, 2};
+    weather = (struct weather){below(2) == 0, below(2) == 0, bursts[below(3)], changes[below(3)], busy[below(3)]};
 }
 
 /* Nothing is in the way of data any more: what is sent comes, and nothing waits. */
 static void calm_down(void) {
     uint64_t until, arrived[2];
     for (uint16_t port = 1; port <= PORTS; port++) {
-        for (until = now + 100; now < until;) step(true);
+        for (until = now + 1000; now < until;) step(true);
         if (!cable_up[port]) change_cable(port);
         ends[0].wires[port].delay = ends[1].wires[port].delay = 5;
     }
     for (unsigned which = 0; which < 2; which++) ends[which].mute_until = ends[which].short_until = 0;
+    weather.mute = false;
     for (until = now + 12000; now < until;) step(true);
     for (unsigned which = 0; which < 2; which++) {
         arrived[which] = ends[which].arrived;
@@ -551,6 +573,7 @@ static void calm_down(void) {
     }
     for (until = now + 2000; now < until;) step(true);
     CHECK(ends[0].arrived == arrived[0] + 1 && ends[1].arrived == arrived[1] + 1);
+    change_weather();
 }
 
 int main(int argc, char **argv) {
