@@ -86,12 +86,11 @@ static void hand_over(struct lagd *lagd, struct link *link, const struct arrival
 static void take_response(struct lagd *lagd, struct link *link, const struct arrival *arrival, uint32_t id) {
     uint8_t frame[NIW_FRAME];
     struct arrival last = *arrival;
-    if (!ends_flight(lagd, link, &id)) {
-        if (!is_done(lagd, niw_count_received(&link->counters, arrival->frame, arrival->length, NIW_RECEIVED_RELEASED),
-            "niw_count_received"))
-            return;
+    bool ends = ends_flight(lagd, link, &id);
+    if (!ends && !is_done(lagd, niw_count_received(&link->counters, arrival->frame, arrival->length, NIW_RECEIVED_RELEASED),
+        "niw_count_received"))
         return;
-    }
+    if (!ends) return;
     memcpy(frame, arrival->frame, sizeof frame);
     set_identifier(frame, id);
     last.frame = frame;

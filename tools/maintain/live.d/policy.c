@@ -165,10 +165,9 @@ uint64_t boottime(void) {
 }
 
 /* data and markers, */
-void put_data(struct lagd *lagd, uint16_t port, uint8_t *packet, size_t length) {
+void put_data(struct lagd *lagd, uint16_t port, uint16_t number, uint8_t *packet, size_t length) {
     struct end *end = end_of(lagd);
-    uint16_t number = conversation_at(packet);
-    CHECK(length == OCTETS && port >= 1 && port <= PORTS && number_at(packet) > end->put[number]);
+    CHECK(number == conversation_at(packet) && length == OCTETS && port >= 1 && port <= PORTS && number_at(packet) > end->put[number]);
     end->put[number] = number_at(packet);
     end->given++;
     if (end->out_count == sizeof end->out / sizeof *end->out) flush_data(lagd);
@@ -303,6 +302,22 @@ bool carries_data(struct lagd *lagd) {
     return true;
 }
 
+/* and what is of members with several queues, of which there are none here; */
+bool answer_marker(struct lagd *lagd, struct link *link, const uint8_t *response) {
+    send_frame(lagd, link, response);
+    return true;
+}
+bool ends_flight(struct lagd *lagd, const struct link *link, uint32_t *id) {
+    (void)lagd;
+    (void)link;
+    (void)id;
+    return false;
+}
+void set_identifier(uint8_t *frame, uint32_t id) {
+    (void)frame;
+    (void)id;
+}
+
 /* and what is not here: the kernel's plane, the team driver, the settings of the device. */
 #define NOTHING(name) \
     void name(struct lagd *lagd) { (void)lagd; }
@@ -320,6 +335,7 @@ NOTHING(set_collecting)
 NOTHING(settle_buckets)
 NOTHING(take_fast_counts)
 NOTHING(take_host)
+NOTHING(watch_queues)
 NOTHING(withdraw)
 NEVER(carries_by_team)
 NEVER(is_fast)
