@@ -115,6 +115,7 @@ static void fuzz_auxiliary(const uint8_t *octets, size_t length) {
     waiting = octets;
     waiting_length = length;
     take_frames(lagd, 1);
+    waiting = NULL;
     lagd->links[0].socket = -1;
     while (recv(wire[1], scrap, sizeof scrap, MSG_DONTWAIT) > 0) continue;
 }
