@@ -74,11 +74,13 @@ async function run(lagtool, file, options, printed) {
     }
 }
 
+const ADVICE = "Look whether LACP is on: at a switch the mode of the group is active, not on (static); bonding has mode=802.3ad.";
+
 function verdictOf(records, kinds, said) {
     if (kinds) return [`${kinds === 1 ? "One thing is" : `${kinds} things are`} wrong, at ${counted(records.findings.length, "place")}:`, false];
     if (said) return ["", false];
     if (records.counts?.slow) return ["Nothing found.", true];
-    return ["No frame of the slow protocols (LACPDU, Marker PDU) is in this capture.", false];
+    return [`No frame of the slow protocols (LACPDU, Marker PDU) is in this capture. ${ADVICE}`, false];
 }
 
 /* The records first, with what they show; then the text. */

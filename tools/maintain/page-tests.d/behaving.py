@@ -36,6 +36,7 @@ def of_page(tests: Tests, browser: Browser, folder: str) -> None:
     of_fields(tests, browser)
     of_axis(tests, browser)
     of_bundles(tests, browser, folder)
+    of_silence(tests, browser, folder)
     of_hostile(tests, browser, folder)
     of_keyboard(tests, browser)
     tests.same("a file that is dropped is explained", [browser.drop(UNEQUAL)[it] for it in ("status", "said")], [1, ""])
@@ -125,6 +126,15 @@ def of_axis(tests: Tests, browser: Browser) -> None:
     browser.drag(x, y, -150)
     browser.settle()
     tests.same("a drag moves the axis", browser.value(marks) != near, True)
+
+
+def of_silence(tests: Tests, browser: Browser, folder: str) -> None:
+    """A capture without an LACPDU says that LACP may be off, or static."""
+    path = os.path.join(folder, "silent.pcap")
+    made.pcap(path, [(0.0, bytes([255] * 6 + [2, 0, 0, 0, 0, 1]) + b"\x08\x06" + bytes(46))])
+    browser.choose(path)
+    said = browser.value("document.getElementById('verdict').textContent")
+    tests.same("without an LACPDU it asks whether LACP is on", [it in said for it in ("No frame", "active, not on", "mode=802.3ad")], [True] * 3)
 
 
 def of_bundles(tests: Tests, browser: Browser, folder: str) -> None:

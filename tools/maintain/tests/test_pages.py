@@ -21,6 +21,25 @@ def test_rows_have_as_many_cells_as_their_head() -> None:
 
 
 @pytest.mark.parametrize(
+    ("rows", "found"),
+    [
+        ("|1|too late (6.4.13)|x|\n|2|a tag (6.4.2.2), or two|y|", []),
+        ("|1|too late (6.4.13)|x|", ["''"]),
+        ("|1|too late (6.4.12)|x|\n|2|a tag (6.4.2.2)|y|", ["'|1|too late (6.4.12)|x|'"]),
+        ("|1|too late (6.4.13)|x|\n|2|a tag (6.4.2.2)|y|\n|3|old (6.4.4)|z|", ["'|3|old (6.4.4)|z|'"]),
+    ],
+)
+def test_each_rule_of_findings_has_a_row(rows: str, found: list[str]) -> None:
+    rules = "".join(
+        f'RuleRow {{\n    number: {number},\n    name: "{name}",\n    clause: "{clause}",\n}}'
+        for number, name, clause in [(1, "too late", "6.4.13"), (2, "a tag", "6.4.2.2")]
+    )
+    page = f"|other|\n|---|\n|7|\n\n|rule|name|\n|---|---|---|\n{rows}\n\nbehind\n"
+    said = pages.unlike(rules, page)
+    assert [it.partition(" findings ")[2].partition(", and not ")[0] for it in said] == found
+
+
+@pytest.mark.parametrize(
     ("sentence", "words"),
     [
         ("The machines of one port: receive, mux (6.4).", "The machines of one port"),
