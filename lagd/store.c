@@ -23,7 +23,8 @@
 /* A file that the last daemon left. */
 static struct stored {
     char name[NAME_OF_FILE];
-    int fd; /* -1: it is taken, or closed */
+    int fd;    /* -1: it is taken, or closed */
+    int taken; /* the same, once it is taken, until the manager keeps it no more; else -1 */
 } stored[MOST_FILES];
 static size_t count;
 static bool stays; /* whether the next daemon gets what is there */
@@ -45,13 +46,26 @@ bool has_store(void) {
     return manager && manager[0] && most && atoi(most) > 0;
 }
 
+/* Whether the manager keeps this file already. Where the kernel cannot compare files (kcmp), it would keep it twice. */
+static bool is_stored(const char *kind, int number, int fd) {
+    char name[NAME_OF_FILE];
+    name_stored(kind, number, name);
+    for (size_t i = 0; i < count; i++)
+        if (stored[i].taken == fd && strcmp(stored[i].name, name) == 0) return true;
+    return false;
+}
+
 /* The manager keeps a file, too, until drop_stored. */
 void put_stored(const char *kind, int number, int fd) {
-    if (has_store()) tell_store("FDSTORE", kind, number, fd);
+    if (has_store() && !is_stored(kind, number, fd)) tell_store("FDSTORE", kind, number, fd);
 }
 
 /* The manager keeps it no more. */
 void drop_stored(const char *kind, int number) {
+    char name[NAME_OF_FILE];
+    name_stored(kind, number, name);
+    for (size_t i = 0; i < count; i++)
+        if (strcmp(stored[i].name, name) == 0) stored[i].taken = -1;
     if (has_store()) tell_store("FDSTOREREMOVE", kind, number, -1);
 }
 
@@ -63,6 +77,7 @@ int take_stored(const char *kind, int number) {
         int fd = stored[i].fd;
         if (fd < 0 || strcmp(stored[i].name, name) != 0) continue;
         stored[i].fd = -1;
+        stored[i].taken = fd;
         return fd;
     }
     return -1;
@@ -75,6 +90,7 @@ void return_stored(const char *kind, int number, int fd) {
     for (size_t i = 0; i < count; i++) {
         if (stored[i].fd >= 0 || strcmp(stored[i].name, name) != 0) continue;
         stored[i].fd = fd;
+        stored[i].taken = -1;
         return;
     }
     close(fd);
@@ -113,6 +129,7 @@ void open_store(void) {
         if (count == MOST_FILES) close(fd);
         if (count == MOST_FILES) continue;
         snprintf(stored[count].name, sizeof stored[count].name, "%s", names[i]);
+        stored[count].taken = -1;
         stored[count++].fd = fd;
     }
     for (int i = 0; i < found; i++) free(names[i]);
