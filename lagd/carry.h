@@ -114,7 +114,7 @@ void detach_program(int attached);
 
 /* store.c */
 int attach_stored(struct lagd *lagd, const char *kind, int program, int index, bool egress);
-void detach_stored(const char *kind, int index, int attached);
+void detach_stored(struct lagd *lagd, const char *kind, int index, int attached);
 
 /* programs.c: what the kernel runs for frames */
 struct fast_maps {
@@ -216,7 +216,7 @@ void put_back(struct lagd *lagd, int index, const uint8_t *mac);
 /* spread.c: a member that keeps all its queues */
 void start_spreading(struct lagd *lagd);
 void spread(struct lagd *lagd, const struct link *link, struct guard *guard);
-void stop_spreading(const struct link *link, struct guard *guard);
+void stop_spreading(struct lagd *lagd, const struct link *link, struct guard *guard);
 void note_channels(const struct link *link, struct guard *guard);
 bool has_usual_queues(struct lagd *lagd, const struct guard *guard);
 bool is_spread_anew(struct lagd *lagd, const struct link *link, const struct guard *guard);

@@ -71,10 +71,10 @@ static void *open_map(struct lagd *lagd, int number, uint32_t size, uint32_t cou
     *map = take_stored(lagd, "map", number);
     at = *map >= 0 && lagd->inherited.tap != 0 && lagd->inherited.tap == lagd->fast->tap_at ? take_map(size, count, *map) : NULL;
     if (at) return at;
-    if (*map >= 0) close_stored("map", number, *map);
+    if (*map >= 0) close_stored(lagd, "map", number, *map);
     at = make_map(size, count, map);
     need(at != NULL, "fast: no table of the kernel");
-    put_stored("map", number, *map);
+    put_stored(lagd, "map", number, *map);
     return at;
 }
 
@@ -117,8 +117,8 @@ void end_fast(struct lagd *lagd) {
     for (uint16_t number = 0; number < CONVERSATIONS; number++)
         (void)__atomic_and_fetch(&own->rows[number].word, ~(uint64_t)UINT32_MAX, __ATOMIC_SEQ_CST);
     for (uint16_t i = 0; i < lagd->link_count; i++) __atomic_store_n(&own->entries[i].up_to, 0, __ATOMIC_SEQ_CST);
-    if (own->sender >= 0) detach_stored("sender", own->tap_at, own->sender);
-    if (own->handover >= 0) detach_stored("handover", own->tap_at, own->handover);
+    if (own->sender >= 0) detach_stored(lagd, "sender", own->tap_at, own->sender);
+    if (own->handover >= 0) detach_stored(lagd, "handover", own->tap_at, own->handover);
     own->sender = own->handover = -1;
     own->tap_at = 0;
 }

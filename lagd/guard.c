@@ -216,7 +216,7 @@ static void run_programs(struct lagd *lagd, const struct link *link, struct guar
 }
 
 static void stop_programs(struct lagd *lagd, const struct link *link, struct guard *guard) {
-    if (guard->opened >= 0) detach_stored("guard", link->index, guard->opened);
+    if (guard->opened >= 0) detach_stored(lagd, "guard", link->index, guard->opened);
     if (guard->classifier != NO_CLASSIFIER) drop_classifier(lagd, link->index);
     guard->opened = -1;
     guard->classifier = NO_CLASSIFIER;
@@ -270,7 +270,7 @@ void close_guard(struct lagd *lagd, const struct link *link, struct guard *guard
     char name[IF_NAMESIZE];
     bool done = true;
     stop_programs(lagd, link, guard);
-    stop_spreading(link, guard);
+    stop_spreading(lagd, link, guard);
     gather_back(lagd, link);
     if (before->joins != 0) set_joins(link->index, before->joins);
     if (before->joins != 0) done = (before->joins & ~read_joins(link->index).wanted) == 0;

@@ -31,7 +31,7 @@ void lose_tap(struct lagd *lagd) {
     lagd->broken = true;
     end_fast(lagd);
     forget_tap(lagd);
-    drop_stored("tap", 0);
+    drop_stored(lagd, "tap", 0);
     if (own->tap >= 0) await_no_more(lagd, own->tap);
     (void)say(lagd, LOG_ERR | ABOUT_CARRIER, "carry %s: the device was deleted, or moved to another namespace; the peers are told, and the "
         "daemon ends", lagd->settings.carry);

@@ -337,11 +337,11 @@ const char *boot_id(struct lagd *lagd);
 /* store.c */
 void open_store(struct lagd *lagd);
 bool has_store(void);
-void put_stored(const char *kind, int number, int fd);
+void put_stored(struct lagd *lagd, const char *kind, int number, int fd);
 int take_stored(struct lagd *lagd, const char *kind, int number);
 void return_stored(struct lagd *lagd, const char *kind, int number, int fd);
-void drop_stored(const char *kind, int number);
-void close_stored(const char *kind, int number, int fd);
+void drop_stored(struct lagd *lagd, const char *kind, int number);
+void close_stored(struct lagd *lagd, const char *kind, int number, int fd);
 void drop_unclaimed(struct lagd *lagd);
 void leave_store(struct lagd *lagd);
 int packet_socket(struct lagd *lagd, const char *kind, int of, int index, int type);

@@ -32,7 +32,7 @@ static int open_socket(struct lagd *lagd, int index) {
         && bind(opened, (struct sockaddr *)&address, sizeof address) == 0
         && setsockopt(opened, SOL_PACKET, PACKET_ADD_MEMBERSHIP, &member, sizeof member) == 0)
         return opened;
-    close_stored("lacp", index, opened);
+    close_stored(lagd, "lacp", index, opened);
     return -1;
 }
 
@@ -102,9 +102,9 @@ bool has_new_carrier(struct link *link) {
     return true;
 }
 
-static void close_files(struct link *link) {
-    if (link->socket >= 0) close_stored("lacp", link->index, link->socket);
-    if (link->lock >= 0) close_stored("lock", link->index, link->lock);
+static void close_files(struct lagd *lagd, struct link *link) {
+    if (link->socket >= 0) close_stored(lagd, "lacp", link->index, link->socket);
+    if (link->lock >= 0) close_stored(lagd, "lock", link->index, link->lock);
     if (link->carrier_file >= 0) close(link->carrier_file);
     link->socket = link->lock = link->carrier_file = -1;
 }
@@ -117,14 +117,14 @@ bool open_link(struct lagd *lagd, struct link *link, int index) {
     link->index = index;
     taken = link->socket >= 0 && await_input(lagd, link->socket, link->settings.number) && open_member(lagd, link);
     link->trouble = taken ? 0 : errno;
-    if (taken) put_stored("lock", index, link->lock);
-    if (taken) put_stored("lacp", index, link->socket);
+    if (taken) put_stored(lagd, "lock", index, link->lock);
+    if (taken) put_stored(lagd, "lacp", index, link->socket);
     link->carrier_file = open_carrier(index);
     link->carrier_changes[0] = 0;
     link->trouble_ticks = TROUBLE_TICKS;
     link->unsent = link->queued = false;
     link->changed = true;
-    if (!taken) close_files(link);
+    if (!taken) close_files(lagd, link);
     return taken;
 }
 
@@ -132,7 +132,7 @@ bool open_link(struct lagd *lagd, struct link *link, int index) {
 void close_link(struct lagd *lagd, struct link *link) {
     close_member(lagd, link);
     follow_mtu(lagd, link, 0);
-    close_files(link);
+    close_files(lagd, link);
     link->unsent = false;
     link->changed = true;
 }

@@ -58,7 +58,7 @@ int lock_interface(struct lagd *lagd, int index) {
         if (other.inode == 0) return opened;
         errno = EADDRINUSE;
     }
-    close_stored("lock", index, opened);
+    close_stored(lagd, "lock", index, opened);
     return -1;
 }
 

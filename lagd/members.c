@@ -120,7 +120,7 @@ static int open_data(struct lagd *lagd, int index, const struct guard *guard) {
         && bind(fd, (struct sockaddr *)&address, sizeof address) == 0
         && setsockopt(fd, SOL_PACKET, PACKET_ADD_MEMBERSHIP, &all, sizeof all) == 0)
         return fd;
-    close_stored("data", index, fd);
+    close_stored(lagd, "data", index, fd);
     return -1;
 }
 
@@ -134,7 +134,7 @@ static int open_markers(struct lagd *lagd, const struct link *link, int index, u
     if ((port > 0 ? filter_marked(fd, port) : filter(fd, true)) && setsockopt(fd, SOL_PACKET, PACKET_AUXDATA, &(int){1}, sizeof(int)) == 0
         && bind(fd, (struct sockaddr *)&address, sizeof address) == 0)
         return fd;
-    close_stored(kind, link->index, fd);
+    close_stored(lagd, kind, link->index, fd);
     return -1;
 }
 
@@ -150,18 +150,18 @@ void start_members(struct lagd *lagd) {
 
 static void close_sockets(struct lagd *lagd, struct member *member) {
     int index = lagd->links[member - lagd->members->members].index, fault = errno;
-    if (member->socket >= 0) close_stored("data", index, member->socket);
-    if (member->markers >= 0) close_stored("markers", index, member->markers);
-    if (member->direct >= 0) close_stored("direct", index, member->direct);
+    if (member->socket >= 0) close_stored(lagd, "data", index, member->socket);
+    if (member->markers >= 0) close_stored(lagd, "markers", index, member->markers);
+    if (member->direct >= 0) close_stored(lagd, "direct", index, member->direct);
     member->socket = member->markers = member->direct = -1;
     errno = fault;
 }
 
 /* The manager of services keeps the sockets of a member, too. */
-static void store_sockets(const struct member *member, int index) {
-    put_stored("data", index, member->socket);
-    if (member->markers >= 0) put_stored("markers", index, member->markers);
-    if (member->direct >= 0) put_stored("direct", index, member->direct);
+static void store_sockets(struct lagd *lagd, const struct member *member, int index) {
+    put_stored(lagd, "data", index, member->socket);
+    if (member->markers >= 0) put_stored(lagd, "markers", index, member->markers);
+    if (member->direct >= 0) put_stored(lagd, "direct", index, member->direct);
 }
 
 /* Opens the sockets of a member; answers whether it did. */
@@ -179,7 +179,7 @@ static bool open_sockets(struct lagd *lagd, struct member *member, const struct 
 static bool open_or_close(struct lagd *lagd, struct member *member, const struct link *link) {
     int fault;
     if (open_sockets(lagd, member, link)) {
-        store_sockets(member, link->index);
+        store_sockets(lagd, member, link->index);
         begin_queues(lagd, link->settings.number, member->guard.queues);
         return true;
     }

@@ -183,13 +183,13 @@ void spread(struct lagd *lagd, const struct link *link, struct guard *guard) {
     guard->spread = !fault;
     if (!fault) return;
     guard->queues = 1;
-    stop_spreading(link, guard);
+    stop_spreading(lagd, link, guard);
     (void)say(lagd, LOG_WARNING | ABOUT_DATA, "port %u %s: it gets one queue: %s", link->settings.number, link->name, fault);
 }
 
 /* Frames of the daemon go by any queue again. */
-void stop_spreading(const struct link *link, struct guard *guard) {
-    if (guard->chooser >= 0) detach_stored("queues", link->index, guard->chooser);
+void stop_spreading(struct lagd *lagd, const struct link *link, struct guard *guard) {
+    if (guard->chooser >= 0) detach_stored(lagd, "queues", link->index, guard->chooser);
     guard->chooser = -1;
     guard->spread = false;
 }

@@ -25,7 +25,8 @@
 struct store_private {
     struct stored {
         char name[NAME_OF_FILE];
-        int fd; /* -1: it is taken, or closed */
+        int fd;    /* -1: it is taken, or closed */
+        int taken; /* the same, once it is taken, until the manager keeps it no more; else -1 */
     } stored[MOST_FILES];
     size_t count;
     bool stays; /* whether the next daemon gets what is there */
@@ -52,13 +53,26 @@ bool has_store(void) {
     return manager && manager[0] && most && atoi(most) > 0;
 }
 
+/* Whether the manager keeps this file already. Where the kernel cannot compare files (kcmp), it would keep it twice. */
+static bool is_stored(struct lagd *lagd, const char *kind, int number, int fd) {
+    char name[NAME_OF_FILE];
+    name_stored(kind, number, name);
+    for (size_t i = 0; i < lagd->store->count; i++)
+        if (lagd->store->stored[i].taken == fd && strcmp(lagd->store->stored[i].name, name) == 0) return true;
+    return false;
+}
+
 /* The manager keeps a file, too, until drop_stored. */
-void put_stored(const char *kind, int number, int fd) {
-    if (has_store()) tell_store("FDSTORE", kind, number, fd);
+void put_stored(struct lagd *lagd, const char *kind, int number, int fd) {
+    if (has_store() && !is_stored(lagd, kind, number, fd)) tell_store("FDSTORE", kind, number, fd);
 }
 
 /* The manager keeps it no more. */
-void drop_stored(const char *kind, int number) {
+void drop_stored(struct lagd *lagd, const char *kind, int number) {
+    char name[NAME_OF_FILE];
+    name_stored(kind, number, name);
+    for (size_t i = 0; i < lagd->store->count; i++)
+        if (strcmp(lagd->store->stored[i].name, name) == 0) lagd->store->stored[i].taken = -1;
     if (has_store()) tell_store("FDSTOREREMOVE", kind, number, -1);
 }
 
@@ -71,6 +85,7 @@ int take_stored(struct lagd *lagd, const char *kind, int number) {
         int fd = own->stored[i].fd;
         if (fd < 0 || strcmp(own->stored[i].name, name) != 0) continue;
         own->stored[i].fd = -1;
+        own->stored[i].taken = fd;
         return fd;
     }
     return -1;
@@ -84,6 +99,7 @@ void return_stored(struct lagd *lagd, const char *kind, int number, int fd) {
     for (size_t i = 0; i < own->count; i++) {
         if (own->stored[i].fd >= 0 || strcmp(own->stored[i].name, name) != 0) continue;
         own->stored[i].fd = fd;
+        own->stored[i].taken = -1;
         return;
     }
     close(fd);
@@ -125,6 +141,7 @@ void open_store(struct lagd *lagd) {
         if (own->count == MOST_FILES) close(fd);
         if (own->count == MOST_FILES) continue;
         snprintf(own->stored[own->count].name, sizeof own->stored[own->count].name, "%s", names[i]);
+        own->stored[own->count].taken = -1;
         own->stored[own->count++].fd = fd;
     }
     for (int i = 0; i < found; i++) free(names[i]);
@@ -140,13 +157,15 @@ bool has_store(void) {
     return false;
 }
 
-void put_stored(const char *kind, int number, int fd) {
+void put_stored(struct lagd *lagd, const char *kind, int number, int fd) {
+    (void)lagd;
     (void)kind;
     (void)number;
     (void)fd;
 }
 
-void drop_stored(const char *kind, int number) {
+void drop_stored(struct lagd *lagd, const char *kind, int number) {
+    (void)lagd;
     (void)kind;
     (void)number;
 }
@@ -179,9 +198,9 @@ void open_store(struct lagd *lagd) {
 #endif
 
 /* Closes a file that the manager keeps, too, and leaves errno as it is. */
-void close_stored(const char *kind, int number, int fd) {
+void close_stored(struct lagd *lagd, const char *kind, int number, int fd) {
     int fault = errno;
-    drop_stored(kind, number);
+    drop_stored(lagd, kind, number);
     close(fd);
     errno = fault;
 }
@@ -198,7 +217,7 @@ static bool is_of(int fd, int index) {
 int packet_socket(struct lagd *lagd, const char *kind, int of, int index, int type) {
     int fd = take_stored(lagd, kind, of);
     if (fd >= 0 && is_of(fd, index) && (type == SOCK_DGRAM || was_away_briefly(lagd))) return fd;
-    if (fd >= 0) close_stored(kind, of, fd);
+    if (fd >= 0) close_stored(lagd, kind, of, fd);
     return socket(AF_PACKET, type | SOCK_NONBLOCK | SOCK_CLOEXEC, 0);
 }
 
@@ -206,13 +225,13 @@ int packet_socket(struct lagd *lagd, const char *kind, int of, int index, int ty
 int attach_stored(struct lagd *lagd, const char *kind, int program, int index, bool egress) {
     int attached = take_stored(lagd, kind, index);
     if (attached >= 0 && exchange_program(attached, program, index)) return attached;
-    if (attached >= 0) detach_stored(kind, index, attached);
+    if (attached >= 0) detach_stored(lagd, kind, index, attached);
     attached = attach_program(program, index, egress);
-    if (attached >= 0) put_stored(kind, index, attached);
+    if (attached >= 0) put_stored(lagd, kind, index, attached);
     return attached;
 }
 
-void detach_stored(const char *kind, int index, int attached) {
+void detach_stored(struct lagd *lagd, const char *kind, int index, int attached) {
     detach_program(attached);
-    close_stored(kind, index, attached);
+    close_stored(lagd, kind, index, attached);
 }

@@ -247,7 +247,7 @@ static bool take_inherited(struct lagd *lagd, const char *name, const uint8_t *m
     if (fd < 0) return false;
     if (!is_here(fd, &device)
         || (lagd->inherited.tap == 0 ? strcmp(device.ifr_name, name) != 0 : index_of(lagd, device.ifr_name) != lagd->inherited.tap)) {
-        close_stored("tap", 0, fd);
+        close_stored(lagd, "tap", 0, fd);
         return false;
     }
     own->tap = fd;
@@ -288,7 +288,7 @@ int open_tap(struct lagd *lagd, const char *name, const uint8_t *mac) {
     own->asker = socket(AF_UNIX, SOCK_DGRAM | SOCK_CLOEXEC, 0);
     if (own->asker < 0) stop(REFUSED, "no TAP device", strerror(errno));
     if (!take_inherited(lagd, name, mac)) make_tap(lagd, name, mac);
-    put_stored("tap", 0, own->tap);
+    put_stored(lagd, "tap", 0, own->tap);
     return own->tap;
 }
 

@@ -81,7 +81,7 @@ static void lock_device(struct lagd *lagd, int index) {
     }
     need(own->lock >= 0, lagd->settings.carry);
     own->locked = index;
-    put_stored("lock", index, own->lock);
+    put_stored(lagd, "lock", index, own->lock);
 }
 
 /* Whether each port of a device is an interface of this bundle. */
@@ -118,7 +118,7 @@ static void take_device(struct lagd *lagd, const struct interface *device, const
  * TAP device of the last daemon goes. */
 static bool find_device(struct lagd *lagd, const char *name, struct interface *device) {
     int tap = take_stored(lagd, "tap", 0);
-    if (tap >= 0) close_stored("tap", 0, tap);
+    if (tap >= 0) close_stored(lagd, "tap", 0, tap);
     if (lagd->inherited.tap != 0 && ask_interface(lagd, lagd->inherited.tap, NULL, device) && strcmp(device->kind, TEAM_KIND) == 0)
         return true;
     for (int tries = 0; ask_interface(lagd, 0, name, device); tries++) {
@@ -265,7 +265,7 @@ void leave_team(struct lagd *lagd, int index, bool with_device) {
     if (held < 0) return;
     free_inherited_ports(lagd, index);
     if (with_device) (void)remove_device(lagd, index);
-    close_stored("lock", index, held);
+    close_stored(lagd, "lock", index, held);
 }
 
 /* The program ends, and no other one goes on: its ports are free, also those that a start did not come to, and the device goes if a daemon made
@@ -276,6 +276,6 @@ void end_team(struct lagd *lagd) {
     for (uint16_t i = 0; i < lagd->link_count; i++) close_team_port(lagd, &lagd->links[i]);
     if (tap_index(lagd) != 0) free_inherited_ports(lagd, tap_index(lagd));
     if (own->made && tap_index(lagd) != 0) (void)remove_device(lagd, tap_index(lagd));
-    if (own->lock >= 0) close_stored("lock", own->locked, own->lock);
+    if (own->lock >= 0) close_stored(lagd, "lock", own->locked, own->lock);
     own->opened = false;
 }

@@ -133,6 +133,7 @@ def restarts(guest: Guest) -> str:
     before = guest.text("cat /sys/class/net/lag0/ifindex; ip -br address show lag0")
     outcomes = traffic(guest, SECONDS, lambda: guest.run("systemctl restart lagd@uplink"))
     text = handed_over(guest, "systemctl restart", outcomes, 0)
+    guest.run("for n in 1 2 3; do systemctl restart lagd@uplink; sleep 1; done")
     after = guest.text("cat /sys/class/net/lag0/ifindex; ip -br address show lag0")
     check(after == before, "lag0 is the same device, with its addresses", before, after)
     return text
