@@ -75,7 +75,9 @@ async function run(lagtool, file, options, printed) {
 }
 
 function verdictOf(records, kinds, said) {
-    if (kinds) return [`${kinds === 1 ? "One thing is" : `${kinds} things are`} wrong, at ${counted(records.findings.length, "place")}:`, false];
+    const isGood = !said && kinds.every(([, kind]) => kind === "remark"), places = counted(records.findings.length, "place");
+    const found = kinds.map(([number, kind]) => counted(number, kind)).join(", ");
+    if (found) return [`${isGood ? "No fault found; " : ""}${found}, at ${places}:`, isGood];
     if (said) return ["", false];
     if (records.counts?.slow) return ["Nothing found.", true];
     return ["No frame of the slow protocols (LACPDU, Marker PDU) is in this capture.", false];
