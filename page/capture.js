@@ -12,7 +12,7 @@ import { button, made, table } from "./shapes.js";
 /* The most frames that are listed of a link, besides those of findings. */
 const MOST = 400;
 /* The rules of docs/COMMAND.md whose findings often explain others, and those whose findings often follow from others. */
-const LEADING = [26, 28], FOLLOWING = [12, 13, 17, 22, 23];
+const LEADING = [26, 28, 29], FOLLOWING = [12, 13, 17, 22, 23];
 const FAULT = "fault", EFFECT = "likely effect", REMARK = "remark", KINDS = [FAULT, EFFECT, REMARK];
 const isFault = (finding) => !isRemark(finding) && !FOLLOWING.includes(finding.rule);
 export const counted = (number, word) => `${number} ${word}${number === 1 ? "" : "s"}`;
@@ -116,6 +116,7 @@ const VALUES = new Map([
     [3, ({ partner }) => `names port ${partner.port}`],
     [4, ({ partner }) => `names key ${partner.key}`],
     [15, ({ actor, partner }) => `key ${actor.key}, the partner's key ${partner.key}`],
+    [29, ({ partner }) => `names system ${partner.system}`],
 ]);
 const valueOf = (finding, frame) => frame?.kind === "lacpdu" && VALUES.has(finding.rule) ? `: ${VALUES.get(finding.rule)(frame)}` : "";
 const frameOf = (finding) => finding.at.frames.find((it) => it.packet === finding.packet);
@@ -123,6 +124,7 @@ const frameOf = (finding) => finding.at.frames.find((it) => it.packet === findin
 /* What several packets of one rule say of a system when they are taken together: what it has, and which values. */
 const TOGETHER = new Map([
     [15, { has: "has keys", of: ({ actor, partner }) => [[actor.system, actor.key], [partner.system, partner.key]] }],
+    [29, { has: "leads to", of: ({ actor, partner }) => [[actor.system, addressOf(partner.system)]] }],
 ]);
 
 /* Each system of which packets of these findings say more than one value. */

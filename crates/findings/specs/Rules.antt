@@ -70,6 +70,8 @@ row_of variants.Hasty = rule_row 27 (codes "a wait of less than 2 seconds before
     (codes "None is needed if both ends distribute: an end that waits lets links that come up together attach together.")
 row_of variants.Backward = rule_row 28 (codes "more than a second earlier than the frame before it") (codes "6.4.4")
     (codes "Sort the packets by reordercap and read them again: rules 18 to 21 are left out, and no time is judged from a packet to an earlier one.")
+row_of variants.Split = rule_row 29 (codes "links of one system lead to two systems") (codes "6.3.6")
+    (codes "Cable these links to one system, or make the two systems one (MLAG); give links that are to stay apart keys of their own.")
 
 abbrev pub rule_number : Rule → ℕ
 rule_number rule = (row_of rule).number
@@ -90,4 +92,4 @@ all_rules =
     ∷ variants.Reserved ∷ variants.Destination ∷ variants.Tag ∷ variants.Silence ∷ variants.Unheard ∷ variants.Desynchronized
     ∷ variants.Individual ∷ variants.Keys ∷ variants.Segment ∷ variants.Discarded ∷ variants.OneWay ∷ variants.Unanswered
     ∷ variants.Unasked ∷ variants.Late ∷ variants.Attached ∷ variants.Relapsing ∷ variants.Types ∷ variants.Source
-    ∷ variants.Third ∷ variants.Hasty ∷ variants.Backward ∷ []
+    ∷ variants.Third ∷ variants.Hasty ∷ variants.Backward ∷ variants.Split ∷ []

@@ -65,6 +65,9 @@ pub enum Rule {
     Hasty,
     /// 28: more than a second earlier than the frame before it in the capture, of any end; the first one alone is found.
     Backward,
+    /// 29: for longer than 6 seconds, the latest LACPDU, within 90 seconds, of another port of the system with the same key has
+    /// named another partner system; both may be aggregated.
+    Split,
 }
 
 /// What is said of a rule: its number, what is found, the section that has it, and what to do.
@@ -78,7 +81,7 @@ struct RuleRow {
 
 impl Rule {
     /// All rules, in the order of their numbers.
-    pub const ALL: [Rule; 28] = [
+    pub const ALL: [Rule; 29] = [
         Rule::Rate,
         Rule::System,
         Rule::Port,
@@ -107,6 +110,7 @@ impl Rule {
         Rule::Third,
         Rule::Hasty,
         Rule::Backward,
+        Rule::Split,
     ];
 
     /// The row of the rule.
@@ -284,6 +288,12 @@ impl Rule {
                 name: "more than a second earlier than the frame before it",
                 clause: "6.4.4",
                 advice: "Sort the packets by reordercap and read them again: rules 18 to 21 are left out, and no time is judged from a packet to an earlier one.",
+            },
+            Rule::Split => RuleRow {
+                number: 29,
+                name: "links of one system lead to two systems",
+                clause: "6.3.6",
+                advice: "Cable these links to one system, or make the two systems one (MLAG); give links that are to stay apart keys of their own.",
             },
         }
     }

@@ -96,6 +96,11 @@ def of_verdicts(tests: Tests, browser: Browser, folder: str) -> None:
     tests.same("of a capture that is cut short it is not said", browser.value(verdict), ["1 remark, at 1 place:", "bad"])
     browser.choose(os.path.join(CAPTURES, "bonding.pcap"))
     tests.same("an effect without a fault is one itself", browser.value(verdict), ["1 fault, at 1 place:", "bad"])
+    split = os.path.join(folder, "split.pcap")
+    made.split(split)
+    browser.choose(split)
+    said = ["Links of one system lead to two systems", "02-00-00-00-00-01 leads to 02-00-00-00-00-02 and 02-00-00-00-00-03"]
+    tests.same("links to two systems are one fault, which names both", [*browser.value(verdict), browser.value(titles)], ["1 fault, at 2 places:", "bad", [said]])
 
 
 def fields_wanted(record: dict[str, Any]) -> list[list[str]]:
