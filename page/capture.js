@@ -1,6 +1,6 @@
 /* What is shown of a capture: the findings, then a time axis for each pair of systems, then the frames and the text. */
 
-import { bundlesOf, nameOf, Records, saidBy, secondsOf } from "./records.js";
+import { addressOf, bundlesOf, isRemark, nameOf, Records, saidBy, secondsOf } from "./records.js";
 import { Packets } from "./packets.js";
 import { fieldsOf } from "./fields.js";
 import { octetsBeside } from "./octets.js";
@@ -12,10 +12,12 @@ import { button, made, table } from "./shapes.js";
 /* The most frames that are listed of a link, besides those of findings. */
 const MOST = 400;
 /* The rules of docs/COMMAND.md whose findings often explain others, and those whose findings often follow from others. */
-const LEADING = [26, 28], FOLLOWING = [12, 13, 17, 22, 23, 27];
-const rankOf = (rule) => FOLLOWING.includes(rule) - LEADING.includes(rule);
+const LEADING = [26, 28, 29], FOLLOWING = [12, 13, 17, 22, 23];
+const FAULT = "fault", EFFECT = "likely effect", REMARK = "remark", KINDS = [FAULT, EFFECT, REMARK];
+const isFault = (finding) => !isRemark(finding) && !FOLLOWING.includes(finding.rule);
 export const counted = (number, word) => `${number} ${word}${number === 1 ? "" : "s"}`;
 const upper = (text) => text[0].toUpperCase() + text.slice(1);
+const lookOf = (finding) => isRemark(finding) ? "quiet" : "bad";
 const frameRow = (packet) => `packet-${packet}`;
 
 /* A part that opens, and is made once it is opened. */
@@ -35,7 +37,7 @@ function framesOf(link, choose) {
     const listed = link.frames.filter((it, number) => number < MOST || packets.has(it.packet));
     const rows = listed.map((frame) => {
         const open = button(`${frame.packet}`, () => choose(frame)), said = made("span", saidBy(frame));
-        for (const it of link.findings) if (it.packet === frame.packet) said.append(made("strong", ` ${it.name} (${it.clause})`, "bad"));
+        for (const it of link.findings) if (it.packet === frame.packet) said.append(made("strong", ` ${it.name} (${it.clause})`, lookOf(it)));
         open.setAttribute("aria-label", `packet ${frame.packet}: its fields`);
         return [open, secondsOf(frame.seconds), frame.end === link.ends[0] ? "\u2192" : "\u2190", said];
     });
@@ -93,7 +95,7 @@ class Pair {
         if (turn !== this.turn) return;
         const head = made("h3", `Packet ${frame.packet} at ${secondsOf(frame.seconds)} s, from ${frame.end.name}`);
         const findings = this.bundle.findings.filter((it) => it.packet === frame.packet && it.at === frame.end);
-        const said = findings.map((it) => made("p", `${upper(it.name)} (${it.clause}). ${it.advice}`, "bad"));
+        const said = findings.map((it) => made("p", `${upper(it.name)} (${it.clause}). ${it.advice}`, lookOf(it)));
         const octets = found ? octetsBeside(found.octets, fieldsOf(found.octets, found.link)) : made("p", "Its octets are not found in the file.");
         this.fields.replaceChildren(button("Close", () => this.close(), "close"), head, ...said, octets);
         this.fields.hidden = false;
@@ -114,40 +116,68 @@ const VALUES = new Map([
     [3, ({ partner }) => `names port ${partner.port}`],
     [4, ({ partner }) => `names key ${partner.key}`],
     [15, ({ actor, partner }) => `key ${actor.key}, the partner's key ${partner.key}`],
+    [29, ({ partner }) => `names system ${partner.system}`],
 ]);
 const valueOf = (finding, frame) => frame?.kind === "lacpdu" && VALUES.has(finding.rule) ? `: ${VALUES.get(finding.rule)(frame)}` : "";
+const frameOf = (finding) => finding.at.frames.find((it) => it.packet === finding.packet);
+
+/* What several packets of one rule say of a system when they are taken together: what it has, and which values. */
+const TOGETHER = new Map([
+    [15, { has: "has keys", of: ({ actor, partner }) => [[actor.system, actor.key], [partner.system, partner.key]] }],
+    [29, { has: "leads to", of: ({ actor, partner }) => [[actor.system, addressOf(partner.system)]] }],
+]);
+
+/* Each system of which packets of these findings say more than one value. */
+function togetherOf(findings) {
+    const together = TOGETHER.get(findings[0].rule), values = new Map();
+    if (!together) return [];
+    const frames = findings.map(frameOf).filter((it) => it?.kind === "lacpdu");
+    for (const [system, value] of frames.flatMap(together.of)) values.set(system, (values.get(system) ?? new Set()).add(value));
+    const several = [...values].filter(([, found]) => found.size > 1);
+    return several.map(([system, found]) => `${addressOf(system)} ${together.has} ${[...found].sort((one, other) => one < other ? -1 : 1).join(" and ")}`);
+}
 
 /* Where a finding shows: the clause, the end, and the packet, which leads into the diagram. */
 function placeIn(finding, pair) {
-    const frame = finding.at.frames.find((it) => it.packet === finding.packet), link = made(frame ? "a" : "span", `packet ${finding.packet}`);
+    const frame = frameOf(finding), link = made(frame ? "a" : "span", `packet ${finding.packet}`);
     if (frame) link.href = `#${frameRow(finding.packet)}`;
     if (frame) link.addEventListener("click", (event) => {
         event.preventDefault();
         pair.take(frame);
     });
-    const where = made("span", `${finding.clause}: ${finding.at.name}, `, "quiet");
+    const { name, system } = finding.at, of = system ? ` of system ${addressOf(system)}` : "";
+    const where = made("span", `${finding.clause}: ${name}${of}, `, "quiet");
     where.append(link, finding.seconds === null ? "" : ` at ${finding.seconds.toFixed(6)} s`, valueOf(finding, frame));
     return where;
 }
 
+/* What the findings of one rule are: effects where each pair of systems that has them has a fault, too. */
+function kindOfRule(findings, pairOf) {
+    if (isRemark(findings[0])) return REMARK;
+    return findings.every((it) => !isFault(it) && pairOf(it).bundle.findings.some(isFault)) ? EFFECT : FAULT;
+}
+
 /* What is found by one rule: what, what to do, and where it shows. */
-function itemOf(findings, pairOf) {
+function itemOf(findings, kind, pairOf) {
     const item = made("li"), [{ name, advice }] = findings;
-    item.append(made("strong", upper(name)), made("span", advice));
+    item.append(made("strong", kind === FAULT ? upper(name) : `${upper(kind)}: ${name}`), made("span", advice));
+    item.append(...togetherOf(findings).map((it) => made("strong", it)));
     item.append(...findings.map((it) => placeIn(it, pairOf(it))));
     return item;
 }
 
-/* Shows what the records say; `blob` has the capture. Gives the verdict, and the pairs. */
+/* Shows what the records say; `blob` has the capture. Gives the pairs, and how many rules are found of each kind. */
 export function showRecords(records, blob, findingsAt, linksAt) {
     const packets = new Packets(blob), bundles = bundlesOf(records), { findings } = records;
     const pairs = bundles.map((it, number) => new Pair(it, packets, number === 0));
     const pairOf = (finding) => pairs.find((it) => it.bundle.findings.includes(finding));
     const rules = [...new Set(findings.map((it) => it.rule))].map((rule) => findings.filter((it) => it.rule === rule));
-    rules.sort(([one], [other]) => rankOf(one.rule) - rankOf(other.rule));
-    findingsAt.replaceChildren(...rules.map((it) => itemOf(it, pairOf)));
+    const items = rules.map((it) => ({ findings: it, kind: kindOfRule(it, pairOf) }));
+    const rankOf = ({ findings: [{ rule }], kind }) => KINDS.indexOf(kind) - LEADING.includes(rule);
+    items.sort((one, other) => rankOf(one) - rankOf(other));
+    findingsAt.replaceChildren(...items.map((it) => itemOf(it.findings, it.kind, pairOf)));
     linksAt.replaceChildren(...pairs.map((it) => it.part));
-    return { pairs, kinds: rules.length };
+    return { pairs, kinds: KINDS.map((kind) => [items.filter((it) => it.kind === kind).length, kind]).filter(([number]) => number) };
 }
 
 const recordsIn = (text) => {

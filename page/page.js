@@ -77,7 +77,9 @@ async function run(lagtool, file, options, printed) {
 const ADVICE = "Look whether LACP is on: at a switch the mode of the group is active, not on (static); bonding has mode=802.3ad.";
 
 function verdictOf(records, kinds, said) {
-    if (kinds) return [`${kinds === 1 ? "One thing is" : `${kinds} things are`} wrong, at ${counted(records.findings.length, "place")}:`, false];
+    const isGood = !said && kinds.every(([, kind]) => kind === "remark"), places = counted(records.findings.length, "place");
+    const found = kinds.map(([number, kind]) => counted(number, kind)).join(", ");
+    if (found) return [`${isGood ? "No fault found; " : ""}${found}, at ${places}:`, isGood];
     if (said) return ["", false];
     if (records.counts?.slow) return ["Nothing found.", true];
     return [`No frame of the slow protocols (LACPDU, Marker PDU) is in this capture. ${ADVICE}`, false];

@@ -2,9 +2,12 @@
 
 /* So many frames of so many ends are kept to be drawn; lagtool examines 64 ends. */
 const MOST_KEPT = 100000, MOST_ENDS = 128;
+/* The rules of docs/COMMAND.md that call for nothing. */
+const REMARKS = [6, 8, 27];
 const NO_SYSTEM = "00-00-00-00-00-00";
 const BITS = ["active", "short", "aggregatable", "synchronized", "collecting", "distributing", "defaulted", "expired"];
 
+export const isRemark = (finding) => REMARKS.includes(finding.rule);
 export const bitsOf = (octet) => BITS.filter((_, bit) => (octet >> bit) & 1);
 export const hexadecimal = (number, digits = 2) => number.toString(16).padStart(digits, "0");
 export const secondsOf = (seconds) => seconds === null ? "-" : seconds.toFixed(6);
@@ -184,8 +187,11 @@ export function bundlesOf(records) {
     return findingsFirst([...bundles.values()]);
 }
 
+/* The MAC address of a system. */
+export const addressOf = (system) => system.split("/")[1];
+
 /* What a pair of systems is called: by their addresses. */
 export function nameOf(bundle) {
-    const [one, other] = bundle.systems.map((it) => isKnown(it) ? it.split("/")[1] : "a system that is not heard");
+    const [one, other] = bundle.systems.map((it) => isKnown(it) ? addressOf(it) : "a system that is not heard");
     return `${one} and ${other}`;
 }

@@ -1,6 +1,6 @@
 /* The links of one pair of systems on one time axis, from left to right: of each end a bar for each state, and an arrow for each frame. */
 
-import { bitsOf, hexadecimal, machinesOf, saidBy, secondsOf } from "./records.js";
+import { bitsOf, hexadecimal, isRemark, machinesOf, saidBy, secondsOf } from "./records.js";
 import { shape } from "./shapes.js";
 
 const GUTTER = 66, RIGHT = 14, AXIS = 26, ROW = 13, NAME = 18, ARROWS = 54, BETWEEN = 16, LETTER = 6.2;
@@ -124,9 +124,10 @@ export class Drawing {
         put("path", { d: `M${across} ${from} V${to - back * 6}`, class: frame.kind === "lacpdu" ? "lacpdu" : "marker" });
         if (isLost) put("path", { d: `M${(x - 4).toFixed(1)} ${to - 4} l8 8 m0 -8 l-8 8`, class: "lost" });
         else put("path", { d: `M${across} ${to} l-4 ${-back * 8} h8 z`, class: "tip" });
-        if (isMarked) put("circle", { cx: across, cy: from + back * 9, r: 5, class: "found" });
-        const [beside, anchor] = x + 7 + LETTER * said.length > this.width ? [x - 7, "end"] : [x + 7, "start"], kind = isMarked ? "bad small" : "small";
-        if (said) put("text", { x: beside.toFixed(1), y: from + (way === 0 ? 13 : -5), "text-anchor": anchor, class: kind }, said);
+        const look = isMarked ? findings.every(isRemark) ? "quiet" : "bad" : "";
+        if (isMarked) put("circle", { cx: across, cy: from + back * 9, r: 5, class: `found ${look}` });
+        const [beside, anchor] = x + 7 + LETTER * said.length > this.width ? [x - 7, "end"] : [x + 7, "start"];
+        if (said) put("text", { x: beside.toFixed(1), y: from + (way === 0 ? 13 : -5), "text-anchor": anchor, class: `small ${look}` }, said);
         put("title", {}, labelOf(frame, findings));
         this.parts.push(it);
     }

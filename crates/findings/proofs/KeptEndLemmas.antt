@@ -2,8 +2,8 @@
 use Rattle.std.proofs.Common.{◌≡◌, ◌∷◌, ◌∙◌, [], ℕ, Bool, List, Option, None, Some, refl, sym, ap, false}
 use Rattle.findings.specs.declared.slow_frame.LinkEnd.{LinkEnd}
 use Rattle.findings.specs.declared.slow_frame.SlowFrame.{SlowFrame}
-use Rattle.findings.specs.Ends.{Relation, Unsent, answers, faces, frames_of, intrudes, is_named, is_sibling, lacpdus, latest, rivals, said, end_of}
-use Rattle.findings.specs.Ends.{same_end, others}
+use Rattle.findings.specs.Ends.{Relation, Unsent, answers, faces, frames_of, intrudes, is_fellow, is_named, is_sibling, lacpdus, latest, rivals, said}
+use Rattle.findings.specs.Ends.{end_of, same_end, others}
 use Rattle.findings.specs.Markers.{first_overdue, open_marker, response_in, unless_answered, asking}
 use Rattle.slowpdu.specs.declared.pdu.Marker.{Marker}
 use Rattle.findings.specs.Responses.{first_response, is_overdue, is_unasked, owed, request, responding}
@@ -73,6 +73,7 @@ before_first e h u = λ i. record {
     facing = sym (none_latest faces e h u) i;
     third = sym (none_latest intrudes e h u) i;
     named = sym (none_latest is_named e h u) i;
+    fellow = sym (none_latest is_fellow e h u) i;
   };
   recent = recent_of (sym (no_lacpdus e h u) i);
   lacpdus = lacpdu_rules (sym (no_lacpdus e h u) i);

@@ -98,6 +98,14 @@ names v end = same_system v.partner.system end.system && same_port v.partner.por
 abbrev pub is_heard : Lacpdu → Bool
 is_heard v = not (bits_of v.actor.state).defaulted && not (bits_of v.actor.state).expired
 
+-- an LACPDU of the same system and key: of a port that may select the same aggregator (6.4.14)
+abbrev pub is_fellow : Relation
+is_fellow e own o v = same_system v.actor.system own.actor.system && (v.actor.key.0 == own.actor.key.0)
+
+-- an LACPDU of an end that has current information of its Partner, and whose port may be aggregated (6.3.5)
+abbrev pub may_aggregate : Lacpdu → Bool
+may_aggregate v = is_heard v && (bits_of v.actor.state).aggregation
+
 -- on the same interface, an LACPDU of a system that is neither this one nor its Partner's, and names one of the two ends
 abbrev pub intrudes : Relation
 intrudes e own o v =
@@ -118,6 +126,7 @@ others e h = record {
   facing = latest faces e h;
   third = latest intrudes e h;
   named = latest is_named e h;
+  fellow = latest is_fellow e h;
 }
 
 -- an LACPDU that is heard, with what is known then of other ends

@@ -9,6 +9,7 @@ use Rattle.findings.specs.declared.others.Other.{Other}
 use Rattle.findings.specs.declared.slow_frame.SlowFrame.{SlowFrame}
 use Rattle.findings.specs.declared.slow_frame.What.{What}
 use Rattle.findings.specs.declared.slow_frame.What.TheVariants.{Lacpdu, Marker, Refused}
+use Rattle.findings.specs.Ends.{may_aggregate}
 
 -- the nanoseconds of so many seconds
 abbrev pub seconds : ℕ → ℕ
@@ -184,6 +185,18 @@ has_third a =
     is_current a
     && (and_if (λ x. is_fresh a x && is_named_system a x) a.others.named
     && and_if (λ x. is_fresh a x && not (is_named_system a x)) a.others.third)
+
+-- it has the same system and key, and another Partner's system
+abbrev pub parts_from : Heard → Other → Bool
+parts_from a x =
+    same_system a.pdu.actor.system x.pdu.actor.system
+    && ((a.pdu.actor.key.0 == x.pdu.actor.key.0) && not (same_system a.pdu.partner.system x.pdu.partner.system))
+
+-- Links of one system lead to two systems, and a LAG has one partner system (6.3.6, 6.4.14): the latest LACPDU of another port with
+-- the same key names another system, and came at most a Long Timeout before; both ports may be aggregated.
+abbrev pub is_split : Heard → Bool
+is_split a =
+    may_aggregate a.pdu && and_if (λ x. is_fresh a x && (parts_from a x && may_aggregate x.pdu)) a.others.fellow
 
 -- Aggregate_Wait_Time of 2 seconds, less the tolerance of a timer (6.4.4)
 abbrev pub least_wait : ℕ

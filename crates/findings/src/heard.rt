@@ -2,10 +2,11 @@ ghost use Rattle.std.specs.Prelude.{◌≡◌, List};
 ghost use Rattle.findings.specs.declared.recent.Heard.{Heard};
 ghost use Rattle.findings.specs.Firsts.{shown_heard};
 ghost use Rattle.findings.specs.Holds.{is_current, is_fresh, is_passive, is_individual, is_named_system, is_sibling_of, has_keys_of, names_partner_of};
+ghost use Rattle.findings.specs.Holds.{is_split, parts_from};
 ghost use Rattle.findings.specs.Holds.{has_other_system, has_other_port, has_other_key, has_other_keys, has_rival, has_third, names_as};
 
 use crate::finding::Shown;
-use crate::others::Other;
+use crate::others::{Other, may_aggregate};
 use crate::recent::{Heard, LONG_TIMEOUT, is_ordered};
 
 impl Heard {
@@ -152,6 +153,30 @@ impl Heard {
                     && !self.is_named_system(&third)
             }
             _ => false,
+        }
+    }
+
+    /// Whether the other LACPDU has the same system and key, and another Partner's system.
+    fn parts_from(&self, other: &Other) -> bool
+        ensures { result ≡ parts_from self.now other.now }
+    {
+        self.pdu.actor.system == other.pdu.actor.system
+            && self.pdu.actor.key == other.pdu.actor.key
+            && self.pdu.partner.system != other.pdu.partner.system
+    }
+
+    /// Whether another port that may be aggregated with the sender's names another system.
+    pub(crate) fn is_split(&self) -> bool
+        ensures { result ≡ is_split self.now }
+    {
+        match self.others.fellow {
+            Some(fellow) => {
+                may_aggregate(&self.pdu)
+                    && self.is_fresh(&fellow)
+                    && self.parts_from(&fellow)
+                    && may_aggregate(&fellow.pdu)
+            }
+            None => false,
         }
     }
 

@@ -128,6 +128,7 @@ impl KeptEnd {
             Rule::Third => self.lacpdus.third,
             Rule::Hasty => self.lacpdus.hasty,
             Rule::Backward => order.back_of(&self.end),
+            Rule::Split => self.lacpdus.split,
         }
     }
 }

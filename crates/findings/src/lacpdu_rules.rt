@@ -25,6 +25,7 @@ pub(crate) struct LacpduRules {
     pub(crate) relapsing: Option<Shown>,
     pub(crate) third: Option<Shown>,
     pub(crate) hasty: Option<Shown>,
+    pub(crate) split: Option<Shown>,
 }
 
 impl LacpduRules {
@@ -54,5 +55,6 @@ impl LacpduRules {
         keep_earlier(&mut self.relapsing, recent.is_relapsing(now), &shown);
         keep_earlier(&mut self.third, recent.has_third(now), &shown);
         keep_earlier(&mut self.hasty, recent.is_hasty(now), &shown);
+        keep_earlier(&mut self.split, recent.is_split(now), &shown);
     }
 }

@@ -1,7 +1,7 @@
 ghost use Rattle.std.specs.Prelude.{◌≡◌, ◌∷◌, List, Some, None, false, if◌then◌else◌};
 ghost use Rattle.std.specs.Option.{option_or};
 ghost use Rattle.findings.specs.declared.slow_frame.SlowFrame.{SlowFrame};
-ghost use Rattle.findings.specs.Ends.{answers, end_of, faces, intrudes, is_heard, is_named, is_sibling, names, others, related, rivals, said, same_end};
+ghost use Rattle.findings.specs.Ends.{answers, end_of, faces, intrudes, is_fellow, is_heard, is_named, is_sibling, may_aggregate, names, others, related, rivals, said, same_end};
 
 use crate::slow_frame::{LinkEnd, SlowFrame};
 use slowpdu::{Info, Lacpdu};
@@ -32,6 +32,8 @@ pub(crate) struct Others {
     pub(crate) third: Option<Other>,
     /// The latest LACPDU of the Partner's system on the same interface.
     pub(crate) named: Option<Other>,
+    /// The latest LACPDU of another end, on any interface, of the same system and key.
+    pub(crate) fellow: Option<Other>,
 }
 
 /// Whether the LACPDU of another end has this end as its Partner.
@@ -73,6 +75,13 @@ fn is_heard(pdu: &Lacpdu) -> bool
     !pdu.actor.state.is_defaulted() && !pdu.actor.state.is_expired()
 }
 
+/// Whether the sender of the LACPDU has current information of its Partner, and its port may be aggregated.
+pub(crate) fn may_aggregate(pdu: &Lacpdu) -> bool
+    ensures { result ≡ may_aggregate pdu.now }
+{
+    is_heard(pdu) && pdu.actor.state.is_aggregatable()
+}
+
 /// Whether the LACPDU is of a third system, and names this end or its Partner.
 fn intrudes(end: &LinkEnd, own: &Lacpdu, now: &SlowFrame, pdu: &Lacpdu) -> bool
     ensures { result ≡ intrudes end.now own.now now.now pdu.now }
@@ -89,6 +98,13 @@ fn is_named(end: &LinkEnd, own: &Lacpdu, now: &SlowFrame, pdu: &Lacpdu) -> bool
     ensures { result ≡ is_named end.now own.now now.now pdu.now }
 {
     now.interface == end.interface && pdu.actor.system == own.partner.system
+}
+
+/// Whether the LACPDU is of the same system and key.
+fn is_fellow(end: &LinkEnd, own: &Lacpdu, now: &SlowFrame, pdu: &Lacpdu) -> bool
+    ensures { result ≡ is_fellow end.now own.now now.now pdu.now }
+{
+    pdu.actor.system == own.actor.system && pdu.actor.key == own.actor.key
 }
 
 /// Keeps the new one if it is related, else the one before.
@@ -108,6 +124,7 @@ impl Others {
         ensures facing { self.new.facing ≡ option_or (related faces end.now now.now (Some own.now) (Some pdu.now)) self.old.facing }
         ensures third { self.new.third ≡ option_or (related intrudes end.now now.now (Some own.now) (Some pdu.now)) self.old.third }
         ensures named { self.new.named ≡ option_or (related is_named end.now now.now (Some own.now) (Some pdu.now)) self.old.named }
+        ensures fellow { self.new.fellow ≡ option_or (related is_fellow end.now now.now (Some own.now) (Some pdu.now)) self.old.fellow }
         ensures sibling { self.new.sibling ≡ option_or (related is_sibling end.now now.now (Some own.now) (Some pdu.now)) self.old.sibling }
     {
         let other = Other {
@@ -121,6 +138,7 @@ impl Others {
         keep_latest(&mut self.facing, now.interface == end.interface, &other);
         keep_latest(&mut self.third, intrudes(end, own, now, pdu), &other);
         keep_latest(&mut self.named, is_named(end, own, now, pdu), &other);
+        keep_latest(&mut self.fellow, is_fellow(end, own, now, pdu), &other);
     }
 
     /// Takes one more frame of another end; `own` is what this end said last.

@@ -1,6 +1,6 @@
 ghost use Rattle.std.specs.Prelude.{◌≡◌, ◌∷◌, List, unwrap_or, Some, None, if◌then◌else◌};
 ghost use Rattle.findings.specs.declared.recent.Heard.{Heard};
-ghost use Rattle.findings.specs.Holds.{and_if, is_alone, is_alone_short, is_one_way, is_ordered, is_over, is_attached, is_relapse, is_relapsing, is_unheard, is_discarded, is_periodic, is_rushed, is_late, is_silent, is_desynchronized, lasts, seconds, since, timeout, are_in_a_second, is_near, attaches, is_hasty, no_wait_at};
+ghost use Rattle.findings.specs.Holds.{and_if, is_alone, is_alone_short, is_one_way, is_ordered, is_over, is_attached, is_relapse, is_relapsing, is_unheard, is_discarded, is_periodic, is_rushed, is_late, is_silent, is_desynchronized, lasts, seconds, since, timeout, are_in_a_second, is_near, attaches, is_hasty, no_wait_at, is_split};
 ghost use Rattle.findings.specs.Holds.{has_other_system, has_other_port, has_other_key, has_other_keys, has_third, twice};
 ghost use Rattle.findings.specs.Firsts.{last_silent};
 ghost use Rattle.findings.specs.KeptEnds.{recent_of};
@@ -25,6 +25,9 @@ const MOST_UNHEARD: u64 = 6 * SECOND;
 /// How long an end may be ATTACHED before its partner is synchronized, in nanoseconds: Aggregate_Wait_Time of 2 seconds
 /// (6.4.4), three times.
 const MOST_ATTACHED: u64 = 6 * SECOND;
+
+/// How long links of one system may lead to two systems, in nanoseconds: so long, links that move to another system may take.
+const MOST_SPLIT: u64 = 6 * SECOND;
 
 /// How long an end waits at least before it is synchronized, in nanoseconds: Aggregate_Wait_Time of 2 seconds, less the
 /// tolerance of a timer, 0.25 seconds (6.4.4).
@@ -65,6 +68,8 @@ pub(crate) struct Recent {
     pub(crate) alone_short_since: Option<u64>,
     /// When the end said first that it is ATTACHED and its partner is not synchronized, if it has said so ever since.
     pub(crate) attached_since: Option<u64>,
+    /// When the end named first another system than the latest port of the same key, if it has done so ever since.
+    pub(crate) split_since: Option<u64>,
     /// Whether the end became Defaulted or Expired behind current information.
     pub(crate) relapsed: bool,
     /// The time of the latest LACPDU at which the port can't have waited yet for the partner that it names last.
@@ -203,6 +208,7 @@ impl Recent {
                 now.nanoseconds,
             ),
             attached_since: since(now.is_attached(), self.attached_since, now.nanoseconds),
+            split_since: since(now.is_split(), self.split_since, now.nanoseconds),
             relapsed: self.is_relapse(now) || self.relapsed,
             no_wait: if now.pdu.actor.state.is_synchronized() {
                 Some(now.nanoseconds)
@@ -384,6 +390,13 @@ impl Recent {
         ensures { (l : List Heard) → self.now ≡ recent_of l → result ≡ lasts is_attached (seconds 6) now.now l }
     {
         now.is_attached() && is_over(MOST_ATTACHED, self.attached_since, now.nanoseconds)
+    }
+
+    /// Whether the end has named another system than other ports of the same key for too long.
+    pub(crate) fn is_split(&self, now: &Heard) -> bool
+        ensures { (l : List Heard) → self.now ≡ recent_of l → result ≡ lasts is_split (seconds 6) now.now l }
+    {
+        now.is_split() && is_over(MOST_SPLIT, self.split_since, now.nanoseconds)
     }
 
     /// Whether the end has distributed for too long while its partner does not collect.

@@ -65,6 +65,9 @@ pub enum Rule {
     Hasty,
     /// 28: more than a second earlier than the frame before it in the capture, of any end; the first one alone is found.
     Backward,
+    /// 29: for longer than 6 seconds, the latest LACPDU, within 90 seconds, of another port of the system with the same key has
+    /// named another partner system; both may be aggregated.
+    Split,
 }
 
 /// What is said of a rule: its number, what is found, the section that has it, and what to do.
@@ -78,7 +81,7 @@ struct RuleRow {
 
 impl Rule {
     /// All rules, in the order of their numbers.
-    pub const ALL: [Rule; 28] = [
+    pub const ALL: [Rule; 29] = [
         Rule::Rate,
         Rule::System,
         Rule::Port,
@@ -107,6 +110,7 @@ impl Rule {
         Rule::Third,
         Rule::Hasty,
         Rule::Backward,
+        Rule::Split,
     ];
 
     /// The row of the rule.
@@ -133,7 +137,7 @@ impl Rule {
                 number: 3,
                 name: "the partner's port is not the one that answers",
                 clause: "6.4.9",
-                advice: "Look for crossed cables: this end names another port of the system.",
+                advice: "Compare two cables, of the port that this end names and of the one that answers it: they may be crossed.",
             },
             Rule::Key => RuleRow {
                 number: 4,
@@ -169,43 +173,43 @@ impl Rule {
                 number: 9,
                 name: "a frame to another destination",
                 clause: "6.4.2.2",
-                advice: "Set the destination address of LACPDUs to 01-80-c2-00-00-02 at both ends.",
+                advice: "Set the destination address of this end's LACPDUs to 01-80-c2-00-00-02 (aAggPortProtocolDA of its port).",
             },
             Rule::Tag => RuleRow {
                 number: 10,
                 name: "a frame with a tag",
                 clause: "6.4.2.2",
-                advice: "Send LACPDUs without a tag: a switch forwards or drops those that have one.",
+                advice: "Send LACPDUs without a tag (switch: native VLAN untagged): a switch forwards or drops those that have one.",
             },
             Rule::Silence => RuleRow {
                 number: 11,
                 name: "no LACPDU for longer than the partner's timeout",
                 clause: "6.4.13",
-                advice: "Look for lost frames, and whether the sender follows the timeout that the partner asks for.",
+                advice: "Look for lost frames, and whether the sender follows the timeout that the partner asks for (bonding: lacp_rate; switch: lacp rate).",
             },
             Rule::Unheard => RuleRow {
                 number: 12,
                 name: "defaulted or expired for longer than 6 seconds",
                 clause: "6.4.12",
-                advice: "Look whether the partner sends LACPDUs and whether they reach this end.",
+                advice: "Look whether LACP runs at the partner (switch: mode active, not on; bonding: mode=802.3ad), and whether its LACPDUs reach this end.",
             },
             Rule::Desynchronized => RuleRow {
                 number: 13,
                 name: "synchronization lost",
                 clause: "6.4.15",
-                advice: "Look at the frames before it: a party has changed, or the port left its aggregator.",
+                advice: "Compare key, port and partner before and after: a party has changed, or the port left its aggregator.",
             },
             Rule::Individual => RuleRow {
                 number: 14,
                 name: "one end is Individual",
                 clause: "6.3.5",
-                advice: "Look at this end's speed, duplex and key: its port may not be aggregated with others.",
+                advice: "Set this end's port to full duplex, and let it be aggregated, not individual: it may not be aggregated with others.",
             },
             Rule::Keys => RuleRow {
                 number: 15,
                 name: "keys differ within one pair of systems",
                 clause: "6.3.6",
-                advice: "Give the ports that are to aggregate one key at each system: these are two groups.",
+                advice: "Give the ports that are to aggregate one key at each system (switch: same channel-group; bonding: it follows speed, duplex, ad_user_port_key): these are two groups.",
             },
             Rule::Segment => RuleRow {
                 number: 16,
@@ -217,13 +221,13 @@ impl Rule {
                 number: 17,
                 name: "distributing while the partner is not collecting",
                 clause: "6.4.15",
-                advice: "Look why the partner does not collect: frames that this end sends are lost there.",
+                advice: "Look why the partner does not collect (see its findings, or compare the Aggregator ID of its links): frames that this end sends are lost there.",
             },
             Rule::OneWay => RuleRow {
                 number: 18,
                 name: "LACPDUs in one direction only",
                 clause: "6.4.12",
-                advice: "Look whether the other end sends LACPDUs, and whether the capture has both directions.",
+                advice: "Look whether LACP runs at the other end (switch: mode active, not on; bonding: mode=802.3ad), and whether the capture has both directions.",
             },
             Rule::Unanswered => RuleRow {
                 number: 19,
@@ -247,13 +251,13 @@ impl Rule {
                 number: 22,
                 name: "attached for longer than 6 seconds while the partner is not synchronized",
                 clause: "6.4.15",
-                advice: "Look why the partner does not attach this link: it may have chosen another aggregator or have too many links.",
+                advice: "Look why the partner does not attach this link: it may have chosen another aggregator (compare Aggregator ID) or have too many links (switch: max links).",
             },
             Rule::Relapsing => RuleRow {
                 number: 23,
                 name: "defaulted or expired again and again",
                 clause: "6.4.12",
-                advice: "Look for a link that loses frames, and for a partner that sends LACPDUs less often than it is asked to.",
+                advice: "Look for a link that loses frames, and for a partner that sends LACPDUs less often than it is asked to (bonding: lacp_rate; switch: lacp rate).",
             },
             Rule::Types => RuleRow {
                 number: 24,
@@ -277,13 +281,19 @@ impl Rule {
                 number: 27,
                 name: "a wait of less than 2 seconds before synchronization",
                 clause: "6.4.15",
-                advice: "Look whether this end waits at all: links that come up together are to attach together.",
+                advice: "None is needed if both ends distribute: an end that waits lets links that come up together attach together.",
             },
             Rule::Backward => RuleRow {
                 number: 28,
                 name: "more than a second earlier than the frame before it",
                 clause: "6.4.4",
                 advice: "Sort the packets by reordercap and read them again: rules 18 to 21 are left out, and no time is judged from a packet to an earlier one.",
+            },
+            Rule::Split => RuleRow {
+                number: 29,
+                name: "links of one system lead to two systems",
+                clause: "6.3.6",
+                advice: "Cable these links to one system, or make the two systems one (MLAG); give links that are to stay apart keys of their own.",
             },
         }
     }

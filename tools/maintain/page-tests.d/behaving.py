@@ -33,6 +33,7 @@ FIELDS = """(async () => {
 def of_page(tests: Tests, browser: Browser, folder: str) -> None:
     """How the page behaves."""
     of_findings(tests, browser)
+    of_verdicts(tests, browser, folder)
     of_fields(tests, browser)
     of_axis(tests, browser)
     of_bundles(tests, browser, folder)
@@ -66,6 +67,41 @@ def of_findings(tests: Tests, browser: Browser) -> None:
     tests.same("it is in view, above its fields", inside, True)
     rows = browser.value("['#links > details', '#links > details[open] svg', '#links svg .name'].map((it) => document.querySelectorAll(it).length)")
     tests.same("two links of one pair of systems stand on one axis", rows, [1, 1, 4])
+
+
+def of_verdicts(tests: Tests, browser: Browser, folder: str) -> None:
+    """A fault is told from what often follows from it, and from what calls for nothing."""
+    verdict = "[document.getElementById('verdict').textContent, document.getElementById('verdict').className]"
+    titles = "[...document.querySelectorAll('#findings li')].map((it) => [...it.querySelectorAll('strong')].map((part) => part.textContent))"
+    browser.choose(UNEQUAL)
+    tests.same("unequal keys are one fault, with its effects", browser.value(verdict), ["1 fault, 2 likely effects, 1 remark, at 9 places:", "bad"])
+    tests.same(
+        "the fault stands first, and says which system has which keys",
+        browser.value(titles),
+        [
+            ["Keys differ within one pair of systems", "02-00-00-00-02-00 has keys 20 and 21"],
+            ["Likely effect: synchronization lost"],
+            ["Likely effect: distributing while the partner is not collecting"],
+            ["Remark: a wait of less than 2 seconds before synchronization"],
+        ],
+    )
+    where = browser.value("document.querySelector('#findings li .quiet').textContent.split(', packet')[0]")
+    tests.same("a finding has the system of its end", where, "6.3.6: 02-35-6b-bd-97-92 port 2 of system 02-00-00-00-01-00")
+    browser.choose(os.path.join(CAPTURES, "open-vswitch.pcap"))
+    tests.same("a remark alone is no fault", browser.value(verdict), ["No fault found; 1 remark, at 1 place:", "good"])
+    tests.same("it is not drawn as one", browser.value("document.querySelectorAll('#links svg .found:not(.quiet), #links svg .bad').length"), 0)
+    cut = os.path.join(folder, "cut.pcap")
+    with open(os.path.join(CAPTURES, "open-vswitch.pcap"), "rb") as it, open(cut, "wb") as out:
+        out.write(it.read()[:-1])
+    browser.choose(cut)
+    tests.same("of a capture that is cut short it is not said", browser.value(verdict), ["1 remark, at 1 place:", "bad"])
+    browser.choose(os.path.join(CAPTURES, "bonding.pcap"))
+    tests.same("an effect without a fault is one itself", browser.value(verdict), ["1 fault, at 1 place:", "bad"])
+    split = os.path.join(folder, "split.pcap")
+    made.split(split)
+    browser.choose(split)
+    said = ["Links of one system lead to two systems", "02-00-00-00-00-01 leads to 02-00-00-00-00-02 and 02-00-00-00-00-03"]
+    tests.same("links to two systems are one fault, which names both", [*browser.value(verdict), browser.value(titles)], ["1 fault, at 2 places:", "bad", [said]])
 
 
 def fields_wanted(record: dict[str, Any]) -> list[list[str]]:

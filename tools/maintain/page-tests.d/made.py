@@ -64,6 +64,17 @@ def bundle(path: str) -> None:
     pcap(path, packets)
 
 
+def split(path: str) -> None:
+    """Two ports of system 1, with one key, lead to the systems 2 and 3."""
+    packets: list[tuple[float, bytes]] = []
+    for second in range(10):
+        for port in 1, 2:
+            one, other = Party(1, 7, port, UP), Party(port + 1, 8, 4, UP)
+            packets.append((second + port / 100, frame(one.source(), lacpdu(one, other))))
+            packets.append((second + port / 100 + 0.004, frame(other.source(), lacpdu(other, one))))
+    pcap(path, packets)
+
+
 def crowd(path: str, count: int) -> None:
     """So many ends that send one LACPDU each."""
     partner = Party(2, 7, 1, UP)

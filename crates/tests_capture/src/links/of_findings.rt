@@ -395,6 +395,83 @@ fn two_links_carry_in_two_groups(rt: HostRuntime) {
     shows(&rt, &frames, 2500, &expected);
 }
 
+// 6.3.6: a LAG has one partner system. A's port 1 leads to B; its port 2, with the same key, leads to C.
+#[test]
+fn links_of_one_system_lead_to_two(rt: HostRuntime) {
+    let of = |milliseconds: u64, actor: Info, partner: u8| {
+        let mut said = a_to_b(UP, FAST);
+        said.actor = actor;
+        said.partner = info(partner, FAST);
+        at(milliseconds, said)
+    };
+    let port = |system: u8, number: u16, key: u16, state: u8| {
+        let mut actor = info(system, state);
+        actor.port.number = number;
+        actor.key = Key(key);
+        actor
+    };
+    let frames = |one: Info, two: Info, was: u8, is: u8| {
+        let first = |milliseconds: u64| of(milliseconds, one, B);
+        let second = |milliseconds: u64, partner: u8| {
+            let mut frame = of(milliseconds, two, partner);
+            frame.interface = 1;
+            frame
+        };
+        [
+            first(0),
+            second(500, was),
+            first(2000),
+            second(2500, was),
+            first(4000),
+            second(4500, is),
+            first(6000),
+            second(6500, is),
+            first(8000),
+            first(8001),
+        ]
+    };
+    let (one, two) = (port(A, 1, 7, UP), port(A, 2, 7, UP));
+    let split = frames(one, two, C, C);
+    shows(&rt, &split, 8500, &[(29, 10)]);
+    shows(&rt, &split[..9], 8500, &[]);
+    // Port 2 is cabled to B, too; or leads there from the beginning, as to one system of two switches.
+    shows(&rt, &frames(one, two, C, B), 8500, &[]);
+    shows(&rt, &frames(one, two, B, B), 8500, &[]);
+    // It has a key of its own; it is one of another system.
+    shows(&rt, &frames(one, port(A, 2, 9, UP), C, C), 8500, &[]);
+    shows(&rt, &frames(one, port(0xd, 2, 7, UP), C, C), 8500, &[]);
+    // Either port may not be aggregated.
+    let rows = [
+        (port(A, 1, 7, 0x39), two, (14, 1)),
+        (one, port(A, 2, 7, 0x39), (14, 2)),
+        (port(A, 1, 7, 0x7d), two, (12, 9)),
+    ];
+    for (one, two, expected) in rows {
+        shows(&rt, &frames(one, two, C, C), 8500, &[expected]);
+    }
+    // What port 2 says of C is of former times.
+    for state in [0x7d, 0xbd] {
+        shows(&rt, &frames(one, port(A, 2, 7, state), C, C), 8500, &[]);
+    }
+    // Port 2 was heard 90 seconds before the last LACPDU, and longer ago.
+    let slow = |last: u64| {
+        let mut other = a_to_b(UP, UP);
+        other.actor.port.number = 2;
+        other.partner = info(C, UP);
+        let mut other = at(500, other);
+        other.interface = 1;
+        [
+            at(0, a_to_b(UP, UP)),
+            at(500, b_to_a(UP, UP)),
+            other,
+            at(60_000, a_to_b(UP, UP)),
+            at(last, a_to_b(UP, UP)),
+        ]
+    };
+    shows(&rt, &slow(90_500), 90_500, &[(29, 5)]);
+    shows(&rt, &slow(90_501), 90_500, &[]);
+}
+
 // 6.4.9: each of three systems records who spoke last. So none of them has the partner of another.
 #[test]
 fn a_third_system_speaks_on_the_link(rt: HostRuntime) {
