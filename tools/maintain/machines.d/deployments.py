@@ -16,12 +16,14 @@ from rows import boots, handed_over, orderly, pings, tried
 
 
 class Task(NamedTuple):
-    """A guest: its kernel, its card, what is laid over its tree, and what is done in it, which answers cells of the table."""
+    """A guest: its kernel, its card, what is laid over its tree, what is done in it, which answers cells of the table, and how many processors it has,
+    or 0: as many as its card wants."""
 
     kernel: str
     card: str
     over: dict[str, str]
     run: Callable[[Guest], dict[str, str]]
+    processors: int = 0
 
 
 PAIR = OVER

@@ -21,7 +21,7 @@ from guest import ANSWERS, MACS, PLACES, Guest, Line
 # the second and the third eth1 and eth2, so no name that udev gives is taken.
 CARDS = {"virtio": "virtio-net-pci,speed=10000,duplex=full", "e1000e": "e1000e", "igb": "igb", "vmxnet3": "vmxnet3"}
 # A card that has a queue for each processor gets two. Others get one: of more each waits for the others, for most of qemu's time.
-CARD_PROCESSORS = {"vmxnet3": "2"}
+CARD_PROCESSORS = {"vmxnet3": 2}
 NAMED = "[Match]\nPermanentMACAddress={mac}\n[Link]\nName={name}\n"
 # For how many seconds of this machine qemu may take to start.
 STARTS = 120
@@ -46,8 +46,9 @@ def connected(path: str) -> Line:
 class Emulated(Guest):
     """A guest of qemu. `over` has files that are laid over its tree, by their paths."""
 
-    def __init__(self, qemu: list[str], kernel: Kernel, image: str, card: str, folder: str, over: dict[str, str]) -> None:
+    def __init__(self, qemu: list[str], kernel: Kernel, image: str, card: str, folder: str, over: dict[str, str], processors: int = 0) -> None:
         super().__init__(card, folder)
+        self.processors = os.environ.get("PROCESSORS", str(processors or CARD_PROCESSORS.get(card, 1)))
         os.makedirs(folder)
         given = {**{f"etc/systemd/network/10-{name}.link": NAMED.format(name=name, mac=mac) for name, mac in MACS.items()}, **over}
         entries = [entry_of(path, text) for path, text in given.items()]
@@ -67,7 +68,7 @@ class Emulated(Guest):
     def words(self, kernel: Kernel, image: str) -> list[str]:
         """What qemu is called with."""
         memory = os.environ.get("MEMORY", "512")
-        words = ["-M", "q35,accel=tcg", "-cpu", os.environ.get("CPU", "max"), "-smp", os.environ.get("PROCESSORS", CARD_PROCESSORS.get(self.card, "1")), "-m", memory]
+        words = ["-M", "q35,accel=tcg", "-cpu", os.environ.get("CPU", "max"), "-smp", self.processors, "-m", memory]
         words += ["-icount", f"shift={os.environ.get('SHIFT', '0')},sleep=on", "-nodefaults", "-display", "none", "-no-reboot", "-kernel", kernel.image, "-initrd", f"{self.folder}/initramfs", "-append", APPEND]
         for file in image, kernel.modules:
             words += ["-drive", f"file={file},if=virtio,format=raw,snapshot=on"]

@@ -53,8 +53,9 @@ class Outcome:
 
 
 def status(guest: Guest, bundle: str = "uplink") -> dict[str, Any]:
-    """What lagd --status --json says of a bundle; nothing while none answers."""
-    told = guest.run(f"lagd --status --json --folder /run/lagd/{bundle}").text
+    """What lagd --status --json says of a bundle; nothing while none answers. It tells of those of its namespace."""
+    inside = "ip netns exec far " if bundle == "far" else ""
+    told = guest.run(f"{inside}lagd --status --json --folder /run/lagd/{bundle}").text
     try:
         found: dict[str, Any] = json.loads(told.splitlines()[-1])
     except (ValueError, IndexError):
