@@ -8,7 +8,7 @@ from typing import Callable, NamedTuple
 
 from checking import check
 from deployments import Task
-from ends import FAR, NEAR, OVER, RATE, journal, status, traffic, up_again, use
+from ends import FAR, FAR_AT, NEAR, NEAR_AT, OVER, RATE, journal, status, traffic, up_again, use
 from guest import Guest
 from rows import SECONDS, boots, orderly, restarts, tried
 
@@ -22,6 +22,11 @@ BY_PORTS = """for n in 1 2; do
 done 2>&1"""
 # Each busy conversation of both ends moves, and again, while frames go.
 MOVES = f"for n in $(seq {3 * (SECONDS - 2)}); do kill -USR2 $(pidof lagd); sleep 0.3; done"
+# A packet of each of other connections, to both ends.
+OTHERS = f"""for n in $(seq 40001 40024); do
+    echo >/dev/udp/{FAR_AT}/$n
+    ip netns exec far bash -c "echo >/dev/udp/{NEAR_AT}/$n"
+done"""
 # How long members may take to be taken up.
 TAKES_UP = 10
 # How many of the queues of a card had frames, of those that send and of those that receive.
@@ -55,6 +60,11 @@ def queues_of(guest: Guest) -> list[int]:
     return [int(port["data"].get("queues", 1)) for it in ENDS for port in status(guest, it).get("ports", [])]
 
 
+def passed_on(guest: Guest) -> int:
+    """How many frames of both ends the kernel alone sent."""
+    return sum(int(port["data"].get("passed_on", 0)) for it in ENDS for port in status(guest, it).get("ports", []))
+
+
 def many_boot(guest: Guest) -> str:
     text = boots(guest)
     shown = guest.text("for n in eth1 eth2; do ls /sys/class/net/$n/queues; done | sort | uniq -c; ethtool -l eth1")
@@ -76,8 +86,10 @@ def moved(guest: Guest, way: Way) -> str:
     outcomes = traffic(guest, SECONDS, lambda: guest.run(MOVES))
     made = moves(guest) - before
     check(made > 30, f"{way}: {made} conversations moved", journal(guest))
+    kernel = passed_on(guest)
+    check(bool(kernel) == bool(way.lines), f"{way}: the kernel passed {kernel} frames on", journal(guest))
     text = orderly(guest, f"{way}, with moves", outcomes, 0)
-    return f"{text}; {made} moves; queues used {guest.text(USED).split()}"
+    return f"{text}; {made} moves; queues with frames {', '.join(guest.text(USED).split())}"
 
 
 
@@ -93,11 +105,20 @@ def goes_and_comes(guest: Guest) -> str:
     return orderly(guest, "a cable is pulled, and put back", outcomes, RATE, ordered=False)
 
 
+def balances(guest: Guest) -> str:
+    """Other conversations begin at both ends, and end: those that are busy are shared out anew."""
+    before = moves(guest)
+    outcomes = traffic(guest, SECONDS + 5, lambda: guest.run(OTHERS))
+    made = moves(guest) - before
+    check(made > 0, f"{made} conversations moved as others came and went", journal(guest))
+    return f"{orderly(guest, 'others come and go', outcomes, 0)}; {made} moves"
+
+
 ROWS: dict[str, Callable[[Guest], str]] = {"boots, and the unit brings the bundle up": many_boot}
 for way in WAYS:
     ROWS[f"{way}: moves"] = partial(moved, way=way)
     if way.queues == "all":
-        ROWS |= {f"{way}: a cable is pulled, and put back": goes_and_comes, f"{way}: systemctl restart": restarts}
+        ROWS |= {f"{way}: others come and go": balances, f"{way}: a cable is pulled, and put back": goes_and_comes, f"{way}: systemctl restart": restarts}
 
 
 def run_rows(guest: Guest) -> dict[str, str]:
