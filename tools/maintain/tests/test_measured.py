@@ -1,0 +1,75 @@
+"""How tools/maintain/machines --table reckons what a guest prints."""
+
+from __future__ import annotations
+
+import json
+from typing import Any
+
+import pytest
+
+import loading
+
+machines = loading.program("machines")
+measured = loading.module("machines.d", "measured")
+ways = loading.module("machines.d", "ways")
+
+
+class Prints:
+    """A guest that prints this to each script."""
+
+    def __init__(self, text: str) -> None:
+        self.printed, self.scripts = text, list[str]()
+
+    def text(self, script: str) -> str:
+        self.scripts.append(script)
+        return self.printed
+
+
+BARE = ways.WAYS[ways.BARE]
+
+
+def cells(**changed: Any) -> Any:
+    speeds = {"1500 1": 100.0, "9000 64": 200.0}
+    return measured.Cells(**{**dict(speeds=speeds, frames=1000.0, median_us=50.0, late_us=60.0, processor_us=4.0), **changed})
+
+
+def test_the_processor_of_a_frame_has_none_of_the_time_without_frames() -> None:
+    # 3,000 ms with 6,000 frames, of which 2,640 idle; then 3,000 ms without, of which 2,940 idle: 300 ms for 6,000 frames.
+    guest = Prints("10\n1000 500\n4000 3140\n7000 6080\n6010")
+    assert measured.processor(guest, BARE) == pytest.approx(50.0)
+    # The time without frames may be longer: its part counts.
+    assert measured.processor(Prints("10\n1000 500\n4000 3140\n10000 9020\n6010"), BARE) == pytest.approx(50.0)
+    assert '"count 6000" "delay 500000"' in guest.scripts[0] and "{" not in guest.scripts[0].replace("{ ", "").replace("() {", "").replace("'{", "")
+
+
+def test_frames_that_do_not_come_have_no_time() -> None:
+    with pytest.raises(measured.Failed, match="the frames come"):
+        measured.processor(Prints("10\n1000 500\n4000 3140\n7000 6080\n5000"), BARE)
+    with pytest.raises(measured.Failed, match="generated on eth1"):
+        measured.processor(Prints("bash: /proc/net/pktgen/eth1: No such file"), BARE)
+
+
+def test_frames_are_those_of_the_time_between_two_looks() -> None:
+    assert measured.frames(Prints("100.25 1000 102.75 6000\n"), BARE) == pytest.approx(2000.0)
+
+
+def test_the_latency_is_the_middle_and_what_99_of_100_have() -> None:
+    lines = [f"64 bytes from 192.0.2.2: icmp_seq={it} ttl=64 time=0.{it:03} ms" for it in range(1, 301)]
+    assert measured.latency(Prints("\n".join(lines))) == (pytest.approx(150.5), pytest.approx(298.0))
+    with pytest.raises(measured.Failed, match="answered"):
+        measured.latency(Prints("\n".join(lines[:290])))
+
+
+def test_a_table_has_parts_of_a_bare_link_and_the_best_round() -> None:
+    twice = [cells(), cells(speeds={"1500 1": 50.0, "9000 64": 400.0}, frames=2000.0, median_us=40.0, late_us=70.0, processor_us=5.0)]
+    told = {"rounds": json.dumps({ways.BARE: twice, "`lagd`": [cells()], "teamd": []}), "`lagd`|0": "3", "`lagd`|4": "4.8"}
+    lines = measured.tables({"a guest": told}).splitlines()
+    assert lines[0] == "a guest; a bare link: 100, 400 Mbit/s, 2,000 frames a second"
+    assert lines[3:] == ["|a bare link|1.00|1.00|1.00|40|60|4.0|-|-|-|-|-|", "|`lagd`|1.00|0.50|0.50|50|60|4.0|3|-|-|-|4.8|"]
+    assert measured.tables({"a guest that failed": {}}) == ""
+
+
+def test_each_end_of_open_vswitch_has_a_folder_of_its_own() -> None:
+    near, far = (ways.switch(it, ways.SWITCH_BEGINS) for it in ways.SWITCH_ENDS)
+    assert "/run/near/db.sock" in near and "/run/near" not in far and "ip netns exec far ovs-vswitchd" in far and "netns" not in near
+    assert "eth1 eth2" in near and "far1 far2" in far
