@@ -1,20 +1,21 @@
-"""The ways of the daemon beside the kernel's bonding, teamd and Open vSwitch, in one guest: speed, latency, processor, failover, restart and memory.
+"""The ways of the daemon beside the kernel's bonding, teamd and Open vSwitch: speed, latency, processor, failover, restart and memory.
 
-The clock of the guest goes on with its instructions, so each time is a count of them; what passes data on in fewer is faster. Device
-and wire take none. Speeds and frames are told as parts of those of one bare link."""
+Each has a guest of its own. The clock of a guest goes on with its instructions, so each time is a count of them: what passes data on in fewer is
+faster, and the load of this machine is not in it. Cards and wires take none. Speeds and frames are told as parts of those of one bare link."""
 
 from __future__ import annotations
 
 import json
 import re
 import statistics
-from typing import Callable, NamedTuple
+from functools import partial
+from typing import NamedTuple
 
 from checking import Failed, check
 from deployments import Task
 from ends import COMES_UP, FAR_AT, OVER, journal, traffic, up_again
 from guest import Guest
-from ways import BARE, SETTLES, WAYS, Way, end_daemon
+from ways import BARE, SETTLES, WAYS, Way
 
 # How many octets go by TCP: as many as a processor of 1,000 instructions in a microsecond passes on in a tenth of a second.
 MTUS, STREAMS, OCTETS = (1500, 9000), (1, 64), 16 << 20
@@ -29,42 +30,44 @@ PINGS, PAUSE = 300, 0.01
 GENERATE = """modprobe pktgen
 echo rem_device_all >/proc/net/pktgen/kpktgend_0
 echo "add_device {near}" >/proc/net/pktgen/kpktgend_0
-for word in 'flag !SHARED' 'flag UDPSRC_RND' "count {count}" "delay {delay}" "pkt_size {octets}" 'dst 198.18.0.1' 'udp_src_min 10000' \\
+for word in 'flag !SHARED' 'xmit_mode queue_xmit' 'flag UDPSRC_RND' "count {count}" "delay {delay}" "pkt_size {octets}" 'dst 198.18.0.1' 'udp_src_min 10000' \\
     "udp_src_max {last}" "dst_mac $(ip -n far -j link show {far} | grep -o '"address":"[^"]*"' | cut -d '"' -f 4)"; do
     echo "$word" >/proc/net/pktgen/{near}
 done
 """
-# Prints what came to the far end in a while, after which the generator is stopped.
+# Prints a time, and how many packets came to the IP of the far end until then.
+CAME = "{ read -r _; read -r _ _ _ n _; } </proc/net/snmp; echo $EPOCHREALTIME $n"
+# Prints that twice while the generator runs, which is stopped then.
 FLOOD = """echo start >/proc/net/pktgen/pgctrl &
 sleep 0.2
-ip netns exec far bash -c 'at=/sys/class/net/{far}/statistics/rx_packets; read -r one <$at; begun=$EPOCHREALTIME
-    sleep 0.6; read -r two <$at; echo "$begun $one $EPOCHREALTIME $two"'
+ip netns exec far bash -c '{came}; sleep 0.6; {came}'
 echo stop >/proc/net/pktgen/pgctrl
 wait
 echo rem_device_all >/proc/net/pktgen/kpktgend_0
 """
 # Prints the time and that of all idle processors, in ms, thrice: before and after the frames, and after as long without any.
 PACE = """look() {{ awk '/^now at/ {{ now = $3 / 1e6 }} /idle_sleeptime/ {{ idle += $3 / 1e6 }} END {{ printf "%.6f %.6f\\n", now, idle }}' /proc/timer_list; }}
-count() {{ ip netns exec far cat /sys/class/net/{far}/statistics/rx_packets; }}
-count
+ip netns exec far bash -c '{came}'
 look
 echo start >/proc/net/pktgen/pgctrl
 look
 sleep {seconds}
 look
-count
+ip netns exec far bash -c '{came}'
 echo rem_device_all >/proc/net/pktgen/kpktgend_0
 """
 
 
 class Cells(NamedTuple):
-    """What a way has in each round. Lower is better but for the speeds."""
+    """What is measured of a way."""
 
     speeds: dict[str, float]
     frames: float
     median_us: float
     late_us: float
     processor_us: float
+    failures: list[str]
+    memory: str
 
 
 COLUMNS = [*(f"{streams} TCP, {mtu:,}" for mtu in MTUS for streams in STREAMS), "64-octet frames", "ping, us", "99 of 100, us", "processor a frame, us",
@@ -104,7 +107,7 @@ def speeds(guest: Guest, way: Way) -> dict[str, float]:
 def generate(guest: Guest, way: Way, script: str, count: int, delay: int) -> list[str]:
     """The words that a script prints while the generator runs."""
     near, far = way.devices
-    given = dict(near=near, far=far, count=count, delay=delay, octets=SMALL, last=10000 + FLOWS - 1, seconds=PACED_SECONDS)
+    given = dict(near=near, far=far, count=count, delay=delay, octets=SMALL, last=10000 + FLOWS - 1, seconds=PACED_SECONDS, came=CAME)
     told = guest.text((GENERATE + script).format(**given))
     if not re.fullmatch(r"[0-9.\s]+", told):
         raise Failed(f"frames are generated on {near}", told[-600:])
@@ -119,7 +122,7 @@ def frames(guest: Guest, way: Way) -> float:
 
 def processor(guest: Guest, way: Way) -> float:
     """The time of the processor for a frame, of both ends, in us; that without frames is taken off."""
-    one, *looks, two = map(float, generate(guest, way, PACE, PACED * PACED_SECONDS, 10**9 // PACED))
+    _, one, *looks, _, two = map(float, generate(guest, way, PACE, PACED * PACED_SECONDS, 10**9 // PACED))
     if two - one < PACED * PACED_SECONDS * 0.9:
         raise Failed("the frames come", f"{two - one:.0f} of {PACED * PACED_SECONDS}")
     first, second, third = zip(looks[::2], looks[1::2])
@@ -157,67 +160,43 @@ def failures(guest: Guest, way: Way) -> list[str]:
             else:
                 guest.set_link(False, "eth1", "far1")
 
-        to, _ = traffic(guest, 6, event, way.devices, RATE)
+        to, _ = traffic(guest, 5, event, way.devices, RATE)
         cells += [f"{to.lost:,}", f"{to.gap_ms:,}"]
         guest.set_link(True, "eth1", "far1")
         guest.sleep(SETTLES)
     return cells
 
 
-def measure_way(guest: Guest, way: Way) -> Cells:
-    """All that is measured of a way without a failure."""
-    found = speeds(guest, way)
-    median, late = latency(guest)
-    return Cells(found, frames(guest, way), median, late, processor(guest, way))
-
-
-def measure(guest: Guest) -> dict[str, str]:
-    """All ways in turn."""
+def measure(guest: Guest, way: Way) -> dict[str, str]:
+    """All that is measured of a way, in a guest that has nothing else."""
     guest.boots()
     up_again(guest)
-    end_daemon(guest)
-    found: dict[str, list[Cells]] = {name: [] for name in WAYS}
-    cells: dict[str, str] = {}
-    for turn in range(ROUNDS):
-        for name, way in WAYS.items():
-            try:
-                way.begin(guest)
-                found[name].append(measure_way(guest, way))
-                if turn == 0:
-                    cells |= {f"{name}|{number}": text for number, text in enumerate([*failures(guest, way), memory(guest, way)])}
-                check(True, f"{name}, round {turn + 1}: {found[name][-1]}")
-            except Failed as why:
-                check(False, f"{name}, round {turn + 1}: {why.args[0]}", *why.args[1:])
-            finally:
-                way.end(guest)
-    return {**cells, "rounds": json.dumps(found)}
+    guest.run("systemctl stop lagd@uplink far")
+    way.begin(guest)
+    found = speeds(guest, way)
+    median, late = latency(guest)
+    cells = Cells(found, frames(guest, way), median, late, processor(guest, way), failures(guest, way), memory(guest, way))
+    check(all(it > 0 for it in (*found.values(), cells.frames, cells.processor_us)), f"it is measured: {cells}", journal(guest))
+    return {"cells": json.dumps(cells)}
 
 
-def best(rounds: list[Cells]) -> Cells:
-    """Of each figure the best one of all rounds."""
-    speed = {what: max(it.speeds[what] for it in rounds) for what in rounds[0].speeds}
-    return Cells(speed, max(it.frames for it in rounds), *(min(getattr(it, what) for it in rounds) for what in ("median_us", "late_us", "processor_us")))
-
-
-def row(name: str, it: Cells, bare: Cells, more: list[str]) -> str:
+def row(name: str, it: Cells, bare: Cells) -> str:
     """A row of the table; speeds and frames are parts of those of a bare link."""
     parts = [f"{it.speeds[what] / value:.2f}" for what, value in bare.speeds.items()] + [f"{it.frames / bare.frames:.2f}"]
-    return f"|{'|'.join([name, *parts, f'{it.median_us:,.0f}', f'{it.late_us:,.0f}', f'{it.processor_us:.1f}', *more])}|"
+    return f"|{'|'.join([name, *parts, f'{it.median_us:,.0f}', f'{it.late_us:,.0f}', f'{it.processor_us:.1f}', *it.failures, it.memory])}|"
 
 
 def tables(told: dict[str, dict[str, str]]) -> str:
-    """A table for each guest."""
-    lines = []
-    for guest, cells in told.items():
-        rounds = {name: [Cells(*it) for it in them] for name, them in json.loads(cells.get("rounds", "{}")).items() if them}
-        if BARE not in rounds:
-            continue
-        bare = best(rounds[BARE])
-        lines += [f"{guest}; a bare link: {', '.join(f'{it:.0f}' for it in bare.speeds.values())} Mbit/s, {bare.frames:,.0f} frames a second",
-                  f"|way|{'|'.join(COLUMNS)}|", f"|---{'|---:' * len(COLUMNS)}|"]  # fmt: skip
-        for name, them in rounds.items():
-            lines.append(row(name, best(them), bare, [cells.get(f"{name}|{number}", "-") for number in range(5)]))
-    return "\n".join(lines)
+    """The table, with a row for each guest."""
+    ways = {TASKS_OF[task]: Cells(*json.loads(cells["cells"])) for task, cells in told.items() if "cells" in cells}
+    bare = ways.get(BARE)
+    if bare is None:
+        return f"{BARE} was not measured"
+    lines = [f"{BARE}: {', '.join(f'{it:,.0f}' for it in bare.speeds.values())} Mbit/s, {bare.frames:,.0f} frames a second",
+             f"|way|{'|'.join(COLUMNS)}|", f"|---{'|---:' * len(COLUMNS)}|"]  # fmt: skip
+    return "\n".join(lines + [row(name, it, bare) for name, it in ways.items()])
 
 
-TASKS = {"measured on 6.12/e1000e": Task("6.12", "e1000e", OVER, measure)}
+# The tasks, each with its way, and the tasks' names of ways.
+TASKS_OF = {f"measured, {name.strip('`')}": name for name in WAYS}
+TASKS = {task: Task("6.12", "e1000e", OVER, partial(measure, way=WAYS[name])) for task, name in TASKS_OF.items()}

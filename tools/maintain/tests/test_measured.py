@@ -3,6 +3,7 @@
 from __future__ import annotations
 
 import json
+import subprocess
 from typing import Any
 
 import pytest
@@ -30,21 +31,23 @@ BARE = ways.WAYS[ways.BARE]
 
 def cells(**changed: Any) -> Any:
     speeds = {"1500 1": 100.0, "9000 64": 200.0}
-    return measured.Cells(**{**dict(speeds=speeds, frames=1000.0, median_us=50.0, late_us=60.0, processor_us=4.0), **changed})
+    return measured.Cells(**{**dict(speeds=speeds, frames=1000.0, median_us=50.0, late_us=60.0, processor_us=4.0,
+                                   failures=["-"] * 4, memory="-"), **changed})  # fmt: skip
 
 
 def test_the_processor_of_a_frame_has_none_of_the_time_without_frames() -> None:
     # 3,000 ms with 6,000 frames, of which 2,640 idle; then 3,000 ms without, of which 2,940 idle: 300 ms for 6,000 frames.
-    guest = Prints("10\n1000 500\n4000 3140\n7000 6080\n6010")
+    guest = Prints("1.5 10\n1000 500\n4000 3140\n7000 6080\n9.5 6010")
     assert measured.processor(guest, BARE) == pytest.approx(50.0)
     # The time without frames may be longer: its part counts.
-    assert measured.processor(Prints("10\n1000 500\n4000 3140\n10000 9020\n6010"), BARE) == pytest.approx(50.0)
-    assert '"count 6000" "delay 500000"' in guest.scripts[0] and "{" not in guest.scripts[0].replace("{ ", "").replace("() {", "").replace("'{", "")
+    assert measured.processor(Prints("1.5 10\n1000 500\n4000 3140\n10000 9020\n9.5 6010"), BARE) == pytest.approx(50.0)
+    assert '"count 6000" "delay 500000"' in guest.scripts[0] and "add_device eth1" in guest.scripts[0]
+    assert subprocess.run(["bash", "-n"], input=guest.scripts[0], text=True).returncode == 0
 
 
 def test_frames_that_do_not_come_have_no_time() -> None:
     with pytest.raises(measured.Failed, match="the frames come"):
-        measured.processor(Prints("10\n1000 500\n4000 3140\n7000 6080\n5000"), BARE)
+        measured.processor(Prints("1.5 10\n1000 500\n4000 3140\n7000 6080\n9.5 5000"), BARE)
     with pytest.raises(measured.Failed, match="generated on eth1"):
         measured.processor(Prints("bash: /proc/net/pktgen/eth1: No such file"), BARE)
 
@@ -60,13 +63,14 @@ def test_the_latency_is_the_middle_and_what_99_of_100_have() -> None:
         measured.latency(Prints("\n".join(lines[:290])))
 
 
-def test_a_table_has_parts_of_a_bare_link_and_the_best_round() -> None:
-    twice = [cells(), cells(speeds={"1500 1": 50.0, "9000 64": 400.0}, frames=2000.0, median_us=40.0, late_us=70.0, processor_us=5.0)]
-    told = {"rounds": json.dumps({ways.BARE: twice, "`lagd`": [cells()], "teamd": []}), "`lagd`|0": "3", "`lagd`|4": "4.8"}
-    lines = measured.tables({"a guest": told}).splitlines()
-    assert lines[0] == "a guest; a bare link: 100, 400 Mbit/s, 2,000 frames a second"
-    assert lines[3:] == ["|a bare link|1.00|1.00|1.00|40|60|4.0|-|-|-|-|-|", "|`lagd`|1.00|0.50|0.50|50|60|4.0|3|-|-|-|4.8|"]
-    assert measured.tables({"a guest that failed": {}}) == ""
+def test_a_table_has_parts_of_a_bare_link() -> None:
+    assert list(measured.TASKS_OF.values()) == list(ways.WAYS) == [measured.TASKS_OF[it] for it in measured.TASKS]
+    lagd = cells(speeds={"1500 1": 50.0, "9000 64": 100.0}, frames=2000.0, median_us=1140.4, failures=["3", "40", "0", "12"], memory="4.8")
+    told = {"measured, a bare link": {"cells": json.dumps(cells())}, "measured, lagd": {"cells": json.dumps(lagd)}, "measured, fast": {}}
+    lines = measured.tables(told).splitlines()
+    assert lines[0] == "a bare link: 100, 200 Mbit/s, 1,000 frames a second"
+    assert lines[3:] == ["|a bare link|1.00|1.00|1.00|50|60|4.0|-|-|-|-|-|", "|`lagd`|0.50|0.50|2.00|1,140|60|4.0|3|40|0|12|4.8|"]
+    assert measured.tables({"measured, a bare link": {}}) == "a bare link was not measured"
 
 
 def test_each_end_of_open_vswitch_has_a_folder_of_its_own() -> None:
