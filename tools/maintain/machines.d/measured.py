@@ -1,31 +1,35 @@
 """The ways of the daemon beside the kernel's bonding, teamd and Open vSwitch: speed, latency, processor, failover, restart and memory.
 
-Each has a guest of its own. The clock of a guest goes on with its instructions, so each time is a count of them: what passes data on in fewer is
-faster, and the load of this machine is not in it. Cards and wires take none. Speeds and frames are told as parts of those of one bare link."""
+The clock of a guest goes on with its instructions, so each time is a count of them: what passes data on in fewer is faster, and the load of
+this machine is not in it. Cards and wires take none. So ways may be measured in several guests side by side, and beside each other. Speeds and
+frames are told as parts of those of one bare link."""
 
 from __future__ import annotations
 
 import json
 import re
 import statistics
+import sys
 from functools import partial
-from typing import NamedTuple
+from typing import NamedTuple, Sequence
 
 from checking import Failed, check
 from deployments import Task
 from ends import COMES_UP, FAR_AT, OVER, journal, traffic, up_again
 from guest import Guest
-from ways import BARE, SETTLES, WAYS, Way
+from ways import BARE, SETTLES, WAYS, Way, end_daemon
 
-# How many octets go by TCP: as many as a processor of 1,000 instructions in a microsecond passes on in a tenth of a second.
-MTUS, STREAMS, OCTETS = (1500, 9000), (1, 64), 16 << 20
+# How many guests share the ways.
+GUESTS = 3
+# Octets of TCP take some tens of milliseconds of that clock.
+MTUS, STREAMS, OCTETS = (1500, 9000), (1, 64), 8 << 20
 HEADERS = 28
 # How many numbered frames go in a second while a link goes, or a daemon is started again.
 RATE = 1000
 # Frames of 64 octets, with what the card adds, of 64 conversations: as many as the processor makes, and so many in a second for some seconds.
-SMALL, FLOWS, PACED, PACED_SECONDS = 60, 64, 2000, 3
+SMALL, FLOWS, PACED, PACED_SECONDS = 60, 64, 2000, 2
 # How many pings go, and the time between two in seconds.
-PINGS, PAUSE = 300, 0.01
+PINGS, PAUSE = 200, 0.01
 # The kernel's generator of frames sends so many from a device, with so many nanoseconds from one to the next. The far end drops them.
 GENERATE = """modprobe pktgen
 echo rem_device_all >/proc/net/pktgen/kpktgend_0
@@ -39,8 +43,8 @@ done
 CAME = "{ read -r _; read -r _ _ _ n _; } </proc/net/snmp; echo $EPOCHREALTIME $n"
 # Prints that twice while the generator runs, which is stopped then.
 FLOOD = """echo start >/proc/net/pktgen/pgctrl &
-sleep 0.2
-ip netns exec far bash -c '{came}; sleep 0.6; {came}'
+sleep 0.1
+ip netns exec far bash -c '{came}; sleep 0.3; {came}'
 echo stop >/proc/net/pktgen/pgctrl
 wait
 echo rem_device_all >/proc/net/pktgen/kpktgend_0
@@ -160,24 +164,41 @@ def failures(guest: Guest, way: Way) -> list[str]:
             else:
                 guest.set_link(False, "eth1", "far1")
 
-        to, _ = traffic(guest, 5, event, way.devices, RATE)
+        to, _ = traffic(guest, 4, event, way.devices, RATE)
         cells += [f"{to.lost:,}", f"{to.gap_ms:,}"]
         guest.set_link(True, "eth1", "far1")
         guest.sleep(SETTLES)
     return cells
 
 
-def measure(guest: Guest, way: Way) -> dict[str, str]:
-    """All that is measured of a way, in a guest that has nothing else."""
-    guest.boots()
-    up_again(guest)
-    guest.run("systemctl stop lagd@uplink far")
-    way.begin(guest)
+def measured(guest: Guest, way: Way) -> Cells:
+    """All that is measured of a way."""
     found = speeds(guest, way)
     median, late = latency(guest)
     cells = Cells(found, frames(guest, way), median, late, processor(guest, way), failures(guest, way), memory(guest, way))
-    check(all(it > 0 for it in (*found.values(), cells.frames, cells.processor_us)), f"it is measured: {cells}", journal(guest))
-    return {"cells": json.dumps(cells)}
+    if min(*found.values(), cells.frames, cells.processor_us) <= 0:
+        raise Failed("each figure is more than nothing", cells)
+    return cells
+
+
+def measure(guest: Guest, names: Sequence[str]) -> dict[str, str]:
+    """Measures ways in turn; answers the cells of each."""
+    guest.boots()
+    up_again(guest)
+    end_daemon(guest)
+    found = {}
+    for name in names:
+        try:
+            WAYS[name].begin(guest)
+            cells = measured(guest, WAYS[name])
+            found[name] = json.dumps(cells)
+            check(True, f"{name}: {cells}")
+        except Failed as why:
+            check(False, f"{name}: {why.args[0]}", *why.args[1:], journal(guest))
+        finally:
+            WAYS[name].end(guest)
+        sys.stdout.flush()
+    return found
 
 
 def row(name: str, it: Cells, bare: Cells) -> str:
@@ -187,16 +208,15 @@ def row(name: str, it: Cells, bare: Cells) -> str:
 
 
 def tables(told: dict[str, dict[str, str]]) -> str:
-    """The table, with a row for each guest."""
-    ways = {TASKS_OF[task]: Cells(*json.loads(cells["cells"])) for task, cells in told.items() if "cells" in cells}
-    bare = ways.get(BARE)
+    """The table, with what all guests told."""
+    cells = {name: Cells(*json.loads(text)) for them in told.values() for name, text in them.items()}
+    bare = cells.get(BARE)
     if bare is None:
         return f"{BARE} was not measured"
     lines = [f"{BARE}: {', '.join(f'{it:,.0f}' for it in bare.speeds.values())} Mbit/s, {bare.frames:,.0f} frames a second",
              f"|way|{'|'.join(COLUMNS)}|", f"|---{'|---:' * len(COLUMNS)}|"]  # fmt: skip
-    return "\n".join(lines + [row(name, it, bare) for name, it in ways.items()])
+    return "\n".join(lines + [row(name, cells[name], bare) for name in WAYS if name in cells])
 
 
-# The tasks, each with its way, and the tasks' names of ways.
-TASKS_OF = {f"measured, {name.strip('`')}": name for name in WAYS}
-TASKS = {task: Task("6.12", "e1000e", OVER, partial(measure, way=WAYS[name])) for task, name in TASKS_OF.items()}
+# The guests, with what each measures: as much of it in each.
+TASKS = {f"measured, {n + 1} of {GUESTS}": Task("6.12", "e1000e", OVER, partial(measure, names=list(WAYS)[n::GUESTS])) for n in range(GUESTS)}

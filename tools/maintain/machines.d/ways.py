@@ -7,7 +7,7 @@ import json
 from typing import Callable, NamedTuple
 
 from checking import Failed
-from ends import BOND, COMES_UP, FAR_AT, NEAR_AT, journal, up_again, use
+from ends import BOND, COMES_UP, FAR_AT, NEAR_AT, NO_BOND, journal, up_again, use
 from guest import Guest
 from tree import SWITCH
 
@@ -25,12 +25,14 @@ ovsdb-server --detach --no-chdir --pidfile --log-file --remote=punix:{folder}/db
 ovs-vsctl --db=unix:{folder}/db.sock --timeout=20 add-br {bridge} -- add-bond {bridge} both {port}1 {port}2 lacp=active \\
     other_config:lacp-time=fast bond_mode=balance-tcp
 """
+SWITCH_ENDS_AT = "ovs-appctl -t {folder}/ovs-vswitchd.$(cat {folder}/ovs-vswitchd.pid).ctl exit --cleanup; kill $(cat {folder}/ovsdb-server.pid); sleep 1; rm -r {folder}\n"
 
 
 class Way(NamedTuple):
-    """How both ends begin, their devices, the name of the process at the near end, and how that is started again."""
+    """How both ends begin and end, their devices, the name of the process at the near end, and how that is started again."""
 
     begin: Callable[[Guest], None]
+    end: Callable[[Guest], None]
     devices: tuple[str, str]
     process: str = ""
     again: str = ""
@@ -59,6 +61,10 @@ def begin_bare(guest: Guest) -> None:
     address(guest, "eth1", "far1")
 
 
+def end_bare(guest: Guest) -> None:
+    guest.run("ip address flush dev eth1; ip -n far address flush dev far1")
+
+
 def begin_daemon(way: str) -> Callable[[Guest], None]:
     def begin(guest: Guest) -> None:
         links(guest, "up")
@@ -71,10 +77,18 @@ def begin_daemon(way: str) -> Callable[[Guest], None]:
     return begin
 
 
+def end_daemon(guest: Guest) -> None:
+    guest.run("systemctl stop lagd@uplink far")
+
+
 def begin_bond(guest: Guest) -> None:
     near = BOND.replace("-n far ", "").replace("far$n", "eth$n").replace(FAR_AT, NEAR_AT)
     guest.run(f"{BOND}\n{near}")
     address(guest, "bond0", "bond0")
+
+
+def end_bond(guest: Guest) -> None:
+    guest.run(f"{NO_BOND}; ip link del bond0")
 
 
 def begin_team(guest: Guest) -> None:
@@ -83,6 +97,10 @@ def begin_team(guest: Guest) -> None:
     guest.run(f"ip netns exec far {team('team1', 'far1', 'far2')}")
     guest.run("ip link set team0 promisc on; ip -n far link set team1 promisc on")
     address(guest, "team0", "team1")
+
+
+def end_team(guest: Guest) -> None:
+    guest.run("teamd -U -k -t team0; ip netns exec far teamd -U -k -t team1; sleep 1")
 
 
 def switch(space: str, script: str) -> str:
@@ -100,6 +118,10 @@ def begin_switch(guest: Guest) -> None:
     address(guest, "ovs0", "ovs0")
 
 
+def end_switch(guest: Guest) -> None:
+    guest.run(SWITCH_PLACES + "".join(switch(it, SWITCH_ENDS_AT) for it in SWITCH_ENDS))
+
+
 DAEMON = "systemctl restart lagd@uplink"
 TEAM = f"teamd -U -k -t team0; {team('team0', 'eth1', 'eth2')}; ip link set team0 up promisc on"
 SWITCH_AGAIN = """export OVS_RUNDIR={folder} OVS_LOGDIR={folder}
@@ -109,12 +131,12 @@ ovs-vswitchd --detach --no-chdir --pidfile --log-file unix:{folder}/db.sock
 """
 BARE = "a bare link"
 WAYS = {
-    BARE: Way(begin_bare, ("eth1", "far1")),
-    "`lagd`": Way(begin_daemon(""), ("lag0", "lag0"), "lagd", DAEMON),
-    "`offload`": Way(begin_daemon("offload=yes"), ("lag0", "lag0"), "lagd", DAEMON),
-    "`fast`": Way(begin_daemon("fast=yes"), ("lag0", "lag0"), "lagd", DAEMON),
-    "`plane=team`": Way(begin_daemon("plane=team"), ("lag0", "lag0"), "lagd", DAEMON),
-    "bonding": Way(begin_bond, ("bond0", "bond0")),
-    "teamd": Way(begin_team, ("team0", "team1"), "teamd", TEAM),
-    "Open vSwitch": Way(begin_switch, ("ovs0", "ovs0"), "ovs-vswitchd", SWITCH_PLACES + switch("", SWITCH_AGAIN)),
+    BARE: Way(begin_bare, end_bare, ("eth1", "far1")),
+    "`lagd`": Way(begin_daemon(""), end_daemon, ("lag0", "lag0"), "lagd", DAEMON),
+    "`offload`": Way(begin_daemon("offload=yes"), end_daemon, ("lag0", "lag0"), "lagd", DAEMON),
+    "`fast`": Way(begin_daemon("fast=yes"), end_daemon, ("lag0", "lag0"), "lagd", DAEMON),
+    "`plane=team`": Way(begin_daemon("plane=team"), end_daemon, ("lag0", "lag0"), "lagd", DAEMON),
+    "bonding": Way(begin_bond, end_bond, ("bond0", "bond0")),
+    "teamd": Way(begin_team, end_team, ("team0", "team1"), "teamd", TEAM),
+    "Open vSwitch": Way(begin_switch, end_switch, ("ovs0", "ovs0"), "ovs-vswitchd", SWITCH_PLACES + switch("", SWITCH_AGAIN)),
 }
