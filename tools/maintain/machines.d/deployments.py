@@ -8,7 +8,9 @@ from typing import Callable, NamedTuple
 
 from checking import check
 from ends import COMES_UP, OVER, comes_up, journal, ping, status, traffic, up_again
+from fetched import USER_MODE
 from guest import Guest, MACS
+from native import CARD
 from repository import TOP
 from rows import boots, handed_over, orderly, pings, tried
 
@@ -356,4 +358,4 @@ def run_rows(rows: dict[str, Callable[[Guest], str]]) -> Callable[[Guest], dict[
 
 TASKS = {"server": Task("6.12", "e1000e", {**server_files(), **switch_files()}, run_rows(SERVER_ROWS)),
          "router": Task("6.12", "e1000e", router_files(), run_rows(ROUTER_ROWS)),
-         "netplan": Task("6.12", "e1000e", NETPLAN, run_rows(NETPLAN_ROWS))}  # fmt: skip
+         "netplan": Task(USER_MODE, CARD, NETPLAN, run_rows(NETPLAN_ROWS))}  # fmt: skip

@@ -173,6 +173,7 @@ def user_mode(packages: Packages, tree: str) -> Kernel:
     place = f"{packages.cache}/kernels/{USER_MODE}"
     if not os.path.exists(f"{place}/made"):
         shutil.rmtree(place, ignore_errors=True)
+        os.makedirs(f"{place}/files")
         unpack(packages, (f"user-mode-linux/{RELEASE}",), f"{place}/files")
         os.rename(f"{place}/files/usr/lib/uml/modules", f"{place}/files/usr/lib/modules")
         version = os.listdir(f"{place}/files/usr/lib/modules")[0]

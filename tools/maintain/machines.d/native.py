@@ -13,14 +13,14 @@ from tree import put
 
 CARD = "veth"
 # cable NAME MAC OTHER: NAME is one end of a cable, whose other end is OTHER. A link has its carrier from its peer in the namespace `cables`,
-# which hands what comes to the peer of the other end.
+# which hands what comes to the peer of the other end, once that is there.
 CABLE = """#!/bin/sh
 ip link add $1 address $2 type veth peer name $1 netns cables
 ip -n cables link set $1 mtu 9000 up
 tc -n cables qdisc add dev $1 clsact
 tc -n cables filter del dev $3 ingress 2>/dev/null
-tc -n cables filter add dev $1 ingress matchall action mirred egress redirect dev $3
-tc -n cables filter add dev $3 ingress matchall action mirred egress redirect dev $1
+tc -n cables filter add dev $1 ingress matchall action mirred egress redirect dev $3 2>/dev/null
+tc -n cables filter add dev $3 ingress matchall action mirred egress redirect dev $1 2>/dev/null
 exit 0
 """
 # The end that is at the same cable.
@@ -53,8 +53,7 @@ class Native(Guest):
         self.shell = Line(near)
 
     def set_link(self, up: bool, *names: str) -> None:
-        for name in names:
-            self.run(f"ip -n cables link set {name} {'up' if up else 'down'}")
+        self.run("\n".join(f"ip -n cables link set {name} {'up' if up else 'down'}" for name in names))
 
     def remove(self, name: str) -> None:
         self.run(f"ip link del {name}")

@@ -37,10 +37,16 @@ def orderly(guest: Guest, what: str, outcomes: list[Outcome], most: int, ordered
 
 def without_daemon(guest: Guest) -> float:
     """For how many seconds the bundle had no daemon last."""
-    ends = "may go on from here|Sent signal SIGKILL|go on where the last"
-    told = guest.text(f"journalctl --no-pager -b -u lagd@uplink -o short-monotonic | grep -E '{ends}' | tail -2 | grep -oE '^. *[0-9.]+' | tr -d '[ '")
-    times = [float(it) for it in told.split()]
-    return times[1] - times[0] if len(times) == 2 else 0.0
+    ends, goes_on = "may go on from here|Sent signal SIGKILL", "go on where the last"
+    told = guest.text(f"journalctl --sync; journalctl --no-pager -b LAGD_BUNDLE=uplink + UNIT=lagd@uplink.service -o short-monotonic | grep -E '{ends}|{goes_on}' | tr -d '[]'")
+    ended = away = 0.0
+    for line in told.splitlines():
+        at = float(line.split()[0])
+        if goes_on in line:
+            away = at - ended
+        else:
+            ended = at
+    return away
 
 
 def handed_over(guest: Guest, what: str, outcomes: list[Outcome], most: int, ordered: bool = True) -> str:
@@ -226,8 +232,14 @@ WAY_ROWS: dict[str, Callable[[Guest], str]] = {"frames lost, and longest gap": s
                                                "systemctl restart": restarts}  # fmt: skip
 
 
+# The rows that are tried beside the boot, where not all are.
+chosen: list[str] = []
+
+
 def tried(guest: Guest, name: str, row: Callable[[Guest], str]) -> str:
     """One row; what fails in it is a check that failed."""
+    if chosen and name not in chosen and not name.startswith("boots"):
+        return "-"
     print(f"{name}:", flush=True)
     began = time.monotonic()
     try:

@@ -30,13 +30,14 @@ ip link set br0 up
 ip address add 192.0.2.1/24 dev br0
 """
 NO_BRIDGE = "ip link del br0; ip address add 192.0.2.1/24 dev lag0"
-# A kernel whose team driver nobody can load.
+# A kernel whose team driver nobody can load. The far daemon was killed, and has no state: it leaves a device that was there.
 WITHOUT = """systemctl stop lagd@uplink far
+ip -n far link del lag0
 modprobe -r team_mode_loadbalance team
 printf 'install team /bin/false\\ninstall team_mode_loadbalance /bin/false\\n' >/etc/modprobe.d/without.conf
 lagd --check /etc/lagd/uplink.conf
 echo "status $?"
-lagd --config /etc/lagd/uplink.conf --folder /run/without
+timeout 20 lagd --config /etc/lagd/uplink.conf --folder /run/without
 echo "status $?"
 rm /etc/modprobe.d/without.conf
 systemctl start far lagd@uplink
@@ -126,18 +127,21 @@ def name_is_taken(guest: Guest) -> str:
     guest.run("ip link del lag0; systemctl start lagd@uplink")
     up_again(guest)
     check("lag0: an interface of this name is there, and is no team device" in told, "a name that is taken is refused", told)
+    check(guest.within(COMES_UP, lambda: ping(guest).status == 0), "and data goes, once the name is free", journal(guest))
     return "refused"
 
 
 def second_start(guest: Guest) -> str:
     """While no member is there, a second start by other settings leaves the device to the daemon that has it."""
-    guest.run("ip netns add away; for n in 1 2; do ip link set eth$n netns away; done")
-    before = guest.text("cat /sys/class/net/lag0/ifindex")
-    guest.run("mkdir -p /run/other; sed 's/^hash=.*/hash=layer2/' /etc/lagd/uplink.conf >/run/other/uplink.conf")
-    told = guest.text("lagd --config /run/other/uplink.conf --folder /run/lagd/uplink")
-    after = guest.text("cat /sys/class/net/lag0/ifindex")
-    guest.run("for n in 1 2; do ip -n away link set eth$n netns 1; ip link set eth$n up; done; ip netns del away")
-    check("lag0" in told and "another lagd has the interface" in told and before == after, "it is refused, and the device stays", told, before, after)
+    look = "cat /sys/class/net/lag0/ifindex"
+    guest.run("ip netns add away; for n in 1 2; do ip -n far link set far$n netns away; done; sleep 1")
+    before = guest.text(f"ip netns exec far {look}")
+    guest.run("mkdir -p /run/other; sed 's/^hash=.*/hash=layer2/' /etc/lagd/far.conf >/run/other/far.conf")
+    told = guest.text("ip netns exec far lagd --config /run/other/far.conf --folder /run/lagd/far")
+    after = guest.text(f"ip netns exec far {look}")
+    guest.run("for n in 1 2; do ip -n away link set far$n netns far; ip -n far link set far$n up; done; ip netns del away")
+    refused = before == after != "" and "lagd: another lagd has the interface, one of user 0: lag0" in told
+    check(refused, "it is refused, and the device stays", told, before, after)
     check(comes_up(guest) is not None, "the members are back in the device", journal(guest))
     return pings(guest)
 

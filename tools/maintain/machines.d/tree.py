@@ -74,10 +74,13 @@ ExecStart=/usr/local/sbin/guest-far
 [Install]
 WantedBy=multi-user.target
 """
-# Numbered frames between a device of the near end, or of a namespace there, and one of the far end, both ways, for some seconds.
+# Numbered frames between a device of the near end, or of a namespace there, and one of the far end, both ways, for some seconds. They are for
+# an address of neither.
 TRAFFIC = """#!/bin/sh
 seconds=$1 rate=$2 near=$3 far=$4
 at=${5:+ip netns exec $5}
+$at ip link set $near promisc on
+ip -n far link set $far promisc on
 rm -rf /run/traffic && mkdir /run/traffic && cd /run/traffic || exit 1
 ip netns exec far flows receive $far 16 $((seconds + 4)) >to.received 2>&1 &
 $at flows receive $near 16 $((seconds + 4)) >from.received 2>&1 &
