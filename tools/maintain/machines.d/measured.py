@@ -20,7 +20,7 @@ from guest import Guest
 from ways import BARE, SETTLES, WAYS, Way, end_daemon
 
 # How many guests share the ways.
-GUESTS = 3
+GUESTS = 2
 # Octets of TCP take some tens of milliseconds of that clock.
 MTUS, STREAMS, OCTETS = (1500, 9000), (1, 64), 8 << 20
 HEADERS = 28
@@ -78,13 +78,10 @@ COLUMNS = [*(f"{streams} TCP, {mtu:,}" for mtu in MTUS for streams in STREAMS), 
            "cable pulled: lost", "longest gap, ms", "started again: lost", "longest gap, ms", "memory, MB"]  # fmt: skip
 
 
-def mtu_of(guest: Guest, way: Way, mtu: int) -> None:
-    """Both ends take packets of this size, and they go."""
+def set_mtu(guest: Guest, mtu: int, near: str = "eth1", far: str = "far1") -> None:
+    """Links, and devices that are made of them, take packets of this size."""
     guest.run(f"for n in 1 2; do ip link set eth$n mtu {mtu}; ip -n far link set far$n mtu {mtu}; done")
-    guest.run(f"sleep 0.5; ip link set {way.devices[0]} mtu {mtu}; ip -n far link set {way.devices[1]} mtu {mtu}; sleep 1")
-    if not guest.within(COMES_UP, lambda: guest.run(f"ping -q -c 1 -W 1 -M do -s {mtu - HEADERS} {FAR_AT}").status == 0):
-        raise Failed(f"packets of {mtu} octets go", guest.text("ip -br link; ip -n far -br link"))
-    guest.sleep(SETTLES)
+    guest.run(f"sleep 0.5; ip link set {near} mtu {mtu}; ip -n far link set {far} mtu {mtu}; sleep 1")
 
 
 def stream(guest: Guest, streams: int) -> float:
@@ -97,15 +94,13 @@ def stream(guest: Guest, streams: int) -> float:
         raise Failed(f"{streams} streams of TCP run", told[-600:], journal(guest)) from why
 
 
-def speeds(guest: Guest, way: Way) -> dict[str, float]:
-    """Mbit/s of TCP at each size of packets."""
-    found = {}
-    for mtu in MTUS:
-        mtu_of(guest, way, mtu)
-        for streams in STREAMS:
-            found[f"{mtu} {streams}"] = stream(guest, streams)
-    mtu_of(guest, way, MTUS[0])
-    return found
+def speeds(guest: Guest, way: Way, mtu: int) -> dict[str, float]:
+    """Mbit/s of TCP by packets of a size."""
+    set_mtu(guest, mtu, *way.devices)
+    if not guest.within(COMES_UP, lambda: guest.run(f"ping -q -c 1 -W 1 -M do -s {mtu - HEADERS} {FAR_AT}").status == 0):
+        raise Failed(f"packets of {mtu} octets go", guest.text("ip -br link; ip -n far -br link"))
+    guest.sleep(SETTLES)
+    return {f"{mtu} {streams}": stream(guest, streams) for streams in STREAMS}
 
 
 def generate(guest: Guest, way: Way, script: str, count: int, delay: int) -> list[str]:
@@ -173,10 +168,10 @@ def failures(guest: Guest, way: Way) -> list[str]:
 
 def measured(guest: Guest, way: Way) -> Cells:
     """All that is measured of a way."""
-    found = speeds(guest, way)
-    median, late = latency(guest)
-    cells = Cells(found, frames(guest, way), median, late, processor(guest, way), failures(guest, way), memory(guest, way))
-    if min(*found.values(), cells.frames, cells.processor_us) <= 0:
+    found, (median, late) = speeds(guest, way, MTUS[0]), latency(guest)
+    frames_in_a_second, microseconds, lost, kept = frames(guest, way), processor(guest, way), failures(guest, way), memory(guest, way)
+    cells = Cells({**found, **speeds(guest, way, MTUS[1])}, frames_in_a_second, median, late, microseconds, lost, kept)
+    if min(*cells.speeds.values(), cells.frames, cells.processor_us) <= 0:
         raise Failed("each figure is more than nothing", cells)
     return cells
 
@@ -197,6 +192,7 @@ def measure(guest: Guest, names: Sequence[str]) -> dict[str, str]:
             check(False, f"{name}: {why.args[0]}", *why.args[1:], journal(guest))
         finally:
             WAYS[name].end(guest)
+            set_mtu(guest, MTUS[0])
         sys.stdout.flush()
     return found
 

@@ -13,7 +13,7 @@ from tree import SWITCH
 
 RUNNER = {"name": "lacp", "active": True, "fast_rate": True, "tx_hash": ["eth", "ip", "l4"]}
 # For how many seconds links may still come and go, once packets go.
-SETTLES = 4
+SETTLES = 3
 # Open vSwitch at one end: `space` is the command by which what follows runs there. The database and the switch have a folder of their own.
 SWITCH_ENDS = {"": ("/run/near", "ovs0", "eth"), "far": ("/run/away", "ovs0", "far")}
 SWITCH_PLACES = f"export PATH=$PATH:{SWITCH}/usr/bin:{SWITCH}/usr/sbin:{SWITCH}/usr/lib/openvswitch-switch\n"
