@@ -123,7 +123,7 @@ def end_switch(guest: Guest) -> None:
 
 
 DAEMON = "systemctl restart lagd@uplink"
-TEAM = f"teamd -U -k -t team0; {team('team0', 'eth1', 'eth2')}; ip link set team0 up promisc on"
+TEAM = f"teamd -U -k -t team0; {team('team0', 'eth1', 'eth2')}; ip link set team0 up promisc on; ip address replace {NEAR_AT}/24 dev team0"
 SWITCH_AGAIN = """export OVS_RUNDIR={folder} OVS_LOGDIR={folder}
 kill $(cat {folder}/ovs-vswitchd.pid)
 while [ -e {folder}/ovs-vswitchd.pid ]; do sleep 0.05; done
