@@ -29,7 +29,7 @@ unsafe impl Send for Held {}
 
 impl Drop for Held {
     // promise: each block is freed or kept in a handle, whose flag tells whether it keeps one
-    // contract: `drop` of `Held`, `free` of `Block`; `tells`, `full` of `Lag`
+    // contract: `drop` of `Held`, `Block::free`; `tells`, `full` of `Lag`
     // not said: that a box which `Box::into_inner` empties goes to `free`: std's `Box` is trusted
     fn drop(self)
         requires { self.kept ≡ None }
