@@ -5,8 +5,8 @@ ghost use Rattle.lagffi.specs.declared.stored.Stored.{Stored};
 mod block;
 
 use super::parts::Parts;
-pub(crate) use block::Block;
 use crate::stored::Stored;
+pub(crate) use block::Block;
 use std::alloc::Global;
 use std::marker::Model;
 use std::ptr::null_mut;
