@@ -29,8 +29,8 @@ unsafe impl Send for Held {}
 
 impl Drop for Held {
     // promise: each block is freed or kept in a handle, whose flag tells whether it keeps one
-    // contract: `drop` of `Held`, `Block::free`; `tells`, `full` of `Lag`
-    // not said: that a box which `Box::into_inner` empties goes to `free`: std's `Box` is trusted
+    // contract: `drop` of `Held`; `Block`, which has no `drop`; `tells`, `full` of `Lag`
+    // not said: that `Box::into_inner`, in `Block::free`, frees: std's `Box` is trusted
     fn drop(self)
         requires { self.kept ≡ None }
     {

@@ -4,8 +4,8 @@ ghost use Rattle.lagffi.specs.Lending.{LendsKept};
 
 use std::alloc::Global;
 
-/// A block of memory and what it keeps. It may not be dropped, so that it is freed or kept in a handle. Its box is private, and a `T` need
-/// not be `Drop`: no body can let go of the box without what it keeps, which only `free` hands out.
+/// A block of memory and what it keeps. It has no `drop`, so that it is freed or kept in a handle. Its box is private, and `T` need not be
+/// `Drop`, so that no body lets go of the box with what it keeps in it.
 pub(crate) struct Block<T> {
     stored: Box<T, Global>,
 }
