@@ -183,6 +183,8 @@ void forget_settings(struct lagd *lagd, const struct link *link);
 enum classifier { NO_CLASSIFIER, CLASSIFIER_ALONE, CLASSIFIER_BEHIND_OTHERS };
 bool keeps_order(const char *discipline);
 bool read_discipline(struct lagd *lagd, int index, char name[static DISCIPLINE_ROOM]);
+bool have_order(struct lagd *lagd, int index);
+bool may_have_order(struct lagd *lagd, int index);
 bool give_fifo(struct lagd *lagd, int index, uint32_t megabits);
 bool give_fifos(struct lagd *lagd, int index, unsigned queues, uint32_t megabits);
 void fit_fifo(struct lagd *lagd, int index, uint32_t megabits);

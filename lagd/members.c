@@ -232,6 +232,15 @@ bool reopen_member(struct lagd *lagd, struct link *link) {
     return set_bypass(member->socket, member->guard.in_order);
 }
 
+/* A queueing discipline of an interface came, changed or went: where each queue has one of the daemon, others may have put another one there.
+ * Answers whether the member is still taken up. */
+bool follow_queues(struct lagd *lagd, struct link *link) {
+    struct member *member = member_of(lagd, link);
+    if (member->socket < 0 || !link->has_fifos || have_order(lagd, link->index)) return true;
+    (void)say(lagd, LOG_NOTICE | ABOUT_DATA, "port %u %s: its queues were changed", link->settings.number, link->name);
+    return renew_member(lagd, link);
+}
+
 /* Looks at the queues of all members, each second: one whose queues others changed is taken up anew. */
 void watch_queues(struct lagd *lagd) {
     struct members_private *own = lagd->members;

@@ -294,5 +294,61 @@ def queues_disciplines(programs: Programs) -> None:
             ours.stop()
 
 
+@contextlib.contextmanager
+def given_queues(programs: Programs, way: tuple[str, ...] = ()) -> Iterator[tuple[End, End]]:
+    """Two ends, of which one has at a0 an mq with the handle of the daemon: a veth gets none by itself."""
+    with cables(programs, (), QUEUES):
+        if inside(OURS, "tc", "qdisc", "add", "dev", "a0", "root", "handle", "6c61:", "mq").returncode:
+            raise Skipped("tc gives no queue a discipline of its own")
+        ours, theirs = (End(programs, space, options=[*way, *ALL]) for space in (OURS, THEIRS))
+        try:
+            ready = lambda: all(end.links() == 2 and end.carry()["markers"] == "answered" for end in (ours, theirs))
+            check(within(COMES_UP, ready), "two links carry", ours.text(), ours.printed())
+            yield ours, theirs
+        finally:
+            ours.stop()
+            theirs.stop()
+
+
+def give_classes(parent: str, handle: str) -> None:
+    """A queue gets an htb, which has each frame in one of two rows, and slow ones: so it keeps no order."""
+    row = ("parent", f"{handle}:", "protocol", "all", "prio", "1", "u32", "match", "u8", "0", "1", "at", "5", "flowid", f"{handle}:2")
+    for words in (("qdisc", "replace", "dev", "a0", "parent", parent, "handle", f"{handle}:", "htb", "default", "1"),
+                  ("class", "add", "dev", "a0", "parent", f"{handle}:", "classid", f"{handle}:1", "htb", "rate", "1mbit"),
+                  ("class", "add", "dev", "a0", "parent", f"{handle}:", "classid", f"{handle}:2", "htb", "rate", "100mbit"),
+                  ("filter", "add", "dev", "a0", *row)):
+        inside(OURS, "tc", *words)
+
+
+def queues_foreign(programs: Programs) -> None:
+    """Somebody puts an mq whose queues keep no order in the place of that of the daemon, or such a discipline in that of one queue; and one that
+    keeps the order, which stays."""
+    def replace_all() -> None:
+        inside(OURS, "tc", "qdisc", "replace", "dev", "a0", "root", "handle", "1:", "mq")
+        for queue in range(QUEUES):
+            give_classes(f"1:{queue + 1}", str(queue + 10))
+
+    for way in (), ("--fast",):
+        for what, event in ("each queue", replace_all), ("one queue", partial(give_classes, "6c61:2", "10")):
+            with given_queues(programs, way) as (ours, _):
+                event()
+                name = f"{name_of(way)}, {what}"
+                line = "a0: it gets one queue: its queueing discipline is neither"
+                check(within(FOLLOWS, lambda: line in ours.printed()), f"{name}: a line tells", ours.printed())
+                check(ours.told()["ports"][0]["data"]["queues"] == 1, f"{name}: the status tells", ours.text())
+                check(within(COMES_BACK, lambda: ours.links() == 2), f"{name}: two links carry", ours.text())
+                outcome = run_flows(programs, SECONDS, every(0.5, SECONDS - 1, move_all(ours)), rate=RATE // 2)
+                check_order(outcome, name, ours.text(), ours.printed()[-1500:])
+                check("htb 10:" in inside(OURS, "tc", "qdisc", "show", "dev", "a0").stdout, f"{name}: what somebody set stays")
+    with given_queues(programs) as (ours, _):
+        inside(OURS, "tc", "qdisc", "replace", "dev", "a0", "parent", "6c61:2", "pfifo", "limit", "77")
+        time.sleep(FOLLOWS)
+        for it in "down", "up":
+            ip(OURS, "link", "set", "a0", it)
+        check(within(COMES_UP, lambda: ours.links() == 2), "the link comes back", ours.text())
+        check("gets one queue" not in ours.printed(), "a member with pfifo at one queue keeps all", ours.printed())
+        check("limit 77p" in inside(OURS, "tc", "qdisc", "show", "dev", "a0").stdout, "and the pfifo stays")
+
+
 PARTS: dict[str, Callable[[Programs], None]] = {it.__name__: it for it in
-    (queues_all, queues_kept, queues_restarted, queues_moved, queues_unlike, queues_changed, queues_answered, queues_refused, queues_disciplines)}
+    (queues_all, queues_kept, queues_restarted, queues_moved, queues_unlike, queues_changed, queues_answered, queues_refused, queues_disciplines, queues_foreign)}
