@@ -126,7 +126,7 @@ static bool follow_discipline(struct lagd *lagd, struct link *link, const struct
 static void follow(struct lagd *lagd, struct link *link, const struct interface *interface) {
     uint16_t port = link->settings.number;
     bool up, carrier = (interface->flags & IFF_UP) && (interface->flags & IFF_RUNNING) && (interface->flags & IFF_LOWER_UP), lost = false;
-    if (interface->has_mac) memcpy(link->mac, interface->mac, sizeof link->mac);
+    if (interface->has_mac) follow_address(lagd, link, interface->mac);
     if (!follow_discipline(lagd, link, interface)) return;
     if (interface->mtu != 0) follow_mtu(lagd, link, interface->mtu);
     if (interface->counts_losses && interface->losses != link->kernel_losses) {

@@ -398,6 +398,7 @@ bool open_member(struct lagd *lagd, struct link *link);
 void close_member(struct lagd *lagd, struct link *link);
 bool reopen_member(struct lagd *lagd, struct link *link);
 bool follow_queues(struct lagd *lagd, struct link *link);
+void follow_address(struct lagd *lagd, struct link *link, const uint8_t *mac);
 void take_marker(struct lagd *lagd, struct link *link, const uint8_t *frame);
 void follow_mtu(struct lagd *lagd, struct link *link, uint32_t mtu);
 void follow_speed(struct lagd *lagd, const struct link *link, const char *interface);

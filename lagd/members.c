@@ -232,6 +232,17 @@ bool reopen_member(struct lagd *lagd, struct link *link) {
     return set_bypass(member->socket, member->guard.in_order);
 }
 
+/* An interface has this MAC address now: what it had before it was a member stays known by that, also where this daemon is killed. */
+void follow_address(struct lagd *lagd, struct link *link, const uint8_t *mac) {
+    struct member *member = member_of(lagd, link);
+    if (memcmp(link->mac, mac, sizeof link->mac) == 0) return;
+    if (carries_data(lagd) && member->socket >= 0) {
+        move_former(lagd, link, mac);
+        write_settings(lagd, link, &member->guard.before);
+    }
+    memcpy(link->mac, mac, sizeof link->mac);
+}
+
 /* A queueing discipline of an interface came, changed or went: where each queue has one of the daemon, others may have put another one there.
  * Answers whether the member is still taken up. */
 bool follow_queues(struct lagd *lagd, struct link *link) {

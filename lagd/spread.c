@@ -109,6 +109,22 @@ static FILE *open_former(struct lagd *lagd, const struct link *link) {
     return NULL;
 }
 
+/* An interface has another MAC address from now on: what its queues had stays known by that one. */
+void move_former(struct lagd *lagd, struct link *link, const uint8_t *mac) {
+    struct spread_private *own = lagd->spread;
+    char name[NAME_OCTETS], text[32];
+    FILE *file = open_former(lagd, link), *next = file ? open_kept(lagd, link, "queues.new", O_WRONLY | O_CREAT | O_TRUNC, "w") : NULL;
+    bool done;
+    memcpy(link->mac, mac, sizeof link->mac);
+    if (next) {
+        fprintf(next, HEAD, boot_id(lagd), mac_text(mac, text));
+        while (fscanf(file, READ_LINE, name, own->is_known_mask) == 2) fprintf(next, "%s %s\n", name, own->is_known_mask);
+        done = !ferror(next);
+        if (fclose(next) == 0 && done) (void)replace_kept(lagd, link, "queues.new", "queues");
+    }
+    if (file) fclose(file);
+}
+
 /* Whether it is known what a setting was before an earlier daemon changed it; with `next`, all that is known is written there. */
 static bool is_known(struct lagd *lagd, const struct link *link, const char *wanted, FILE *next) {
     struct spread_private *own = lagd->spread;
@@ -230,13 +246,14 @@ void gather_back(struct lagd *lagd, const struct link *link) {
     char name[NAME_OCTETS], path[128], interface[IF_NAMESIZE];
     bool done = true;
     FILE *file = open_former(lagd, link);
-    while (file && fscanf(file, READ_LINE, name, own->gather_back_mask) == 2) {
+    if (!file) return;
+    while (fscanf(file, READ_LINE, name, own->gather_back_mask) == 2) {
         if (!is_setting(name) || !path_of_queue(link->index, name, path, sizeof path)) continue;
         if (write_processors(path, own->gather_back_mask)) continue;
         if (read_processors(path, own->gather_back_now, sizeof own->gather_back_now)
             && strcmp(own->gather_back_now, own->gather_back_mask) != 0)
             done = false;
     }
-    if (file) fclose(file);
+    fclose(file);
     if (done || !if_indextoname((unsigned)link->index, interface)) drop_kept(lagd, link, "queues");
 }
