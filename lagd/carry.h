@@ -223,7 +223,8 @@ void note_channels(const struct link *link, struct guard *guard);
 bool has_usual_queues(struct lagd *lagd, const struct guard *guard);
 bool is_spread_anew(struct lagd *lagd, const struct link *link, const struct guard *guard);
 void move_former(struct lagd *lagd, struct link *link, const uint8_t *mac);
-void gather_back(struct lagd *lagd, const struct link *link);
+void gather_back(struct lagd *lagd, const struct link *link, bool whole);
+bool may_spread(struct lagd *lagd, const struct link *link);
 
 /* queues.c: by which queue of its member a conversation goes, and the markers of each queue */
 struct msghdr;

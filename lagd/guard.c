@@ -192,14 +192,25 @@ static unsigned joins_allowed(struct lagd *lagd, const struct link *link, const 
     return guard->spread && guard->fast && keeps_briefly(lagd, link->index) ? JOINED_BY_KERNEL : 0;
 }
 
-/* Lets a member keep all its queues, where it can, or gives it one. How many others give it meanwhile, it is to have behind the daemon. */
+/* A member that has one queue, as this daemon or an earlier one gave it, gets back what it had, where it may keep that. How many others give it
+ * meanwhile, it is to have behind the daemon. */
+static void regain_queues(struct lagd *lagd, const struct link *link, struct ethtool_channels *before) {
+    struct ethtool_channels now;
+    if (queues_of(link->index, &now) > 1)
+        *before = now;
+    else if (may_spread(lagd, link))
+        (void)part_queues(link->index, before);
+}
+
+/* Lets a member keep all its queues, where it can, or gives it one. */
 static void set_queues(struct lagd *lagd, struct link *link, struct guard *guard) {
     struct ethtool_channels *before = &guard->before.queues;
+    if (lagd->settings.all_queues) regain_queues(lagd, link, before);
     look_at_discipline(lagd, link, guard);
     if (lagd->settings.all_queues) {
         if (is_unqueued(link)) return; /* it is looked at again then */
         spread(lagd, link, guard);
-        if (guard->spread || queues_of(link->index, before) <= 1) *before = (struct ethtool_channels){0};
+        if (guard->spread && has_channels(link->index, before)) *before = (struct ethtool_channels){0};
         write_settings(lagd, link, &guard->before);
     }
     if (!guard->spread) join_queues(link->index);
@@ -243,7 +254,6 @@ void open_guard(struct lagd *lagd, struct link *link, struct guard *guard) {
     guard->chooser = -1;
     look_before(lagd, link, &guard->before);
     keep_settings(lagd, link, &guard->before);
-    if (lagd->settings.all_queues) (void)part_queues(link->index, &guard->before.queues); /* an earlier daemon may have given it one */
     set_queues(lagd, link, guard);
     run_programs(lagd, link, guard);
     note_channels(link, guard);
@@ -268,13 +278,13 @@ static bool steer_back(int index, const char *mask) {
 void close_guard(struct lagd *lagd, const struct link *link, struct guard *guard) {
     struct kept *before = &guard->before;
     char name[IF_NAMESIZE];
-    bool done = true;
+    bool done;
     stop_programs(lagd, link, guard);
     stop_spreading(lagd, link, guard);
-    gather_back(lagd, link);
+    done = part_queues(link->index, &before->queues);
+    gather_back(lagd, link, done);
     if (before->joins != 0) set_joins(link->index, before->joins);
-    if (before->joins != 0) done = (before->joins & ~read_joins(link->index).wanted) == 0;
-    done = part_queues(link->index, &before->queues) && done;
+    if (before->joins != 0) done = (before->joins & ~read_joins(link->index).wanted) == 0 && done;
     take_fifo(lagd, link->index); /* with all its queues the kernel gives each of them what it chooses */
     if (before->steered[0]) done = steer_back(link->index, before->steered) && done;
     if (done || !if_indextoname((unsigned)link->index, name)) forget_settings(lagd, link);

@@ -184,6 +184,24 @@ static const char *fault_of_spreading(struct lagd *lagd, const struct link *link
     return NULL;
 }
 
+/* Whether the settings of the queues may be written, as far as the first one tells. */
+static bool may_set(int index) {
+    char path[128];
+    int opened = path_of_queue(index, "tx-0/xps_cpus", path, sizeof path) ? open(path, O_WRONLY | O_CLOEXEC) : -1;
+    if (opened >= 0) close(opened);
+    return opened >= 0;
+}
+
+/* Whether a member may keep all its queues once it has them, as far as that is seen before: giving them may take its link down. Where it is
+ * known that settings of them are to be changed, these must be changeable. */
+bool may_spread(struct lagd *lagd, const struct link *link) {
+    char name[NAME_OCTETS];
+    FILE *file = open_former(lagd, link);
+    bool changes = file && fscanf(file, "%31s", name) == 1;
+    if (file) fclose(file);
+    return !link->stacked && may_have_order(lagd, link->index) && (!changes || may_set(link->index));
+}
+
 /* Has a program choose the queue of each frame that the daemon sends at a member; answers whether it does. */
 static bool choose_queues(struct lagd *lagd, const struct link *link, struct guard *guard) {
     if (guard->queues > 1 && guard->chooser < 0) guard->chooser = attach_stored(lagd, "queues", lagd->spread->program, link->index, true);
@@ -240,11 +258,11 @@ bool has_usual_queues(struct lagd *lagd, const struct guard *guard) {
     return guard->queues == own->usual;
 }
 
-/* The queues of an interface get back what they had before. What cannot be set back stays kept. */
-void gather_back(struct lagd *lagd, const struct link *link) {
+/* The queues of an interface get back what they had before. What cannot be set back stays kept: all of it, where not all are back (`whole`). */
+void gather_back(struct lagd *lagd, const struct link *link, bool whole) {
     struct spread_private *own = lagd->spread;
     char name[NAME_OCTETS], path[128], interface[IF_NAMESIZE];
-    bool done = true;
+    bool done = whole;
     FILE *file = open_former(lagd, link);
     if (!file) return;
     while (fscanf(file, READ_LINE, name, own->gather_back_mask) == 2) {
