@@ -178,6 +178,7 @@ void write_settings(struct lagd *lagd, const struct link *link, const struct kep
 void keep_settings(struct lagd *lagd, const struct link *link, struct kept *kept);
 void recall_settings(struct lagd *lagd, const struct link *link, struct kept *kept);
 void forget_settings(struct lagd *lagd, const struct link *link);
+void forget_interface(struct lagd *lagd, const struct link *link);
 
 /* traffic.c: queueing disciplines and classifiers of members */
 enum classifier { NO_CLASSIFIER, CLASSIFIER_ALONE, CLASSIFIER_BEHIND_OTHERS };

@@ -162,10 +162,14 @@ static void take_present(struct lagd *lagd, const struct interface *interface) {
     }
 }
 
-static void take_absent(struct lagd *lagd, int index) {
-    if (index == tap_index(lagd)) lose_tap(lagd);
-    for (uint16_t i = 0; i < lagd->link_count; i++)
-        if (lagd->links[i].socket >= 0 && lagd->links[i].index == index) lose_link(lagd, &lagd->links[i]);
+static void take_absent(struct lagd *lagd, const struct interface *interface) {
+    if (interface->index == tap_index(lagd)) lose_tap(lagd);
+    for (uint16_t i = 0; i < lagd->link_count; i++) {
+        struct link *link = &lagd->links[i];
+        if (link->index != interface->index) continue;
+        if (link->socket >= 0) lose_link(lagd, link);
+        if (!interface->moved) forget_interface(lagd, link);
+    }
 }
 
 /* Queueing disciplines came or went. Which one an interface has now is asked: of its usual one the kernel does not tell. */
@@ -199,17 +203,16 @@ static void take_message(struct lagd *lagd, const struct nlmsghdr *message) {
     const struct ifinfomsg *info = mnl_nlmsg_get_payload(message);
     const struct tcmsg *discipline = mnl_nlmsg_get_payload(message);
     size_t length = mnl_nlmsg_get_payload_len(message);
+    struct interface interface;
     uint16_t type = message->nlmsg_type;
     bool answers = own->asking && message->nlmsg_seq == own->asked && message->nlmsg_pid == mnl_socket_get_portid(own->route);
     if (answers && (message->nlmsg_flags & NLM_F_DUMP_INTR)) own->interrupted = true;
     if (answers && (type == NLMSG_DONE || type == NLMSG_ERROR)) end_answer(lagd, error_of(message));
     if ((type == RTM_NEWQDISC || type == RTM_DELQDISC) && length >= sizeof *discipline) take_discipline(lagd, discipline);
     if ((type != RTM_NEWLINK && type != RTM_DELLINK) || length < sizeof *info || info->ifi_family != AF_UNSPEC) return;
-    if (type == RTM_NEWLINK) {
-        struct interface interface = read_interface(message);
-        if (interface.name[0]) take_present(lagd, &interface);
-    } else
-        take_absent(lagd, info->ifi_index);
+    interface = read_interface(message);
+    if (type == RTM_NEWLINK && interface.name[0]) take_present(lagd, &interface);
+    if (type == RTM_DELLINK) take_absent(lagd, &interface);
 }
 
 /* Takes the messages of `length` octets, in their order. */

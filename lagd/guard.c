@@ -277,7 +277,6 @@ static bool steer_back(int index, const char *mask) {
 /* The interface is no member any more. What cannot be set back stays kept, as without CAP_NET_ADMIN. */
 void close_guard(struct lagd *lagd, const struct link *link, struct guard *guard) {
     struct kept *before = &guard->before;
-    char name[IF_NAMESIZE];
     bool done;
     stop_programs(lagd, link, guard);
     stop_spreading(lagd, link, guard);
@@ -287,7 +286,7 @@ void close_guard(struct lagd *lagd, const struct link *link, struct guard *guard
     if (before->joins != 0) done = (before->joins & ~read_joins(link->index).wanted) == 0 && done;
     take_fifo(lagd, link->index); /* with all its queues the kernel gives each of them what it chooses */
     if (before->steered[0]) done = steer_back(link->index, before->steered) && done;
-    if (done || !if_indextoname((unsigned)link->index, name)) forget_settings(lagd, link);
+    if (done) forget_settings(lagd, link);
 }
 
 /* An interface was a member of the last daemon, and is none of this one: it gets what it had, unless somebody else has it by now. */

@@ -262,7 +262,7 @@ bool has_usual_queues(struct lagd *lagd, const struct guard *guard) {
 void gather_back(struct lagd *lagd, const struct link *link, bool whole) {
     struct spread_private *own = lagd->spread;
     char name[NAME_OCTETS], path[128], interface[IF_NAMESIZE];
-    bool done = whole;
+    bool done = whole && if_indextoname((unsigned)link->index, interface);
     FILE *file = open_former(lagd, link);
     if (!file) return;
     while (fscanf(file, READ_LINE, name, own->gather_back_mask) == 2) {
@@ -273,5 +273,5 @@ void gather_back(struct lagd *lagd, const struct link *link, bool whole) {
             done = false;
     }
     fclose(file);
-    if (done || !if_indextoname((unsigned)link->index, interface)) drop_kept(lagd, link, "queues");
+    if (done) drop_kept(lagd, link, "queues");
 }
