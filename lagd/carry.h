@@ -201,6 +201,7 @@ struct guard {
     enum classifier classifier; /* what does so where the kernel has no TCX */
     bool in_order;      /* whether the queueing discipline of the interface keeps the order */
     bool fast;          /* whether the kernel may pass on what goes and comes there */
+    bool unusual;       /* whether it may not, as it has another number of queues than those where it may */
     struct kept before; /* what the interface had */
     bool spread;        /* whether it keeps all its queues */
     unsigned queues;    /* by how many of them data goes */

@@ -153,11 +153,11 @@ void fit_queue(struct lagd *lagd, const struct link *link, const char *interface
 }
 
 /* Why the kernel may not pass on what goes and comes at an interface, or NULL: a marker would overtake the data before it. */
-static const char *fault_of_fast(struct lagd *lagd, const struct link *link, const struct guard *guard) {
+static const char *fault_of_fast(const struct link *link, const struct guard *guard) {
     struct ethtool_channels queues;
     if (link->stacked) return "it stands on another interface, whose queues are not seen";
     if (!guard->spread && queues_of(link->index, &queues) > 1) return "it has several queues";
-    if (guard->spread && !has_usual_queues(lagd, guard)) return "it has another number of queues than the first member";
+    if (guard->unusual) return "it has another number of queues than the first member";
     if (!guard->in_order) return "its queueing discipline is neither noqueue, bfifo nor pfifo";
     if (!guard->spread && !steer(link)) return "RPS cannot be set to one processor";
     return NULL;
@@ -165,7 +165,9 @@ static const char *fault_of_fast(struct lagd *lagd, const struct link *link, con
 
 /* Has the kernel pass on what goes and comes at a member, where it may; a line says why not. */
 static void open_fast(struct lagd *lagd, const struct link *link, struct guard *guard) {
-    const char *fault = fault_of_fast(lagd, link, guard);
+    const char *fault;
+    guard->unusual = guard->spread && !has_usual_queues(lagd, guard);
+    fault = fault_of_fast(link, guard);
     if (!fault) guard->opened = open_fast_receiver(lagd, link);
     guard->fast = guard->opened >= 0;
     if (!fault && !guard->fast) fault = strerror(errno);
@@ -220,7 +222,7 @@ static void set_queues(struct lagd *lagd, struct link *link, struct guard *guard
 static void run_programs(struct lagd *lagd, const struct link *link, struct guard *guard) {
     guard->opened = -1;
     guard->classifier = NO_CLASSIFIER;
-    guard->fast = false;
+    guard->fast = guard->unusual = false;
     if (is_fast(lagd)) open_fast(lagd, link, guard);
     if (guard->opened < 0) keep_from_stack(lagd, link, guard);
     if (guard->before.joins != 0) set_joins(link->index, guard->before.joins & joins_allowed(lagd, link, guard));

@@ -252,15 +252,18 @@ bool follow_queues(struct lagd *lagd, struct link *link) {
     return renew_member(lagd, link);
 }
 
-/* Looks at the queues of all members, each second: one whose queues others changed is taken up anew. */
+/* Looks at the queues of all members, each second: one whose queues others changed is taken up anew, and one that has the number of queues of
+ * the others by now. */
 void watch_queues(struct lagd *lagd) {
     struct members_private *own = lagd->members;
     if (!lagd->settings.all_queues || ticks_passed(lagd) % SECOND != 0) return;
     for (uint16_t i = 0; i < lagd->link_count; i++) {
         struct link *link = &lagd->links[i];
-        if (own->members[i].socket < 0 || !is_spread_anew(lagd, link, &own->members[i].guard)) continue;
-        (void)say(lagd, LOG_NOTICE | ABOUT_DATA, "port %u %s: its queues were changed", link->settings.number, link->name);
-        if (renew_member(lagd, link)) continue;
+        const struct guard *guard = &own->members[i].guard;
+        bool anew = own->members[i].socket >= 0 && is_spread_anew(lagd, link, guard);
+        if (anew) (void)say(lagd, LOG_NOTICE | ABOUT_DATA, "port %u %s: its queues were changed", link->settings.number, link->name);
+        anew = anew || (own->members[i].socket >= 0 && guard->unusual && has_usual_queues(lagd, guard));
+        if (!anew || renew_member(lagd, link)) continue;
         look_again(lagd);
         lose_link(lagd, link);
     }

@@ -23,7 +23,7 @@ enum setting { TAKEN_BY, SENT_FOR, SENT_BEHIND, SETTINGS };
 /* What this file keeps for a daemon. */
 struct spread_private {
     int program;
-    unsigned usual; /* by how many queues the kernel passes data on, or 0: not known yet */
+    unsigned usual; /* by how many queues the kernel passes data on, while it does so of any member */
     char wanted_of_mask[16]; /* of wanted_of */
     char do_all_now[PROCESSORS_ROOM]; /* of do_all */
     char is_known_mask[PROCESSORS_ROOM]; /* of is_known */
@@ -175,9 +175,9 @@ static unsigned channels_of(int index) {
 }
 
 /* Why a member may not keep all its queues, or NULL. */
-static const char *fault_of_spreading(struct lagd *lagd, const struct link *link, const struct guard *guard) {
+static const char *fault_of_spreading(struct lagd *lagd, const struct link *link, const struct guard *guard, unsigned count) {
     if (link->stacked) return "it stands on another interface, whose queues are not seen";
-    if (count_entries(link->index, "tx-") == 0) return "/sys does not show its queues";
+    if (count == 0) return "/sys does not show its queues";
     if (!guard->in_order) return "its queueing discipline is neither noqueue, bfifo nor pfifo";
     if (!keep_all(lagd, link)) return "what its queues have cannot be kept";
     if (!do_all(lagd, link, set_one, NULL)) return "RPS or XPS of its queues cannot be set";
@@ -210,8 +210,8 @@ static bool choose_queues(struct lagd *lagd, const struct link *link, struct gua
 
 /* Lets a member keep all its queues, where it can. */
 void spread(struct lagd *lagd, const struct link *link, struct guard *guard) {
-    const char *fault = fault_of_spreading(lagd, link, guard);
     unsigned count = count_entries(link->index, "tx-");
+    const char *fault = fault_of_spreading(lagd, link, guard, count);
     guard->queues = fault ? 1 : count < MOST_QUEUES ? count : MOST_QUEUES;
     if (!fault && !choose_queues(lagd, link, guard)) fault = strerror(errno);
     guard->spread = !fault;
@@ -240,21 +240,28 @@ bool is_spread_anew(struct lagd *lagd, const struct link *link, const struct gua
     unsigned channels = channels_of(link->index);
     if (channels == 0) return false;
     if (channels != guard->channels) return true;
-    if (guard->chooser < 0) return false;
-    for (enum setting setting = SENT_FOR; setting < SETTINGS; setting++) {
-        name_setting(setting, (unsigned)seconds_passed(lagd) % (channels >> 16), name);
+    for (enum setting setting = 0; guard->spread && setting < SETTINGS; setting++) {
+        unsigned queue = (unsigned)seconds_passed(lagd) % (setting == TAKEN_BY ? channels & 0xffff : channels >> 16);
+        name_setting(setting, queue, name);
         if (path_of_queue(link->index, name, path, sizeof path)
-            && read_processors(path, own->is_spread_anew_now, sizeof own->is_spread_anew_now) && !is_none(own->is_spread_anew_now))
+            && read_processors(path, own->is_spread_anew_now, sizeof own->is_spread_anew_now)
+            && wanted_of(lagd, link, setting, queue, own->is_spread_anew_now))
             return true;
     }
     return false;
 }
 
+static bool has_any_fast(struct lagd *lagd) {
+    for (uint16_t port = 1; port <= lagd->link_count; port++)
+        if (has_fast_member(lagd, port)) return true;
+    return false;
+}
+
 /* Whether the kernel may choose the queue of a member as that of others: it keeps the queue of a connection, also where that goes on by another
- * member. */
+ * member. How many these have, the first one tells of which it passes data on. */
 bool has_usual_queues(struct lagd *lagd, const struct guard *guard) {
     struct spread_private *own = lagd->spread;
-    if (own->usual == 0) own->usual = guard->queues;
+    if (!has_any_fast(lagd)) own->usual = guard->queues;
     return guard->queues == own->usual;
 }
 
