@@ -184,8 +184,8 @@ def queues_unlike(programs: Programs) -> None:
                 theirs.stop()
 
 
-def channels(count: int) -> None:
-    inside(OURS, "ethtool", "-L", "a0", "rx", str(count), "tx", str(count))
+def channels(count: int, name: str = "a0") -> None:
+    inside(OURS, "ethtool", "-L", name, "rx", str(count), "tx", str(count))
 
 
 def queues_changed(programs: Programs) -> None:
@@ -311,8 +311,8 @@ def given_queues(programs: Programs, way: tuple[str, ...] = ()) -> Iterator[tupl
 
 
 def give_classes(parent: str, handle: str) -> None:
-    """A queue gets an htb, which has each frame in one of two rows, and slow ones: so it keeps no order."""
-    row = ("parent", f"{handle}:", "protocol", "all", "prio", "1", "u32", "match", "u8", "0", "1", "at", "5", "flowid", f"{handle}:2")
+    """A queue gets an htb, in which data is slow and a marker is not: so it keeps no order."""
+    row = ("parent", f"{handle}:", "protocol", "0x8809", "prio", "1", "u32", "match", "u32", "0", "0", "flowid", f"{handle}:2")
     for words in (("qdisc", "replace", "dev", "a0", "parent", parent, "handle", f"{handle}:", "htb", "default", "1"),
                   ("class", "add", "dev", "a0", "parent", f"{handle}:", "classid", f"{handle}:1", "htb", "rate", "1mbit"),
                   ("class", "add", "dev", "a0", "parent", f"{handle}:", "classid", f"{handle}:2", "htb", "rate", "100mbit"),
@@ -328,8 +328,9 @@ def queues_foreign(programs: Programs) -> None:
         for queue in range(QUEUES):
             give_classes(f"1:{queue + 1}", str(queue + 10))
 
+    events: tuple[tuple[str, Callable[[], None]], ...] = (("each queue", replace_all), ("one queue", partial(give_classes, "6c61:2", "10")))
     for way in (), ("--fast",):
-        for what, event in ("each queue", replace_all), ("one queue", partial(give_classes, "6c61:2", "10")):
+        for what, event in events:
             with given_queues(programs, way) as (ours, _):
                 event()
                 name = f"{name_of(way)}, {what}"
@@ -343,12 +344,95 @@ def queues_foreign(programs: Programs) -> None:
     with given_queues(programs) as (ours, _):
         inside(OURS, "tc", "qdisc", "replace", "dev", "a0", "parent", "6c61:2", "pfifo", "limit", "77")
         time.sleep(FOLLOWS)
-        for it in "down", "up":
-            ip(OURS, "link", "set", "a0", it)
+        ip(OURS, "link", "set", "a0", "down")
+        check(within(COMES_BACK, lambda: ours.links() == 1), "the link goes", ours.text())
+        ip(OURS, "link", "set", "a0", "up")
         check(within(COMES_UP, lambda: ours.links() == 2), "the link comes back", ours.text())
         check("gets one queue" not in ours.printed(), "a member with pfifo at one queue keeps all", ours.printed())
         check("limit 77p" in inside(OURS, "tc", "qdisc", "show", "dev", "a0").stdout, "and the pfifo stays")
 
 
+def set_discipline(*words: str) -> None:
+    inside(OURS, "tc", "qdisc", "replace" if words else "del", "dev", "a0", "root", *words)
+
+
+SLOW_ROW = ("tbf", "rate", "1gbit", "burst", "100k", "limit", "1m")
+
+
+def move_away() -> None:
+    ip(OURS, "link", "set", "a0", "netns", THEIRS)
+    time.sleep(1)
+    ip(THEIRS, "link", "set", "a0", "netns", OURS)
+    ip(OURS, "link", "set", "a0", "up")
+
+
+def queues_back(programs: Programs) -> None:
+    """The queues, and what they had, are there again behind the daemon, whatever happened meanwhile."""
+    new_address = lambda: ip(OURS, "link", "set", "a0", "address", "02:11:22:33:44:55")
+    slow, other = partial(set_discipline, *SLOW_ROW), partial(set_discipline, "handle", "5:", "htb")
+    tried: tuple[tuple[str, bool, int, tuple[Callable[[], None], ...]], ...] = (
+        ("another MAC address", False, QUEUES, (new_address,)), ("another one, and a kill", True, QUEUES, (new_address,)),
+        ("a slow discipline", False, 1, (slow,)), ("and another one", False, 1, (slow, other)), ("and none", False, QUEUES, (slow, set_discipline)),
+        ("another namespace", False, QUEUES, (move_away,)))
+    for name, killed, queues, events in tried:
+        with cables(programs, (), QUEUES):
+            for queue in range(QUEUES):
+                inside(OURS, "sh", "-c", f"cd /sys/class/net/a0/queues; echo 2 >tx-{queue}/xps_cpus; echo 3 >rx-{queue}/rps_cpus")
+            before = settings_of(OURS, "a0")
+            ours = End(programs, OURS, options=ALL)
+            try:
+                used = lambda: ours.told()["ports"][0]["data"]["queues"]
+                check(within(FOLLOWS, lambda: used() == QUEUES and settings_of(OURS, "a0") != before), f"{name}: RPS and XPS are changed", before)
+                for event in events:
+                    event()
+                    time.sleep(2)
+                check(within(COMES_BACK, lambda: used() == queues), f"{name}: {queues} queues are used", used(), ours.printed())
+                if killed:
+                    ours.process.send_signal(signal.SIGKILL)
+                    ours.process.wait()
+                    ours = End(programs, OURS, options=ALL)
+                ours.ends("the daemon")
+                check(settings_of(OURS, "a0") == before, f"{name}: they are as they were", before, settings_of(OURS, "a0"), ours.printed())
+            finally:
+                ours.stop()
+
+
+def queues_steady(programs: Programs) -> None:
+    """A member that cannot keep its queues has its link up while the daemon is started again."""
+    with cables(programs, (), QUEUES):
+        set_discipline(*SLOW_ROW)
+        ours = End(programs, OURS, options=ALL)
+        try:
+            changes = lambda: inside(OURS, "cat", "/sys/class/net/a0/carrier_changes").stdout
+            check(within(FOLLOWS, lambda: "a0: it gets one queue" in ours.printed()), "a member gets one queue", ours.printed())
+            time.sleep(1)
+            before = changes()
+            for by in signal.SIGUSR1, signal.SIGKILL:
+                ours.process.send_signal(by)
+                ours.process.wait()
+                ours = End(programs, OURS, options=ALL)
+                check(within(FOLLOWS, lambda: "a0: it gets one queue" in ours.printed()), f"{by.name}: the next daemon leaves it one", ours.printed())
+                check(changes() == before, f"{by.name}: the link stays up", before, changes())
+        finally:
+            ours.stop()
+
+
+def queues_fewer(programs: Programs) -> None:
+    """All members have fewer queues from now on: the kernel passes data on by them again."""
+    with pair(programs, delays=(), options=["--fast", *ALL], queues=QUEUES) as (_, ours, theirs):
+        for name in "a0", "a1":
+            channels(2, name)
+            time.sleep(FOLLOWS)
+        check(within(COMES_UP, lambda: ours.links() == 2 and theirs.links() == 2), "two links carry", ours.printed())
+        passed = lambda: [port["data"]["passed_on"] for port in ours.told()["ports"]]
+        before = passed()
+        outcome = run_flows(programs, SECONDS, every(1, SECONDS - 1, move_all(ours)), rate=RATE)
+        check_order(outcome, "fewer queues", ours.text(), ours.printed()[-1500:])
+        check(all(now > then for then, now in zip(before, passed())), "the kernel passes data on by both", before, passed(), ours.printed())
+        inside(OURS, "sh", "-c", "for it in /sys/class/net/a0/queues/rx-*/rps_cpus; do echo 3 >$it; done")
+        check(within(2 * FOLLOWS, lambda: setting(OURS, "a0", "rx-0/rps_cpus").strip("0,") in ("1", "2", "4", "8")), "RPS names one processor again", ours.printed())
+
+
 PARTS: dict[str, Callable[[Programs], None]] = {it.__name__: it for it in
-    (queues_all, queues_kept, queues_restarted, queues_moved, queues_unlike, queues_changed, queues_answered, queues_refused, queues_disciplines, queues_foreign)}
+    (queues_all, queues_kept, queues_restarted, queues_moved, queues_unlike, queues_changed, queues_answered, queues_refused, queues_disciplines, queues_foreign,
+     queues_back, queues_steady, queues_fewer)}
