@@ -12,7 +12,7 @@ import time
 from functools import partial
 from typing import Callable, Iterator
 
-from bonds import (COMES_BACK, COMES_UP, DEVICE, FLOWS, End, Programs, ask_gro, cables, check_end, check_order, every, lay_direct, move_all, pair,
+from bonds import (COMES_BACK, COMES_UP, DEVICE, FLOWS, MIDDLE, End, Programs, ask_gro, cables, check_end, check_order, every, lay_direct, move_all, pair,
                    run_flows, several)
 from checking import Skipped, check, within
 from restarting import RESTARTS, hand_over, managed
@@ -360,9 +360,10 @@ SLOW_ROW = ("tbf", "rate", "1gbit", "burst", "100k", "limit", "1m")
 
 
 def move_away() -> None:
-    ip(OURS, "link", "set", "a0", "netns", THEIRS)
+    """A member goes to a namespace where its number is free, and comes back."""
+    ip(OURS, "link", "set", "a0", "netns", MIDDLE)
     time.sleep(1)
-    ip(THEIRS, "link", "set", "a0", "netns", OURS)
+    ip(MIDDLE, "link", "set", "a0", "netns", OURS)
     ip(OURS, "link", "set", "a0", "up")
 
 
