@@ -243,11 +243,12 @@ void follow_address(struct lagd *lagd, struct link *link, const uint8_t *mac) {
     memcpy(link->mac, mac, sizeof link->mac);
 }
 
-/* A queueing discipline of an interface came, changed or went: where each queue has one of the daemon, others may have put another one there.
- * Answers whether the member is still taken up. */
+/* A queueing discipline of an interface came, changed or went: where each queue has one of the daemon, others may have put another one there,
+ * or taken theirs away. Answers whether the member is still taken up. */
 bool follow_queues(struct lagd *lagd, struct link *link) {
     struct member *member = member_of(lagd, link);
-    if (member->socket < 0 || !link->has_fifos || have_order(lagd, link->index)) return true;
+    bool kept = link->has_fifos ? have_order(lagd, link->index) : member->guard.in_order || !may_have_order(lagd, link->index);
+    if (member->socket < 0 || !lagd->settings.all_queues || kept) return true;
     (void)say(lagd, LOG_NOTICE | ABOUT_DATA, "port %u %s: its queues were changed", link->settings.number, link->name);
     return renew_member(lagd, link);
 }

@@ -74,8 +74,10 @@ static bool give_queues(struct lagd *lagd, int index) {
 /* What is seen of the queueing disciplines of an interface. */
 struct disciplines {
     int index;
-    bool in_order;  /* whether all keep the order */
+    unsigned sends;  /* how many queues send now: the kernel tells of those that do not, too */
+    bool in_order;   /* whether all keep the order */
     bool changeable; /* whether the kernel gave by itself each that does not */
+    unsigned queues; /* how many that send have one of their own, below that of the daemon */
 };
 
 static int take_kind(const struct nlattr *attribute, void *into) {
@@ -95,6 +97,7 @@ static void take_one(struct lagd *lagd, const struct nlmsghdr *message, void *in
     read_attributes(message, sizeof *about, take_kind, kind);
     in_order = about->tcm_parent == TC_H_ROOT ? about->tcm_handle == FIFO && strcmp(kind, "mq") == 0 : strcmp(kind, "tbf") == 0;
     in_order = in_order || keeps_order(kind);
+    seen->queues += TC_H_MAJ(about->tcm_parent) == FIFO && TC_H_MIN(about->tcm_parent) <= seen->sends;
     seen->in_order = seen->in_order && in_order;
     seen->changeable = seen->changeable && (in_order || about->tcm_handle == 0);
 }
@@ -102,14 +105,15 @@ static void take_one(struct lagd *lagd, const struct nlmsghdr *message, void *in
 /* Sees the queueing disciplines of an interface. The kernel tells of those of all: what it does not tell in full may be of others. */
 static struct disciplines read_disciplines(struct lagd *lagd, int index) {
     union message question = question_of(RTM_GETQDISC, NLM_F_DUMP, index, 0, 0);
-    struct disciplines seen = {index, true, true};
+    struct disciplines seen = {index, count_entries(index, "tx-"), true, true, 0};
     if (!ask_netlink(lagd, NETLINK_ROUTE, &question, take_one, &seen)) seen.in_order = seen.changeable = false;
     return seen;
 }
 
-/* Whether each queue of an interface that has one row for each keeps the order still, whatever others put there. */
+/* Whether each queue of an interface has a discipline still, and that keeps the order, whatever others put there. A queue without one loses all. */
 bool have_order(struct lagd *lagd, int index) {
-    return read_disciplines(lagd, index).in_order;
+    struct disciplines seen = read_disciplines(lagd, index);
+    return seen.in_order && seen.queues == seen.sends;
 }
 
 /* Whether each queue of an interface keeps the order, or would as soon as give_fifos gave it a discipline. */

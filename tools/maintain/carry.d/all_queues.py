@@ -328,6 +328,7 @@ def queues_foreign(programs: Programs) -> None:
         for queue in range(QUEUES):
             give_classes(f"1:{queue + 1}", str(queue + 10))
 
+    shown = lambda: inside(OURS, "tc", "qdisc", "show", "dev", "a0").stdout
     events: tuple[tuple[str, Callable[[], None]], ...] = (("each queue", replace_all), ("one queue", partial(give_classes, "6c61:2", "10")))
     for way in (), ("--fast",):
         for what, event in events:
@@ -340,7 +341,7 @@ def queues_foreign(programs: Programs) -> None:
                 check(within(COMES_BACK, lambda: ours.links() == 2), f"{name}: two links carry", ours.text())
                 outcome = run_flows(programs, SECONDS, every(0.5, SECONDS - 1, move_all(ours)), rate=RATE // 2)
                 check_order(outcome, name, ours.text(), ours.printed()[-1500:])
-                check("htb 10:" in inside(OURS, "tc", "qdisc", "show", "dev", "a0").stdout, f"{name}: what somebody set stays")
+                check("htb 10:" in shown(), f"{name}: what somebody set stays")
     with given_queues(programs) as (ours, _):
         inside(OURS, "tc", "qdisc", "replace", "dev", "a0", "parent", "6c61:2", "pfifo", "limit", "77")
         time.sleep(FOLLOWS)
@@ -349,7 +350,9 @@ def queues_foreign(programs: Programs) -> None:
         ip(OURS, "link", "set", "a0", "up")
         check(within(COMES_UP, lambda: ours.links() == 2), "the link comes back", ours.text())
         check("gets one queue" not in ours.printed(), "a member with pfifo at one queue keeps all", ours.printed())
-        check("limit 77p" in inside(OURS, "tc", "qdisc", "show", "dev", "a0").stdout, "and the pfifo stays")
+        check("limit 77p" in shown(), "and the pfifo stays", shown())
+        inside(OURS, "tc", "qdisc", "del", "dev", "a0", "parent", "6c61:3")
+        check(within(FOLLOWS, lambda: shown().count("bfifo") == QUEUES - 1), "a queue whose discipline was taken gets one", shown())
 
 
 def set_discipline(*words: str) -> None:
