@@ -178,11 +178,14 @@ void write_settings(struct lagd *lagd, const struct link *link, const struct kep
 void keep_settings(struct lagd *lagd, const struct link *link, struct kept *kept);
 void recall_settings(struct lagd *lagd, const struct link *link, struct kept *kept);
 void forget_settings(struct lagd *lagd, const struct link *link);
+void forget_interface(struct lagd *lagd, const struct link *link);
 
 /* traffic.c: queueing disciplines and classifiers of members */
 enum classifier { NO_CLASSIFIER, CLASSIFIER_ALONE, CLASSIFIER_BEHIND_OTHERS };
 bool keeps_order(const char *discipline);
 bool read_discipline(struct lagd *lagd, int index, char name[static DISCIPLINE_ROOM]);
+bool have_order(struct lagd *lagd, int index);
+bool may_have_order(struct lagd *lagd, int index);
 bool give_fifo(struct lagd *lagd, int index, uint32_t megabits);
 bool give_fifos(struct lagd *lagd, int index, unsigned queues, uint32_t megabits);
 void fit_fifo(struct lagd *lagd, int index, uint32_t megabits);
@@ -198,6 +201,7 @@ struct guard {
     enum classifier classifier; /* what does so where the kernel has no TCX */
     bool in_order;      /* whether the queueing discipline of the interface keeps the order */
     bool fast;          /* whether the kernel may pass on what goes and comes there */
+    bool unusual;       /* whether it may not, as it has another number of queues than those where it may */
     struct kept before; /* what the interface had */
     bool spread;        /* whether it keeps all its queues */
     unsigned queues;    /* by how many of them data goes */
@@ -220,7 +224,9 @@ void stop_spreading(struct lagd *lagd, const struct link *link, struct guard *gu
 void note_channels(const struct link *link, struct guard *guard);
 bool has_usual_queues(struct lagd *lagd, const struct guard *guard);
 bool is_spread_anew(struct lagd *lagd, const struct link *link, const struct guard *guard);
-void gather_back(struct lagd *lagd, const struct link *link);
+void move_former(struct lagd *lagd, struct link *link, const uint8_t *mac);
+void gather_back(struct lagd *lagd, const struct link *link, bool whole);
+bool may_spread(struct lagd *lagd, const struct link *link);
 
 /* queues.c: by which queue of its member a conversation goes, and the markers of each queue */
 struct msghdr;

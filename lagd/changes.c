@@ -106,13 +106,18 @@ static uint32_t losses_since(uint32_t before, uint32_t now) {
     return now >= before ? now - before : now;
 }
 
+/* An interface is not taken up any more, as it could not be used anew. */
+static void lose_member(struct lagd *lagd, struct link *link) {
+    lagd->changes->ask_again = true;
+    lose_link(lagd, link);
+}
+
 /* The queues of an interface are of another kind than it had: an interface that is made has none until it is up. Whether the kernel may
  * pass on what goes there is seen anew. Answers whether the interface is still taken up. */
 static bool follow_discipline(struct lagd *lagd, struct link *link, const struct interface *interface) {
     if (!interface->discipline[0] || strcmp(link->discipline, interface->discipline) == 0) return true;
     if (reopen_member(lagd, link)) return true;
-    lagd->changes->ask_again = true;
-    lose_link(lagd, link);
+    lose_member(lagd, link);
     return false;
 }
 
@@ -121,7 +126,7 @@ static bool follow_discipline(struct lagd *lagd, struct link *link, const struct
 static void follow(struct lagd *lagd, struct link *link, const struct interface *interface) {
     uint16_t port = link->settings.number;
     bool up, carrier = (interface->flags & IFF_UP) && (interface->flags & IFF_RUNNING) && (interface->flags & IFF_LOWER_UP), lost = false;
-    if (interface->has_mac) memcpy(link->mac, interface->mac, sizeof link->mac);
+    if (interface->has_mac) follow_address(lagd, link, interface->mac);
     if (!follow_discipline(lagd, link, interface)) return;
     if (interface->mtu != 0) follow_mtu(lagd, link, interface->mtu);
     if (interface->counts_losses && interface->losses != link->kernel_losses) {
@@ -157,17 +162,25 @@ static void take_present(struct lagd *lagd, const struct interface *interface) {
     }
 }
 
-static void take_absent(struct lagd *lagd, int index) {
-    if (index == tap_index(lagd)) lose_tap(lagd);
-    for (uint16_t i = 0; i < lagd->link_count; i++)
-        if (lagd->links[i].socket >= 0 && lagd->links[i].index == index) lose_link(lagd, &lagd->links[i]);
+static void take_absent(struct lagd *lagd, const struct interface *interface) {
+    if (interface->index == tap_index(lagd)) lose_tap(lagd);
+    for (uint16_t i = 0; i < lagd->link_count; i++) {
+        struct link *link = &lagd->links[i];
+        if (link->index != interface->index) continue;
+        if (link->socket >= 0) lose_link(lagd, link);
+        if (!interface->moved) forget_interface(lagd, link);
+    }
 }
 
 /* Queueing disciplines came or went. Which one an interface has now is asked: of its usual one the kernel does not tell. */
 static void take_discipline(struct lagd *lagd, const struct tcmsg *info) {
     bool ours = info->tcm_ifindex == tap_index(lagd);
-    for (uint16_t i = 0; i < lagd->link_count; i++)
-        ours = ours || (lagd->links[i].socket >= 0 && lagd->links[i].index == info->tcm_ifindex);
+    for (uint16_t i = 0; i < lagd->link_count; i++) {
+        struct link *link = &lagd->links[i];
+        if (link->socket < 0 || link->index != info->tcm_ifindex) continue;
+        link->has_new_queues = true;
+        ours = true;
+    }
     if (ours && info->tcm_parent == TC_H_ROOT && !ask_for(lagd, info->tcm_ifindex, 0)) lagd->changes->ask_again = true;
 }
 
@@ -190,17 +203,16 @@ static void take_message(struct lagd *lagd, const struct nlmsghdr *message) {
     const struct ifinfomsg *info = mnl_nlmsg_get_payload(message);
     const struct tcmsg *discipline = mnl_nlmsg_get_payload(message);
     size_t length = mnl_nlmsg_get_payload_len(message);
+    struct interface interface;
     uint16_t type = message->nlmsg_type;
     bool answers = own->asking && message->nlmsg_seq == own->asked && message->nlmsg_pid == mnl_socket_get_portid(own->route);
     if (answers && (message->nlmsg_flags & NLM_F_DUMP_INTR)) own->interrupted = true;
     if (answers && (type == NLMSG_DONE || type == NLMSG_ERROR)) end_answer(lagd, error_of(message));
     if ((type == RTM_NEWQDISC || type == RTM_DELQDISC) && length >= sizeof *discipline) take_discipline(lagd, discipline);
     if ((type != RTM_NEWLINK && type != RTM_DELLINK) || length < sizeof *info || info->ifi_family != AF_UNSPEC) return;
-    if (type == RTM_NEWLINK) {
-        struct interface interface = read_interface(message);
-        if (interface.name[0]) take_present(lagd, &interface);
-    } else
-        take_absent(lagd, info->ifi_index);
+    interface = read_interface(message);
+    if (type == RTM_NEWLINK && interface.name[0]) take_present(lagd, &interface);
+    if (type == RTM_DELLINK) take_absent(lagd, &interface);
 }
 
 /* Takes the messages of `length` octets, in their order. */
@@ -210,9 +222,25 @@ void take_messages(struct lagd *lagd, const void *messages, size_t length) {
         take_message(lagd, message);
 }
 
-/* Takes what the kernel told. Where it had no room for some, it says so, and all is asked again. Any program of the machine may
- * send to this socket, too: what does not come from the kernel is not looked at. */
-void take_changes(struct lagd *lagd) {
+/* Sees the queues anew whose disciplines changed, once for all that was told at a time. */
+static void follow_all_queues(struct lagd *lagd) {
+    for (uint16_t i = 0; i < lagd->link_count; i++) {
+        struct link *link = &lagd->links[i];
+        bool changed = link->has_new_queues;
+        link->has_new_queues = false;
+        if (changed && !follow_queues(lagd, link)) lose_member(lagd, link);
+    }
+}
+
+/* The kernel had no room for something, or the daemon had none: of queueing disciplines, too. */
+static void miss_changes(struct lagd *lagd) {
+    for (uint16_t i = 0; i < lagd->link_count; i++) lagd->links[i].has_new_queues = true;
+    lagd->changes->ask_again = true;
+}
+
+/* Takes what the kernel told, up to its end. Where it had no room for some, it says so, and all is asked again. Any program of the machine
+ * may send to this socket, too: what does not come from the kernel is not looked at. */
+static void take_all_told(struct lagd *lagd) {
     struct changes_private *own = lagd->changes;
     for (int turn = 0; turn < MOST_TAKEN; turn++) {
         struct sockaddr_nl from = {0};
@@ -221,10 +249,16 @@ void take_changes(struct lagd *lagd) {
         if (got < 0 && errno != ENOBUFS) return;
         if (got >= 0 && from.nl_pid != 0) continue;
         if (got < 0 || got > (ssize_t)sizeof own->room)
-            own->ask_again = true;
+            miss_changes(lagd);
         else
             take_messages(lagd, own->room, (size_t)got);
     }
+}
+
+/* Takes what the kernel told. */
+void take_changes(struct lagd *lagd) {
+    take_all_told(lagd);
+    follow_all_queues(lagd);
 }
 
 /* Asks again for what was missed, or could not be taken up; once a second. */

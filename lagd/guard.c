@@ -153,11 +153,11 @@ void fit_queue(struct lagd *lagd, const struct link *link, const char *interface
 }
 
 /* Why the kernel may not pass on what goes and comes at an interface, or NULL: a marker would overtake the data before it. */
-static const char *fault_of_fast(struct lagd *lagd, const struct link *link, const struct guard *guard) {
+static const char *fault_of_fast(const struct link *link, const struct guard *guard) {
     struct ethtool_channels queues;
     if (link->stacked) return "it stands on another interface, whose queues are not seen";
     if (!guard->spread && queues_of(link->index, &queues) > 1) return "it has several queues";
-    if (guard->spread && !has_usual_queues(lagd, guard)) return "it has another number of queues than the first member";
+    if (guard->unusual) return "it has another number of queues than the first member";
     if (!guard->in_order) return "its queueing discipline is neither noqueue, bfifo nor pfifo";
     if (!guard->spread && !steer(link)) return "RPS cannot be set to one processor";
     return NULL;
@@ -165,7 +165,9 @@ static const char *fault_of_fast(struct lagd *lagd, const struct link *link, con
 
 /* Has the kernel pass on what goes and comes at a member, where it may; a line says why not. */
 static void open_fast(struct lagd *lagd, const struct link *link, struct guard *guard) {
-    const char *fault = fault_of_fast(lagd, link, guard);
+    const char *fault;
+    guard->unusual = guard->spread && !has_usual_queues(lagd, guard);
+    fault = fault_of_fast(link, guard);
     if (!fault) guard->opened = open_fast_receiver(lagd, link);
     guard->fast = guard->opened >= 0;
     if (!fault && !guard->fast) fault = strerror(errno);
@@ -192,14 +194,25 @@ static unsigned joins_allowed(struct lagd *lagd, const struct link *link, const 
     return guard->spread && guard->fast && keeps_briefly(lagd, link->index) ? JOINED_BY_KERNEL : 0;
 }
 
-/* Lets a member keep all its queues, where it can, or gives it one. How many others give it meanwhile, it is to have behind the daemon. */
+/* A member that has one queue, as this daemon or an earlier one gave it, gets back what it had, where it may keep that. How many others give it
+ * meanwhile, it is to have behind the daemon. */
+static void regain_queues(struct lagd *lagd, const struct link *link, struct ethtool_channels *before) {
+    struct ethtool_channels now;
+    if (queues_of(link->index, &now) > 1)
+        *before = now;
+    else if (may_spread(lagd, link))
+        (void)part_queues(link->index, before);
+}
+
+/* Lets a member keep all its queues, where it can, or gives it one. */
 static void set_queues(struct lagd *lagd, struct link *link, struct guard *guard) {
     struct ethtool_channels *before = &guard->before.queues;
+    if (lagd->settings.all_queues) regain_queues(lagd, link, before);
     look_at_discipline(lagd, link, guard);
     if (lagd->settings.all_queues) {
         if (is_unqueued(link)) return; /* it is looked at again then */
         spread(lagd, link, guard);
-        if (guard->spread || queues_of(link->index, before) <= 1) *before = (struct ethtool_channels){0};
+        if (guard->spread && has_channels(link->index, before)) *before = (struct ethtool_channels){0};
         write_settings(lagd, link, &guard->before);
     }
     if (!guard->spread) join_queues(link->index);
@@ -209,7 +222,7 @@ static void set_queues(struct lagd *lagd, struct link *link, struct guard *guard
 static void run_programs(struct lagd *lagd, const struct link *link, struct guard *guard) {
     guard->opened = -1;
     guard->classifier = NO_CLASSIFIER;
-    guard->fast = false;
+    guard->fast = guard->unusual = false;
     if (is_fast(lagd)) open_fast(lagd, link, guard);
     if (guard->opened < 0) keep_from_stack(lagd, link, guard);
     if (guard->before.joins != 0) set_joins(link->index, guard->before.joins & joins_allowed(lagd, link, guard));
@@ -243,7 +256,6 @@ void open_guard(struct lagd *lagd, struct link *link, struct guard *guard) {
     guard->chooser = -1;
     look_before(lagd, link, &guard->before);
     keep_settings(lagd, link, &guard->before);
-    if (lagd->settings.all_queues) (void)part_queues(link->index, &guard->before.queues); /* an earlier daemon may have given it one */
     set_queues(lagd, link, guard);
     run_programs(lagd, link, guard);
     note_channels(link, guard);
@@ -267,17 +279,16 @@ static bool steer_back(int index, const char *mask) {
 /* The interface is no member any more. What cannot be set back stays kept, as without CAP_NET_ADMIN. */
 void close_guard(struct lagd *lagd, const struct link *link, struct guard *guard) {
     struct kept *before = &guard->before;
-    char name[IF_NAMESIZE];
-    bool done = true;
+    bool done;
     stop_programs(lagd, link, guard);
     stop_spreading(lagd, link, guard);
-    gather_back(lagd, link);
+    done = part_queues(link->index, &before->queues);
+    gather_back(lagd, link, done);
     if (before->joins != 0) set_joins(link->index, before->joins);
-    if (before->joins != 0) done = (before->joins & ~read_joins(link->index).wanted) == 0;
-    done = part_queues(link->index, &before->queues) && done;
+    if (before->joins != 0) done = (before->joins & ~read_joins(link->index).wanted) == 0 && done;
     take_fifo(lagd, link->index); /* with all its queues the kernel gives each of them what it chooses */
     if (before->steered[0]) done = steer_back(link->index, before->steered) && done;
-    if (done || !if_indextoname((unsigned)link->index, name)) forget_settings(lagd, link);
+    if (done) forget_settings(lagd, link);
 }
 
 /* An interface was a member of the last daemon, and is none of this one: it gets what it had, unless somebody else has it by now. */

@@ -34,6 +34,7 @@ static int take_attribute(const struct nlattr *attribute, void *into) {
     case IFLA_CARRIER: interface->carrier = copy_value(attribute, &carrier, sizeof carrier) && carrier != 0; break;
     case IFLA_LINK: (void)copy_value(attribute, &interface->below, sizeof interface->below); break;
     case IFLA_LINK_NETNSID: interface->elsewhere = value_of(attribute, sizeof(int)) != NULL; break;
+    case IFLA_NEW_NETNSID: interface->moved = true; break;
     case IFLA_MASTER: (void)copy_value(attribute, &interface->master, sizeof interface->master); break;
     case IFLA_LINKINFO: (void)mnl_attr_parse_nested(attribute, take_kind, interface); break;
     case IFLA_PROP_LIST: interface->others = attribute; break;

@@ -111,7 +111,14 @@ void recall_settings(struct lagd *lagd, const struct link *link, struct kept *ke
     if (!recall(lagd, link, kept)) *kept = (struct kept){0};
 }
 
-/* The interface has what it had before, or is gone. */
+/* The interface has what it had before. */
 void forget_settings(struct lagd *lagd, const struct link *link) {
     drop_kept(lagd, link, "member");
+}
+
+/* The interface is gone for good. One that went to another namespace may come back, and is what it was made then. */
+void forget_interface(struct lagd *lagd, const struct link *link) {
+    if (!carries_data(lagd)) return;
+    forget_settings(lagd, link);
+    drop_kept(lagd, link, "queues");
 }

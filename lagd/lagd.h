@@ -93,6 +93,7 @@ struct link {
     char carrier_changes[24]; /* how often that came and went, as the kernel has it */
     char discipline[DISCIPLINE_ROOM]; /* its queueing discipline, as the kernel last told */
     bool has_fifos;      /* whether each of its queues has a discipline of the daemon, in which an LACPDU would wait behind data */
+    bool has_new_queues; /* whether a discipline of it changed that has not been seen yet */
     bool stacked;        /* whether what it sends goes by another interface of this machine */
     uint8_t mac[6];
     bool present; /* whether the answer of the kernel that is being read named it */
@@ -396,6 +397,8 @@ void fit_queue(struct lagd *lagd, const struct link *link, const char *interface
 bool open_member(struct lagd *lagd, struct link *link);
 void close_member(struct lagd *lagd, struct link *link);
 bool reopen_member(struct lagd *lagd, struct link *link);
+bool follow_queues(struct lagd *lagd, struct link *link);
+void follow_address(struct lagd *lagd, struct link *link, const uint8_t *mac);
 void take_marker(struct lagd *lagd, struct link *link, const uint8_t *frame);
 void follow_mtu(struct lagd *lagd, struct link *link, uint32_t mtu);
 void follow_speed(struct lagd *lagd, const struct link *link, const char *interface);

@@ -232,15 +232,39 @@ bool reopen_member(struct lagd *lagd, struct link *link) {
     return set_bypass(member->socket, member->guard.in_order);
 }
 
-/* Looks at the queues of all members, each second: one whose queues others changed is taken up anew. */
+/* An interface has this MAC address now: what it had before it was a member stays known by that, also where this daemon is killed. */
+void follow_address(struct lagd *lagd, struct link *link, const uint8_t *mac) {
+    struct member *member = member_of(lagd, link);
+    if (memcmp(link->mac, mac, sizeof link->mac) == 0) return;
+    if (carries_data(lagd) && member->socket >= 0) {
+        move_former(lagd, link, mac);
+        write_settings(lagd, link, &member->guard.before);
+    }
+    memcpy(link->mac, mac, sizeof link->mac);
+}
+
+/* A queueing discipline of an interface came, changed or went: where each queue has one of the daemon, others may have put another one there,
+ * or taken theirs away. Answers whether the member is still taken up. */
+bool follow_queues(struct lagd *lagd, struct link *link) {
+    struct member *member = member_of(lagd, link);
+    bool kept = link->has_fifos ? have_order(lagd, link->index) : member->guard.in_order || !may_have_order(lagd, link->index);
+    if (member->socket < 0 || !lagd->settings.all_queues || kept) return true;
+    (void)say(lagd, LOG_NOTICE | ABOUT_DATA, "port %u %s: its queues were changed", link->settings.number, link->name);
+    return renew_member(lagd, link);
+}
+
+/* Looks at the queues of all members, each second: one whose queues others changed is taken up anew, and one that has the number of queues of
+ * the others by now. */
 void watch_queues(struct lagd *lagd) {
     struct members_private *own = lagd->members;
     if (!lagd->settings.all_queues || ticks_passed(lagd) % SECOND != 0) return;
     for (uint16_t i = 0; i < lagd->link_count; i++) {
         struct link *link = &lagd->links[i];
-        if (own->members[i].socket < 0 || !is_spread_anew(lagd, link, &own->members[i].guard)) continue;
-        (void)say(lagd, LOG_NOTICE | ABOUT_DATA, "port %u %s: its queues were changed", link->settings.number, link->name);
-        if (renew_member(lagd, link)) continue;
+        const struct guard *guard = &own->members[i].guard;
+        bool anew = own->members[i].socket >= 0 && is_spread_anew(lagd, link, guard);
+        if (anew) (void)say(lagd, LOG_NOTICE | ABOUT_DATA, "port %u %s: its queues were changed", link->settings.number, link->name);
+        anew = anew || (own->members[i].socket >= 0 && guard->unusual && has_usual_queues(lagd, guard));
+        if (!anew || renew_member(lagd, link)) continue;
         look_again(lagd);
         lose_link(lagd, link);
     }

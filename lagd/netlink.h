@@ -39,6 +39,7 @@ struct interface {
     uint32_t mtu; /* 0: not told */
     bool carrier;
     int below;      /* the interface by which it sends, or 0 */
+    bool moved;     /* whether it goes to another namespace */
     bool elsewhere; /* whether that one is of another namespace */
     int master;     /* that of which it is a port, or 0 */
     char kind[16];  /* of those that are made by the kernel; else empty */

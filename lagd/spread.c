@@ -23,7 +23,7 @@ enum setting { TAKEN_BY, SENT_FOR, SENT_BEHIND, SETTINGS };
 /* What this file keeps for a daemon. */
 struct spread_private {
     int program;
-    unsigned usual; /* by how many queues the kernel passes data on, or 0: not known yet */
+    unsigned usual; /* by how many queues the kernel passes data on, while it does so of any member */
     char wanted_of_mask[16]; /* of wanted_of */
     char do_all_now[PROCESSORS_ROOM]; /* of do_all */
     char is_known_mask[PROCESSORS_ROOM]; /* of is_known */
@@ -109,6 +109,22 @@ static FILE *open_former(struct lagd *lagd, const struct link *link) {
     return NULL;
 }
 
+/* An interface has another MAC address from now on: what its queues had stays known by that one. */
+void move_former(struct lagd *lagd, struct link *link, const uint8_t *mac) {
+    struct spread_private *own = lagd->spread;
+    char name[NAME_OCTETS], text[32];
+    FILE *file = open_former(lagd, link), *next = file ? open_kept(lagd, link, "queues.new", O_WRONLY | O_CREAT | O_TRUNC, "w") : NULL;
+    bool done;
+    memcpy(link->mac, mac, sizeof link->mac);
+    if (next) {
+        fprintf(next, HEAD, boot_id(lagd), mac_text(mac, text));
+        while (fscanf(file, READ_LINE, name, own->is_known_mask) == 2) fprintf(next, "%s %s\n", name, own->is_known_mask);
+        done = !ferror(next);
+        if (fclose(next) == 0 && done) (void)replace_kept(lagd, link, "queues.new", "queues");
+    }
+    if (file) fclose(file);
+}
+
 /* Whether it is known what a setting was before an earlier daemon changed it; with `next`, all that is known is written there. */
 static bool is_known(struct lagd *lagd, const struct link *link, const char *wanted, FILE *next) {
     struct spread_private *own = lagd->spread;
@@ -159,13 +175,31 @@ static unsigned channels_of(int index) {
 }
 
 /* Why a member may not keep all its queues, or NULL. */
-static const char *fault_of_spreading(struct lagd *lagd, const struct link *link, const struct guard *guard) {
+static const char *fault_of_spreading(struct lagd *lagd, const struct link *link, const struct guard *guard, unsigned count) {
     if (link->stacked) return "it stands on another interface, whose queues are not seen";
-    if (count_entries(link->index, "tx-") == 0) return "/sys does not show its queues";
+    if (count == 0) return "/sys does not show its queues";
     if (!guard->in_order) return "its queueing discipline is neither noqueue, bfifo nor pfifo";
     if (!keep_all(lagd, link)) return "what its queues have cannot be kept";
     if (!do_all(lagd, link, set_one, NULL)) return "RPS or XPS of its queues cannot be set";
     return NULL;
+}
+
+/* Whether the settings of the queues may be written, as far as the first one tells. */
+static bool may_set(int index) {
+    char path[128];
+    int opened = path_of_queue(index, "tx-0/xps_cpus", path, sizeof path) ? open(path, O_WRONLY | O_CLOEXEC) : -1;
+    if (opened >= 0) close(opened);
+    return opened >= 0;
+}
+
+/* Whether a member may keep all its queues once it has them, as far as that is seen before: giving them may take its link down. Where it is
+ * known that settings of them are to be changed, these must be changeable. */
+bool may_spread(struct lagd *lagd, const struct link *link) {
+    char name[NAME_OCTETS];
+    FILE *file = open_former(lagd, link);
+    bool changes = file && fscanf(file, "%31s", name) == 1;
+    if (file) fclose(file);
+    return !link->stacked && may_have_order(lagd, link->index) && (!changes || may_set(link->index));
 }
 
 /* Has a program choose the queue of each frame that the daemon sends at a member; answers whether it does. */
@@ -176,8 +210,8 @@ static bool choose_queues(struct lagd *lagd, const struct link *link, struct gua
 
 /* Lets a member keep all its queues, where it can. */
 void spread(struct lagd *lagd, const struct link *link, struct guard *guard) {
-    const char *fault = fault_of_spreading(lagd, link, guard);
     unsigned count = count_entries(link->index, "tx-");
+    const char *fault = fault_of_spreading(lagd, link, guard, count);
     guard->queues = fault ? 1 : count < MOST_QUEUES ? count : MOST_QUEUES;
     if (!fault && !choose_queues(lagd, link, guard)) fault = strerror(errno);
     guard->spread = !fault;
@@ -206,37 +240,45 @@ bool is_spread_anew(struct lagd *lagd, const struct link *link, const struct gua
     unsigned channels = channels_of(link->index);
     if (channels == 0) return false;
     if (channels != guard->channels) return true;
-    if (guard->chooser < 0) return false;
-    for (enum setting setting = SENT_FOR; setting < SETTINGS; setting++) {
-        name_setting(setting, (unsigned)seconds_passed(lagd) % (channels >> 16), name);
+    for (enum setting setting = 0; guard->spread && setting < SETTINGS; setting++) {
+        unsigned queue = (unsigned)seconds_passed(lagd) % (setting == TAKEN_BY ? channels & 0xffff : channels >> 16);
+        name_setting(setting, queue, name);
         if (path_of_queue(link->index, name, path, sizeof path)
-            && read_processors(path, own->is_spread_anew_now, sizeof own->is_spread_anew_now) && !is_none(own->is_spread_anew_now))
+            && read_processors(path, own->is_spread_anew_now, sizeof own->is_spread_anew_now)
+            && wanted_of(lagd, link, setting, queue, own->is_spread_anew_now))
             return true;
     }
     return false;
 }
 
+static bool has_any_fast(struct lagd *lagd) {
+    for (uint16_t port = 1; port <= lagd->link_count; port++)
+        if (has_fast_member(lagd, port)) return true;
+    return false;
+}
+
 /* Whether the kernel may choose the queue of a member as that of others: it keeps the queue of a connection, also where that goes on by another
- * member. */
+ * member. How many these have, the first one tells of which it passes data on. */
 bool has_usual_queues(struct lagd *lagd, const struct guard *guard) {
     struct spread_private *own = lagd->spread;
-    if (own->usual == 0) own->usual = guard->queues;
+    if (!has_any_fast(lagd)) own->usual = guard->queues;
     return guard->queues == own->usual;
 }
 
-/* The queues of an interface get back what they had before. What cannot be set back stays kept. */
-void gather_back(struct lagd *lagd, const struct link *link) {
+/* The queues of an interface get back what they had before. What cannot be set back stays kept: all of it, where not all are back (`whole`). */
+void gather_back(struct lagd *lagd, const struct link *link, bool whole) {
     struct spread_private *own = lagd->spread;
     char name[NAME_OCTETS], path[128], interface[IF_NAMESIZE];
-    bool done = true;
+    bool done = whole && if_indextoname((unsigned)link->index, interface);
     FILE *file = open_former(lagd, link);
-    while (file && fscanf(file, READ_LINE, name, own->gather_back_mask) == 2) {
+    if (!file) return;
+    while (fscanf(file, READ_LINE, name, own->gather_back_mask) == 2) {
         if (!is_setting(name) || !path_of_queue(link->index, name, path, sizeof path)) continue;
         if (write_processors(path, own->gather_back_mask)) continue;
         if (read_processors(path, own->gather_back_now, sizeof own->gather_back_now)
             && strcmp(own->gather_back_now, own->gather_back_mask) != 0)
             done = false;
     }
-    if (file) fclose(file);
-    if (done || !if_indextoname((unsigned)link->index, interface)) drop_kept(lagd, link, "queues");
+    fclose(file);
+    if (done) drop_kept(lagd, link, "queues");
 }

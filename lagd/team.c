@@ -150,9 +150,9 @@ void open_team(struct lagd *lagd, const char *name, const uint8_t *mac) {
         take_device(lagd, &device, mac);
     } else {
         need(make_team_device(lagd, name, mac, least_mtu(lagd)) && ask_interface(lagd, 0, name, &device), name);
+        lock_device(lagd, device.index); /* another one may have taken it at once */
         own->made = true;
         use_team_device(lagd, device.index);
-        lock_device(lagd, device.index);
     }
     need(read_team(lagd, tap_index(lagd), &now), "team");
     set_options(lagd, now.mode);

@@ -71,17 +71,66 @@ static bool give_queues(struct lagd *lagd, int index) {
     return order(lagd, &question);
 }
 
+/* What is seen of the queueing disciplines of an interface. */
+struct disciplines {
+    int index;
+    unsigned sends;  /* how many queues send now: the kernel tells of those that do not, too */
+    bool in_order;   /* whether all keep the order */
+    bool changeable; /* whether the kernel gave by itself each that does not */
+    unsigned queues; /* how many that send have one of their own, below that of the daemon */
+};
+
+static int take_kind(const struct nlattr *attribute, void *into) {
+    if (mnl_attr_get_type(attribute) == TCA_KIND) copy_text(attribute, into, DISCIPLINE_ROOM);
+    return MNL_CB_OK;
+}
+
+/* Sees one of them: the root, one of a queue, or one below that. A tbf has one row. */
+static void take_one(struct lagd *lagd, const struct nlmsghdr *message, void *into) {
+    struct disciplines *seen = into;
+    const struct tcmsg *about = mnl_nlmsg_get_payload(message);
+    char kind[DISCIPLINE_ROOM] = "";
+    bool in_order;
+    (void)lagd;
+    if (message->nlmsg_type != RTM_NEWQDISC || mnl_nlmsg_get_payload_len(message) < sizeof *about) return;
+    if (about->tcm_ifindex != seen->index || about->tcm_parent == TC_H_CLSACT) return;
+    read_attributes(message, sizeof *about, take_kind, kind);
+    in_order = about->tcm_parent == TC_H_ROOT ? about->tcm_handle == FIFO && strcmp(kind, "mq") == 0 : strcmp(kind, "tbf") == 0;
+    in_order = in_order || keeps_order(kind);
+    seen->queues += TC_H_MAJ(about->tcm_parent) == FIFO && TC_H_MIN(about->tcm_parent) <= seen->sends;
+    seen->in_order = seen->in_order && in_order;
+    seen->changeable = seen->changeable && (in_order || about->tcm_handle == 0);
+}
+
+/* Sees the queueing disciplines of an interface. The kernel tells of those of all: what it does not tell in full may be of others. */
+static struct disciplines read_disciplines(struct lagd *lagd, int index) {
+    union message question = question_of(RTM_GETQDISC, NLM_F_DUMP, index, 0, 0);
+    struct disciplines seen = {index, count_entries(index, "tx-"), true, true, 0};
+    if (!ask_netlink(lagd, NETLINK_ROUTE, &question, take_one, &seen)) seen.in_order = seen.changeable = false;
+    return seen;
+}
+
+/* Whether each queue of an interface has a discipline still, and that keeps the order, whatever others put there. A queue without one loses all. */
+bool have_order(struct lagd *lagd, int index) {
+    struct disciplines seen = read_disciplines(lagd, index);
+    return seen.in_order && seen.queues == seen.sends;
+}
+
+/* Whether each queue of an interface keeps the order, or would as soon as give_fifos gave it a discipline. */
+bool may_have_order(struct lagd *lagd, int index) {
+    return read_disciplines(lagd, index).changeable;
+}
+
 /* As give_fifo, for each queue of an interface: so the order of one stays, and none waits for another one. The last daemon may have left one
- * for all. */
+ * for all. What an administrator gave a queue stays; answers whether all keep the order. */
 bool give_fifos(struct lagd *lagd, int index, unsigned queues, uint32_t megabits) {
     bool given;
     if (queues <= 1) return give_fifo(lagd, index, megabits);
     given = give_queues(lagd, index);
     if (!given) take_fifo(lagd, index);
     if (!given && !give_queues(lagd, index)) return false;
-    for (unsigned queue = 0; queue < queues; queue++)
-        if (!set_fifo(lagd, index, megabits, NLM_F_CREATE | NLM_F_REPLACE, FIFO | (queue + 1), 0)) return false;
-    return true;
+    fit_fifos(lagd, index, queues, megabits);
+    return have_order(lagd, index);
 }
 
 /* The link has this speed now: the queue of an interface gets its length, if it is one of the daemon. */
@@ -89,11 +138,11 @@ void fit_fifo(struct lagd *lagd, int index, uint32_t megabits) {
     (void)set_fifo(lagd, index, megabits, 0, TC_H_ROOT, FIFO);
 }
 
-/* The same, for each queue. */
+/* The same, for each queue. Where an administrator set another one, the kernel refuses. */
 void fit_fifos(struct lagd *lagd, int index, unsigned queues, uint32_t megabits) {
     if (queues <= 1) fit_fifo(lagd, index, megabits);
     for (unsigned queue = 0; queues > 1 && queue < queues; queue++)
-        (void)set_fifo(lagd, index, megabits, NLM_F_CREATE | NLM_F_REPLACE, FIFO | (queue + 1), 0);
+        (void)set_fifo(lagd, index, megabits, NLM_F_CREATE, FIFO | (queue + 1), 0);
 }
 
 /* The kernel gives an interface what it chooses by itself, if its queue is one of the daemon. */

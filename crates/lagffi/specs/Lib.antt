@@ -5,6 +5,7 @@ pub mod Carrying
 pub mod Codec
 pub mod Frames
 pub mod Holding
+pub mod Lending
 pub mod Lists
 pub mod Made
 pub mod Masks

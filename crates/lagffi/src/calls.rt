@@ -89,7 +89,7 @@ pub extern "C" fn lagffi_receive(
         return LagReceived::refused(NO_SYSTEM);
     };
     let answer = system.receive(port, frame);
-    let notes = &mut block.stored.answering;
+    let notes = &mut block.kept_mut().answering;
     notes.after_receive(&system, port, frame, &answer);
     lag.put(system, block);
     write_reply(&answer, response);
@@ -160,7 +160,7 @@ pub extern "C" fn lagffi_set_link(alloc: Global, lag: &mut Lag, port: u16, up: b
         return NO_SYSTEM;
     };
     let answer = system.set_link(port, up);
-    let notes = &mut block.stored.answering;
+    let notes = &mut block.kept_mut().answering;
     notes.after_set_link(&system, port, up, &answer);
     lag.put(system, block);
     status(&answer)
@@ -201,7 +201,7 @@ pub extern "C" fn lagffi_restart(alloc: Global, lag: &mut Lag) -> u32
         return NO_SYSTEM;
     };
     system.restart();
-    block.stored.answering = Answering::nobody_asked();
+    block.kept_mut().answering = Answering::nobody_asked();
     lag.put(system, block);
     OK
 }
@@ -233,7 +233,7 @@ pub extern "C" fn lagffi_transmit(
         return LagSent::refused(NO_SYSTEM);
     };
     let answer = system.transmit(port);
-    let notes = &mut block.stored.answering;
+    let notes = &mut block.kept_mut().answering;
     notes.after_transmit(&system, port, &answer);
     lag.put(system, block);
     write_due(&answer, frame);
@@ -288,7 +288,7 @@ pub extern "C" fn lagffi_offer(alloc: Global, lag: &mut Lag, agg: u16, frame: &[
     let Some((kept, block)) = lag.take(alloc, ()) else {
         return LagNumber::refused(NO_SYSTEM);
     };
-    let (answer, system) = offer_with(kept, block.stored.algorithm, AggId(agg), frame);
+    let (answer, system) = offer_with(kept, block.kept().algorithm, AggId(agg), frame);
     lag.put(system, block);
     LagNumber::of(&answer)
 }

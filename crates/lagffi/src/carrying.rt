@@ -103,7 +103,7 @@ pub extern "C" fn lagffi_offer_in_active_aggregator(
     };
     let (answer, system) = offer_in_active_aggregator_with(
         kept,
-        block.stored.algorithm,
+        block.kept().algorithm,
         agg,
         frame,
     );
@@ -162,7 +162,7 @@ pub extern "C" fn lagffi_offer_conversation_in_active_aggregator(
     };
     let (answer, system) = offer_conversation_in_active_aggregator_with(
         kept,
-        block.stored.algorithm,
+        block.kept().algorithm,
         agg,
         conv,
     );

@@ -77,7 +77,7 @@ pub extern "C" fn lagffi_offer_conversation(
     let Some((kept, block)) = lag.take(alloc, ()) else {
         return LagNumber::refused(NO_SYSTEM);
     };
-    let (answer, system) = offer_conversation_with(kept, block.stored.algorithm, agg, conv);
+    let (answer, system) = offer_conversation_with(kept, block.kept().algorithm, agg, conv);
     lag.put(system, block);
     LagNumber::of(&answer)
 }

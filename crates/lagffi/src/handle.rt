@@ -6,10 +6,11 @@ mod parts;
 mod queue;
 
 use crate::stored::Stored;
+pub(crate) use held::Block;
 use held::Held;
 use lagsystem::System;
 pub use queue::LagQueue;
-use std::alloc::{Allocator, Global};
+use std::alloc::Global;
 use std::mem::replace;
 
 /// The handle of a program in C: it holds a system, or none. It may not be dropped, so that no block is lost with it.
@@ -19,37 +20,6 @@ pub struct Lag {
     pub(crate) held: Held,
     ghost tells: { live ≡ is_some held.kept },
     ghost full: { is_some (held_value held.kept) ≡ is_some held.kept },
-}
-
-/// The block of a handle, while what it keeps is taken out: of a system, the number of its distribution algorithm and whether the peers of
-/// its ports answer markers stay in it. It may not be dropped, so that it is freed or put back.
-pub(crate) struct Block {
-    pub(crate) stored: Box<Stored, Global>,
-}
-
-impl Block {
-    /// A block that keeps this, if memory is not refused.
-    pub(crate) fn new(alloc: Global, stored: Stored) -> Option<Block>
-        ensures { IfSome result (λ block. block.stored.value ≡ stored) }
-    {
-        match Box::new(alloc, stored) {
-            Ok(stored) => Some(Block { stored }),
-            Err(_) => None,
-        }
-    }
-
-    /// Frees the block, and what it keeps.
-    pub(crate) fn free(self) {
-        let Block { stored } = self;
-        drop(emptied(stored));
-    }
-}
-
-/// Frees a box, and hands out its value. A `T` need not be `Drop`, so a body can't let go of the box instead.
-fn emptied<T, A: Allocator>(block: Box<T, A>) -> T
-    ensures { result ≡ block.value }
-{
-    Box::into_inner(block)
 }
 
 impl Lag {
@@ -62,7 +32,7 @@ impl Lag {
         &mut self,
         alloc: Global,
         algorithm: F,
-    ) -> Option<(System<F>, Block)>
+    ) -> Option<(System<F>, Block<Stored>)>
         ensures taken { MatchOption result (held_value self.old.held.kept ≡ None) (λ taken. held_value self.old.held.kept
             ≡ Some (record { state = taken.0.state; algorithm = taken.1.stored.value.algorithm; answering = taken.1.stored.value.answering })) }
         ensures algorithm { IfSome result (λ taken. taken.0.algorithm ≡ algorithm) }
@@ -76,24 +46,25 @@ impl Lag {
         if !live {
             return None;
         }
-        let mut stored = held.into_box();
+        let mut block = held.into_block();
+        let stored = block.kept_mut();
         match stored.system.take() {
-            Some(system) => Some((system.with_algorithm(algorithm), Block { stored })),
+            Some(system) => Some((system.with_algorithm(algorithm), block)),
             None => unreachable!(),
         }
     }
 
     /// Puts a system into the empty handle, with a block for it.
-    pub(crate) fn put<F: Drop>(&mut self, system: System<F>, block: Block)
+    pub(crate) fn put<F: Drop>(&mut self, system: System<F>, mut block: Block<Stored>)
         requires { self.old.held.kept ≡ None }
         ensures { held_value self.new.held.kept
             ≡ Some (record { state = system.state; algorithm = block.stored.value.algorithm; answering = block.stored.value.answering }) }
     {
-        let Block { mut stored } = block;
+        let stored = block.kept_mut();
         stored.system = Some(system.with_algorithm(()));
         let full = Lag {
             live: true,
-            held: Held::of_box(stored),
+            held: Held::of_block(block),
         };
         let Lag {
             live: _,

@@ -242,7 +242,7 @@ pub extern "C" fn lagffi_new(
     if config.algorithm > LAST_ALGORITHM {
         return LagMade::no_algorithm();
     }
-    let Some(room) = Block::new(alloc, Stored::under(config.algorithm)) else {
+    let Ok(room) = Block::new(alloc, Stored::under(config.algorithm)) else {
         return LagMade::refused(&SystemFault::NoMemory);
     };
     match system_of(alloc, config, keys, ports) {
@@ -251,7 +251,7 @@ pub extern "C" fn lagffi_new(
             LagMade::with_status(OK)
         }
         Err(fault) => {
-            room.free();
+            drop(room.free());
             LagMade::refused(&fault)
         }
     }
@@ -268,7 +268,7 @@ pub extern "C" fn lagffi_free(alloc: Global, lag: &mut Lag) -> u32
 {
     match lag.take(alloc, ()) {
         Some((_, block)) => {
-            block.free();
+            drop(block.free());
             OK
         }
         None => NO_SYSTEM,

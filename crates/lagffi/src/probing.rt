@@ -36,7 +36,7 @@ pub extern "C" fn lagffi_probe(alloc: Global, lag: &mut Lag, port: u16, frame: &
         return LagSent::refused(NO_SYSTEM);
     };
     let answer = system.probe(port);
-    let notes = &mut block.stored.answering;
+    let notes = &mut block.kept_mut().answering;
     notes.after_transmit(&system, port, &answer);
     lag.put(system, block);
     write_due(&answer, frame);

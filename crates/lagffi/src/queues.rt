@@ -38,7 +38,7 @@ pub extern "C" fn lagffi_queue_new(
         lag.put(queue, block);
         return HOLDS_QUEUE_ALREADY;
     }
-    let Some(block) = Block::new(alloc, Stored::under(0)) else {
+    let Ok(block) = Block::new(alloc, Stored::under(0)) else {
         return NO_MEMORY;
     };
     match Holding::new(alloc, conversations, in_all, each) {
@@ -47,7 +47,7 @@ pub extern "C" fn lagffi_queue_new(
             OK
         }
         Err(_) => {
-            block.free();
+            drop(block.free());
             NO_MEMORY
         }
     }
@@ -62,7 +62,7 @@ pub extern "C" fn lagffi_queue_free(alloc: Global, lag: &mut LagQueue) -> u32
 {
     match lag.take(alloc) {
         Some((_, block)) => {
-            block.free();
+            drop(block.free());
             OK
         }
         None => NO_QUEUE,

@@ -237,7 +237,7 @@ pub extern "C" fn lagffi_answers(alloc: Global, lag: &mut Lag, port: u16) -> Lag
         (λ s notes. result ≡ number_or_refused 1 (option_map answers_number (note_of port s.system_ports notes)))
         (result ≡ number_refused no_system) }
 {
-    ask!(alloc, lag, LagNumber, system, block => LagNumber::note_or_no_port(block.stored.answering.of(&system, port)))
+    ask!(alloc, lag, LagNumber, system, block => LagNumber::note_or_no_port(block.kept().answering.of(&system, port)))
 }
 
 /// How many conversations are held on a port, wanted or flushing there; niw_load counts those that are on it, too.

@@ -93,7 +93,7 @@ pub extern "C" fn lagffi_resume(
     if config.algorithm > LAST_ALGORITHM {
         return LagMade::no_algorithm();
     }
-    let Some(room) = Block::new(alloc, Stored::under(config.algorithm)) else {
+    let Ok(room) = Block::new(alloc, Stored::under(config.algorithm)) else {
         return LagMade::refused(&SystemFault::NoMemory);
     };
     match resumed(alloc, config, keys, ports, saved) {
@@ -102,7 +102,7 @@ pub extern "C" fn lagffi_resume(
             LagMade::with_status(OK)
         }
         Err(refused) => {
-            room.free();
+            drop(room.free());
             refused
         }
     }

@@ -12,7 +12,7 @@ import time
 from functools import partial
 from typing import Callable, Iterator
 
-from bonds import (COMES_BACK, COMES_UP, DEVICE, FLOWS, End, Programs, ask_gro, cables, check_end, check_order, every, lay_direct, move_all, pair,
+from bonds import (COMES_BACK, COMES_UP, DEVICE, FLOWS, MIDDLE, End, Programs, ask_gro, cables, check_end, check_order, every, lay_direct, move_all, pair,
                    run_flows, several)
 from checking import Skipped, check, within
 from restarting import RESTARTS, hand_over, managed
@@ -184,8 +184,8 @@ def queues_unlike(programs: Programs) -> None:
                 theirs.stop()
 
 
-def channels(count: int) -> None:
-    inside(OURS, "ethtool", "-L", "a0", "rx", str(count), "tx", str(count))
+def channels(count: int, name: str = "a0") -> None:
+    inside(OURS, "ethtool", "-L", name, "rx", str(count), "tx", str(count))
 
 
 def queues_changed(programs: Programs) -> None:
@@ -294,5 +294,149 @@ def queues_disciplines(programs: Programs) -> None:
             ours.stop()
 
 
+@contextlib.contextmanager
+def given_queues(programs: Programs, way: tuple[str, ...] = ()) -> Iterator[tuple[End, End]]:
+    """Two ends, of which one has at a0 an mq with the handle of the daemon: a veth gets none by itself."""
+    with cables(programs, (), QUEUES):
+        if inside(OURS, "tc", "qdisc", "add", "dev", "a0", "root", "handle", "6c61:", "mq").returncode:
+            raise Skipped("tc gives no queue a discipline of its own")
+        ours, theirs = (End(programs, space, options=[*way, *ALL]) for space in (OURS, THEIRS))
+        try:
+            ready = lambda: all(end.links() == 2 and end.carry()["markers"] == "answered" for end in (ours, theirs))
+            check(within(COMES_UP, ready), "two links carry", ours.text(), ours.printed())
+            yield ours, theirs
+        finally:
+            ours.stop()
+            theirs.stop()
+
+
+def give_classes(parent: str, handle: str) -> None:
+    """A queue gets an htb, in which data is slow and a marker is not: so it keeps no order."""
+    row = ("parent", f"{handle}:", "protocol", "0x8809", "prio", "1", "u32", "match", "u32", "0", "0", "flowid", f"{handle}:2")
+    for words in (("qdisc", "replace", "dev", "a0", "parent", parent, "handle", f"{handle}:", "htb", "default", "1"),
+                  ("class", "add", "dev", "a0", "parent", f"{handle}:", "classid", f"{handle}:1", "htb", "rate", "1mbit"),
+                  ("class", "add", "dev", "a0", "parent", f"{handle}:", "classid", f"{handle}:2", "htb", "rate", "100mbit"),
+                  ("filter", "add", "dev", "a0", *row)):
+        inside(OURS, "tc", *words)
+
+
+def queues_foreign(programs: Programs) -> None:
+    """Somebody puts an mq whose queues keep no order in the place of that of the daemon, or such a discipline in that of one queue; and one that
+    keeps the order, which stays."""
+    def replace_all() -> None:
+        inside(OURS, "tc", "qdisc", "replace", "dev", "a0", "root", "handle", "1:", "mq")
+        for queue in range(QUEUES):
+            give_classes(f"1:{queue + 1}", str(queue + 10))
+
+    shown = lambda: inside(OURS, "tc", "qdisc", "show", "dev", "a0").stdout
+    events: tuple[tuple[str, Callable[[], None]], ...] = (("each queue", replace_all), ("one queue", partial(give_classes, "6c61:2", "10")))
+    for way in (), ("--fast",):
+        for what, event in events:
+            with given_queues(programs, way) as (ours, _):
+                event()
+                name = f"{name_of(way)}, {what}"
+                line = "a0: it gets one queue: its queueing discipline is neither"
+                check(within(FOLLOWS, lambda: line in ours.printed()), f"{name}: a line tells", ours.printed())
+                check(ours.told()["ports"][0]["data"]["queues"] == 1, f"{name}: the status tells", ours.text())
+                check(within(COMES_BACK, lambda: ours.links() == 2), f"{name}: two links carry", ours.text())
+                outcome = run_flows(programs, SECONDS, every(0.5, SECONDS - 1, move_all(ours)), rate=RATE // 2)
+                check_order(outcome, name, ours.text(), ours.printed()[-1500:])
+                check("htb 10:" in shown(), f"{name}: what somebody set stays")
+    with given_queues(programs) as (ours, _):
+        inside(OURS, "tc", "qdisc", "replace", "dev", "a0", "parent", "6c61:2", "pfifo", "limit", "77")
+        time.sleep(FOLLOWS)
+        ip(OURS, "link", "set", "a0", "down")
+        check(within(COMES_BACK, lambda: ours.links() == 1), "the link goes", ours.text())
+        ip(OURS, "link", "set", "a0", "up")
+        check(within(COMES_UP, lambda: ours.links() == 2), "the link comes back", ours.text())
+        check("gets one queue" not in ours.printed(), "a member with pfifo at one queue keeps all", ours.printed())
+        check("limit 77p" in shown(), "and the pfifo stays", shown())
+        inside(OURS, "tc", "qdisc", "del", "dev", "a0", "parent", "6c61:3")
+        check(within(FOLLOWS, lambda: shown().count("bfifo") == QUEUES - 1), "a queue whose discipline was taken gets one", shown())
+
+
+def set_discipline(*words: str) -> None:
+    inside(OURS, "tc", "qdisc", "replace" if words else "del", "dev", "a0", "root", *words)
+
+
+SLOW_ROW = ("tbf", "rate", "1gbit", "burst", "100k", "limit", "1m")
+
+
+def move_away() -> None:
+    """A member goes to a namespace where its number is free, and comes back."""
+    ip(OURS, "link", "set", "a0", "netns", MIDDLE)
+    time.sleep(1)
+    ip(MIDDLE, "link", "set", "a0", "netns", OURS)
+    ip(OURS, "link", "set", "a0", "up")
+
+
+def queues_back(programs: Programs) -> None:
+    """The queues, and what they had, are there again behind the daemon, whatever happened meanwhile."""
+    new_address = lambda: ip(OURS, "link", "set", "a0", "address", "02:11:22:33:44:55")
+    slow, other = partial(set_discipline, *SLOW_ROW), partial(set_discipline, "handle", "5:", "htb")
+    tried: tuple[tuple[str, bool, int, tuple[Callable[[], None], ...]], ...] = (
+        ("another MAC address", False, QUEUES, (new_address,)), ("another one, and a kill", True, QUEUES, (new_address,)),
+        ("a slow discipline", False, 1, (slow,)), ("and another one", False, 1, (slow, other)), ("and none", False, QUEUES, (slow, set_discipline)),
+        ("another namespace", False, QUEUES, (move_away,)))
+    for name, killed, queues, events in tried:
+        with cables(programs, (), QUEUES):
+            for queue in range(QUEUES):
+                inside(OURS, "sh", "-c", f"cd /sys/class/net/a0/queues; echo 2 >tx-{queue}/xps_cpus; echo 3 >rx-{queue}/rps_cpus")
+            before = settings_of(OURS, "a0")
+            ours = End(programs, OURS, options=ALL)
+            try:
+                used = lambda: ours.told()["ports"][0]["data"]["queues"]
+                check(within(FOLLOWS, lambda: used() == QUEUES and settings_of(OURS, "a0") != before), f"{name}: RPS and XPS are changed", before)
+                for event in events:
+                    event()
+                    time.sleep(2)
+                check(within(COMES_BACK, lambda: used() == queues), f"{name}: {queues} queues are used", used(), ours.printed())
+                if killed:
+                    ours.process.send_signal(signal.SIGKILL)
+                    ours.process.wait()
+                    ours = End(programs, OURS, options=ALL)
+                ours.ends("the daemon")
+                check(settings_of(OURS, "a0") == before, f"{name}: they are as they were", before, settings_of(OURS, "a0"), ours.printed())
+            finally:
+                ours.stop()
+
+
+def queues_steady(programs: Programs) -> None:
+    """A member that cannot keep its queues has its link up while the daemon is started again."""
+    with cables(programs, (), QUEUES):
+        set_discipline(*SLOW_ROW)
+        ours = End(programs, OURS, options=ALL)
+        try:
+            changes = lambda: inside(OURS, "cat", "/sys/class/net/a0/carrier_changes").stdout
+            check(within(FOLLOWS, lambda: "a0: it gets one queue" in ours.printed()), "a member gets one queue", ours.printed())
+            time.sleep(1)
+            before = changes()
+            for by in signal.SIGUSR1, signal.SIGKILL:
+                ours.process.send_signal(by)
+                ours.process.wait()
+                ours = End(programs, OURS, options=ALL)
+                check(within(FOLLOWS, lambda: "a0: it gets one queue" in ours.printed()), f"{by.name}: the next daemon leaves it one", ours.printed())
+                check(changes() == before, f"{by.name}: the link stays up", before, changes())
+        finally:
+            ours.stop()
+
+
+def queues_fewer(programs: Programs) -> None:
+    """All members have fewer queues from now on: the kernel passes data on by them again."""
+    with pair(programs, delays=(), options=["--fast", *ALL], queues=QUEUES) as (_, ours, theirs):
+        for name in "a0", "a1":
+            channels(2, name)
+            time.sleep(FOLLOWS)
+        check(within(COMES_UP, lambda: ours.links() == 2 and theirs.links() == 2), "two links carry", ours.printed())
+        passed = lambda: [port["data"]["passed_on"] for port in ours.told()["ports"]]
+        before = passed()
+        outcome = run_flows(programs, SECONDS, every(1, SECONDS - 1, move_all(ours)), rate=RATE)
+        check_order(outcome, "fewer queues", ours.text(), ours.printed()[-1500:])
+        check(all(now > then for then, now in zip(before, passed())), "the kernel passes data on by both", before, passed(), ours.printed())
+        inside(OURS, "sh", "-c", "for it in /sys/class/net/a0/queues/rx-*/rps_cpus; do echo 3 >$it; done")
+        check(within(2 * FOLLOWS, lambda: setting(OURS, "a0", "rx-0/rps_cpus").strip("0,") in ("1", "2", "4", "8")), "RPS names one processor again", ours.printed())
+
+
 PARTS: dict[str, Callable[[Programs], None]] = {it.__name__: it for it in
-    (queues_all, queues_kept, queues_restarted, queues_moved, queues_unlike, queues_changed, queues_answered, queues_refused, queues_disciplines)}
+    (queues_all, queues_kept, queues_restarted, queues_moved, queues_unlike, queues_changed, queues_answered, queues_refused, queues_disciplines, queues_foreign,
+     queues_back, queues_steady, queues_fewer)}

@@ -263,6 +263,20 @@ static void check_refused_makes(void) {
     CHECK(!empty.live && !empty.at && blocks == before);
 }
 
+/* Those of queues: each asking for memory is refused in turn, and all that was taken is given back. */
+static void check_refused_queues(void) {
+    struct niw_queue queue = NIW_EMPTY;
+    unsigned nth = 0, before = blocks;
+    uint32_t status;
+    do {
+        refused = askings + ++nth;
+        status = niw_queue_new(&queue, 4, 3, 2);
+        CHECK(status == NIW_OK || (status == NIW_NO_MEMORY && !queue.live && blocks == before));
+    } while (status == NIW_NO_MEMORY && nth < 100);
+    refused = 0;
+    CHECK(nth > 2 && blocks > before && niw_queue_free(&queue) == NIW_OK && blocks == before);
+}
+
 /* A limit of links is 0 to 64, an aggregator has 256 or 4096 conversations, and an algorithm is 0 to 2: looked at in this order. */
 static void check_refused_limits(void) {
     static const uint16_t limits[] = {65, 256, 65535}, counts[] = {0, 255, 257, 4095, 4097, 65535};
@@ -704,7 +718,7 @@ static void check_limit(void) {
 int main(void) {
     struct niw_system one = NIW_EMPTY, other = NIW_EMPTY;
     uint16_t agg;
-    unsigned asked;
+    unsigned asked, held;
     for (size_t i = 0; i < sizeof exports / sizeof *exports; i++) check(exports[i].at != 0, __func__, exports[i].name);
     CHECK(!one.live && !one.at);
     make(&one, 1, 7, 256, 0);
@@ -714,6 +728,7 @@ int main(void) {
     check_refusals(&one);
     check_no_port(&one);
     check_refused_makes();
+    check_refused_queues();
     check_refused_limits();
     check_fields();
     check_many_conversations();
@@ -736,8 +751,11 @@ int main(void) {
     check_force_port();
     check_plane();
     check_next_move();
+    held = blocks;
     check_queue();
+    CHECK(blocks == held);
     check_resume();
+    CHECK(blocks == held);
     check_settings();
     check_active_aggregator();
     check_observing();

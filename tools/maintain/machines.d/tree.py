@@ -8,13 +8,15 @@ import shutil
 import subprocess
 
 from checking import Skipped
-from fetched import KEYRING, RELEASE, disk, done
+from fetched import KEYRING, RELEASE, disk, done, unpack
 from fetching import Packages
 from repository import MAINTAIN
 
 # What the tree has beside a minimal Debian; the libraries are those that lagd needs, so that packages are installed without a network.
 NEEDED = ("systemd-sysv", "udev", "dbus", "iproute2", "ethtool", "iputils-ping", "iperf3", "libteam-utils", "kmod", "procps", "tcpdump", "bridge-utils",
-          "libinih1", "libmnl0", "libcap-ng0", "libbpf1", "netplan.io")  # fmt: skip
+          "libinih1", "libmnl0", "libcap-ng0", "libbpf1", "netplan.io", "libnuma1", "libunbound8", "libxdp1")  # fmt: skip
+# Open vSwitch, which stands in a folder of its own: nothing of it is found by chance, or runs at boot.
+SWITCH, SWITCH_PACKAGES = "/opt/openvswitch", tuple(f"openvswitch-{it}/{RELEASE}" for it in ("common", "switch"))
 MEGABYTES = 1000
 # Takes scripts from the port and runs them, one after the other; an answer has the number of its script.
 SHELL = """#!/bin/bash
@@ -100,8 +102,8 @@ MASKED = ("getty.target", "apt-daily.timer", "apt-daily-upgrade.timer", "e2scrub
 def base(packages: Packages) -> str:
     """A minimal Debian with what is needed; it is made once."""
     tree = f"{packages.cache}/tree"
-    marked = f"{tree}/etc/made-with"
-    if os.path.exists(marked) and open(marked, encoding="utf-8").read() == " ".join(NEEDED):
+    marked, needed = f"{tree}/etc/made-with", " ".join(NEEDED + SWITCH_PACKAGES)
+    if os.path.exists(marked) and open(marked, encoding="utf-8").read() == needed:
         return tree
     shutil.rmtree(tree, ignore_errors=True)
     folder = f"{packages.root}/usr/share/debootstrap"
@@ -110,8 +112,9 @@ def base(packages: Packages) -> str:
     if ended.returncode:
         raise Skipped(f"debootstrap fails: {(ended.stderr or ended.stdout)[-300:]}")
     shutil.rmtree(f"{tree}/var/cache/apt/archives")
+    unpack(packages, SWITCH_PACKAGES, f"{tree}{SWITCH}")
     with open(marked, "w", encoding="utf-8") as it:
-        it.write(" ".join(NEEDED))
+        it.write(needed)
     return tree
 
 

@@ -2,8 +2,11 @@ ghost use Rattle.std.specs.Prelude.{◌≡◌, Option, None, Some, IsTrue, is_so
 ghost use Rattle.lagffi.specs.Owned.{held_owns, kept_coded};
 ghost use Rattle.lagffi.specs.declared.stored.Stored.{Stored};
 
+mod block;
+
 use super::parts::Parts;
 use crate::stored::Stored;
+pub(crate) use block::Block;
 use std::alloc::Global;
 use std::marker::Model;
 use std::ptr::null_mut;
@@ -26,8 +29,8 @@ unsafe impl Send for Held {}
 
 impl Drop for Held {
     // promise: each block is freed or kept in a handle, whose flag tells whether it keeps one
-    // contract: `drop` of `Held`, `emptied`; `tells`, `full` of `Lag`
-    // not said: that a box which `Box::into_inner` empties goes to `free`: std's `Box` is trusted
+    // contract: `drop` of `Held`; `Block`, which has no `drop`; `tells`, `full` of `Lag`
+    // not said: that `Box::into_inner`, in `Block::free`, frees: std's `Box` is trusted
     fn drop(self)
         requires { self.kept ≡ None }
     {
@@ -70,17 +73,17 @@ impl Held {
     }
 
     /// Holds a block.
-    pub(super) fn of_box(block: Box<Stored, Global>) -> Held
-        ensures { result.kept ≡ Some block.value }
+    pub(super) fn of_block(block: Block<Stored>) -> Held
+        ensures { result.kept ≡ Some block.stored.value }
     {
-        Held::of_parts(Parts::of(block))
+        Held::of_parts(Parts::of(block.into_box()))
     }
 
     /// Hands out the block that it holds.
-    pub(super) fn into_box(self) -> Box<Stored, Global>
+    pub(super) fn into_block(self) -> Block<Stored>
         requires { IsTrue (is_some self.kept) }
-        ensures { self.kept ≡ Some result.value }
+        ensures { self.kept ≡ Some result.stored.value }
     {
-        self.into_parts().into_box()
+        Block::of_box(self.into_parts().into_box())
     }
 }

@@ -2,6 +2,7 @@ ghost use Rattle.std.specs.Prelude.{◌≡◌, MatchOption, None, Some, is_some}
 ghost use Rattle.lagffi.specs.Queues.{queue_value};
 
 use super::{Block, Held};
+use crate::stored::Stored;
 use dataplane::Holding;
 use std::alloc::Global;
 use std::mem::replace;
@@ -17,7 +18,7 @@ pub struct LagQueue {
 
 impl LagQueue {
     /// Takes the queues out, beside their block; None if the handle holds none.
-    pub(crate) fn take(&mut self, alloc: Global) -> Option<(Holding<u64>, Block)>
+    pub(crate) fn take(&mut self, alloc: Global) -> Option<(Holding<u64>, Block<Stored>)>
         ensures taken { MatchOption result (queue_value self.old.held.kept ≡ None) (λ taken. queue_value self.old.held.kept ≡ Some taken.0) }
         ensures left { self.new.held.kept ≡ None }
     {
@@ -29,23 +30,24 @@ impl LagQueue {
         if !live {
             return None;
         }
-        let mut stored = held.into_box();
+        let mut block = held.into_block();
+        let stored = block.kept_mut();
         match stored.queue.take() {
-            Some(queue) => Some((queue, Block { stored })),
+            Some(queue) => Some((queue, block)),
             None => unreachable!(),
         }
     }
 
     /// Puts queues into the empty handle, with a block for them.
-    pub(crate) fn put(&mut self, queue: Holding<u64>, block: Block)
+    pub(crate) fn put(&mut self, queue: Holding<u64>, mut block: Block<Stored>)
         requires { self.old.held.kept ≡ None }
         ensures { queue_value self.new.held.kept ≡ Some queue }
     {
-        let Block { mut stored } = block;
+        let stored = block.kept_mut();
         stored.queue = Some(queue);
         let full = LagQueue {
             live: true,
-            held: Held::of_box(stored),
+            held: Held::of_block(block),
         };
         let LagQueue {
             live: _,

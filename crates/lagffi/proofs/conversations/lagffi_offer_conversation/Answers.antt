@@ -2,5 +2,5 @@ use Rattle.lagffi.proofs.AskingLemmas.{offered}
 use Rattle.lagffi.proofs.conversations.lagffi_offer_conversation.Goals as goal
 
 pub returns : goal.returns
-returns c = offered _ _ c.in-Some.ensures.taken c.deref.ensures c.put.ensures
+returns c = offered _ _ c.in-Some.ensures.taken c.kept.ensures c.put.ensures
     (c.offer_conversation_with-answer.result.0, c.offer_conversation_with-answer.ensures, c.of.ensures)
