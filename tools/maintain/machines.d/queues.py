@@ -7,10 +7,10 @@ from functools import partial
 from typing import Callable, NamedTuple
 
 from checking import check
-from deployments import Task
+from deployments import Task, run_rows
 from ends import FAR, FAR_AT, NEAR, NEAR_AT, OVER, RATE, journal, status, traffic, up_again, use
 from guest import Guest
-from rows import SECONDS, boots, orderly, restarts, tried
+from rows import SECONDS, boots, orderly, restarts
 
 QUEUES = 4
 ENDS = ("uplink", "far")
@@ -93,7 +93,6 @@ def moved(guest: Guest, way: Way) -> str:
 
 
 
-
 def goes_and_comes(guest: Guest) -> str:
     """A cable is pulled and put back while frames go: conversations go on by the other one, and come back."""
     def event() -> None:
@@ -118,11 +117,8 @@ ROWS: dict[str, Callable[[Guest], str]] = {"boots, and the unit brings the bundl
 for way in WAYS:
     ROWS[f"{way}: moves"] = partial(moved, way=way)
     if way.queues == "all":
-        ROWS |= {f"{way}: others come and go": balances, f"{way}: a cable is pulled, and put back": goes_and_comes, f"{way}: systemctl restart": restarts}
+        ROWS |= {f"{way}: others come and go": balances, f"{way}: a cable is pulled, and put back": goes_and_comes,
+                 f"{way}: systemctl restart": restarts}  # fmt: skip
 
 
-def run_rows(guest: Guest) -> dict[str, str]:
-    return {name: tried(guest, name, row) for name, row in ROWS.items()}
-
-
-TASKS = {"queues": Task("6.12", "igb", FILES, run_rows, QUEUES)}
+TASKS = {"queues": Task("6.12", "igb", FILES, run_rows(ROWS), QUEUES)}
