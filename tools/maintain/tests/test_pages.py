@@ -40,6 +40,19 @@ def test_each_rule_of_findings_has_a_row(rows: str, found: list[str]) -> None:
 
 
 @pytest.mark.parametrize(
+    ("text", "wanted", "found"),
+    [
+        ("a\nb 1\n", "a\nb 1\n", []),
+        ("a\nb 1 us, c|2|\nd\n", "a\nb 3 us, c|4|\nd\n", ["x.md:2 has '1' and not '3', '2' and not '4'"]),
+        ("a\n|b|c|\nd\n", "a\n|b|c|\n|e|f|\nd\n", ["x.md:3 has '' and not 'e f'"]),
+        ("a\n|b|c|\nd\n", "a\nd\n", ["x.md:2 has 'b c' and not ''"]),
+    ],
+)
+def test_each_line_that_differs_is_named(text: str, wanted: str, found: list[str]) -> None:
+    assert pages.differing("x.md", text, wanted) == found
+
+
+@pytest.mark.parametrize(
     ("sentence", "words"),
     [
         ("The machines of one port: receive, mux (6.4).", "The machines of one port"),

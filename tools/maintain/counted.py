@@ -1,0 +1,242 @@
+"""Figures that pages quote from sources, from stored reports of examples, and from each other: what quotes.py does for the tables of runs."""
+
+from __future__ import annotations
+
+import json
+import re
+from decimal import Decimal
+from typing import Callable, Sequence
+
+from quotes import HEADER, LAGD, MEASURED, PEERS, README, Quote, Read, rounded_to
+from repository import Missing
+
+ASSURANCE, TROUBLE, THEOREMS = "docs/ASSURANCE.md", "docs/TROUBLE.md", "docs/internals/THEOREMS.md"
+CONFORM, CONFORMANCE, COMMAND, USING = "docs/CONFORM.md", "docs/CONFORMANCE.md", "docs/COMMAND.md", "docs/USING.md"
+CONTRIBUTING, EXAMPLES = "CONTRIBUTING.md", "examples/README.md"
+ROUNDS, LATE_ROUNDS, CUT_OFF = (f"crates/lagprogress/specs/{it}.antt" for it in ("Rounds", "LateRounds", "CutOff"))
+PRINTED = "tools/maintain/live.d/examples.py"
+WORDS = "none one two three four five six seven eight nine ten eleven twelve".split()
+
+
+def word(count: int) -> str:
+    """A count as sentences have it."""
+    return WORDS[count] if count < len(WORDS) else str(count)
+
+
+def found(pages: Read, path: str, pattern: str) -> list[str]:
+    """The groups of a pattern in a file, where it finds the same ones wherever it stands."""
+    every = {it.groups() for it in re.finditer(pattern, pages.page(path), re.M)}
+    if len(every) != 1:
+        raise Missing(f"{path} has {len(every)} times, and not once: {pattern}")
+    return list(every.pop())
+
+
+def figures_of(path: str, pattern: str, as_page: Callable[[str], str] = str) -> Callable[[Read], list[str]]:
+    """What a pattern finds in a file."""
+    return lambda pages: [as_page(it) for it in found(pages, path, pattern)]
+
+
+def seconds(rounds: int) -> str:
+    """How long rounds or ticks of 100 ms last: with one decimal, where it is not whole."""
+    return str(rounds // 10) if rounds % 10 == 0 else rounded_to(Decimal(rounds) / 10, "0.1")
+
+
+def bounds(pages: Read, what: str) -> list[int]:
+    """After how many rounds something holds, if both ends of cables are active, and if one is: by the definitions of lagprogress."""
+    path = LATE_ROUNDS if what.startswith("late_") else ROUNDS
+    return [int(found(pages, path, rf"^{what}_if_{which} = (\d+)$")[0]) for which in ("both_active", "one_is")]
+
+
+def peers_tried(pages: Read) -> list[str]:
+    return [word(len(pages.table(PEERS, "One run", "peer").rows))]
+
+
+def rounds_and_seconds(what: str) -> Callable[[Read], list[str]]:
+    return lambda pages: [text for it in bounds(pages, what) for text in (str(it), seconds(it))]
+
+
+def late_rounds(pages: Read) -> list[str]:
+    known, up = bounds(pages, "late_known"), bounds(pages, "late_up")
+    return [*map(str, (*known, *up)), *map(seconds, up)]
+
+
+def beside_cut_offs(pages: Read) -> list[str]:
+    rounds = found(pages, CUT_OFF, r"IsHealthyAt i l old → (\d+) ≤ n → Plays gives")[0]
+    return 2 * [rounds, seconds(int(rounds))]
+
+
+def until_agreement(pages: Read) -> list[str]:
+    """The bounds in seconds, and how much later they are where frames arrive in the next round."""
+    up, late = bounds(pages, "up"), bounds(pages, "late_up")
+    return [*map(seconds, up), *(seconds(late[place] - up[place]) for place in (0, 1))]
+
+
+def ticks(report: str, begin: str, end: str = r"\Z") -> int:
+    """The ticks of system 1 in a stored report, from a line on and up to another."""
+    within = re.search(rf"^{begin}.*?(?:{end})", report, re.M | re.S)
+    return sum(map(int, re.findall(r"^\d+ tick 1 (\d+) ->", within[0] if within else "", re.M)))
+
+
+def round_after(name: str) -> Callable[[Read], list[str]]:
+    """One round more than a shorter script plays."""
+    return lambda pages: [str(int(found(pages, f"examples/{name}.short", r'"round (\d+)"')[0]) + 1)]
+
+
+def coming_up(pages: Read) -> list[str]:
+    """The time until both ends distribute, one or both active; and with both until the first LACPDU, and from there on."""
+    first, other = (pages.page(f"examples/{it}.txt") for it in ("two-ports-come-up", "one-end-is-passive"))
+    until, sent = ticks(first, "1 "), ticks(first, "1 ", r"-> lacpdu")
+    if ticks(other, "1 ") != until or not sent:
+        raise Missing(f"{TROUBLE} has one time for two examples, in one of which it is another")
+    return [seconds(until), seconds(sent), seconds(until - sent)]
+
+
+def coming_back(pages: Read) -> list[str]:
+    return [seconds(ticks(pages.page("examples/a-cable-is-cut-and-comes-back.txt"), r"\d+ join 1 "))]
+
+
+def after_one_round_more(pages: Read) -> list[str]:
+    return [seconds(int(it)) for it in round_after("no-agreement-after-319-rounds")(pages)]
+
+
+def lines_of_a_move(pages: Read) -> list[str]:
+    """The lines that the text below the picture of a report names."""
+    report = pages.page("examples/a-conversation-moves-behind-a-marker.txt")
+    entries = [(int(number), entry) for number, entry in re.findall(r"^(\d+) (.*)$", report, re.M)]
+
+    def lines(pattern: str) -> list[int]:
+        return [number for number, entry in entries if re.fullmatch(pattern, entry)]
+
+    sent, moves = lines(r"offer 1 1 .* -> port 1 serial \d+ sent"), lines(r"move 1 1 48 2 -> moved")
+    refused, marker = lines("offer 1 1 .* -> refused 5 held"), lines(r"emit 1 1 -> marker \d+ sent")
+    freed, later = lines(r"deliver 1 1 -> released \d+"), lines(r"offer 1 1 .* -> port 2 serial \d+ sent")
+    if [len(it) for it in (moves, marker, freed, later)] != 4 * [1] or sent != list(range(sent[0], sent[-1] + 1)) or not refused:
+        raise Missing(f"{COMMAND} tells of another report than that of a-conversation-moves-behind-a-marker")
+    return [str(sent[0]), str(sent[-1]), word(len(sent)), *(str(it[0]) for it in (moves, refused, marker, freed, later))]
+
+
+def counts_of_records(pages: Read) -> list[str]:
+    """The last record of a stored capture."""
+    told: dict[str, object] = json.loads(pages.page("examples/captures/marker-echo.json").splitlines()[-1])
+    return [str(value) for name, value in told.items() if name != "record"]
+
+
+def tests_that_pass(pages: Read) -> list[str]:
+    """Of the tests of lagconform those that pass beside the daemon, all that there are, and those that the run left out."""
+    run, all_of_them = pages.table(PEERS, "Conformance", "tests", "lagd"), pages.table(CONFORM, "The groups", "group", "tests")
+    there, played = sum(map(int, all_of_them.cells("*", "tests"))), sum(map(int, run.cells("[*]*[*]", "lagd")))
+    return [run.cell("[*]pass[*]", "lagd"), str(there), word(there - played)]
+
+
+def tests_beside_open_vswitch(pages: Read) -> list[str]:
+    run = pages.table(PEERS, "Conformance", "tests", "lagd")
+    counts = [run.cell(f"[*]{verdict}[*]", "Open vSwitch") for verdict in ("pass", "fail", "inconclusive", "skipped")]
+    return counts
+
+
+def tests_played(pages: Read) -> list[str]:
+    run = pages.table(PEERS, "Conformance", "tests", "lagd")
+    return [str(sum(map(int, run.cells("[*]*[*]", "Open vSwitch"))))]
+
+
+def later_speaker(pages: Read) -> list[str]:
+    """By how many seconds one end of a stored capture speaks later than the other."""
+    firsts = [Decimal(it) for it in re.findall(r"^end .* first ([\d.]+)", pages.page("examples/captures/bonding.report.txt"), re.M)]
+    return [rounded_to(max(firsts) - min(firsts), "1")]
+
+
+def hostile(pages: Read) -> list[str]:
+    few, many = found(pages, "tools/maintain/long-tests", r"const FRAMES: u32 = ([\d_]+);\", \"const FRAMES: u32 = ([\d_]+);")
+    return [few.replace("_", ","), many.replace("_", ",")]
+
+
+def line_of(path: str, text: str) -> Callable[[Read], list[str]]:
+    """The number of the line that begins with a text."""
+
+    def figures(pages: Read) -> list[str]:
+        numbers = [number for number, line in enumerate(pages.page(path).splitlines(), 1) if line.lstrip().startswith(text)]
+        if len(numbers) != 1:
+            raise Missing(f"{path} has {len(numbers)} lines, and not one, that begin with {text}")
+        return [str(numbers[0])]
+
+    return figures
+
+
+def shown_rule(pages: Read) -> list[str]:
+    """A line of a test of findings: the milliseconds, the rule and the frame, and in words the rule, the frame and the seconds."""
+    when, rule, frame = found(pages, "crates/tests_capture/src/links/of_findings.rt", r"shows\(&rt, &split, (\d+), &\[\((\d+), (\d+)\)\]\)")
+    return [when, rule, frame, rule, frame, rounded_to(Decimal(when) / 1000, "0.1")]
+
+
+def octets_of_conversations(pages: Read) -> list[str]:
+    return [f"{256 * int(found(pages, HEADER, r'[(]size_t[)]([0-9]+) [*] [(]conversations[)]')[0]):,}"]
+
+
+def last_status(pages: Read) -> list[str]:
+    return [str(max(map(int, re.findall(r"NIW_PORT_STATUS_\w+ = (\d+)", pages.page(HEADER)))))]
+
+
+KEPT = "crates/findings/proofs/lacpdu_rules/LacpduRules/hear/Answers.antt", r"hasty = next c\.keep_earlier-(\d+)\.ensures"
+UNTIL_BOTH = figures_of(PRINTED, r'^PRINTS = "both ends distribute after (\d+) ticks of (\d+) ms')
+PROMISED = "|{} rounds, {} s|{} rounds, {} s|"
+
+QUOTES: tuple[Quote, ...] = (
+    Quote(README, "`cc examples/c/two_ends.c -llag && ./a.out` prints `both ends distribute after {} ticks of {} ms`", UNTIL_BOTH),
+    Quote(README, "within {} s if both ends of each cable are active, {} s if one is", lambda pages: late_rounds(pages)[-2:]),
+    Quote(README, "[{} software peers](docs/PEERS.md)", peers_tried),
+    Quote(README, "[beside {} peers](docs/PEERS.md#beside-each-other)", peers_tried),
+    Quote(ASSURANCE, "beside {} other implementations, `tools/maintain/peers`", peers_tried),
+    Quote(PEERS, "All {} peers are software", peers_tried),
+    Quote(PEERS, "reads every frame of the {} runs", peers_tried),
+    Quote(USING, "It prints `both ends distribute after {} ticks of {} ms`", UNTIL_BOTH),
+    Quote(CONTRIBUTING, "as there are processors and {} GB of memory for each", figures_of("tools/lanes.py", r"^EACH = (\d+)_000_000_000$")),
+    Quote(CONTRIBUTING, "note: src/state.rt:{}:5: it is not proved", line_of("crates/lagtypes/src/state.rt", "pub fn is_collecting(")),
+    Quote(CONTRIBUTING, "hasty = next c.keep_earlier-{}.ensures", figures_of(*KEPT)),
+    Quote(CONTRIBUTING, "whose `c.keep_earlier-{}` counts calls", figures_of(*KEPT)),
+    Quote(CONTRIBUTING, "`shows(&rt, &split, {}, &[({}, {})])` in `tests_capture` (rule {}, by frame {}, behind {} s)", shown_rule),
+    Quote(ASSURANCE, "with one conversation, two links, two moves and {} frames,",
+          figures_of("tools/maintain/carry.d/models.py", r"^FRAMES, MORE = (\d+), \d+$", lambda it: word(int(it)))),
+    Quote(ASSURANCE, "two rows hold of these after {} and {}, and after {} and {}: {} s and {} s (`ends_come_to_know_by_clocks`", late_rounds),
+    Quote(ASSURANCE, f"of each whole cable know each other{PROMISED}", rounds_and_seconds("known")),
+    Quote(ASSURANCE, f"distributes at both ends, which name the same group{PROMISED}", rounds_and_seconds("up")),
+    Quote(ASSURANCE, f"each end is asked in them until nothing is due{PROMISED}", rounds_and_seconds("freed")),
+    Quote(ASSURANCE, f"a full aggregator whose links all agree{PROMISED}", rounds_and_seconds("up")),
+    Quote(ASSURANCE, f"each link distributes and agrees{PROMISED}", beside_cut_offs),
+    Quote(ASSURANCE, "cut at every length; {} frames of up to 200 octets ({} by `tools/maintain/long-tests`)", hostile),
+    Quote(THEOREMS, "- *{} | {}* means: after", lambda pages: list(map(str, bounds(pages, "up")))),
+    Quote(THEOREMS, "means: after {} rounds or more if both ends of each healthy cable are active (clause `both`), after {} if one is",
+          lambda pages: list(map(str, bounds(pages, "up")))),
+    Quote(THEOREMS, "for knowing with one active end they are [at least {}](../../examples/an-end", round_after("an-end-forgets-after-599-rounds")),
+    Quote(EXAMPLES, "promise agreement in fewer than {} healthy rounds if both ends are active|", round_after("no-agreement-after-319-rounds")),
+    Quote(EXAMPLES, "why none can promise it in fewer than {} if one end is active|", round_after("no-agreement-after-320-rounds")),
+    Quote(EXAMPLES, "promise that the ends know each other in fewer than {} then|", round_after("an-end-forgets-after-599-rounds")),
+    Quote(LAGD, "It ran [on Linux {}](PEERS.md#one-run)", figures_of(PEERS, r"^This run is of .* on Linux ([\d.]+) and")),
+    Quote(TROUBLE, "one or both active|both distribute|{} s; with both active {} s until the first LACPDU, {} s of waiting|", coming_up),
+    Quote(TROUBLE, "a break ends that both hosts noticed (`set_link`)|both distribute|{} s|", coming_back),
+    Quote(TROUBLE, "and the ends ran on defaults meanwhile|both distribute|{} s: a port on defaults", after_one_round_more),
+    Quote(TROUBLE, "|at most {} s, or {} s if one end is active, and {} or {} s more if frames take up to 100 ms", until_agreement),
+    Quote(COMMAND, '{"record":"counts","packets":{},"slow":{},"ends":{},"findings":{},"beyond":{}}', counts_of_records),
+    Quote(COMMAND, "Lines {} to {} send {} frames of conversation 48 on port 1, line {} asks for the move, and line {} is refused while the"
+          " frames are held. The marker of line {} goes behind the frames; its response (line {}) frees the conversation, and line {} sends the next frame on port 2.",
+          lines_of_a_move),
+    Quote(CONFORM, "{} tests on 2 links", tests_played),
+    Quote(CONFORM, "{} pass, {} fail, {} inconclusive, {} skipped", tests_beside_open_vswitch),
+    Quote(CONFORMANCE, "[{} of {} tests pass](PEERS.md#conformance), {} of more than 25 s were not run", tests_that_pass),
+    Quote(EXAMPLES, "the driver, which starts {} s later|", later_speaker),
+    Quote(LAGD, "is 0 if the port distributes, 1 to {} for [the reason why not]", last_status),
+    Quote(MEASURED, "one aggregator of 256 conversations, which take {} octets", octets_of_conversations),
+)
+
+
+def rules_found(page: str, stored: Callable[[str], Sequence[int]]) -> list[str]:
+    """Where a row of examples/README.md that ends with rules of `lagtool capture` has others than what is stored of its capture."""
+    wrong = []
+    for name, told in re.findall(r"^\|[^|]*?([\w-]+)\.pcap(?:ng)?\b[^|]*\|[^|]*\|rules? ([^|;]*)[^|]*\|$", page, re.M):
+        said, wanted = sorted(map(int, re.findall(r"\d+", told))), sorted(set(stored(name)))
+        wrong += [f"{EXAMPLES}: {name} is said to have the rules {said}, and not {wanted}"] if said != wanted else []
+    return wrong
+
+
+def rules_of(records: str, report: str) -> list[int]:
+    """The rules of findings in the stored records of a capture, or in its stored report."""
+    return [int(it) for it in re.findall(r'"record":"finding","rule":(\d+)', records) + re.findall(r"^finding (\d+) ", report, re.M)]
