@@ -19,7 +19,7 @@ from conform_frames import NoMarkers
 from lagconform import causes, command, files, known, listing, pics, refusals, report
 from lagconform.bench import Bench, most_within
 from lagconform.groups import GROUPS, TESTS
-from lagconform.model import DEVICES, FAIL, INCONCLUSIVE, MEMORY, NOT_APPLICABLE, PASS, PROFILE, SKIPPED, Claim, Result
+from lagconform.model import DEVICES, FAIL, INCONCLUSIVE, LONG, MEMORY, NOT_APPLICABLE, PASS, PROFILE, SKIPPED, Claim, Result
 from lagconform.model import Test as Case
 from lagconform.runner import NoDevice, judge, meet, run_one
 from lagconform.shadow import compare
@@ -389,7 +389,24 @@ def test_the_module_runs_by_its_name() -> None:
     assert os.path.exists(os.path.join(folder, "lagconform", "__main__.py"))
 
 
+def page_of(name: str) -> str:
+    """A page of the repository; none where the module stands alone."""
+    page = Path(__file__).parents[2] / "docs" / name
+    return page.read_text() if page.exists() else ""
+
+
 def test_the_page_has_each_group_and_its_count() -> None:
-    page = Path(__file__).parents[2] / "docs" / "CONFORM.md"
-    text = page.read_text() if page.exists() else ""
+    text = page_of("CONFORM.md")
     assert not text or all(f"\n|{it.name}|{len(it.tests)}|" in text for it in GROUPS)
+
+
+def test_pages_have_the_time_of_a_run_and_which_tests_are_long() -> None:
+    short = [it for it in TESTS if not it.is_long]
+    said = f"{len(short)} tests on 2 links, some {round(sum(it.takes for it in short) / 60)} min\n"
+    assert said in (page_of("CONFORM.md") or said)
+    for name, wanted in (
+        ("CONFORM.md", f"those of more than {LONG} s;"),
+        ("CONFORMANCE.md", f"of more than {LONG} s were"),
+        ("PEERS.md", f"tests of more than {LONG} s,"),
+    ):
+        assert wanted in (page_of(name) or wanted)

@@ -26,6 +26,11 @@ def data(file: str) -> set[str]:
     return set(re.findall(r"^[0-9a-f]+ [bBdDCsSgG] (\w+)$", printed("nm", file), re.M)) - {NEVER_WRITTEN}
 
 
+def newest_glibc(versions: str) -> str:
+    """The newest version of glibc that a library needs, by what `readelf --version-info` prints."""
+    return max(re.findall(r"Name: GLIBC_([0-9.]+)", versions), key=lambda it: [int(part) for part in it.split(".")], default="none")
+
+
 def page() -> str:
     """The text of docs/ABI.md."""
     with open(PAGE, encoding="utf-8") as it:

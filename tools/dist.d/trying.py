@@ -203,6 +203,14 @@ def try_exports(count: Count, root: str) -> None:
         count.add(f"{file} is hardened", ", ".join(missing))
 
 
+def try_glibc(count: Count, root: str) -> None:
+    """The library needs the glibc that docs/INSTALL.md says."""
+    needs = imported.newest_glibc(ran(["readelf", "--version-info", "--wide", os.path.join(root, "lib", "liblag.so.0")]).stdout)
+    with open(os.path.join(root, documents.FOLDER, "docs", "INSTALL.md"), encoding="utf-8") as it:
+        says = re.findall(r"needs\s+GLIBC\s+([0-9.]+)\s+or\s+later", it.read())
+    count.add(f"docs/INSTALL.md says that the library needs GLIBC {needs}", "" if says == [needs] else f"it says {says}")
+
+
 def try_manuals(count: Count, root: str) -> None:
     """groff reads each man page; it has a synopsis, and builds nothing."""
     if not shutil.which("groff"):
@@ -258,6 +266,7 @@ def tried(count: Count, file: str) -> None:
         try_library(count, root, os.path.join(library, "pkgconfig", "lag.pc"), {}, library, processor)
         if processor.is_here:
             try_programs_on_oldest(count, root)
+            try_glibc(count, root)
         try_exports(count, root)
         imported.tried(count, os.path.join(library, "liblag.a"), processor.name)
         try_manuals(count, root)
