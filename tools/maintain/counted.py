@@ -217,7 +217,8 @@ QUOTES: tuple[Quote, ...] = (
     Quote(TROUBLE, "|at most {} s, or {} s if one end is active, and {} or {} s more if frames take up to 100 ms", until_agreement),
     Quote(COMMAND, '{"record":"counts","packets":{},"slow":{},"ends":{},"findings":{},"beyond":{}}', counts_of_records),
     Quote(COMMAND, "Lines {} to {} send {} frames of conversation 48 on port 1, line {} asks for the move, and line {} is refused while the"
-          " frames are held. The marker of line {} goes behind the frames; its response (line {}) frees the conversation, and line {} sends the next frame on port 2.",
+          " frames are held. The marker of line {} goes behind the frames; its response (line {}) frees the conversation,"
+          " and line {} sends the next frame on port 2.",
           lines_of_a_move),
     Quote(CONFORM, "{} tests on 2 links", tests_played),
     Quote(CONFORM, "{} pass, {} fail, {} inconclusive, {} skipped", tests_beside_open_vswitch),

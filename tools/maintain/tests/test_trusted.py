@@ -26,3 +26,7 @@ def test_a_check_that_proves_nothing_has_no_answer() -> None:
 
 def test_the_page_counts_these_crates() -> None:
     assert set(trusted.claims()[1]) == {"lagffi", "lagtool", "example_moved_conversation"}
+
+
+def test_a_page_says_which_toolchain_it_is() -> None:
+    assert len(trusted.version_said()) == 16
