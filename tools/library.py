@@ -20,8 +20,14 @@ ARCHIVE = os.path.join(CRATES, "lagffi", "out", "liblagffi.a")
 RUNTIME = os.path.join(TOOLS, "dist.d", "runtime")
 # The name by which programs load the library: its number rises where it no longer fits what was built for it (docs/ABI.md).
 SONAME = "liblag.so.0"
-# The version that each function has in the library that is loaded.
-SYMBOL_VERSION = "LAG_0"
+# The version that each function has in the library that is loaded, with the release that had it first.
+SYMBOLS = os.path.join(TOOLS, "dist.d", "debian", "liblag0.symbols")
+# What programs of release 0.1.0 call by another name: the library to load has both.
+RENAMED = {
+    "lagffi_carrier": "lagffi_active_aggregator",
+    "lagffi_offer_in_carrier": "lagffi_offer_in_active_aggregator",
+    "lagffi_offer_conversation_in_carrier": "lagffi_offer_conversation_in_active_aggregator",
+}
 # What Debian builds programs with, beside -O2.
 HARDENING = ["-fstack-protector-strong", "-D_FORTIFY_SOURCE=2", "-Wl,-z,relro,-z,now,-z,noexecstack"]
 
@@ -41,6 +47,11 @@ def exports() -> list[str]:
     if not found:
         raise Missing(f"{HEADER} declares no function")
     return sorted(found)
+
+
+def loaded() -> list[str]:
+    """The functions that the library to load shows: those of lag.h, and the old names of some."""
+    return sorted([*exports(), *RENAMED])
 
 
 def compiler(processor: Processor) -> list[str]:
@@ -90,10 +101,16 @@ def archive(folder: str, lag: str) -> str:
 
 
 def version_script(folder: str) -> str:
-    """The file that tells the linker what the library shows."""
-    made = os.path.join(folder, "liblag.map")
-    with open(made, "w", encoding="utf-8") as it:
-        it.write(f"{SYMBOL_VERSION} {{\nglobal:\n" + "".join(f"    {name};\n" for name in exports()) + "local:\n    *;\n};\n")
+    """The file that tells the linker what the library shows, and in which version; a version has those before it in it."""
+    made, text, before = os.path.join(folder, "liblag.map"), "", ""
+    with open(SYMBOLS, encoding="utf-8") as it:
+        rows = re.findall(r"^ (lagffi_\w+)@LAG_(\d+) ", it.read(), re.M)
+    for number in sorted({int(number) for _, number in rows}):
+        names = "".join(f"    {name};\n" for name, its in rows if int(its) == number)
+        text += f"LAG_{number} {{\nglobal:\n{names}" + ("" if before else "local:\n    *;\n") + f"}}{before};\n"
+        before = f" LAG_{number}"
+    with open(made, "w", encoding="utf-8") as out:
+        out.write(text)
     return made
 
 
@@ -102,5 +119,6 @@ def shared(folder: str, lag: str, processor: Processor = AMD64) -> str:
     made = os.path.join(folder, SONAME)
     script = version_script(folder)
     words = [f"-Wl,-soname,{SONAME}", "-Wl,--build-id=sha1", f"-Wl,--version-script={script}", "-Wl,--no-undefined", "-Wl,-z,text"]
+    words += [f"-Wl,--defsym={old}={new}" for old, new in RENAMED.items()]
     printed(*compiler(processor), "-shared", "-O2", *HARDENING, *words, "-o", made, lag)
     return made

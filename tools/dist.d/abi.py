@@ -1,4 +1,4 @@
-"""Compares the binary interface of the C library with the one that is kept: functions, structs and their fields.
+"""Compares the binary interface of the C library with those that are kept, of each release: functions, structs and their fields.
 
 The library has no types in it. So a stand-in is built from lag.h: each function that the header declares, with an empty body. abidw of
 libabigail writes its interface down, and abidiff compares. What tools/maintain/live compares with the sources is the header, so this speaks of
@@ -7,6 +7,7 @@ the library. docs/ABI.md says what may change.
 
 from __future__ import annotations
 
+import glob
 import os
 import re
 import shutil
@@ -22,19 +23,21 @@ sys.path.append(os.path.join(MAINTAIN, "interface.d"))
 
 import numbering
 
-# The interface of the releases that load as SONAME.
+# The interface of this release; beside it, as liblag-VERSION.abi, those of the releases before it that load as SONAME.
 KEPT = os.path.join(os.path.dirname(os.path.abspath(__file__)), "liblag.abi")
-# The numbers of the header then, a name and its number a line.
+# The numbers of each header, a name and its number a line.
 KEPT_NUMBERS = os.path.join(os.path.dirname(os.path.abspath(__file__)), "liblag.numbers")
 # What abidiff answers where something is gone or differs: bits of its status.
 CHANGED, INCOMPATIBLE = 4, 8
 
 
 def stand_in() -> str:
-    """A program text with each function of the header, which answers zeros."""
+    """A program text with each function that the library shows, which answers zeros."""
     with open(library.HEADER, encoding="utf-8") as it:
         text = re.sub(r"/\*.*?\*/", "", it.read(), flags=re.S)
     found = re.findall(r"^((?:struct )?\w+) (lagffi_\w+)\((.*?)\);", text, re.M | re.S)
+    new = {name: (answer, given) for answer, name, given in found}
+    found += [(new[name][0], old, new[name][1]) for old, name in library.RENAMED.items()]
     bodies = []
     for answer, name, given in found:
         names = re.findall(r"(\w+)(?:,|$)", " ".join(given.split()))
@@ -70,24 +73,32 @@ def keep(folder: str) -> None:
         out.write("".join(f"{name} {number}\n" for name, number in sorted(numbers().items())))
 
 
+def kept(file: str) -> list[tuple[str, str]]:
+    """The kept files of one kind, each with what it is of."""
+    begins, ending = os.path.splitext(file)
+    return [(os.path.basename(it).removesuffix(ending), it) for it in sorted(glob.glob(f"{begins}*{ending}"))]
+
+
 def check_numbers(count: Count) -> None:
     """Each number that is kept is the header's."""
-    with open(KEPT_NUMBERS, encoding="utf-8") as it:
-        kept = {name: int(number) for name, number in (line.split() for line in it)}
     found = numbers()
-    differs = [f"{name} was {number} and is {found.get(name, 'gone')}" for name, number in kept.items() if found.get(name) != number]
-    count.add(f"lag.h has the {len(kept)} numbers that are kept", "; ".join(differs))
+    for of, file in kept(KEPT_NUMBERS):
+        with open(file, encoding="utf-8") as it:
+            was = {name: int(number) for name, number in (line.split() for line in it)}
+        differs = [f"{name} was {number} and is {found.get(name, 'gone')}" for name, number in was.items() if found.get(name) != number]
+        count.add(f"lag.h has the {len(was)} numbers of {of}", "; ".join(differs))
 
 
 def tried(count: Count, folder: str) -> None:
-    """The interface has all that the kept one has."""
+    """The interface has all that each kept one has."""
     check_numbers(count)
     missing = [it for it in ("abidw", "abidiff") if not shutil.which(it)]
     if missing:
         print(f"skipped: the binary interface: there is no command {missing[0]} (Debian: abigail-tools)")
         return
-    words = ["abidiff", "--no-added-syms", "--no-unreferenced-symbols", KEPT, described(folder)]
-    ended = subprocess.run(words, capture_output=True, text=True)
-    if ended.returncode & ~(CHANGED | INCOMPATIBLE):
-        raise Missing(f"abidiff fails: {ended.stderr.strip()[-400:]}")
-    count.add(f"{library.SONAME} has the binary interface that is kept", ended.stdout.strip()[:2000] if ended.returncode else "")
+    now = described(folder)
+    for of, file in kept(KEPT):
+        ended = subprocess.run(["abidiff", "--no-added-syms", "--no-unreferenced-symbols", file, now], capture_output=True, text=True)
+        if ended.returncode & ~(CHANGED | INCOMPATIBLE):
+            raise Missing(f"abidiff fails: {ended.stderr.strip()[-400:]}")
+        count.add(f"{library.SONAME} has the binary interface of {of}", ended.stdout.strip()[:2000] if ended.returncode else "")

@@ -15,6 +15,7 @@ import documents
 import emulating
 import imported
 from counting import Count, ran
+from library import RENAMED
 from processors import AMD64, PROCESSORS, Processor
 from repository import WARNINGS, Missing, want
 
@@ -189,13 +190,13 @@ def try_programs_on_oldest(count: Count, root: str) -> None:
 
 
 def try_exports(count: Count, root: str) -> None:
-    """Both libraries show the functions of lag.h alone, and the one to load and the programs are hardened."""
+    """Both libraries show the functions of lag.h alone, the one to load old names too, and it and the programs are hardened."""
     with open(os.path.join(root, "include", "lag.h"), encoding="utf-8") as it:
-        wanted = set(re.findall(r"^[\w ]+ (lagffi_\w+)\(", it.read(), re.M))
-    for file, words in ("liblag.so.0", ["-D"]), ("liblag.a", ["-g"]):
+        functions = set(re.findall(r"^[\w ]+ (lagffi_\w+)\(", it.read(), re.M))
+    for file, words, wanted in ("liblag.so.0", ["-D"], functions | {*RENAMED}), ("liblag.a", ["-g"], functions):
         told = ran(["nm", *words, "--defined-only", "--format=posix", os.path.join(root, "lib", file)]).stdout
         found = {line.split("@")[0].split(" ")[0] for line in told.split("\n") if " T " in line or " D " in line}
-        count.add(f"{file} shows the {len(wanted)} functions of lag.h", f"and also or not: {sorted(found ^ wanted)}" if found != wanted else "")
+        count.add(f"{file} shows the {len(functions)} functions of lag.h", f"and also or not: {sorted(found ^ wanted)}" if found != wanted else "")
     for file in ("lib/liblag.so.0", "sbin/lagd"):
         told = ran(["readelf", "-dlW", os.path.join(root, file)]).stdout
         missing = [it for it in ("NOW", "GNU_RELRO", "Elf file type is DYN") if it not in told]

@@ -6,16 +6,36 @@ import re
 import textwrap
 
 from lag_h import OWN_TEXTS, replaced
-from library import SYMBOL_VERSION
+from library import RENAMED
 from numbering import Variant
 from sources import Export
 
-def symbols(text: str, exports: list[Export], version: str) -> str:
-    """The functions of the library for dpkg-gensymbols. One that is new has the version of this release."""
-    head = [line for line in text.splitlines() if "lagffi_" not in line]
+# The files that name the release, but for what is written by these, and what stands before its number.
+RELEASED = {
+    "crates/lagffi/include/lag.h": '#define NIW_VERSION_TEXT "',
+    "crates/lagtool/src/help.rt": 'pub const VERSION: &str = "',
+    "crates/lagtool/src/tests.rt": '"--version"], &["lagtool ',
+    "examples/rust/Cargo.toml": 'name = "two_ends"\nversion = "',
+    "examples/rust/Cargo.lock": 'name = "two_ends"\nversion = "',
+    "README.md": "\n## State\n\n",
+}
+
+
+def symbols(text: str, exports: list[Export], release: str) -> str:
+    """The functions of the library for dpkg-gensymbols. One that is new has this release, and the version that is the release's alone."""
+    versions = re.findall(r"^ (LAG_\d+)@\1 (\S+)$", text, re.M)
     kept = {line.split("@")[0].strip(): line for line in text.splitlines() if line.startswith(" lagffi_")}
-    rows = [kept.get(name, f" {name}@{SYMBOL_VERSION} {version}") for name in sorted(f"lagffi_{it.name}" for it in exports)]
-    return "\n".join([*head, *rows]) + "\n"
+    names = sorted([*(f"lagffi_{it.name}" for it in exports), *RENAMED])
+    own = next((version for version, its in versions if its == release), f"LAG_{len(versions)}")
+    head = [line for line in text.splitlines() if "lagffi_" not in line]
+    if (own, release) not in versions and any(name not in kept for name in names):
+        head.append(f" {own}@{own} {release}")
+    return "\n".join([*head, *(kept.get(name, f" {name}@{own} {release}") for name in names)]) + "\n"
+
+
+def released(text: str, before: str, release: str) -> str:
+    """A text that names the release, behind these words."""
+    return replaced(text, rf"({re.escape(before)})(\d+\.\d+\.\d+)()", f"the release behind {before!r}", release)
 
 
 def called(text: str, exports: list[Export]) -> str:

@@ -258,10 +258,27 @@ def test_a_refusal_keeps_its_cells_and_a_new_one_says_its_line(monkeypatch: pyte
     assert made == text.replace("|old||\n", refuses)[: -len(f"|`SystemFault`|1|`NoRoad`|d||\n{shut}")] + rows + behind
 
 
-def test_a_symbol_keeps_its_version_and_a_new_one_has_that_of_the_release() -> None:
-    old = "liblag.so.0 liblag0\n LAG_0@LAG_0 0.1.0\n lagffi_gone@LAG_0 0.1.0\n lagffi_tick@LAG_0 0.1.0\n"
+def test_a_symbol_keeps_its_version_and_a_new_one_has_that_of_the_release(monkeypatch: pytest.MonkeyPatch) -> None:
+    monkeypatch.setattr(elsewhere, "RENAMED", {"lagffi_told": "lagffi_tell"})
+    old = "liblag.so.0 liblag0\n LAG_0@LAG_0 0.1.0\n lagffi_gone@LAG_0 0.1.0\n lagffi_tick@LAG_0 0.1.0\n lagffi_told@LAG_0 0.1.0\n"
     made = elsewhere.symbols(old, [TELL, TICK], "0.2.0")
-    assert made == "liblag.so.0 liblag0\n LAG_0@LAG_0 0.1.0\n lagffi_tell@LAG_0 0.2.0\n lagffi_tick@LAG_0 0.1.0\n"
+    head = "liblag.so.0 liblag0\n LAG_0@LAG_0 0.1.0\n LAG_1@LAG_1 0.2.0\n"
+    assert made == f"{head} lagffi_tell@LAG_1 0.2.0\n lagffi_tick@LAG_0 0.1.0\n lagffi_told@LAG_0 0.1.0\n"
+    assert elsewhere.symbols(made, [TELL, TICK], "0.3.0") == made
+
+
+def test_one_more_symbol_of_a_release_has_its_version(monkeypatch: pytest.MonkeyPatch) -> None:
+    monkeypatch.setattr(elsewhere, "RENAMED", {})
+    old = "liblag.so.0 liblag0\n LAG_0@LAG_0 0.1.0\n LAG_1@LAG_1 0.2.0\n lagffi_tick@LAG_0 0.1.0\n"
+    assert " lagffi_tell@LAG_1 0.2.0\n" in elsewhere.symbols(old, [TELL, TICK], "0.2.0")
+    assert " LAG_2@LAG_2 0.3.0\n lagffi_tell@LAG_2 0.3.0\n" in elsewhere.symbols(old, [TELL, TICK], "0.3.0")
+
+
+def test_the_release_is_written_where_it_stands_once() -> None:
+    text = 'name = "a"\nversion = "0.1.0"\nneeds = "0.1.0"\n'
+    assert elsewhere.released(text, '\nversion = "', "0.12.3") == text.replace('version = "0.1.0"', 'version = "0.12.3"')
+    with pytest.raises(lag_h.Missing, match="not found once"):
+        elsewhere.released(text, 'edition = "', "0.2.0")
 
 
 def test_the_c_program_lists_each_export() -> None:

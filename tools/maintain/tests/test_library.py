@@ -33,11 +33,18 @@ def test_a_header_without_a_function_is_refused(tmp_path: Path, monkeypatch: pyt
         library.exports()
 
 
-def test_each_function_of_lag_h_is_shown_and_nothing_else(tmp_path: Path) -> None:
+def test_each_function_is_shown_in_its_version_and_nothing_else(tmp_path: Path, monkeypatch: pytest.MonkeyPatch) -> None:
+    symbols = tmp_path / "symbols"
+    symbols.write_text(" LAG_0@LAG_0 0.1.0\n LAG_1@LAG_1 0.2.0\n lagffi_a@LAG_1 0.2.0\n lagffi_b@LAG_0 0.1.0\n", encoding="utf-8")
+    monkeypatch.setattr(library, "SYMBOLS", str(symbols))
     with open(library.version_script(str(tmp_path)), encoding="utf-8") as it:
-        lines = [line.strip() for line in it]
-    shown = [f"{name};" for name in library.exports()]
-    assert lines == [f"{library.SYMBOL_VERSION} {{", "global:", *shown, "local:", "*;", "};"]
+        words = it.read().split()
+    assert words == ["LAG_0", "{", "global:", "lagffi_b;", "local:", "*;", "};", "LAG_1", "{", "global:", "lagffi_a;", "}", "LAG_0;"]
+
+
+def test_the_library_shows_old_names_of_functions_that_it_has() -> None:
+    assert set(library.RENAMED.values()) <= set(library.exports())
+    assert set(library.loaded()) == {*library.exports(), *library.RENAMED} and len(library.loaded()) > len(library.exports())
 
 
 def test_what_a_command_prints() -> None:
