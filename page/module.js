@@ -43,7 +43,7 @@ function called(module, name, inputs) {
 
 /* Explains a capture, octets or a file, piece by piece: one piece, and the text of one, is in memory at a time. A file is read as a worker
  * alone can. It yields the text of each piece, whole lines, and how many octets are read; it returns what is told. */
-function* explained(module, given, numbers, most = 1048576) {
+export function* explained(module, given, numbers, most = 1048576) {
     const NO_ROOM = 1, decoder = new TextDecoder(), size = given.size ?? given.length;
     const { exports } = new WebAssembly.Instance(module), reader = given.size === undefined ? null : new FileReaderSync();
     const capture = taken(exports, 32), piece = taken(exports, most), answer = taken(exports, 32); // the handle is 0 before it is opened
@@ -96,7 +96,7 @@ function allOf(steps) {
 }
 
 const asOctets = (it) => (typeof it === "string" ? new TextEncoder().encode(it) : it);
-const numbersOf = ({ all = false, frames = true, json = false } = {}) => [all ? 1 : 0, frames ? 0 : 1, json ? 1 : 0];
+export const numbersOf = ({ all = false, frames = true, json = false } = {}) => [all ? 1 : 0, frames ? 0 : 1, json ? 1 : 0];
 
 /* The export of each job but a capture. */
 const JOBS = { replay: "lagpage_replay", decode: "lagpage_decode", respond: "lagpage_respond", vectors: "lagpage_vectors" };

@@ -2,6 +2,7 @@
 
 from __future__ import annotations
 
+import os
 import re
 
 import pytest
@@ -39,3 +40,12 @@ def test_a_module_for_another_processor_is_retargeted_or_refused() -> None:
     assert 'target triple = "wasm64-unknown-unknown"' in made and '"target-cpu"="lime1"' in made and "x86" not in made
     with pytest.raises(module.Missing, match="llvm.x86.sse2"):
         module.retargeted("call void @llvm.x86.sse2.pause()\n")
+
+
+def test_trouble_ranks_findings_as_the_page_does() -> None:
+    of_page = dict(re.findall(r"(LEADING|FOLLOWING|REMARKS) = \[([\d, ]+)\]", packing.text_of("capture.js") + packing.text_of("records.js")))
+    with open(os.path.join(packing.TOP, "docs", "TROUBLE.md"), encoding="utf-8") as it:
+        told = re.search(r"Rules (.*) explain others\. Those of (.*) often follow[^.]*\.\s+(.*) want nothing\.", it.read())
+    assert told
+    for name, text in zip(("LEADING", "FOLLOWING", "REMARKS"), told.groups()):
+        assert sorted(re.findall(r"\d+", text)) == sorted(re.findall(r"\d+", of_page[name])), name

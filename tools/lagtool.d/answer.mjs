@@ -1,0 +1,53 @@
+/* Answers the words of lagtool, where node runs this, by the module of docs/try.html: the proved code, compiled by a way that no verdict names.
+ * It has each job but `check`. Standard input is read to its end first; of a file a piece at a time. */
+import { fstatSync, openSync, readFileSync, readSync } from "node:fs";
+
+const at = (path) => new URL(`../../${path}`, import.meta.url);
+const { Lagtool, explained, numbersOf } = await import(`data:text/javascript;base64,${readFileSync(at("page/module.js"), "base64")}`);
+const PAGE = /<script type="application\/x-base64" id="module">([^<]*)</, JOBS = { capture: 1, replay: 1, decode: 1, respond: 2, vectors: 0 };
+
+const words = process.argv.slice(2), options = [];
+while (words[0]?.startsWith("--")) options.push(words.shift());
+const [name, ...given] = words, file = given[0] === "-" ? "standard input" : given[0];
+
+/* A file as explained() reads one; the octets of what is no plain file. */
+function opened(path) {
+    const from = path === "-" ? 0 : openSync(path), found = fstatSync(from);
+    if (!found.isFile()) return readFileSync(from);
+    globalThis.FileReaderSync = class {
+        readAsArrayBuffer({ first, last }) {
+            const piece = Buffer.alloc(last - first);
+            return piece.subarray(0, readSync(from, piece, 0, piece.length, first));
+        }
+    };
+    return { size: found.size, slice: (first, last) => ({ first, last: Math.min(last, found.size) }) };
+}
+
+function* steps(lagtool) {
+    if (name === "capture") {
+        const [all, hasNoFrames, json] = ["--all", "--no-frames", "--json"].map((it) => options.includes(it));
+        return yield* explained(lagtool.module, opened(given[0]), numbersOf({ all, frames: !hasNoFrames, json }));
+    }
+    const told = lagtool.now(name, ...(name === "replay" ? [readFileSync(given[0] === "-" ? 0 : given[0])] : given));
+    yield told;
+    return told;
+}
+
+/* The exit status, after all is written. */
+async function answered() {
+    if (JOBS[name] !== given.length) throw new Error(`without the toolchain: [OPTION..] ${Object.keys(JOBS).join(", ")}, and their words`);
+    const answer = steps(await Lagtool.of(Buffer.from(PAGE.exec(readFileSync(at("docs/try.html"), "latin1"))[1], "base64")));
+    let step = answer.next();
+    for (; !step.done; step = answer.next()) process.stdout.write(step.value.printed);
+    const [first, ...more] = step.value.said.split("\n").filter(Boolean);
+    if (first) console.error(`lagtool: ${first.replace(/^cannot read: /, `cannot read ${given[0]}: `)}`);
+    if (options.includes("--explain")) more.forEach((it) => console.error(`lagtool: ${it.replace(/^script(?=:)/, file)}`));
+    return step.value.status;
+}
+
+process.stdout.on("error", () => process.exit(141)); // nobody reads on
+answered().catch((error) => {
+    console.error(`lagtool: ${error.syscall ? `cannot read ${given[0]}` : error.message}`);
+    if (error.syscall && options.includes("--explain")) console.error(`lagtool: ${error.message}`);
+    return 2;
+}).then((status) => { process.exitCode = status; });

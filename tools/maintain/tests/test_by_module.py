@@ -1,0 +1,66 @@
+"""What tools/lagtool answers where there is neither the program nor rt: what examples/ stores, where there is node."""
+
+from __future__ import annotations
+
+import os
+import shutil
+import subprocess
+
+import pytest
+
+import loading
+from repository import Missing
+
+EXAMPLES = os.path.join(os.path.dirname(loading.TOOLS), "examples")
+CAPTURES = os.path.join(EXAMPLES, "captures")
+ANSWER = os.path.join(loading.TOOLS, "lagtool.d", "answer.mjs")
+ENDS = {".json": "--json", ".report.txt": "--no-frames"}
+STORED = [(it, end) for it in sorted(os.listdir(CAPTURES)) if ".pcap" in it for end in ENDS if os.path.exists(os.path.join(CAPTURES, it.partition(".")[0] + end))]
+SCRIPTS = [it for it in sorted(os.listdir(EXAMPLES)) if it.endswith(".toml")]
+needs_node = pytest.mark.skipif(not shutil.which("node"), reason="there is no node")
+
+
+def answer(*words: str, given: bytes | None = None) -> tuple[int, str, str]:
+    """The status, what is printed and what is said."""
+    ended = subprocess.run(["node", ANSWER, *words], input=given or b"", capture_output=True)
+    return ended.returncode, ended.stdout.decode(), ended.stderr.decode()
+
+
+def read(path: str) -> str:
+    with open(path, encoding="utf-8") as it:
+        return it.read()
+
+
+@needs_node
+@pytest.mark.parametrize("name, end", STORED)
+def test_a_capture_gives_what_is_stored(name: str, end: str) -> None:
+    path = os.path.join(CAPTURES, name)
+    assert answer(ENDS[end], "capture", path) == (1, read(path.rpartition(".")[0] + end), "")
+
+
+@needs_node
+@pytest.mark.parametrize("name", SCRIPTS)
+def test_a_script_gives_its_report(name: str) -> None:
+    path = os.path.join(EXAMPLES, name)
+    assert answer("replay", path) == (0, read(f"{path.removesuffix('.toml')}.txt"), "")
+
+
+@needs_node
+def test_standard_input_vectors_and_refusals() -> None:
+    path = os.path.join(CAPTURES, "flapping.pcap")
+    with open(path, "rb") as it:
+        assert answer("capture", "-", given=it.read()) == answer("capture", path)
+    assert answer("vectors")[1].endswith("vectors 10 failed 0\n")
+    assert answer("decode", "zz") == (2, "", "lagtool: not hex\n")
+    assert answer("capture", "/none") == (2, "", "lagtool: cannot read /none\n")
+    assert answer("--explain", "replay", "-", given=b"a = 1")[2].startswith("lagtool: script: extra key\nlagtool: standard input: unknown key")
+    status, printed, said = answer("capture", os.path.abspath(__file__))
+    assert (status, printed) == (2, "packets 0 slow 0 ends 0 findings 0\n") and "octet 0: neither pcap nor pcapng" in said
+    assert answer("check", path)[0] == answer("capture")[0] == 2
+
+
+def test_where_there_is_no_node_a_line_leads_to_the_browser(monkeypatch: pytest.MonkeyPatch) -> None:
+    lagtool = loading.program("lagtool")
+    monkeypatch.setattr(lagtool.shutil, "which", lambda _: None)
+    with pytest.raises(Missing, match="docs/try.html answers in a browser"):
+        lagtool.by_module(["vectors"])
