@@ -23,16 +23,17 @@ def test_rows_have_as_many_cells_as_their_head() -> None:
 @pytest.mark.parametrize(
     ("rows", "found"),
     [
-        ("|1|too late (6.4.13)|x|\n|2|a tag (6.4.2.2), or two|y|", []),
+        ("|1|too late (6.4.13)|x|\n|2|a tag (6.4.2.2), or two|nothing, if one|", []),
         ("|1|too late (6.4.13)|x|", ["''"]),
-        ("|1|too late (6.4.12)|x|\n|2|a tag (6.4.2.2)|y|", ["'|1|too late (6.4.12)|x|'"]),
-        ("|1|too late (6.4.13)|x|\n|2|a tag (6.4.2.2)|y|\n|3|old (6.4.4)|z|", ["'|3|old (6.4.4)|z|'"]),
+        ("|1|too late (6.4.12)|x|\n|2|a tag (6.4.2.2)|nothing|", ["'|1|too late (6.4.12)|x|'"]),
+        ("|1|too late (6.4.13)|x|\n|2|a tag (6.4.2.2)|nothing|\n|3|old (6.4.4)|z|", ["'|3|old (6.4.4)|z|'"]),
+        ("|1|too late (6.4.13)|nothing|\n|2|a tag (6.4.2.2)|y|", ["'|1|too late (6.4.13)|nothing|'", "'|2|a tag (6.4.2.2)|y|'"]),
     ],
 )
 def test_each_rule_of_findings_has_a_row(rows: str, found: list[str]) -> None:
     rules = "".join(
-        f'RuleRow {{\n    number: {number},\n    name: "{name}",\n    clause: "{clause}",\n}}'
-        for number, name, clause in [(1, "too late", "6.4.13"), (2, "a tag", "6.4.2.2")]
+        f'RuleRow {{\n    number: {number},\n    name: "{name}",\n    clause: "{clause}",\n    advice: "{advice}",\n}}'
+        for number, name, clause, advice in [(1, "too late", "6.4.13", "Look."), (2, "a tag", "6.4.2.2", "None is needed: it goes.")]
     )
     page = f"|other|\n|---|\n|7|\n\n|rule|name|\n|---|---|---|\n{rows}\n\nbehind\n"
     said = pages.unlike(rules, page)
