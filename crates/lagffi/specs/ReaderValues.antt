@@ -1,4 +1,4 @@
--- What a program in C is told of a port.
+-- What a program in C is told of a port, of a conversation, of the next marker, and of how long nothing happens by itself.
 use Rattle.std.specs.Prelude.{ℕ, true, false, List, [], ◌∷◌, Option, None, Some}
 use Rattle.distributor.specs.declared.assignment.Assignment.{Assignment}
 use Rattle.distributor.specs.declared.assignment.Assignment.TheVariants.{Free, On, Wanted, Flushing}

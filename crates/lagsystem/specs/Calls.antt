@@ -1,4 +1,4 @@
--- What each call of a system does, as a relation between the states before and after it.
+-- What each call of `drive` does, as a relation between the states before and after it.
 use Rattle.std.specs.Prelude.{◌≡◌, ◌≤◌, ◌<◌, ◌⊎◌, ℕ, Bool, true, false, List, [], ◌∷◌, length, drop, ◌==◌, ◌&&◌, Option, Some, None}
 use Rattle.std.specs.Prelude.{slice_get, slice_set, Ok, Err}
 use Rattle.std.specs.Bool.{IsFalse}

@@ -1,4 +1,4 @@
--- All calls that change a system: those of `drive`, and five more, of hosts with a data plane (profile).
+-- The calls of `HostCall`: those of `drive`, and five more, of hosts with a data plane. Settings are none of them (profile).
 use Rattle.std.specs.Prelude.{◌≡◌, ℕ, List, [], ◌∷◌, IfOk, Ok, length}
 use Rattle.lagmodel.specs.View.{ModelCall}
 use Rattle.portmachines.specs.Window.{KeepsWindow}

@@ -1,4 +1,4 @@
--- The single steps of a replay.
+-- What single steps of a replay make: its report from the counts of both systems, and cables that are empty.
 use Rattle.std.specs.Prelude.{◌≡◌, ℕ, ◌++◌, List, [], ◌∷◌, length, map, Option}
 use Rattle.cables.specs.AnyCable.{any_items, any_limit}
 use Rattle.cables.specs.declared.any.AnyCable.{AnyCable}

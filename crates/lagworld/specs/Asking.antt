@@ -1,4 +1,4 @@
--- What a call of one of the two systems changes, and its result.
+-- What a call of one of the two systems changes, and its result; and what a Lose event changes.
 use Rattle.std.specs.Prelude.{ℕ, Bool, List, Option, Result, if◌then◌else◌}
 use Rattle.lagtypes.specs.declared.identifiers.AggId.{AggId}
 use Rattle.lagsystem.specs.declared.drive.Reply.TheVariants as answer

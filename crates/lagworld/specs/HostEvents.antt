@@ -1,4 +1,4 @@
--- Two systems and all that hosts with a data plane call: the events, and the five calls that are no events (profile).
+-- Two systems and hosts with a data plane: the events, and the five calls of `HostCall` that are no events (profile).
 use Rattle.std.specs.Prelude.{◌≡◌, ◌≤◌, ◌⊎◌, ℕ, Bool, ◌&&◌, ◌||◌, true, nat_lt, List, [], ◌∷◌, length, Option, Some, None, option_map, Result, Ok, Err}
 use Rattle.lagtypes.specs.declared.identifiers.AggId.{AggId}
 use Rattle.cables.specs.declared.item.Stamp.TheVariants as stamp

@@ -1,4 +1,4 @@
--- A world as contracts see it.
+-- A world as contracts see it, and what five of its events do.
 use Rattle.std.specs.Prelude.{◌≡◌, ℕ, List, map, Option}
 use Rattle.cables.specs.declared.item.Item.{Item}
 use Rattle.lagtypes.specs.declared.identifiers.AggId.{AggId}

@@ -15,10 +15,10 @@ fn control(alloc: Global, count: u64) -> Item {
 fn data(alloc: Global) -> Result<Item, AllocError> {
     let bytes = Vec::from_slice(alloc, &[2, 0, 0, 0, 0, 0x20, 2, 0, 0, 0, 0, 0x10, 8, 0])?;
     let stamp = Stamp::Data {
-        system: 1,
-        agg: 1,
+        system: 2,
+        agg: 3,
         conv: 48,
-        serial: 0,
+        serial: 5,
     };
     Ok(Item { bytes, stamp })
 }

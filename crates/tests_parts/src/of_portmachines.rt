@@ -1,3 +1,5 @@
+mod modes;
+
 ghost use Rattle.std.specs.Prelude.{◌≡◌, ◌∷◌, []};
 ghost use Rattle.portmachines.specs.Window.{KeepsWindow, within_eleven};
 
@@ -404,35 +406,6 @@ fn another_party_starts_the_machines_again(rt: HostRuntime) {
 }
 
 #[test]
-fn another_mode_is_told_to_the_partner(rt: HostRuntime) {
-    let steps = [
-        Step::Sends(Some(0xc7)),
-        // active and short, as before
-        Step::Mode(true, true),
-        Step::Is(Fact::Ntt(false)),
-        Step::Mode(true, false),
-        Step::Is(Fact::Ntt(true)),
-        Step::Is(Fact::CurrentWhile(20)),
-        Step::Sends(Some(0xc5)),
-        Step::Mode(false, false),
-        Step::Sends(Some(0xc4)),
-        // three were sent
-        Step::Mode(false, true),
-        Step::Sends(None),
-        Step::Is(Fact::State(0xc6)),
-        // the next LACPDU starts current_while with the time that is set
-        Step::Mode(false, false),
-        Step::Take(0x05),
-        Step::Is(Fact::CurrentWhile(900)),
-        Step::Mode(false, true),
-        Step::Is(Fact::CurrentWhile(900)),
-        Step::Take(0x05),
-        Step::Is(Fact::CurrentWhile(30)),
-    ];
-    walk(&rt, port_after_a_second(), &steps);
-}
-
-#[test]
 fn each_timer_counts_by_itself(rt: HostRuntime) {
     let steps = [
         Step::Select(SELECTED),
@@ -587,31 +560,6 @@ fn what_is_recorded_of_synchronization(rt: HostRuntime) {
     // every bit but Synchronization is recorded as it came
     records(&rt, true, 0xff, end(1, 0x07), 0xff);
     records(&rt, true, 0xf5, end(1, 0x07), 0xf5);
-}
-
-#[test]
-fn timers_by_whose_timeout(rt: HostRuntime) {
-    let known = end(1, 0x07);
-    walk(
-        &rt,
-        quiet_port(true, true),
-        &[Step::Told(0x05, known), Step::Is(Fact::CurrentWhile(30))],
-    );
-    walk(
-        &rt,
-        quiet_port(true, false),
-        &[Step::Told(0x07, known), Step::Is(Fact::CurrentWhile(900))],
-    );
-    let steps = [
-        Step::Told(0x05, known),
-        Step::Periodic,
-        Step::Is(Fact::PeriodicIn(PeriodicState::Slow)),
-        Step::Told(0x07, known),
-        Step::Periodic,
-        Step::Is(Fact::PeriodicIn(PeriodicState::Fast)),
-        Step::Is(Fact::PeriodicTimer(10)),
-    ];
-    walk(&rt, quiet_port(true, true), &steps);
 }
 
 #[test]

@@ -135,7 +135,7 @@ fn frame(ether_type: [u8; 2], subtype: u8, tlv_type: u8) -> [u8; 17] {
 }
 
 /// What came, and what became of it. The last two do not count.
-fn arrivals() -> [([u8; 17], Received); 16] {
+fn arrivals() -> [([u8; 17], Received); 17] {
     let (slow, other) = ([0x88, 0x09], [0x08, 0x00]);
     let short = Received::Ignored(WireFault::Short { have: 3 });
     let mut elsewhere = frame(other, 3, 0);
@@ -164,6 +164,10 @@ fn arrivals() -> [([u8; 17], Received); 16] {
             frame(slow, 11, 0),
             Received::Ignored(WireFault::OtherSubtype(11)),
         ),
+        (
+            frame(slow, 255, 0),
+            Received::Ignored(WireFault::OtherSubtype(255)),
+        ),
         (frame(slow, 1, 1), Received::Disabled),
         (elsewhere, Received::Up(AggId(1))),
     ]
@@ -182,15 +186,15 @@ fn each_frame_counts_once(rt: HostRuntime) {
         &frame(slow, 3, 0)[..14],
         &Received::Ignored(WireFault::Short { have: 0 }),
     );
-    for octets in &[
-        frame(slow, 1, 1),
-        frame(slow, 1, 2),
-        frame(slow, 2, 1),
-        frame(slow, 2, 2),
-        frame(slow, 2, 2),
-        frame(slow, 2, 2),
+    for (octets, times) in &[
+        (frame(slow, 1, 1), 3u8),
+        (frame(slow, 1, 2), 1),
+        (frame(slow, 2, 1), 7),
+        (frame(slow, 2, 2), 8),
     ] {
-        counters.count_sent(octets);
+        for _ in 0..*times {
+            counters.count_sent(octets);
+        }
     }
     for octets in &[
         frame(slow, 2, 3),
@@ -205,10 +209,10 @@ fn each_frame_counts_once(rt: HostRuntime) {
         markers_received: 2,
         marker_responses_received: 3,
         unknown_received: 5,
-        illegal_received: 5,
-        lacpdus_sent: 2,
-        markers_sent: 1,
-        marker_responses_sent: 3,
+        illegal_received: 6,
+        lacpdus_sent: 4,
+        markers_sent: 7,
+        marker_responses_sent: 8,
     };
     same_in_row(&rt, 0, &counters, &wanted);
 }

@@ -244,29 +244,30 @@ fn refusals_have_numbers_and_texts(rt: HostRuntime) -> Result<(), AllocError> {
 /// CollectorMaxDelay.
 #[test]
 fn a_port_is_as_it_is_configured(rt: HostRuntime) -> Result<(), SystemFault> {
-    let mut given = config(rt.alloc(), &[1], 1)?;
+    let mut given = config(rt.alloc(), &[5], 1)?;
     given.max_delay = 7;
+    given.aggregators = Vec::from_slice(rt.alloc(), &[Key(3)])?;
     let port = PortConfig {
-        number: 1,
+        number: 5,
         priority: 9,
-        mac: mac(1),
-        key: Key(1),
+        mac: mac(4),
+        key: Key(3),
         aggregatable: false,
         active: false,
         short: false,
     };
     given.ports = Vec::from_slice(rt.alloc(), &[port])?;
-    let theirs = end(2, 1, 1, 0x07);
-    let mut own = end(1, 1, 1, 0x00);
+    let theirs = end(2, 6, 8, 0x07);
+    let mut own = end(1, 5, 3, 0x00);
     own.port.priority = 9;
     let mut system = System::new(rt.alloc(), given, modulo)?;
-    same(&rt, "party", &system.party(1), &Some(own.party()));
-    same(&rt, "set_link", &system.set_link(1, true), &Ok(()));
+    same(&rt, "party", &system.party(5), &Some(own.party()));
+    same(&rt, "set_link", &system.set_link(5, true), &Ok(()));
     let heard = frame(mac(9), &lacpdu(theirs, no_partner(0)));
     same(
         &rt,
         "receive",
-        &system.receive(1, &heard),
+        &system.receive(5, &heard),
         &Ok(Received::TookLacpdu),
     );
     let due = Lacpdu {
@@ -277,17 +278,18 @@ fn a_port_is_as_it_is_configured(rt: HostRuntime) -> Result<(), SystemFault> {
     same(
         &rt,
         "transmit",
-        &system.transmit(1),
-        &Ok(Some(frame(mac(1), &due.encode()))),
+        &system.transmit(5),
+        &Ok(Some(frame(mac(4), &due.encode()))),
     );
     let change = PortChange {
-        key: Key(1),
+        key: Key(12),
         priority: 10,
         aggregatable: true,
     };
-    same(&rt, "configure", &system.configure(1, change), &Ok(true));
+    same(&rt, "configure", &system.configure(5, change), &Ok(true));
+    own.key = Key(12);
     own.port.priority = 10;
     own.state = State::from_bits_retain(0x04);
-    same(&rt, "party", &system.party(1), &Some(own.party()));
+    same(&rt, "party", &system.party(5), &Some(own.party()));
     Ok(())
 }

@@ -21,15 +21,18 @@ fn hears(port: u16) -> Row<'static> {
     Row::Takes(port, theirs(port), ours(port, 0x07))
 }
 
-/// Ports 1 and 2 come up, and distribute.
+/// A data frame of conversation 50.
+const OTHER_DATA: [u8; 14] = [2, 0, 0, 0, 0, 0x22, 2, 0, 0, 0, 0, 0x10, 8, 0];
+
+/// Ports 3 and 4 come up, and distribute.
 fn two_up() -> [Row<'static>; 6] {
     [
-        Row::Link(1, true),
-        Row::Link(2, true),
-        hears(1),
-        hears(2),
+        Row::Link(3, true),
+        Row::Link(4, true),
+        hears(3),
+        hears(4),
         Row::Ticks(20),
-        Row::Distributing(1, &[1, 2]),
+        Row::Distributing(1, &[3, 4]),
     ]
 }
 
@@ -60,60 +63,63 @@ fn a_port_is_held_before_its_link_comes_up(rt: HostRuntime) -> Result<(), System
 
 #[test]
 fn a_port_that_distributes_leaves_when_it_is_held(rt: HostRuntime) -> Result<(), SystemFault> {
+    let mut given = config(rt.alloc(), &[3, 4], 1)?;
+    given.first_marker = 5;
     let held = [
-        Row::Offers(1, &DATA, Ok(1)),
-        Row::Sends(1, ours(1, 0x3f), theirs(1)),
-        Row::Holds(1, true, Ok(())),
-        Row::Chosen(1, Choice::Unselected),
-        Row::Mux(1, MuxState::Detached),
-        Row::Status(1, PortStatus::Held),
-        Row::Distributing(1, &[2]),
+        Row::Offers(1, &DATA, Ok(3)),
+        Row::Offers(1, &OTHER_DATA, Ok(3)),
+        Row::Sends(3, ours(3, 0x3f), theirs(3)),
+        Row::Holds(3, true, Ok(())),
+        Row::Chosen(3, Choice::Unselected),
+        Row::Mux(3, MuxState::Detached),
+        Row::Status(3, PortStatus::Held),
+        Row::Distributing(1, &[4]),
         Row::Conversing(
             1,
             48,
             Some(Assignment::Wanted {
-                port: 1,
+                port: 3,
                 preferred: None,
             }),
         ),
-        Row::Timers(1, 10, 0, true),
+        Row::Timers(3, 10, 0, true),
         Row::Offers(1, &DATA, Err(SystemFault::Held)),
-        Row::Sends(1, ours(1, 0x07), theirs(1)),
-        Row::Marks(1, 1),
-        Row::Releases(1, marker(MarkerKind::Response, 1, 1, 1), 1),
-        Row::Offers(1, &DATA, Ok(2)),
+        Row::Sends(3, ours(3, 0x07), theirs(3)),
+        Row::Marks(3, 5),
+        Row::Releases(3, marker(MarkerKind::Response, 3, 1, 5), 2),
+        Row::Offers(1, &DATA, Ok(4)),
     ];
     let let_go = [
         // the peer's port has left its aggregator
-        Row::Takes(1, end(2, 1, 1, 0x05), ours(1, 0x07)),
-        Row::Timers(1, 30, 0, false),
-        Row::Holds(1, true, Ok(())),
-        Row::Timers(1, 30, 0, false),
-        Row::Status(1, PortStatus::Held),
-        Row::Holds(1, false, Ok(())),
-        Row::Status(1, PortStatus::Waiting(20)),
-        Row::Holds(1, false, Ok(())),
-        Row::Status(1, PortStatus::Waiting(20)),
+        Row::Takes(3, end(2, 3, 1, 0x05), ours(3, 0x07)),
+        Row::Timers(3, 30, 0, false),
+        Row::Holds(3, true, Ok(())),
+        Row::Timers(3, 30, 0, false),
+        Row::Status(3, PortStatus::Held),
+        Row::Holds(3, false, Ok(())),
+        Row::Status(3, PortStatus::Waiting(20)),
+        Row::Holds(3, false, Ok(())),
+        Row::Status(3, PortStatus::Waiting(20)),
     ];
-    plays_with(&rt, rt.alloc(), &[1, 2], 1, &[&two_up(), &held, &let_go])
+    plays_lists(&rt, rt.alloc(), given, &[&two_up(), &held, &let_go])
 }
 
 #[test]
 fn a_restart_lets_each_port_go(rt: HostRuntime) -> Result<(), SystemFault> {
     let rows = [
-        Row::Holds(1, true, Ok(())),
-        Row::Holds(2, true, Ok(())),
+        Row::Holds(3, true, Ok(())),
+        Row::Holds(4, true, Ok(())),
         Row::Distributing(1, &[]),
         Row::Offers(1, &DATA, Err(SystemFault::NoneDistributing)),
-        Row::Holds(3, true, Err(SystemFault::NoPort)),
-        Row::Mode(3, true, true, Err(SystemFault::NoPort)),
+        Row::Holds(5, true, Err(SystemFault::NoPort)),
+        Row::Mode(5, true, true, Err(SystemFault::NoPort)),
         Row::Restart,
-        Row::Link(1, true),
-        Row::Status(1, PortStatus::NoLacpdu),
-        hears(1),
-        Row::Chosen(1, SELECTED),
+        Row::Link(3, true),
+        Row::Status(3, PortStatus::NoLacpdu),
+        hears(3),
+        Row::Chosen(3, SELECTED),
     ];
-    plays_with(&rt, rt.alloc(), &[1, 2], 1, &[&two_up(), &rows])
+    plays_with(&rt, rt.alloc(), &[3, 4], 1, &[&two_up(), &rows])
 }
 
 /// Ports 1, 2 and 3 come up, with one link for each aggregator: port 1 is its member.
