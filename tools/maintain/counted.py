@@ -65,12 +65,6 @@ def beside_cut_offs(pages: Read) -> list[str]:
     return 2 * [rounds, seconds(int(rounds))]
 
 
-def until_agreement(pages: Read) -> list[str]:
-    """The bounds in seconds, and how much later they are where frames arrive in the next round."""
-    up, late = bounds(pages, "up"), bounds(pages, "late_up")
-    return [*map(seconds, up), *(seconds(late[place] - up[place]) for place in (0, 1))]
-
-
 def ticks(report: str, begin: str, end: str = r"\Z") -> int:
     """The ticks of system 1 in a stored report, from a line on and up to another."""
     within = re.search(rf"^{begin}.*?(?:{end})", report, re.M | re.S)
@@ -163,9 +157,9 @@ def line_of(path: str, text: str) -> Callable[[Read], list[str]]:
 
 
 def shown_rule(pages: Read) -> list[str]:
-    """A line of a test of findings: the milliseconds, the rule and the frame, and in words the rule, the frame and the seconds."""
+    """A line of a test of findings: the milliseconds, the rule and the frame, and in words the seconds, the frame and the rule."""
     when, rule, frame = found(pages, "crates/tests_capture/src/links/of_findings.rt", r"shows\(&rt, &split, (\d+), &\[\((\d+), (\d+)\)\]\)")
-    return [when, rule, frame, rule, frame, rounded_to(Decimal(when) / 1000, "0.1")]
+    return [when, rule, frame, rounded_to(Decimal(when) / 1000, "0.1"), frame, rule]
 
 
 def octets_of_conversations(pages: Read) -> list[str]:
@@ -176,7 +170,7 @@ def last_status(pages: Read) -> list[str]:
     return [str(max(map(int, re.findall(r"NIW_PORT_STATUS_\w+ = (\d+)", pages.page(HEADER)))))]
 
 
-KEPT = "crates/findings/proofs/lacpdu_rules/LacpduRules/hear/Answers.antt", r"hasty = next c\.keep_earlier-(\d+)\.ensures"
+KEPT = "crates/findings/proofs/lacpdu_rules/LacpduRules/hear/Answers.antt", r"split = next c\.keep_earlier-(\d+)\.ensures"
 UNTIL_BOTH = figures_of(PRINTED, r'^PRINTS = "both ends distribute after (\d+) ticks of (\d+) ms')
 PROMISED = "|{} rounds, {} s|{} rounds, {} s|"
 
@@ -191,9 +185,8 @@ QUOTES: tuple[Quote, ...] = (
     Quote(USING, "It prints `both ends distribute after {} ticks of {} ms`", UNTIL_BOTH),
     Quote(CONTRIBUTING, "as there are processors and {} GB of memory for each", figures_of("tools/lanes.py", r"^EACH = (\d+)_000_000_000$")),
     Quote(CONTRIBUTING, "note: src/state.rt:{}:5: it is not proved", line_of("crates/lagtypes/src/state.rt", "pub fn is_collecting(")),
-    Quote(CONTRIBUTING, "hasty = next c.keep_earlier-{}.ensures", figures_of(*KEPT)),
-    Quote(CONTRIBUTING, "whose `c.keep_earlier-{}` counts calls", figures_of(*KEPT)),
-    Quote(CONTRIBUTING, "`shows(&rt, &split, {}, &[({}, {})])` in `tests_capture` (rule {}, by frame {}, behind {} s)", shown_rule),
+    Quote(CONTRIBUTING, "split = next c.keep_earlier-{}.ensures", figures_of(*KEPT)),
+    Quote(CONTRIBUTING, "`shows(&rt, &split, {}, &[({}, {})])`: by {} s frame {} shows rule {}, and nothing else", shown_rule),
     Quote(ASSURANCE, "with one conversation, two links, two moves and {} frames,",
           figures_of("tools/maintain/carry.d/models.py", r"^FRAMES, MORE = (\d+), \d+$", lambda it: word(int(it)))),
     Quote(ASSURANCE, "two rows hold of these after {} and {}, and after {} and {}: {} s and {} s (`ends_come_to_know_by_clocks`", late_rounds),
@@ -214,7 +207,7 @@ QUOTES: tuple[Quote, ...] = (
     Quote(TROUBLE, "one or both active|both distribute|{} s; with both active {} s until the first LACPDU, {} s of waiting|", coming_up),
     Quote(TROUBLE, "a break ends that both hosts noticed (`set_link`)|both distribute|{} s|", coming_back),
     Quote(TROUBLE, "and the ends ran on defaults meanwhile|both distribute|{} s: a port on defaults", after_one_round_more),
-    Quote(TROUBLE, "|at most {} s, or {} s if one end is active, and {} or {} s more if frames take up to 100 ms", until_agreement),
+    Quote(TROUBLE, "|at most {} s, or {} s if one end is active: bounds, not the least", lambda pages: late_rounds(pages)[-2:]),
     Quote(COMMAND, '{"record":"counts","packets":{},"slow":{},"ends":{},"findings":{},"beyond":{}}', counts_of_records),
     Quote(COMMAND, "Lines {} to {} send {} frames of conversation 48 on port 1, line {} asks for the move, and line {} is refused while the"
           " frames are held. The marker of line {} goes behind the frames; its response (line {}) frees the conversation,"
