@@ -33,9 +33,14 @@ pub(crate) fn mac_at(payload: &[u8], offset: usize) -> [u8; 6]
     ensures address { IsAddress result }
     ensures number { HoldsNumber payload.now (read_field offset 6 (big_number 6 result)) }
 {
-    let mut mac = [0; 6];
-    mac.copy_from_slice(&payload[offset..offset + 6]);
-    mac
+    [
+        payload[offset],
+        payload[offset + 1],
+        payload[offset + 2],
+        payload[offset + 3],
+        payload[offset + 4],
+        payload[offset + 5],
+    ]
 }
 
 /// The participant information in the 15 octets from this offset on.

@@ -31,7 +31,8 @@ pub(crate) fn put_mac(payload: &mut [u8], offset: usize, mac: [u8; 6])
     ensures put_octets { payload.new ≡ replaced payload.old offset mac }
     ensures address { IsAddress mac }
 {
-    put_octets(payload, offset, &mac);
+    let [a, b, c, d, e, last] = mac;
+    put_octets(payload, offset, &[a, b, c, d, e, last]);
 }
 
 /// Writes a number into two octets, the most significant first, from this offset on.
