@@ -18,6 +18,7 @@ use byteorder::{BigEndian, ByteOrder};
 use lagtypes::{Key, PortId, State, SystemId};
 
 /// The number in two octets, the most significant first, from this offset on.
+#[inline(always)]
 pub(crate) fn u16_at(payload: &[u8], offset: usize) -> u16
     requires { offset + 2 ≤ length payload.now }
     ensures { HoldsNumber payload.now (read_field offset 2 result) }
@@ -26,17 +27,24 @@ pub(crate) fn u16_at(payload: &[u8], offset: usize) -> u16
 }
 
 /// The MAC address in the six octets from this offset on.
+#[inline(always)]
 pub(crate) fn mac_at(payload: &[u8], offset: usize) -> [u8; 6]
     requires { offset + 6 ≤ length payload.now }
     ensures address { IsAddress result }
     ensures number { HoldsNumber payload.now (read_field offset 6 (big_number 6 result)) }
 {
-    let mut mac = [0; 6];
-    mac.copy_from_slice(&payload[offset..offset + 6]);
-    mac
+    [
+        payload[offset],
+        payload[offset + 1],
+        payload[offset + 2],
+        payload[offset + 3],
+        payload[offset + 4],
+        payload[offset + 5],
+    ]
 }
 
 /// The participant information in the 15 octets from this offset on.
+#[inline(always)]
 fn info_at(payload: &[u8], offset: usize) -> Info
     requires { offset + 15 ≤ length payload.now }
     ensures address { IsAddress result.system.mac }
@@ -57,6 +65,7 @@ fn info_at(payload: &[u8], offset: usize) -> Info
 }
 
 /// Refuses a payload if the length field at this offset has another value.
+#[inline(always)]
 pub(crate) fn expect_length(payload: &[u8], at: usize, expected: u8) -> Result<(), WireFault>
     requires { at < length payload.now }
     ensures ok { OnOk result (slice_index payload.now at ≡ expected) }
@@ -71,6 +80,7 @@ pub(crate) fn expect_length(payload: &[u8], at: usize, expected: u8) -> Result<(
 }
 
 /// Reads the payload of an LACPDU.
+#[inline(always)]
 fn decode_lacpdu(payload: &[u8]) -> Result<Pdu, WireFault>
     requires long_enough { payload_len ≤ length payload.now }
     requires subtype { slice_index payload.now 0 ≡ 1 }

@@ -16,6 +16,7 @@ use byteorder::{BigEndian, ByteOrder};
 pub(crate) const ZEROS: [u8; PAYLOAD_LEN] = [0; PAYLOAD_LEN];
 
 /// Writes octets into a payload, from this offset on.
+#[inline(always)]
 pub(crate) fn put_octets(payload: &mut [u8], offset: usize, octets: &[u8])
     requires { offset + length octets.now ≤ length payload.old }
     ensures { payload.new ≡ replaced payload.old offset octets.now }
@@ -24,15 +25,18 @@ pub(crate) fn put_octets(payload: &mut [u8], offset: usize, octets: &[u8])
 }
 
 /// Writes a MAC address into the six octets from this offset on.
+#[inline(always)]
 pub(crate) fn put_mac(payload: &mut [u8], offset: usize, mac: [u8; 6])
     requires { offset + 6 ≤ length payload.old }
     ensures put_octets { payload.new ≡ replaced payload.old offset mac }
     ensures address { IsAddress mac }
 {
-    put_octets(payload, offset, &mac);
+    let [a, b, c, d, e, last] = mac;
+    put_octets(payload, offset, &[a, b, c, d, e, last]);
 }
 
 /// Writes a number into two octets, the most significant first, from this offset on.
+#[inline(always)]
 pub(crate) fn put_u16(payload: &mut [u8], offset: usize, number: u16)
     requires { offset + 2 ≤ length payload.old }
     ensures put_octets { payload.new ≡ replaced payload.old offset (big_bytes 2 number) }
@@ -44,6 +48,7 @@ pub(crate) fn put_u16(payload: &mut [u8], offset: usize, number: u16)
 }
 
 /// Writes a number into four octets, the most significant first, from this offset on.
+#[inline(always)]
 pub(crate) fn put_u32(payload: &mut [u8], offset: usize, number: u32)
     requires { offset + 4 ≤ length payload.old }
     ensures put_octets { payload.new ≡ replaced payload.old offset (big_bytes 4 number) }
@@ -55,6 +60,7 @@ pub(crate) fn put_u32(payload: &mut [u8], offset: usize, number: u32)
 }
 
 /// Writes participant information into the 15 octets from this offset on.
+#[inline(always)]
 fn put_info(payload: &mut [u8], offset: usize, info: Info)
     requires { offset + 15 ≤ length payload.old }
     ensures put_octets { payload.new ≡ replaced payload.old offset (info_octets info) }
@@ -72,6 +78,7 @@ impl Lacpdu {
     // promise: a PDU is sent as the one payload of its table: 110 octets, each row at its offset, every other octet 0
     // contract: `Lacpdu::encode` (`Writes`), `Marker::encode` (`WritesMarker`); `one_payload_is_written`
     /// The payload of this LACPDU, 110 octets: version 1, and zero in every reserved octet (6.4.2.3).
+    #[inline(always)]
     pub fn encode(&self) -> [u8; 110]
         ensures { Writes result self.now }
     {

@@ -11,6 +11,7 @@ use crate::pdu::{Marker, MarkerKind, Pdu};
 use byteorder::{BigEndian, ByteOrder};
 
 /// The number in four octets, the most significant first, from this offset on.
+#[inline(always)]
 fn u32_at(payload: &[u8], offset: usize) -> u32
     requires { offset + 4 ≤ length payload.now }
     ensures { HoldsNumber payload.now (read_field offset 4 result) }
@@ -19,6 +20,7 @@ fn u32_at(payload: &[u8], offset: usize) -> u32
 }
 
 /// Reads the payload of a Marker PDU.
+#[inline(always)]
 pub(crate) fn decode_marker(payload: &[u8]) -> Result<Pdu, WireFault>
     requires long_enough { payload_len ≤ length payload.now }
     requires subtype { slice_index payload.now 0 ≡ 2 }
