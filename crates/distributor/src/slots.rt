@@ -92,8 +92,8 @@ impl Slots {
         let mut prev = vec![in alloc; 0; places as usize]?;
         let may_want = vec![in alloc; false; CHAINS as usize]?;
         let may_flush = vec![in alloc; false; CHAINS as usize]?;
-        close(&mut next, places);
-        close(&mut prev, places);
+        close(&mut next, count, places);
+        close(&mut prev, count, places);
         Ok(Slots {
             count,
             states,
@@ -344,8 +344,8 @@ impl Slots {
     {
         let places = self.count + CHAINS;
         free_each(&mut self.states, self.count);
-        close(&mut self.next, places);
-        close(&mut self.prev, places);
+        close(&mut self.next, self.count, places);
+        close(&mut self.prev, self.count, places);
         clear_flags(&mut self.may_want);
         clear_flags(&mut self.may_flush);
     }
@@ -393,13 +393,14 @@ impl Slots {
     }
 }
 
-/// Makes each entry a ring of its own, so that every chain is empty.
-fn close(links: &mut Vec<u32>, places: u32)
+/// Makes each entry after the slots a ring of its own, so that every chain is empty. The links of slots, which are free then, are
+/// in no ring, and stay as they are.
+fn close(links: &mut Vec<u32>, count: u32, places: u32)
     requires { length links.old.items ≡ places }
     ensures len { length links.new.items ≡ places }
-    ensures closed { (k : ℕ) → k < places → get_or links.new.items k 0 ≡ k }
+    ensures closed { (k : ℕ) → count ≤ k → k < places → get_or links.new.items k 0 ≡ k }
 {
-    for place in 0..places {
+    for place in count..places {
         links[place as usize] = place;
     }
 }
