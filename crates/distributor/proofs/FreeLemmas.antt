@@ -1,9 +1,7 @@
 -- Free states, copied piece by piece.
-use Rattle.std.proofs.Common.{take}
-use Rattle.std.proofs.lemmas.List.{replicate-append-replicate}
-use Rattle.std.proofs.lemmas.Slice.{take-put_mid}
+use Rattle.distributor.proofs.Common.{List, None, ap, arith, length, replicate, take, ℕ, ◌++◌, ◌+◌, ◌∙◌, ◌≡◌, ◌≤◌, length-replicate}
+use Rattle.distributor.proofs.Common.{replicate-append-replicate, take-put_mid, Assignment, Free}
 use borrow.Rule.Slice.PartMut.{put_mid}
-use Rattle.distributor.proofs.Common.{List, None, ap, arith, length, replicate, ℕ, ◌++◌, ◌+◌, ◌∙◌, ◌≡◌, ◌≤◌, length-replicate, Assignment, Free}
 
 -- free states are copied behind others that are free
 pub freed_on : (xs ys : List Assignment) (at piece k : ℕ) → at ≤ length xs → take at xs ≡ replicate at (Free None)

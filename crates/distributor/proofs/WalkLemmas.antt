@@ -467,9 +467,3 @@ all_free count states next prev few long nexts_long prevs_long nexts prevs free 
   joined = λ c lt. (nexts (count + c) (omega arith) (omega (arith, lt)), prevs (count + c) (omega arith) (omega (arith, lt)));
   homes = λ c k. sym (ap (λ s. bit (is_in_chain c s)) (free_past count states long free k));
 }
-
-pub freed_all : (count : ℕ) (states : List Assignment) → length states ≡ count → ((k : ℕ) → k < count → slot_state states k ≡ Free None)
-    → states ≡ replicate count (Free None)
-freed_all count states long free = ext_get_or (Free None) states (replicate count (Free None)) (long
-    ∙ sym (length-replicate count (Free None)))
-    (λ k lt. (let low : k < count = omega (arith, lt, long) in free k low ∙ sym (get_or-replicate count k (Free None) (Free None) low)))

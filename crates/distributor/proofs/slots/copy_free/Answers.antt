@@ -1,7 +1,4 @@
-use Rattle.std.proofs.Common.{rules}
-use Rattle.std.proofs.lemmas.List.{take-replicate}
-use Rattle.std.proofs.lemmas.Slice.{overwrites}
-use Rattle.distributor.proofs.Common.{None, arith, replicate, ◌∙◌, ◌≡◌, Free}
+use Rattle.distributor.proofs.Common.{None, arith, replicate, rules, ◌∙◌, ◌≡◌, take-replicate, overwrites, Free}
 use Rattle.distributor.proofs.FreeLemmas.{freed_on}
 use Rattle.distributor.proofs.slots.copy_free.Goals as goal
 

@@ -1,5 +1,4 @@
-use Rattle.std.proofs.Common.{take}
-use Rattle.distributor.proofs.Common.{None, length, replicate, ◌-◌, ◌≡◌, ◌≤◌, Free}
+use Rattle.distributor.proofs.Common.{None, length, replicate, take, ◌-◌, ◌≡◌, ◌≤◌, Free}
 use Rattle.distributor.proofs.slots.copy_free.Given as goal
 
 abbrev pub invariant-loop-at : goal.invariant-loop-at
