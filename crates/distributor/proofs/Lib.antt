@@ -8,3 +8,4 @@ pub mod TickLemmas
 pub mod PickLemmas
 pub mod MoveLemmas
 pub mod WaitLemmas
+pub mod FreeLemmas

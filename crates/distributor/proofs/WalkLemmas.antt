@@ -452,10 +452,10 @@ free_past count states long free k = elim (cases_Bool (ltb k count)) [
   | inr g ↦ (let past : length states ≤ k = omega (arith, long, ltb-false k count g) in get_or_past states k (Free None) past)
 ]
 
--- if every place is a ring of its own and every slot is free, the slots are chained
+-- if the end of every chain is a ring of its own and every slot is free, the slots are chained
 pub all_free : (count : ℕ) (states : List Assignment) (next prev : List ℕ) → count + 64 < 2 ^ 32 → length states ≡ count
     → length next ≡ count + 64 → length prev ≡ count + 64
-    → ((k : ℕ) → k < count + 64 → get_or next k 0 ≡ k) → ((k : ℕ) → k < count + 64 → get_or prev k 0 ≡ k)
+    → ((k : ℕ) → count ≤ k → k < count + 64 → get_or next k 0 ≡ k) → ((k : ℕ) → count ≤ k → k < count + 64 → get_or prev k 0 ≡ k)
     → ((k : ℕ) → k < count → slot_state states k ≡ Free None)
     → IsChained count states next prev
 all_free count states next prev few long nexts_long prevs_long nexts prevs free = record {
@@ -464,12 +464,6 @@ all_free count states next prev few long nexts_long prevs_long nexts prevs free 
   next_len = nexts_long;
   prev_len = prevs_long;
   chains = λ c. [];
-  joined = λ c lt. (nexts (count + c) (omega (arith, lt)), prevs (count + c) (omega (arith, lt)));
+  joined = λ c lt. (nexts (count + c) (omega arith) (omega (arith, lt)), prevs (count + c) (omega arith) (omega (arith, lt)));
   homes = λ c k. sym (ap (λ s. bit (is_in_chain c s)) (free_past count states long free k));
 }
-
-pub freed_all : (count : ℕ) (states : List Assignment) → length states ≡ count → ((k : ℕ) → k < count → slot_state states k ≡ Free None)
-    → states ≡ replicate count (Free None)
-freed_all count states long free = ext_get_or (Free None) states (replicate count (Free None)) (long
-    ∙ sym (length-replicate count (Free None)))
-    (λ k lt. (let low : k < count = omega (arith, lt, long) in free k low ∙ sym (get_or-replicate count k (Free None) (Free None) low)))

@@ -16,6 +16,9 @@ use std::alloc::{AllocError, Global};
 /// How many chains there are: one for each port number modulo 64.
 const CHAINS: u32 = 64;
 
+/// Free states, to be copied.
+const FREE: [Assignment; 64] = [Assignment::Free { preferred: None }; 64];
+
 /// The states of all conversations, one slot each. The slots that are not free are chained by the port number of their
 /// state modulo 64, so that an event of a port need not look at every slot. A chain is a ring, doubly linked by slot
 /// numbers, that begins and ends at an entry of its own after the slots. A chain has two flags. A flag that is clear says
@@ -92,8 +95,8 @@ impl Slots {
         let mut prev = vec![in alloc; 0; places as usize]?;
         let may_want = vec![in alloc; false; CHAINS as usize]?;
         let may_flush = vec![in alloc; false; CHAINS as usize]?;
-        close(&mut next, places);
-        close(&mut prev, places);
+        close(&mut next, count, places);
+        close(&mut prev, count, places);
         Ok(Slots {
             count,
             states,
@@ -343,9 +346,9 @@ impl Slots {
         ensures flushing { (c : ℕ) → c < 64 → get_or self.new.may_flush.items c true ≡ false }
     {
         let places = self.count + CHAINS;
-        free_each(&mut self.states, self.count);
-        close(&mut self.next, places);
-        close(&mut self.prev, places);
+        free_each(&mut self.states);
+        close(&mut self.next, self.count, places);
+        close(&mut self.prev, self.count, places);
         clear_flags(&mut self.may_want);
         clear_flags(&mut self.may_flush);
     }
@@ -393,25 +396,35 @@ impl Slots {
     }
 }
 
-/// Makes each entry a ring of its own, so that every chain is empty.
-fn close(links: &mut Vec<u32>, places: u32)
+/// Makes each entry after the slots a ring of its own, so that every chain is empty. The links of slots, which are free then, are
+/// in no ring, and stay as they are.
+fn close(links: &mut Vec<u32>, count: u32, places: u32)
     requires { length links.old.items ≡ places }
     ensures len { length links.new.items ≡ places }
-    ensures closed { (k : ℕ) → k < places → get_or links.new.items k 0 ≡ k }
+    ensures closed { (k : ℕ) → count ≤ k → k < places → get_or links.new.items k 0 ≡ k }
 {
-    for place in 0..places {
+    for place in count..places {
         links[place as usize] = place;
     }
 }
 
 /// Makes each of these states free.
-fn free_each(states: &mut Vec<Assignment>, count: u32)
-    requires { length states.old.items ≡ count }
-    ensures len { length states.new.items ≡ count }
-    ensures freed { (k : ℕ) → k < count → slot_state states.new.items k ≡ Assignment.Free None }
+fn free_each(states: &mut Vec<Assignment>)
+    ensures { states.new.items ≡ replicate (length states.old.items) (Assignment.Free None) }
 {
-    for slot in 0..count {
-        states[slot as usize] = Assignment::Free { preferred: None };
+    copy_free(states);
+}
+
+/// Makes each of these states free. They are copied in pieces: a copy writes whole words, and an assignment only the octets that a
+/// free state has, by more stores.
+fn copy_free(states: &mut [Assignment])
+    ensures { states.new ≡ replicate (length states.old) (Assignment.Free None) }
+{
+    let mut at = 0;
+    while at < states.len() {
+        let piece = FREE.len().min(states.len() - at);
+        states[at..at + piece].copy_from_slice(&FREE[..piece]);
+        at += piece;
     }
 }
 
