@@ -1,5 +1,5 @@
 -- Ports choose one after another, and the list of views stays equal to their views.
-use Rattle.lagsystem.proofs.Common.{Bool, List, None, Option, Some, [], ap, arith, false, get_or, length, not, refl, slice_get, slice_set, suc, zero}
+use Rattle.lagsystem.proofs.Common.{Bool, List, None, Option, Some, [], ap, arith, false, get_or, length, not, refl, slice_get, slice_set, suc, sym, zero}
 use Rattle.lagsystem.proofs.Common.{ℕ, ◌&&◌, ◌<◌, ◌||◌, ◌∙◌, ◌∷◌, ◌≡◌, or_parts, nat_tests, list_any, Choice, is_selected, is_unselected, PortView}
 use Rattle.lagsystem.proofs.Common.{AggregatorsValue, is_eligible, SystemPort, after_choice_at, after_choices, with_choice, may_choose}
 use Rattle.lagsystem.proofs.Common.{selection_view, views}
@@ -56,3 +56,10 @@ none_left_to_choose [] h = refl
 none_left_to_choose (s ∷ ss) h =
     let both = or_parts (not (is_selected s.port.choice)) (list_any (λ s. not (is_selected s.port.choice)) ss) h in
     ap (λ b. b || one_may_choose ss) (selected_chooses_none s both.0) ∙ none_left_to_choose ss both.1
+
+-- where no port is UNSELECTED, none may choose either
+pub none_free_to_choose : (l : List SystemPort) → list_any (λ s. is_unselected s.port.choice) l ≡ false → one_may_choose l ≡ false
+none_free_to_choose [] h = refl
+none_free_to_choose (s ∷ ss) h =
+    let both = or_parts (is_unselected s.port.choice) (list_any (λ s. is_unselected s.port.choice) ss) h in
+    ap (λ b. (b && not s.held) || one_may_choose ss) (sym (chosen_not_eligible (selection_view s) both.0)) ∙ none_free_to_choose ss both.1

@@ -133,7 +133,7 @@ pub use Rattle.lagsystem.specs.Offers.{system_force_result, system_move_result}
 pub use Rattle.lagsystem.specs.OneAnswer.{IsFunction, OneAnswer, OneForcing, OneRun, SameConversations, SameState}
 pub use Rattle.lagsystem.specs.Probing.{Probes, ProbesAt, ProbesIf, ProbesLawfully}
 pub use Rattle.lagsystem.specs.Promises.{TablePromise}
-pub use Rattle.lagsystem.specs.Promoting.{CountsMembers, count_standby}
+pub use Rattle.lagsystem.specs.Promoting.{CountsMembers, NextOnlyIfUnselected, count_standby}
 pub use Rattle.lagsystem.specs.Quiet.{IsBeyond, NothingIsDue, OnlyCounted, counted, counted_times, fewer, waited}
 pub use Rattle.lagsystem.specs.Readers.{aggregator_numbered, collecting, conversation_count, number_of_conversation as conversation_number}
 pub use Rattle.lagsystem.specs.Readers.{distributes_in, distributing, number_of_conversation, selected_aggregator, two_octets}

@@ -7,6 +7,7 @@ pub mod PromotionLemmas
 pub mod Occupying
 pub mod Limiting
 pub mod NextLemmas
+pub mod NextStays
 pub mod MemberCounts
 pub mod ForcingLemmas
 pub mod ReceivingLemmas

@@ -1,11 +1,12 @@
 -- How many members an aggregator has, and that no STANDBY port comes next after step 2 of settling.
 use Rattle.lagsystem.proofs.Common.{Bool, List, None, Option, Some, [], ap, arith, cond, eqb-true, false, inl, inr, length, nat_le, nat_lt}
 use Rattle.lagsystem.proofs.Common.{option_map, refl, slice_get, slice_set, subst, suc, sym, true, zero, ℕ, ◌&&◌, ◌+◌, ◌<◌, ◌==◌, ◌∙◌, ◌∷◌, ◌≡◌, ◌≤◌}
-use Rattle.lagsystem.proofs.Common.{◌⊎◌, cases_Bool, nat_tests, none-some, same_Some, AllByRecursion, AggId, Choice, Selected, Standby, Unselected}
+use Rattle.lagsystem.proofs.Common.{◌⊎◌, cases_Bool, nat_tests, none-some, same_Some, AllByRecursion, AllZip, AggId, Choice, Selected, Standby, Unselected}
 use Rattle.lagsystem.proofs.Common.{Machines, PortView, is_aggregator, ports_that_chose, AggregatorsValue, has_room, is_below, has_chosen, stands_by}
 use Rattle.lagsystem.proofs.Common.{NoneStandsBy, is_next, none_is_next, nothing_is_next, SystemPort, NoneIsNext, WithinLimit, aggregator_numbered}
-use Rattle.lagsystem.proofs.Common.{ChoosesIn, PortsChangeBy, PromotesFirst, PromotesNext, aggregator_for, choice_if, choice_in, with_choice}
+use Rattle.lagsystem.proofs.Common.{ChoosesIn, PortChangesBy, PortsChangeBy, PromotesFirst, PromotesNext, aggregator_for, choice_if, choice_in, with_choice}
 use Rattle.lagsystem.proofs.Common.{selection_view, views}
+use Rattle.lagsystem.proofs.Lists.{AllZip-weaker}
 use Rattle.lagsystem.proofs.NoneLeft.{may_then, unselected}
 use Rattle.lagsystem.proofs.Occupying.{LeavesOrStays}
 use Rattle.lagsystem.proofs.PromotionLemmas.{all_keep, choices_keep, promotions_keep}
@@ -140,7 +141,7 @@ none_within (Some most) l h = λ agg. omega (arith, counted agg l, none_counted 
 
 -- which aggregator has none that comes next
 
-abbrev NoneNext : AggregatorsValue → AggId → List SystemPort → Type 0
+abbrev pub NoneNext : AggregatorsValue → AggId → List SystemPort → Type 0
 NoneNext aggs agg l = (has_room aggs (views l) agg ≡ false) ⊎ NoneStandsBy agg (views l)
 
 below_less : (max_links : Option ℕ) (k : Bool) (m n : ℕ) → m ≤ n → (k && is_below max_links m) ≡ false
@@ -237,25 +238,35 @@ choosing_none aggs old new h a =
     (choices_keep aggs (NoneNext aggs a) (λ l i s e q. choice_none aggs l i s (aggregator_for aggs.keys l s) refl e a q) (length h.0) h.0
     (all_promoted aggs old h.0 h.1 a))
 
+-- lists whose ports have the same values of Selected, place by place
+abbrev pub SameChoices : List SystemPort → List SystemPort → Type 0
+SameChoices old new = AllZip (λ (x y : SystemPort). y.port.choice ≡ x.port.choice) old new
+
+same_count : (agg : AggId) (xs ys : List SystemPort) → SameChoices xs ys → count agg xs ≤ count agg ys
+same_count agg [] [] h = omega arith
+same_count agg [] (y ∷ ys) h = absurd h
+same_count agg (x ∷ xs) [] h = absurd h
+same_count agg (x ∷ xs) (y ∷ ys) h = subst (λ c. count agg (x ∷ xs) ≤ cond (has_chosen agg c) (suc (count agg ys)) (count agg ys))
+    (sym h.0) (same_bit (has_chosen agg x.port.choice) (count agg xs) (count agg ys) (same_count agg xs ys h.1))
+
+same_stands : (agg : AggId) (xs ys : List SystemPort) → SameChoices xs ys → NoneStandsBy agg (views xs) → NoneStandsBy agg (views ys)
+same_stands agg [] [] h n = tt
+same_stands agg [] (y ∷ ys) h n = absurd h
+same_stands agg (x ∷ xs) [] h n = absurd h
+same_stands agg (x ∷ xs) (y ∷ ys) h n = (ap (stands_by agg) h.0 ∙ n.0, same_stands agg xs ys h.1 n.1)
+
+pub same_none : (aggs : AggregatorsValue) (xs ys : List SystemPort) → SameChoices xs ys → (a : AggId) → NoneNext aggs a xs
+    → NoneNext aggs a ys
+same_none aggs xs ys h a q = elim q [
+  | inl r ↦ inl (room_less aggs a xs ys (same_count a xs ys h) r)
+  | inr n ↦ inr (same_stands a xs ys h n)
+]
+
 -- steps that leave Selected
 zip_none : (aggs : AggregatorsValue) (R : Machines → Machines → Type 0) → ((p q : Machines) → R p q → q.choice ≡ p.choice)
     → (xs ys : List SystemPort) → PortsChangeBy R xs ys → (a : AggId) → NoneNext aggs a xs → NoneNext aggs a ys
-zip_none aggs R k xs ys h a q = elim q [
-  | inl r ↦ inl (room_less aggs a xs ys (same_count xs ys h) r)
-  | inr n ↦ inr (same_stands xs ys h n)
-]
-  where
-    same_count : (xs ys : List SystemPort) → PortsChangeBy R xs ys → count a xs ≤ count a ys
-    same_count [] [] h = omega arith
-    same_count [] (y ∷ ys) h = absurd h
-    same_count (x ∷ xs) [] h = absurd h
-    same_count (x ∷ xs) (y ∷ ys) h = grind (arith, nat_tests, same_count xs ys h.1)
-
-    same_stands : (xs ys : List SystemPort) → PortsChangeBy R xs ys → NoneStandsBy a (views xs) → NoneStandsBy a (views ys)
-    same_stands [] [] h n = tt
-    same_stands [] (y ∷ ys) h n = absurd h
-    same_stands (x ∷ xs) [] h n = absurd h
-    same_stands (x ∷ xs) (y ∷ ys) h n = (ap (stands_by a) (k x.port y.port h.0.1) ∙ n.0, same_stands xs ys h.1 n.1)
+zip_none aggs R k xs ys h = same_none aggs xs ys
+    (AllZip-weaker (PortChangesBy R) (λ (x y : SystemPort). y.port.choice ≡ x.port.choice) (λ x y m. k x.port y.port m.1) xs ys h)
 
 pub settled_none : (aggs : AggregatorsValue) (R S : Machines → Machines → Type 0) → ((p q : Machines) → R p q → q.choice ≡ p.choice)
     → ((p q : Machines) → S p q → q.choice ≡ p.choice) → (one two four five : List SystemPort) → ChoosesIn aggs one two

@@ -131,7 +131,7 @@ place_readies old mid i already change mild s h =
     subst (Readies old) (sym (h.1 ∙ ap (with_system_ports old) h.0.3)) (set_readies old i x (change x) s h.0.1 (mild x))
 
 -- a port that is held or let go
-held_leaves : (held : Bool) (p : Machines) → LeavesOrStays p (record p { choice = if held then Unselected else p.choice })
+pub held_leaves : (held : Bool) (p : Machines) → LeavesOrStays p (record p { choice = if held then Unselected else p.choice })
 held_leaves true p = inl refl
 held_leaves false p = inr (refl, refl, refl)
 

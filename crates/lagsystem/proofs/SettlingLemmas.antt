@@ -1,7 +1,7 @@
 -- What settling does, from what its loops do.
-use Rattle.lagsystem.proofs.Common.{Bool, List, None, Option, Some, [], ap, arith, cond, false, filter, if◌then◌else◌, not, option_map, refl}
+use Rattle.lagsystem.proofs.Common.{Bool, List, None, Option, Some, [], ap, arith, cond, false, filter, if◌then◌else◌, option_map, refl}
 use Rattle.lagsystem.proofs.Common.{slice_get, slice_set, subst, suc, sym, true, zero, ℕ, ◌&&◌, ◌||◌, ◌∙◌, ◌∷◌, ◌≡◌, or_parts, nat_tests, list_all}
-use Rattle.lagsystem.proofs.Common.{list_any, AggId, Key, Choice, Selected, Standby, Unselected, is_selected, Machines, mux_rows, RunsPeriodic}
+use Rattle.lagsystem.proofs.Common.{list_any, AggId, Key, Choice, Selected, Standby, Unselected, is_selected, is_unselected, Machines, mux_rows, RunsPeriodic}
 use Rattle.lagsystem.proofs.Common.{RunsToRest, PortView, chosen_aggregator, ports_that_chose, AggregatorsValue, has_chosen, has_waited}
 use Rattle.lagsystem.proofs.Common.{is_detached_or_waiting, SystemPort, ChoosesIn, PortChangesBy, PortsChangeBy, SettlesPorts, after_choice_at}
 use Rattle.lagsystem.proofs.Common.{aggregator_for, choice_for, choice_in, is_restless, ready_of, with_choice, SystemState, aggregators_value}
@@ -69,14 +69,14 @@ runs_again [] (y ∷ ys) h = absurd h
 runs_again (x ∷ xs) [] h = absurd h
 runs_again (x ∷ xs) (y ∷ ys) h = ((refl, (0, refl, h.0.1.2)), runs_again xs ys h.1)
 
--- where no port is restless, each is SELECTED
+-- where no port is restless, none is UNSELECTED
 pub none_restless_unselected : (l : List SystemPort) → list_any (λ s. is_restless s) l ≡ false
-    → list_any (λ s. not (is_selected s.port.choice)) l ≡ false
+    → list_any (λ s. is_unselected s.port.choice) l ≡ false
 none_restless_unselected [] h = refl
 none_restless_unselected (s ∷ ss) h =
     let both = or_parts (is_restless s) (list_any (λ s. is_restless s) ss) h in
-    let one = or_parts (not (is_selected s.port.choice)) (member_has_waited s) both.0 in
-    ap (λ b. b || list_any (λ s. not (is_selected s.port.choice)) ss) one.0 ∙ none_restless_unselected ss both.1
+    let one = or_parts (is_unselected s.port.choice) (member_has_waited s) both.0 in
+    ap (λ b. b || list_any (λ s. is_unselected s.port.choice) ss) one.0 ∙ none_restless_unselected ss both.1
 
 -- and none has waited
 pub none_restless_has_waited : (l : List SystemPort) → list_any (λ s. is_restless s) l ≡ false
@@ -84,7 +84,7 @@ pub none_restless_has_waited : (l : List SystemPort) → list_any (λ s. is_rest
 none_restless_has_waited [] h = refl
 none_restless_has_waited (s ∷ ss) h =
     let both = or_parts (is_restless s) (list_any (λ s. is_restless s) ss) h in
-    let one = or_parts (not (is_selected s.port.choice)) (member_has_waited s) both.0 in
+    let one = or_parts (is_unselected s.port.choice) (member_has_waited s) both.0 in
     ap (λ b. b || list_any (λ s. member_has_waited s) ss) one.1 ∙ none_restless_has_waited ss both.1
 
 pub settling_made : (base : SystemState) (aggs : AggregatorsValue) (system_ports one two four five : List SystemPort)

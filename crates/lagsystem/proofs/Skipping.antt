@@ -8,6 +8,7 @@ use Rattle.lagsystem.proofs.Common.{ProcessesLacpduAndRunsMux, ProcessesLacpduAt
 use Rattle.lagsystem.proofs.Common.{Settling, IsSound, SystemState, aggregators_value, with_system_ports, selection_view, stage_of, views}
 use Rattle.selection.specs.declared.view.Stage.TheVariants as stage
 use Rattle.lagsystem.proofs.Keeps.{ports_keep, ports_table, settling_joined}
+use Rattle.lagsystem.proofs.Occupying.{LeavesOrStays, both_stay, mux_stays, taking_stays}
 use Rattle.lagsystem.proofs.PlaceLemmas.{in_use_before}
 use Rattle.lagsystem.proofs.Quieting.{paced_runs, settles_from, still_mux}
 use Rattle.lagsystem.proofs.Rising.{all-get, all-set}
@@ -17,6 +18,9 @@ use Rattle.lagsystem.proofs.Stopped.{leaves_made}
 -- an LACPDU, then the mux machine with Ready false
 abbrev pub ProcessesAndRuns : Lacpdu → Machines → Machines → Type 0
 ProcessesAndRuns v p q = (r : Machines) × ProcessesLacpdu v p r × RunsToRest (mux_rows false) r q
+
+pub processed_stays : (v : Lacpdu) (p q : Machines) → ProcessesAndRuns v p q → LeavesOrStays p q
+processed_stays v p q h = both_stay p h.0 q (taking_stays v p h.0 h.1) (mux_stays false h.0 q h.2)
 
 -- the views
 pub alike_views : (system_ports : List SystemPort) (i : ℕ) (s t : SystemPort) → slice_get system_ports i ≡ Some s

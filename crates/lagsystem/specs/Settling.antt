@@ -1,8 +1,8 @@
 -- Settling (profile): six steps after a call. Each is a relation between the states before and after it.
-use Rattle.std.specs.Prelude.{◌≡◌, ℕ, zero, suc, Bool, true, false, List, [], ◌∷◌, length, if◌then◌else◌, Option, Some, None, ◌&&◌, ◌||◌, not}
+use Rattle.std.specs.Prelude.{◌≡◌, ℕ, zero, suc, Bool, true, false, List, [], ◌∷◌, length, if◌then◌else◌, Option, Some, None, ◌&&◌, ◌||◌}
 use Rattle.std.specs.Prelude.{slice_get, slice_set, option_map}
 use Rattle.std.specs.List.{AllZip}
-use Rattle.lagtypes.specs.Choices.{is_selected}
+use Rattle.lagtypes.specs.Choices.{is_selected, is_unselected}
 use Rattle.lagtypes.specs.declared.identifiers.AggId.{AggId}
 use Rattle.lagtypes.specs.declared.identifiers.Key.{Key}
 use Rattle.lagtypes.specs.declared.party.Choice.{Choice}
@@ -124,9 +124,9 @@ WorksOutReady old new = new ≡ old
 abbrev pub RunsMux : SystemState → SystemState → Type 0
 RunsMux old new = OnlyPortsChangeBy (λ p q. RunsToRest (mux_rows (ready_of old.keys (views old.system_ports) p.choice)) p q) old new
 
--- the port is not SELECTED, or it waits and wait_while has expired
+-- the port is UNSELECTED, or it is a member that waits and wait_while has expired
 abbrev pub is_restless : SystemPort → Bool
-is_restless s = not (is_selected s.port.choice) || (is_selected s.port.choice && has_waited (selection_view s).stage)
+is_restless s = is_unselected s.port.choice || (is_selected s.port.choice && has_waited (selection_view s).stage)
 
 -- steps 2 to 4 of the ports alone
 abbrev pub ChoosesAndRunsMux : AggregatorsValue → List SystemPort → List SystemPort → Type 0

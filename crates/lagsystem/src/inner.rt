@@ -1,4 +1,5 @@
 ghost use Rattle.std.specs.Prelude.{◌≡◌, ◌<◌, ◌≤◌, IfErr, IfOk, None, Some, length, vec_len};
+ghost use Rattle.std.specs.Bool.{OnFalse};
 ghost use Rattle.distributor.specs.Calls.{PicksIndexes};
 ghost use Rattle.lagsystem.specs.Calls.{Call, OnlyPortChangesBy, Releases, ThenSettles, Step, ProcessesLacpdu, is_own_response};
 ghost use Rattle.lagsystem.specs.First.{fault_or_no_memory, config_refusal};
@@ -8,6 +9,7 @@ ghost use Rattle.lagsystem.specs.Holding.{WereInUse};
 ghost use Rattle.lagsystem.specs.Offers.{has_aggregator};
 ghost use Rattle.lagsystem.specs.Readers.{number_of_conversation, conversation_count};
 ghost use Rattle.lagsystem.specs.Sending.{SendsMarker, own_marker};
+ghost use Rattle.lagsystem.specs.Promoting.{NextOnlyIfUnselected};
 ghost use Rattle.lagsystem.specs.Receiving.{ReceivesControl};
 ghost use Rattle.lagsystem.specs.Settling.{Settling, SettlesPorts};
 ghost use Rattle.lagsystem.specs.Sound.{IsMade, IsSound};
@@ -113,22 +115,24 @@ impl<F: Fn(u16, usize) -> usize + Drop> Inner<F> {
         }
     }
 
-    /// Steps 1 to 5 of settling, which read and change ports only.
+    /// Steps 1 to 5 of settling, which read and change ports only, after a start.
     fn settle_ports(&mut self)
         requires { vec_len self.old.system_ports ≤ 64 }
         ensures settled { SettlesPorts (inner_state self.old) (inner_state self.new) }
         ensures distributor { self.new.distributor ≡ self.old.distributor }
     {
-        settle_ports(&self.aggregators, &mut self.system_ports);
+        settle_ports(&self.aggregators, &mut self.system_ports, true);
     }
 
-    /// One settling. `before` has for each port the aggregator in which it distributed before the call.
-    pub(crate) fn settle(&mut self, before: &[Option<AggId>])
-        requires { WereInUse before.now (inner_state self.old) }
+    /// One settling. `before` has for each port the aggregator in which it distributed before the call. With `more_room` a STANDBY
+    /// port may come next though no port is UNSELECTED.
+    pub(crate) fn settle(&mut self, before: &[Option<AggId>], more_room: bool)
+        requires were { WereInUse before.now (inner_state self.old) }
+        requires next { OnFalse more_room (NextOnlyIfUnselected self.old.aggregators self.old.system_ports.items) }
         ensures settled { Settling (inner_state self.old) (inner_state self.new) }
         ensures algorithm { self.new.distributor.algorithm ≡ self.old.distributor.algorithm }
     {
-        self.settle_ports();
+        settle_ports(&self.aggregators, &mut self.system_ports, more_room);
         hold_conversations(&mut self.distributor, &self.system_ports, before);
     }
 
@@ -142,7 +146,7 @@ impl<F: Fn(u16, usize) -> usize + Drop> Inner<F> {
         list_aggregators_in_use(&self.system_ports, &mut before);
         tick_each(&mut self.system_ports);
         self.distributor.tick();
-        self.settle(before.as_slice());
+        self.settle(before.as_slice(), false);
     }
 
     /// As `System::set_link`.
@@ -162,7 +166,7 @@ impl<F: Fn(u16, usize) -> usize + Drop> Inner<F> {
             up,
         );
         free_conversations_if_down(&mut self.distributor, number, up);
-        self.settle(before.as_slice());
+        self.settle(before.as_slice(), false);
         Ok(())
     }
 
@@ -222,7 +226,7 @@ impl<F: Fn(u16, usize) -> usize + Drop> Inner<F> {
         } else {
             let mut before = ArrayVec::new();
             list_aggregators_in_use_before(&self.system_ports, place, was, &mut before);
-            self.settle(before.as_slice());
+            self.settle(before.as_slice(), false);
         }
     }
 
@@ -254,7 +258,7 @@ impl<F: Fn(u16, usize) -> usize + Drop> Inner<F> {
         }
         let mut before = ArrayVec::new();
         list_aggregators_in_use_before(&self.system_ports, place, was, &mut before);
-        self.settle(before.as_slice());
+        self.settle(before.as_slice(), false);
         Ok(true)
     }
 

@@ -165,7 +165,7 @@ impl<F: Fn(u16, usize) -> usize + Drop> Inner<F> {
         if !hold_at(&mut self.system_ports, place, held) {
             return Ok(());
         }
-        self.settle(before.as_slice());
+        self.settle(before.as_slice(), false);
         Ok(())
     }
 
@@ -181,7 +181,7 @@ impl<F: Fn(u16, usize) -> usize + Drop> Inner<F> {
         if !set_mode_at(&mut self.system_ports, place, active, short) {
             return Ok(());
         }
-        self.settle(before.as_slice());
+        self.settle(before.as_slice(), false);
         Ok(())
     }
 
@@ -199,7 +199,7 @@ impl<F: Fn(u16, usize) -> usize + Drop> Inner<F> {
         list_aggregators_in_use(&self.system_ports, &mut before);
         self.aggregators.set_max_links(max_links);
         unselect_down(&mut self.system_ports, max_links);
-        self.settle(before.as_slice());
+        self.settle(before.as_slice(), true);
         Ok(())
     }
 }

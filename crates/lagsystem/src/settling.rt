@@ -1,4 +1,5 @@
 ghost use Rattle.std.specs.Prelude.{◌≡◌, ◌≤◌, ◌<◌, ◌&&◌, not, length, false, position, slice_get, None, Some};
+ghost use Rattle.std.specs.Bool.{OnFalse};
 ghost use Rattle.std.specs.List.{list_any};
 ghost use Rattle.lagtypes.specs.Choices.{is_selected};
 ghost use Rattle.portmachines.specs.Rows.{RunsToRest};
@@ -6,12 +7,15 @@ ghost use Rattle.portmachines.specs.Mux.{mux_rows};
 ghost use Rattle.portmachines.specs.Periodic.{RunsPeriodic};
 ghost use Rattle.selection.specs.Views.{has_waited};
 ghost use Rattle.lagsystem.specs.Views.{may_choose, selection_view, views};
+ghost use Rattle.lagsystem.specs.Promoting.{NextOnlyIfUnselected};
 ghost use Rattle.lagsystem.specs.Settling.{PortsChangeBy, SettlesPorts, after_choice_at, after_choices, ready_of};
 ghost use Rattle.lagsystem.specs.Settling.{ChoosesAndRunsMux, ChoosesIn, choice_in, is_restless};
 ghost use Rattle.lagsystem.specs.State.{SystemState, aggregators_value, with_system_ports};
 
 use crate::promoting::{may_promote, promote_each};
-use crate::system_ports::{SystemPort, is_selected, list_views, may_choose, member_has_waited};
+use crate::system_ports::{
+    SystemPort, is_selected, is_unselected, list_views, may_choose, member_has_waited,
+};
 use arrayvec::ArrayVec;
 use lagtypes::{AggId, Choice};
 use selection::{Aggregators, PortView};
@@ -209,14 +213,14 @@ fn ready_of(aggregators: &Aggregators, port_views: &[PortView], choice: Choice) 
     }
 }
 
-/// Whether a port is not SELECTED, or is in WAITING with wait_while expired: only such a port makes steps 2 to 4 change anything.
+/// Whether a port is UNSELECTED, or is a member in WAITING with wait_while expired.
 fn is_restless(system_port: &SystemPort) -> bool
     ensures { result ≡ is_restless system_port.now }
 {
-    !is_selected(system_port) || member_has_waited(system_port)
+    is_unselected(system_port) || member_has_waited(system_port)
 }
 
-/// Whether some port is restless: not SELECTED, or in WAITING with wait_while expired.
+/// Whether some port is restless: UNSELECTED, or a member in WAITING with wait_while expired.
 fn any_restless(system_ports: &[SystemPort]) -> bool
     ensures { result ≡ list_any (λ s. is_restless s) system_ports.now }
 {
@@ -225,13 +229,15 @@ fn any_restless(system_ports: &[SystemPort]) -> bool
         .any(|system_port| is_restless(system_port))
 }
 
-/// Steps 2 to 4, behind step 1, which has run each mux machine with Ready false. Where no port is restless they change nothing.
-fn choose_and_run_mux(aggregators: &Aggregators, system_ports: &mut [SystemPort])
+/// Steps 2 to 4, behind step 1, which has run each mux machine with Ready false. Where no port is restless they change nothing,
+/// but with `more_room`: then a STANDBY port may come next.
+fn choose_and_run_mux(aggregators: &Aggregators, system_ports: &mut [SystemPort], more_room: bool)
     requires few { length system_ports.old ≤ 64 }
     requires ran { PortsChangeBy (RunsToRest (mux_rows false)) system_ports.old system_ports.old }
+    requires next { OnFalse more_room (NextOnlyIfUnselected aggregators.now system_ports.old) }
     ensures { ChoosesAndRunsMux aggregators.now system_ports.old system_ports.new }
 {
-    if any_restless(system_ports) {
+    if more_room || any_restless(system_ports) {
         choose_all(aggregators, system_ports);
         run_mux(aggregators, system_ports);
     }
@@ -249,13 +255,19 @@ fn run_each_periodic(system_ports: &mut [SystemPort])
 /// Steps 1 to 5 of settling (profile), which read and change ports only. The cost is linear in the ports, except in two
 /// cases. For each port that may choose the views of all ports are searched for an aggregator; a port that finds none is tried
 /// again in each settling. And if some SELECTED port is in WAITING with wait_while expired, the views are searched once for
-/// each SELECTED port. Step 6, the conversations, is in holding.rt.
-pub(crate) fn settle_ports(aggregators: &Aggregators, system_ports: &mut [SystemPort])
-    requires { length system_ports.old ≤ 64 }
+/// each SELECTED port. Step 6, the conversations, is in holding.rt. Nothing is promoted where no port is UNSELECTED, but with
+/// `more_room`: then a STANDBY port may come next though no port has left its aggregator.
+pub(crate) fn settle_ports(
+    aggregators: &Aggregators,
+    system_ports: &mut [SystemPort],
+    more_room: bool,
+)
+    requires few { length system_ports.old ≤ 64 }
+    requires next { OnFalse more_room (NextOnlyIfUnselected aggregators.now system_ports.old) }
     ensures { (base : SystemState) → aggregators_value base ≡ aggregators.now → base.system_ports ≡ system_ports.old
         → SettlesPorts base (with_system_ports base system_ports.new) }
 {
     run_mux_not_ready(system_ports);
-    choose_and_run_mux(aggregators, system_ports);
+    choose_and_run_mux(aggregators, system_ports, more_room);
     run_each_periodic(system_ports);
 }

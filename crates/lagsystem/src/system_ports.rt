@@ -93,7 +93,7 @@ pub(crate) fn list_views(system_ports: &[SystemPort], found: &mut ArrayVec<PortV
 }
 
 /// Whether a port is UNSELECTED.
-fn is_unselected(system_port: &SystemPort) -> bool
+pub(crate) fn is_unselected(system_port: &SystemPort) -> bool
     ensures { result ≡ is_unselected system_port.now.port.choice }
 {
     match system_port.port.choice() {

@@ -2,9 +2,10 @@ use Rattle.lagsystem.proofs.Common.{List, Some, ap, arith, length, refl, slice_g
 use Rattle.lagsystem.proofs.Common.{slice_get-get_or, RunsPeriodic, ChangesAssignments, SystemPort, PortAtChangesBy, after_holding}
 use Rattle.lagsystem.proofs.Common.{aggregators_in_use, stopped, inner_state, ProcessesLacpduAt, with_system_ports}
 use Rattle.lagsystem.proofs.Keeps.{few_ports}
+use Rattle.lagsystem.proofs.NextStays.{place_next}
 use Rattle.lagsystem.proofs.PlaceLemmas.{were_before}
 use Rattle.lagsystem.proofs.Settled.{place_carried}
-use Rattle.lagsystem.proofs.Skipping.{ProcessesAndRuns, on_place_taken, paced_too, took_alone, took_settled}
+use Rattle.lagsystem.proofs.Skipping.{ProcessesAndRuns, on_place_taken, paced_too, processed_stays, took_alone, took_settled}
 use Rattle.lagsystem.proofs.StateLemmas.{on_port_made}
 use Rattle.lagsystem.proofs.inner.Inner.process_lacpdu.Goals as goal
 
@@ -16,8 +17,8 @@ list_aggregators_in_use_before-requires-clause-few g c =
     ∙ length-set items c.args.place c.process_lacpdu_on.new.system_port in
     omega (arith, few, same)
 
-pub settle-requires : goal.settle-requires
-settle-requires g c =
+pub settle-requires-clause-were : goal.settle-requires-clause-were
+settle-requires-clause-were g c =
     let s = inner_state c.args.self.now in
     let olds = c.args.self.now.system_ports.items in
     let i = c.args.place in
@@ -38,6 +39,22 @@ settle-requires g c =
     (c.as_slice.ensures.value ∙ were_before both i olds olds news news c.deref-else-process_lacpdu_on.result.now system_port
     c.collecting-was.result c.list_aggregators_in_use_before.new.found.items refl refl
     c.deref-else-process_lacpdu_on.ensures.value there took c.collecting-was.ensures c.list_aggregators_in_use_before.ensures)
+
+pub settle-requires-clause-next : goal.settle-requires-clause-next
+settle-requires-clause-next g c =
+    let s = inner_state c.args.self.now in
+    let olds = c.args.self.now.system_ports.items in
+    let i = c.args.place in
+    let pdu = c.args.pdu.now in
+    let old = c.index_mut.result.now in
+    let new = c.process_lacpdu_on.new.system_port in
+    let news = slice_set olds i new in
+    let changed : slice_get olds i ≡ Some old = slice_get-get_or olds i old c.requires.within
+    ∙ ap (λ (x : SystemPort). Some x) (sym c.index_mut.ensures.value) in
+    let at : ProcessesLacpduAt pdu i olds c.process_lacpdu_on.result news =
+    record { before = old; after = new; there = changed; changes = c.process_lacpdu_on.ensures; others = refl } in
+    place_next (ProcessesAndRuns pdu) (processed_stays pdu) (Some i) s (with_system_ports s news) c.requires.sound
+    (on_port_made (ProcessesAndRuns pdu) (λ l. Some i) s olds news news refl refl (on_place_taken pdu i olds c.process_lacpdu_on.result news at))
 
 pub returns-then-process_lacpdu_on-clause-settled : goal.returns-then-process_lacpdu_on-clause-settled
 returns-then-process_lacpdu_on-clause-settled g c =

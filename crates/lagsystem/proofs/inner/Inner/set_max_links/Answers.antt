@@ -2,8 +2,8 @@ use Rattle.lagsystem.proofs.Common.{ap, arith, sym, ◌∙◌, with_items_is, wi
 use Rattle.lagsystem.proofs.Settled.{limits_carried, limits_made}
 use Rattle.lagsystem.proofs.inner.Inner.set_max_links.Goals as goal
 
-pub settle-requires : goal.settle-requires
-settle-requires g c =
+pub settle-requires-clause-were : goal.settle-requires-clause-were
+settle-requires-clause-were g c =
     let s = inner_state c.args.self.now in
     let v = c.args.self.now.system_ports in
     let ws = c.unselect_down.new.system_ports in
