@@ -581,7 +581,8 @@ static inline struct niw_truth niw_configure(struct niw_system *handle, uint16_t
     return (handle && change) ? lagffi_configure(handle, port, change) : niw_null_truth();
 }
 
-/* Starts the system again as niw_new left it: all links are down, and what niw_configure changed is lost. */
+/* Starts the system again as niw_new left it, but niw_set_max_delay and niw_set_max_links stay: all links are down, no port is held, and what
+ * niw_configure and niw_set_mode changed is lost. */
 static inline uint32_t niw_restart(struct niw_system *handle) {
     return handle ? lagffi_restart(handle) : niw_null_status();
 }

@@ -188,7 +188,8 @@ pub extern "C" fn lagffi_configure(
     LagTruth::of(&answer)
 }
 
-/// Starts the system again as niw_new left it: all links are down, and what niw_configure changed is lost.
+/// Starts the system again as niw_new left it, but niw_set_max_delay and niw_set_max_links stay: all links are down, no port is held, and what
+/// niw_configure and niw_set_mode changed is lost.
 /// Refuses: NIW_NO_SYSTEM.
 #[unsafe(no_mangle)]
 pub extern "C" fn lagffi_restart(alloc: Global, lag: &mut Lag) -> u32
