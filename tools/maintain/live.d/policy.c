@@ -204,13 +204,13 @@ void send_frame(struct lagd *lagd, struct link *link, const uint8_t *frame) {
     }
     put_slow(end, link->settings.number, sent);
 }
-bool give_host(struct lagd *lagd, const uint8_t *packet, size_t length) {
+void put_host(struct lagd *lagd, uint8_t *packet, size_t length) {
     struct end *end = end_of(lagd);
     uint16_t number = conversation_at(packet);
     CHECK(length == OCTETS && number_at(packet) > end->got[number]);
     end->got[number] = number_at(packet);
     end->arrived++;
-    return true;
+    lagd->carry.counts[HANDED_UP]++;
 }
 
 /* lines, and the carrier of the device, */
