@@ -52,6 +52,7 @@ struct carry {
     uint16_t port_of[CONVERSATIONS]; /* of each conversation in it, as ask_ports told last: 0 where it is free or held there */
     bool changed;                  /* whether the library may answer otherwise now */
     bool waiting;                  /* false only where no frame waits */
+    unsigned taken;                /* frames that came in this turn */
     struct conversation conversations[CONVERSATIONS];
     uint64_t counts[CARRY_COUNTS];
 };

@@ -86,6 +86,7 @@ void take_host(struct lagd *lagd) {
         for (got = 0; got < BATCH && left > 0; got++) {
             unsigned frames = take_next(lagd, room_at(lagd->host->packets, got));
             if (frames == 0) break;
+            lagd->carry.taken += frames;
             left -= frames < left ? frames : left;
         }
         flush_data(lagd);
