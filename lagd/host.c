@@ -89,6 +89,7 @@ void take_host(struct lagd *lagd) {
             lagd->carry.taken += frames;
             left -= frames < left ? frames : left;
         }
+        if (got == BATCH || left == 0) lagd->carry.taken += MORE_WAITS;
         flush_data(lagd);
         note_read(lagd, got, got < BATCH);
         pass_on(lagd);

@@ -148,9 +148,9 @@ static void serve(struct lagd *lagd, const struct epoll_event *events, int count
     settle_carry(lagd);
 }
 
-/* Waits for events. While many frames come, it lets some gather before they are taken: each wake-up costs whoever sends them, too. */
+/* Waits for events. While many frames come, and none is left, it lets some gather before they are taken: each wake-up costs whoever sends them, too. */
 static int wait_for(struct lagd *lagd, struct epoll_event *events) {
-    if (lagd->carry.taken >= MANY) (void)nanosleep(&(struct timespec){0, GATHERS}, NULL);
+    if (lagd->carry.taken >= MANY && lagd->carry.taken < MORE_WAITS) (void)nanosleep(&(struct timespec){0, GATHERS}, NULL);
     lagd->carry.taken = 0;
     return epoll_wait(lagd->epoll_file, events, MOST_EVENTS, -1);
 }

@@ -500,7 +500,7 @@ static void take_packets(struct lagd *lagd, uint16_t port, const int *fd, bool o
             continue;
         }
         if (got > 0) take_changes(lagd);
-        if (got > 0) lagd->carry.taken += (unsigned)got;
+        if (got > 0) lagd->carry.taken += got < BATCH ? (unsigned)got : MORE_WAITS;
         for (int i = 0; i < got; i++) take_message(lagd, link, &own->messages[i], only_markers);
         flush_host(lagd);
     }

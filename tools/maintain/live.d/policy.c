@@ -447,7 +447,7 @@ static void send_burst(struct end *end, unsigned most) {
 }
 
 /* A frame comes to an end. */
-static void take(struct end *end, uint16_t port, const uint8_t *frame, size_t length) {
+static void take(struct end *end, uint16_t port, uint8_t *frame, size_t length) {
     struct lagd *lagd = &end->lagd;
     struct link *link = &lagd->links[port - 1];
     struct arrival arrival = {frame, length, PACKET_MULTICAST, link->index, false};
