@@ -167,15 +167,13 @@ bool keeps_aggregator(struct lagd *lagd) {
 }
 
 /* A packet came in an aggregator. */
-void hand_up(struct lagd *lagd, uint32_t aggregator, const uint8_t *packet, size_t length) {
-    if (aggregator != lagd->carry.active) {
-        lagd->carry.counts[OTHER_AGGREGATOR]++;
-        suspect_aggregator(lagd, aggregator);
-    } else if (!lagd->broken && give_host(lagd, packet, length)) {
-        lagd->carry.counts[HANDED_UP]++;
-    } else {
-        lagd->carry.counts[HOST_UNTAKEN]++;
+void hand_up(struct lagd *lagd, uint32_t aggregator, uint8_t *packet, size_t length) {
+    if (aggregator == lagd->carry.active) {
+        put_host(lagd, packet, length);
+        return;
     }
+    lagd->carry.counts[OTHER_AGGREGATOR]++;
+    suspect_aggregator(lagd, aggregator);
 }
 
 /* Offers the oldest frame of a conversation again, of which one waits; answers whether it left. */

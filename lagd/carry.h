@@ -10,9 +10,11 @@
 
 /* The library takes a frame of so many octets at most: of a longer one it is shown the beginning. */
 #define LONGEST_SHOWN (ETH_HLEN + ETH_DATA_LEN + TAG_OCTETS)
-/* Frames that are sent or taken by one call of the kernel, and how many batches are taken of a socket in a turn. */
+/* Frames that are sent or taken by one call of the kernel, and how many batches are taken of a socket in a turn: a marker on another one
+ * waits for no more. */
 #define BATCH 64
-#define MOST_BATCHES 4
+#define MOST_BATCHES 1
+#define MORE_WAITS 65536
 /* A conversation is busy that had a frame within so many milliseconds. */
 #define BUSY 5000
 
@@ -52,6 +54,7 @@ struct carry {
     uint16_t port_of[CONVERSATIONS]; /* of each conversation in it, as ask_ports told last: 0 where it is free or held there */
     bool changed;                  /* whether the library may answer otherwise now */
     bool waiting;                  /* false only where no frame waits */
+    unsigned taken;                /* frames that came in this turn, and MORE_WAITS for each socket that may have more */
     struct conversation conversations[CONVERSATIONS];
     uint64_t counts[CARRY_COUNTS];
 };
@@ -65,11 +68,12 @@ bool is_home(struct lagd *lagd, const struct conversation *conversation, uint16_
 bool is_busy(struct lagd *lagd, const struct conversation *conversation);
 void suspect_aggregator(struct lagd *lagd, uint32_t aggregator);
 void take_from_host(struct lagd *lagd, uint8_t *packet, size_t length);
-void hand_up(struct lagd *lagd, uint32_t aggregator, const uint8_t *packet, size_t length);
+void hand_up(struct lagd *lagd, uint32_t aggregator, uint8_t *packet, size_t length);
 
 /* host.c */
+struct iovec;
 void take_host(struct lagd *lagd);
-bool give_host(struct lagd *lagd, const uint8_t *packet, size_t length);
+bool give_host(struct lagd *lagd, const struct iovec *parts, unsigned count, size_t length);
 
 /* hash.c */
 struct niw_number conversation_of(struct lagd *lagd, const uint8_t *frame, size_t length);
@@ -78,11 +82,38 @@ struct niw_number conversation_of(struct lagd *lagd, const uint8_t *frame, size_
 size_t head_octets(void);
 size_t packet_room(void);
 uint8_t *make_rooms(void);
+uint8_t *room_at(uint8_t *rooms, unsigned number);
 bool passes_segments(struct lagd *lagd);
 bool has_segments(const uint8_t *packet);
 uint32_t count_segments(const uint8_t *packet, size_t length);
+size_t tag_octets(const uint8_t *frame, size_t length);
 bool has_right_length(const uint8_t *packet, size_t length, uint32_t mtu);
 uint8_t *put_tag(uint8_t *packet, uint16_t type, uint16_t tag);
+
+/* Where a packet of TCP has its headers of IP and TCP, and the payload behind them; and how long it is. */
+struct tcp_packet {
+    size_t network, transport, payload, length;
+};
+
+/* sums.c */
+uint64_t add_octets(uint64_t sum, const uint8_t *octets, size_t length);
+uint16_t fold(uint64_t sum);
+void put_sum(uint8_t *octets, size_t length, size_t field);
+
+/* gso.c: a packet that is cut into `count` of them, each with so many octets of payload but for the last one */
+struct cut {
+    const uint8_t *packet;
+    struct tcp_packet whole;
+    size_t size;
+    uint32_t count;
+};
+bool read_cut(const uint8_t *packet, size_t length, struct cut *cut);
+size_t put_segment(const struct cut *cut, uint32_t number, uint8_t *packet);
+void finish_sum(uint8_t *packet, size_t length);
+
+/* gro.c */
+void put_host(struct lagd *lagd, uint8_t *packet, size_t length);
+void flush_host(struct lagd *lagd);
 
 /* tap.c */
 int open_tap(struct lagd *lagd, const char *name, const uint8_t *mac);

@@ -2,6 +2,7 @@
 #define _GNU_SOURCE
 #include <errno.h>
 #include <string.h>
+#include <sys/uio.h>
 #include <unistd.h>
 
 #include "daemon.h"
@@ -11,6 +12,7 @@
 struct host_private {
     int tap;
     uint8_t *packets; /* for the packets of a batch */
+    uint8_t *segments; /* for those into which one of them is cut */
 };
 
 struct host_private *make_host_private(void) {
@@ -37,33 +39,66 @@ void lose_tap(struct lagd *lagd) {
         "daemon ends", lagd->settings.carry);
 }
 
-/* Takes one packet of the TAP device; answers whether there was one. */
-static bool take_next(struct lagd *lagd, uint8_t *packet) {
+/* Takes the segments of a packet; answers how many there are. */
+static unsigned take_segments(struct lagd *lagd, const struct cut *cut) {
+    for (uint32_t number = 0; number < cut->count && !lagd->broken; number++) {
+        uint8_t *packet = room_at(lagd->host->segments, number % BATCH);
+        if (number > 0 && number % BATCH == 0) flush_data(lagd);
+        take_from_host(lagd, packet, put_segment(cut, number, packet));
+    }
+    flush_data(lagd);
+    return cut->count;
+}
+
+/* Takes a packet whose segments and checksum the host left to a card; answers how many frames it has. A packet that cannot be cut has no
+ * octets. */
+static unsigned take_whole(struct lagd *lagd, uint8_t *packet, size_t length) {
+    struct cut cut;
+    if (has_segments(packet)) {
+        lagd->carry.counts[SEGMENTED]++;
+        if (read_cut(packet, length, &cut)) return take_segments(lagd, &cut);
+        length = 0;
+    }
+    finish_sum(packet, length);
+    take_from_host(lagd, packet, length);
+    return 1;
+}
+
+/* Takes one packet of the TAP device; answers how many frames it has, or 0 where there is none. */
+static unsigned take_next(struct lagd *lagd, uint8_t *packet) {
     ssize_t length;
-    if (lagd->broken) return false;
+    if (lagd->broken) return 0;
     length = read(lagd->host->tap, packet, packet_room());
-    if (length < 0 && (errno == EAGAIN || errno == EINTR)) return false;
+    if (length < 0 && (errno == EAGAIN || errno == EINTR)) return 0;
     if (length < 0 && (errno == EBADFD || errno == EIO || errno == ENODEV)) {
         lose_tap(lagd);
-        return false;
+        return 0;
     }
+    if (length >= (ssize_t)head_octets() && !passes_segments(lagd)) return take_whole(lagd, packet, (size_t)length);
     take_from_host(lagd, packet, length < 0 ? 0 : (size_t)length); /* one that cannot be read has no octets */
-    return true;
+    return 1;
 }
 
 /* Takes the packets that wait in the TAP device, some at most. */
 void take_host(struct lagd *lagd) {
-    for (int turn = 0, got = BATCH; turn < MOST_BATCHES && got == BATCH; turn++) {
-        for (got = 0; got < BATCH && take_next(lagd, lagd->host->packets + (size_t)got * packet_room()); got++) continue;
+    unsigned left = MOST_BATCHES * BATCH;
+    for (unsigned got = BATCH; left > 0 && got == BATCH;) {
+        for (got = 0; got < BATCH && left > 0; got++) {
+            unsigned frames = take_next(lagd, room_at(lagd->host->packets, got));
+            if (frames == 0) break;
+            lagd->carry.taken += frames;
+            left -= frames < left ? frames : left;
+        }
+        if (got == BATCH || left == 0) lagd->carry.taken += MORE_WAITS;
         flush_data(lagd);
-        note_read(lagd, (unsigned)got, got < BATCH);
+        note_read(lagd, got, got < BATCH);
         pass_on(lagd);
     }
 }
 
-/* Hands a packet up; answers whether the device took it. */
-bool give_host(struct lagd *lagd, const uint8_t *packet, size_t length) {
-    return write(lagd->host->tap, packet, length) == (ssize_t)length;
+/* Hands a packet up, which lies in parts; answers whether the device took it. */
+bool give_host(struct lagd *lagd, const struct iovec *parts, unsigned count, size_t length) {
+    return !lagd->broken && writev(lagd->host->tap, parts, (int)count) == (ssize_t)length;
 }
 
 /* Serves what is ready: a member, or the TAP device, whose frames come after what was released. */
@@ -96,6 +131,7 @@ void open_carry(struct lagd *lagd) {
         return;
     }
     own->packets = make_rooms();
+    own->segments = make_rooms();
     load_guard(lagd);
     start_spreading(lagd);
     start_answers(lagd);

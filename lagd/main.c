@@ -12,6 +12,7 @@
 #include <signal.h>
 #include <string.h>
 #include <sys/epoll.h>
+#include <sys/prctl.h>
 #include <sys/signalfd.h>
 #include <sys/timerfd.h>
 #include <unistd.h>
@@ -22,6 +23,9 @@
 #define MOST_EVENTS TAGS
 /* The most ticks that are made up after a stall: what comes in then is new, and time goes on from there. */
 #define MOST_TICKS 10
+/* After a turn with so many frames the next ones gather for so many nanoseconds. */
+#define MANY 32
+#define GATHERS 50000
 /* How many ticks the peers are told of the end at most. */
 #define END_TICKS 15
 
@@ -144,13 +148,20 @@ static void serve(struct lagd *lagd, const struct epoll_event *events, int count
     settle_carry(lagd);
 }
 
+/* Waits for events. While many frames come, and none is left, it lets some gather before they are taken: each wake-up costs whoever sends them, too. */
+static int wait_for(struct lagd *lagd, struct epoll_event *events) {
+    if (lagd->carry.taken >= MANY && lagd->carry.taken < MORE_WAITS) (void)nanosleep(&(struct timespec){0, GATHERS}, NULL);
+    lagd->carry.taken = 0;
+    return epoll_wait(lagd->epoll_file, events, MOST_EVENTS, -1);
+}
+
 /* Waits, and serves what comes. The first signal that ends it, or a refusal of the library, makes it tell the peers; it ends when they
  * are told, or by a second signal; or at once, where the next daemon goes on. */
 static void run(struct lagd *lagd, int signals, int clock, const char *file) {
     struct epoll_event events[MOST_EVENTS];
     bool ends = false;
     for (unsigned end_ticks = 0; !ends || (end_ticks < END_TICKS && !end_is_told(lagd));) {
-        int count = epoll_wait(lagd->epoll_file, events, MOST_EVENTS, -1);
+        int count = wait_for(lagd, events);
         struct ready ready = ready_of(events, count);
         bool ends_now = count < 0 && errno != EINTR;
         serve(lagd, events, count, ready, clock);
@@ -178,6 +189,7 @@ static int run_daemon(struct lagd *lagd, const struct options *options) {
     int signals, clock;
     unsigned resumed;
     lagd->settings = options->settings;
+    (void)prctl(PR_SET_TIMERSLACK, 1); /* of wait_for */
     signals = open_signals(lagd);
     lagd->epoll_file = epoll_create1(EPOLL_CLOEXEC);
     if (lagd->epoll_file < 0) stop(REFUSED, "epoll", strerror(errno));

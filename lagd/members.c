@@ -426,7 +426,7 @@ bool send_marker_again(struct lagd *lagd, uint16_t port) {
 }
 
 /* Hands a frame of data to the library, and up. */
-static void take_one(struct lagd *lagd, struct link *link, const uint8_t *packet, size_t length) {
+static void take_one(struct lagd *lagd, struct link *link, uint8_t *packet, size_t length) {
     struct member *member = member_of(lagd, link);
     uint8_t response[NIW_FRAME];
     size_t octets = length - head_octets() < LONGEST_SHOWN ? length - head_octets() : LONGEST_SHOWN;
@@ -442,6 +442,7 @@ static void take_one(struct lagd *lagd, struct link *link, const uint8_t *packet
 static void take_slow(struct lagd *lagd, struct link *link, const struct sockaddr_ll *from, bool handed_up, const uint8_t *frame,
     size_t length) {
     struct arrival arrival = {frame, length, from->sll_pkttype, handed_up ? link->index : from->sll_ifindex, false};
+    flush_host(lagd); /* what came before it */
     take_frame(lagd, link, &arrival);
     lagd->carry.changed = true;
 }
@@ -486,7 +487,7 @@ static void take_packets(struct lagd *lagd, uint16_t port, const int *fd, bool o
     struct member *member = &own->members[port - 1];
     for (int turn = 0, got = BATCH; turn < MOST_BATCHES && got == BATCH && *fd >= 0; turn++) {
         for (unsigned i = 0; i < BATCH; i++) {
-            own->parts[i] = (struct iovec){own->member_packets + i * (packet_room() + TAG_OCTETS) + TAG_OCTETS, packet_room()};
+            own->parts[i] = (struct iovec){room_at(own->member_packets, i), packet_room()};
             own->messages[i].msg_hdr = (struct msghdr){.msg_name = &own->from[i], .msg_namelen = sizeof own->from[i],
                 .msg_iov = &own->parts[i], .msg_iovlen = 1, .msg_control = own->controls[i], .msg_controllen = sizeof own->controls[i]};
         }
@@ -499,7 +500,9 @@ static void take_packets(struct lagd *lagd, uint16_t port, const int *fd, bool o
             continue;
         }
         if (got > 0) take_changes(lagd);
+        if (got > 0) lagd->carry.taken += got < BATCH ? (unsigned)got : MORE_WAITS;
         for (int i = 0; i < got; i++) take_message(lagd, link, &own->messages[i], only_markers);
+        flush_host(lagd);
     }
 }
 

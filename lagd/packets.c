@@ -2,18 +2,15 @@
  * segments, and where its checksum is still to be put. */
 #define _GNU_SOURCE
 #include <errno.h>
-#include <linux/virtio_net.h>
-#include <string.h>
 #include <sys/mman.h>
 
-#include "daemon.h"
+#include "segments.h"
 
 /* The octets of a packet of several segments, without its head: those of an IP packet, and of its header of Ethernet with two tags. */
 #define LONGEST_SEGMENTED (65536 + ETH_HLEN + 2 * TAG_OCTETS)
-/* The octets of a header of UDP, and of one of TCP without options, and where that tells how long it is. */
+#define USUAL_OCTETS 2048
+/* The octets of a header of UDP. */
 #define UDP_OCTETS 8
-#define TCP_OCTETS 20
-#define TCP_LENGTH 12
 
 static const size_t head = sizeof(struct virtio_net_hdr);
 
@@ -32,12 +29,22 @@ size_t packet_room(void) {
     return head + LONGEST_SEGMENTED;
 }
 
+/* How far rooms are from each other: the beginnings of those whose packets are short would share lines of a cache, if that were 64 KiB. */
+static size_t room_octets(void) {
+    return packet_room() + TAG_OCTETS + USUAL_OCTETS;
+}
+
 /* Room for as many packets as are taken at once, each with TAG_OCTETS before it. The pages of it are in memory once they are used. */
 uint8_t *make_rooms(void) {
-    size_t size = BATCH * (packet_room() + TAG_OCTETS);
+    size_t size = BATCH * room_octets();
     uint8_t *rooms = mmap(NULL, size, PROT_READ | PROT_WRITE, MAP_PRIVATE | MAP_ANONYMOUS, -1, 0);
     if (rooms == MAP_FAILED) stop(REFUSED, "no room for frames", strerror(errno));
     return rooms;
+}
+
+/* One of these rooms. */
+uint8_t *room_at(uint8_t *rooms, unsigned number) {
+    return rooms + number * room_octets() + TAG_OCTETS;
 }
 
 /* What the kernel tells of a packet. */
@@ -72,7 +79,7 @@ uint32_t count_segments(const uint8_t *packet, size_t length) {
 }
 
 /* The octets of the tags of a frame, of two at most. */
-static size_t tag_octets(const uint8_t *frame, size_t length) {
+size_t tag_octets(const uint8_t *frame, size_t length) {
     size_t octets = 0;
     while (octets < 2 * TAG_OCTETS && ETH_HLEN + octets + TAG_OCTETS <= length) {
         unsigned type = (unsigned)frame[12 + octets] << 8 | frame[13 + octets];

@@ -183,7 +183,7 @@ bool is_tap_up(struct lagd *lagd) {
 /* Has the host hand over frames of several segments, and without checksums, where they are passed; each packet tells before its frame. */
 static void choose_segments(struct lagd *lagd) {
     struct tap_private *own = lagd->tap;
-    unsigned long wanted = passes_segments(lagd) ? TUN_F_CSUM | TUN_F_TSO4 | TUN_F_TSO6 | TUN_F_TSO_ECN : 0;
+    unsigned long wanted = TUN_F_CSUM | TUN_F_TSO4 | TUN_F_TSO6 | TUN_F_TSO_ECN;
     unsigned long more = passes_segments(lagd) ? TUN_F_USO4 | TUN_F_USO6 : 0;
     if (ioctl(own->tap, TUNSETVNETHDRSZ, &(int){(int)head_octets()}) < 0
         || (ioctl(own->tap, TUNSETOFFLOAD, wanted | more) < 0 && ioctl(own->tap, TUNSETOFFLOAD, wanted) < 0))

@@ -49,6 +49,7 @@ class Programs:
     daemon: str
     forcing: str  # a daemon that frees each conversation as soon as it is to move
     old_kernel: str  # one whose kernel has no TCX, and gives a device a carrier as it is opened
+    little_memory: str  # one whose kernel has no memory for a packet of several segments that goes up
     without_wait: str  # one whose kernel waits for no program once it has started
     flows: str
     cables: str
@@ -62,13 +63,14 @@ def build_programs(folder: str, libraries: list[str], words: Sequence[str] = ())
     forcing = build_daemon(folder, libraries, "lagd-forcing", [f"{here}/forcing.c"], ["-Wl,--wrap=lagffi_move_conversation"])
     wraps = ["-Wl,--wrap=attach_program", "-Wl,--wrap=ioctl"]
     old_kernel = build_daemon(folder, libraries, "lagd-old-kernel", [f"{here}/old_kernel.c"], wraps)
+    little_memory = build_daemon(folder, libraries, "lagd-little-memory", [f"{here}/little_memory.c"], ["-Wl,--wrap=writev", *words])
     without_wait = build_daemon(folder, libraries, "lagd-without-wait", [f"{here}/without_wait.c"], ["-Wl,--wrap=syscall"])
     own = {name: build(f"{folder}/{name}", [f"{here}/{name}.c"], [], "-std=c11", *WARNINGS) for name in ("flows", "cables")}
     sources = [f"{here}/conversations.c", f"{DAEMON}/hash.c"]
     hashing = build(f"{folder}/conversations", sources, libraries, *STRICT, "-fsanitize=address,undefined", f"-I{DAEMON}")
     bucket_sources = [f"{here}/buckets.c", f"{DAEMON}/team_hash.c"]
     buckets = build(f"{folder}/buckets", bucket_sources, [], *STRICT, "-fsanitize=address,undefined", f"-I{DAEMON}")
-    return Programs(folder, build_daemon(folder, libraries, words=words), forcing, old_kernel, without_wait, conversations=hashing,
+    return Programs(folder, build_daemon(folder, libraries, words=words), forcing, old_kernel, little_memory, without_wait, conversations=hashing,
                     buckets=buckets, **own)
 
 

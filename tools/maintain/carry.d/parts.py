@@ -21,6 +21,7 @@ from models import model
 from restarting import PARTS as RESTARTS
 from restoring import PARTS as RESTORING
 from rows import rows
+from stream_parts import PARTS as STREAMS
 from checking import Skipped, check, within
 from fetching import Packages
 from openvswitch import OpenVSwitch
@@ -322,3 +323,4 @@ PARTS.update(RESTORING)
 PARTS.update(ABOVE)
 PARTS.update(RESTARTS)
 PARTS.update(ALL_QUEUES)
+PARTS.update(STREAMS)

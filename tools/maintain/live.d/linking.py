@@ -122,6 +122,12 @@ def build_flights(folder: str) -> str:
     return build(os.path.join(folder, "flights"), sources, [], *STRICT, f"-I{DAEMON}", *SANITIZED)
 
 
+def build_segments(folder: str) -> str:
+    """Builds what cuts frames and puts them together alone, with ASan and UBSan, over a device in memory; answers the path of the program."""
+    sources = [*(f"{MAINTAIN}/live.d/{name}.c" for name in ("segments", "checks")), *(f"{DAEMON}/{name}.c" for name in ("gro", "gso", "packets", "sums"))]
+    return build(os.path.join(folder, "segments"), sources, [], *STRICT, f"-I{DAEMON}", *SANITIZED)
+
+
 def build_policy(folder: str, libraries: Sequence[str]) -> str:
     """Builds what the daemon decides of data alone, with ASan and UBSan, over cables in memory; answers the path of the program. What it is
     not linked with it does not call."""

@@ -204,13 +204,13 @@ void send_frame(struct lagd *lagd, struct link *link, const uint8_t *frame) {
     }
     put_slow(end, link->settings.number, sent);
 }
-bool give_host(struct lagd *lagd, const uint8_t *packet, size_t length) {
+void put_host(struct lagd *lagd, uint8_t *packet, size_t length) {
     struct end *end = end_of(lagd);
     uint16_t number = conversation_at(packet);
     CHECK(length == OCTETS && number_at(packet) > end->got[number]);
     end->got[number] = number_at(packet);
     end->arrived++;
-    return true;
+    lagd->carry.counts[HANDED_UP]++;
 }
 
 /* lines, and the carrier of the device, */
@@ -447,7 +447,7 @@ static void send_burst(struct end *end, unsigned most) {
 }
 
 /* A frame comes to an end. */
-static void take(struct end *end, uint16_t port, const uint8_t *frame, size_t length) {
+static void take(struct end *end, uint16_t port, uint8_t *frame, size_t length) {
     struct lagd *lagd = &end->lagd;
     struct link *link = &lagd->links[port - 1];
     struct arrival arrival = {frame, length, PACKET_MULTICAST, link->index, false};

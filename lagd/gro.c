@@ -1,0 +1,141 @@
+/* Frames of one stream of TCP that came in a row from a member go up as one of several segments, as the kernel puts them together (generic
+ * receive offload): each packet that goes up costs a call. No frame overtakes another one, and what cannot go up so goes up frame by frame. */
+#define _GNU_SOURCE
+#include <sys/uio.h>
+
+#include "segments.h"
+
+/* The octets of the headers of a packet at most. */
+#define MOST_HEADERS 256
+#define LONGEST_IP 65535
+/* Of the octets of IPV4_FRAGMENT: a packet that is no fragment, and becomes none. */
+#define NO_FRAGMENT 0x4000
+
+/* What this file keeps for a daemon. */
+struct gro_private {
+    unsigned count; /* packets that wait to go up; they stay where they are */
+    struct iovec packets[BATCH];
+    struct tcp_packet all; /* what they are together, with the headers of the first one */
+    uint32_t next; /* the number of the octet of the stream that follows */
+    bool open;     /* whether one more may follow */
+};
+
+struct gro_private *make_gro_private(void) {
+    return make_room(sizeof(struct gro_private));
+}
+
+/* Whether a header of IP is usual, of a packet of TCP with so many octets behind it; answers the octets of the header, or 0. */
+static size_t ip_octets(unsigned type, const uint8_t *ip, size_t length) {
+    if (type == ETH_P_IP && length >= IPV4_OCTETS && ip[0] == 0x45 && read16(ip + IPV4_LENGTH) == length
+        && read16(ip + IPV4_FRAGMENT) == NO_FRAGMENT && ip[IPV4_PROTOCOL] == IPPROTO_TCP
+        && fold(add_octets(0, ip, IPV4_OCTETS)) == UINT16_MAX)
+        return IPV4_OCTETS;
+    if (type == ETH_P_IPV6 && length >= IPV6_OCTETS && ip[0] >> 4 == 6 && read16(ip + IPV6_LENGTH) == length - IPV6_OCTETS
+        && ip[IPV6_NEXT] == IPPROTO_TCP)
+        return IPV6_OCTETS;
+    return 0;
+}
+
+/* Reads where a packet has its headers, if it may be one of several: of TCP, with a payload, and no flag that asks for something. */
+static bool read_tcp(const uint8_t *packet, size_t length, struct tcp_packet *tcp) {
+    size_t head = head_octets(), network = head + ETH_HLEN + tag_octets(packet + head, length - head), octets;
+    const uint8_t *flags;
+    if (has_segments(packet) || length < network) return false;
+    octets = ip_octets(read16(packet + network - 2), packet + network, length - network);
+    if (octets == 0 || network + octets + TCP_OCTETS > length) return false;
+    *tcp = (struct tcp_packet){.network = network, .transport = network + octets, .length = length};
+    tcp->payload = tcp->transport + 4 * ((size_t)packet[tcp->transport + TCP_LENGTH] >> 4);
+    flags = packet + tcp->transport + TCP_FLAGS;
+    return tcp->payload >= tcp->transport + TCP_OCTETS && tcp->payload < length && tcp->payload <= MOST_HEADERS
+        && (packet[tcp->transport + TCP_LENGTH] & 15) == 0 && (*flags & ~FLAG_PSH) == FLAG_ACK;
+}
+
+/* The sum of the addresses and of the length of a packet of TCP, as its checksum has it. */
+static uint64_t sum_beside(const uint8_t *packet, const struct tcp_packet *tcp) {
+    bool is = has_ipv6(packet, tcp);
+    uint64_t sum = (uint64_t)htons(IPPROTO_TCP) + htons((uint16_t)(tcp->length - tcp->transport));
+    return add_octets(sum, packet + tcp->network + (is ? IPV6_ADDRESSES : IPV4_ADDRESSES), is ? 32 : 8);
+}
+
+/* Whether a packet is as it was sent, as the card says, or its checksum; or whether that is still to be made. */
+static bool is_as_sent(const uint8_t *packet, const struct tcp_packet *tcp) {
+    struct virtio_net_hdr told;
+    memcpy(&told, packet, sizeof told);
+    if (told.flags & VIRTIO_NET_HDR_F_NEEDS_CSUM) return told.csum_start + head_octets() == tcp->transport && told.csum_offset == TCP_SUM;
+    if (told.flags & VIRTIO_NET_HDR_F_DATA_VALID) return true;
+    return fold(add_octets(sum_beside(packet, tcp), packet + tcp->transport, tcp->length - tcp->transport)) == UINT16_MAX;
+}
+
+static bool is_same(const uint8_t *one, const uint8_t *other, size_t from, size_t to) {
+    return memcmp(one + from, other + from, to - from) == 0;
+}
+
+/* Whether the headers of two packets differ in nothing but what differs between segments. */
+static bool has_same_headers(const uint8_t *one, const uint8_t *other, const struct tcp_packet *tcp) {
+    size_t ip = tcp->network, at = tcp->transport;
+    bool same = has_ipv6(one, tcp) ? is_same(one, other, ip, ip + IPV6_LENGTH) && is_same(one, other, ip + IPV6_NEXT, at)
+        : is_same(one, other, ip, ip + IPV4_LENGTH) && is_same(one, other, ip + IPV4_FRAGMENT, ip + IPV4_SUM)
+            && is_same(one, other, ip + IPV4_ADDRESSES, at);
+    return same && is_same(one, other, head_octets(), ip) && is_same(one, other, at, at + TCP_SEQUENCE)
+        && is_same(one, other, at + TCP_ACKNOWLEDGED, at + TCP_FLAGS) && is_same(one, other, at + TCP_WINDOW, at + TCP_SUM)
+        && is_same(one, other, at + TCP_URGENT, tcp->payload);
+}
+
+/* Whether a packet follows those that wait. */
+static bool follows(struct gro_private *own, const uint8_t *packet, const struct tcp_packet *tcp) {
+    const uint8_t *first = own->packets[0].iov_base;
+    struct tcp_packet alone = own->all;
+    alone.length = own->packets[0].iov_len;
+    return own->open && own->count < BATCH && tcp->network == alone.network && tcp->transport == alone.transport && tcp->payload == alone.payload
+        && read32(packet + tcp->transport + TCP_SEQUENCE) == own->next && tcp->length <= alone.length
+        && own->all.length + tcp->length - tcp->payload - alone.network <= LONGEST_IP && has_same_headers(first, packet, tcp)
+        && (own->count > 1 || is_as_sent(first, &alone)) && is_as_sent(packet, tcp);
+}
+
+/* Hands up as one what waits; answers whether the device took it. */
+static bool give_all(struct lagd *lagd) {
+    struct gro_private *own = lagd->gro;
+    const struct tcp_packet *all = &own->all;
+    const uint8_t *first = own->packets[0].iov_base, *last = own->packets[own->count - 1].iov_base;
+    bool is = has_ipv6(first, all);
+    struct virtio_net_hdr told = {.flags = VIRTIO_NET_HDR_F_NEEDS_CSUM, .gso_type = is ? VIRTIO_NET_HDR_GSO_TCPV6 : VIRTIO_NET_HDR_GSO_TCPV4,
+        .hdr_len = (uint16_t)(all->payload - head_octets()), .gso_size = (uint16_t)(own->packets[0].iov_len - all->payload),
+        .csum_start = (uint16_t)(all->transport - head_octets()), .csum_offset = TCP_SUM};
+    uint8_t headers[MOST_HEADERS];
+    struct iovec parts[1 + BATCH] = {{headers, all->payload}};
+    uint16_t sum;
+    memcpy(headers, first, all->payload);
+    memcpy(headers, &told, sizeof told);
+    write_length(headers, all);
+    sum = fold(sum_beside(headers, all));
+    memcpy(headers + all->transport + TCP_SUM, &sum, sizeof sum);
+    headers[all->transport + TCP_FLAGS] |= last[all->transport + TCP_FLAGS];
+    for (unsigned i = 0; i < own->count; i++) {
+        uint8_t *packet = own->packets[i].iov_base;
+        parts[1 + i] = (struct iovec){packet + all->payload, own->packets[i].iov_len - all->payload};
+    }
+    return give_host(lagd, parts, 1 + own->count, all->length);
+}
+
+/* Hands up what waits. */
+void flush_host(struct lagd *lagd) {
+    struct gro_private *own = lagd->gro;
+    unsigned given = own->count > 1 && give_all(lagd) ? own->count : 0, first = given;
+    for (unsigned i = first; i < own->count; i++) given += give_host(lagd, &own->packets[i], 1, own->packets[i].iov_len);
+    lagd->carry.counts[HANDED_UP] += given;
+    lagd->carry.counts[HOST_UNTAKEN] += own->count - given;
+    own->count = 0;
+}
+
+/* Puts a packet behind those that wait to go up. It stays where it is until flush_host. */
+void put_host(struct lagd *lagd, uint8_t *packet, size_t length) {
+    struct gro_private *own = lagd->gro;
+    struct tcp_packet tcp;
+    bool joins = read_tcp(packet, length, &tcp);
+    if (own->count > 0 && !(joins && follows(own, packet, &tcp))) flush_host(lagd);
+    if (joins && own->count == 0) own->all = tcp;
+    if (joins && own->count > 0) own->all.length += length - tcp.payload;
+    own->packets[own->count++] = (struct iovec){packet, length};
+    own->open = joins && length == own->packets[0].iov_len && !(packet[tcp.transport + TCP_FLAGS] & FLAG_PSH);
+    if (joins) own->next = read32(packet + tcp.transport + TCP_SEQUENCE) + (uint32_t)(length - tcp.payload);
+}
