@@ -22,10 +22,11 @@
 #define PAINT 0xa5
 
 enum kind { NOTHING, NEW, FREE, TICK, TICKS, RECEIVE, TRANSMIT, SET_LINK, CONFIGURE, RESTART, OFFER, OFFER_CONVERSATION, MOVE, LEAVE, FORCE, FORCE_PORT,
-    VIEWS, DUE, TICKS_UNTIL_DUE, CONVERSATION_PORTS, RESUME, KINDS };
+    VIEWS, DUE, TICKS_UNTIL_DUE, CONVERSATION_PORTS, RESUME, ADOPT, HOLD, RELEASED, KINDS };
 static const char *const NAMES[KINDS] = {"-", "niw_new", "niw_free", "niw_tick", "niw_ticks, 100 of them", "niw_receive", "niw_transmit", "niw_set_link",
     "niw_configure", "niw_restart", "niw_offer", "niw_offer_conversation", "niw_move_conversation", "niw_leave_conversation", "niw_force", "niw_force_port",
-    "niw_views", "niw_due", "niw_ticks_until_due", "niw_conversation_ports", "niw_resume"};
+    "niw_views", "niw_due", "niw_ticks_until_due", "niw_conversation_ports", "niw_resume", "niw_adopt", "niw_hold",
+    "niw_released"};
 
 struct call {
     enum kind kind;
@@ -35,7 +36,7 @@ struct call {
 
 static struct niw_system here = NIW_EMPTY;
 static uint16_t ports, conversations, rows[NIW_MANY_CONVERSATIONS];
-static bool changed[NIW_MANY_CONVERSATIONS];
+static bool changed[NIW_MANY_CONVERSATIONS], busy[NIW_MANY_CONVERSATIONS];
 static struct niw_view views[NIW_MOST_PORTS];
 static struct niw_saved saved[NIW_MOST_PORTS];
 static uint8_t frame[NIW_FRAME], response[NIW_FRAME], last_marker[NIW_FRAME];
@@ -120,13 +121,16 @@ static void call(const struct call *it) {
     case DUE: (void)niw_due(&here); break;
     case TICKS_UNTIL_DUE: (void)niw_ticks_until_due(&here); break;
     case CONVERSATION_PORTS: niw_conversation_ports(&here, 1, rows, conversations, changed, conversations); break;
+    case ADOPT: niw_adopt(&here, 1, it->conversation, it->port); break;
+    case HOLD: niw_hold(&here, it->port, it->chance % 8 == 0); break;
+    case RELEASED: niw_released(&here, 1, busy, conversations, changed, conversations); break;
     case NOTHING: case KINDS: break;
     }
 }
 
 /* Which calls are made: mostly those that a host makes all the time, in runs of one kind, so that much is held at once. */
 static enum kind drawn(void) {
-    static const uint8_t WEIGHTS[KINDS] = {2, 2, 2, 30, 1, 60, 60, 8, 3, 2, 5, 4, 4, 3, 3, 4, 5, 5, 5, 3, 2};
+    static const uint8_t WEIGHTS[KINDS] = {2, 2, 2, 30, 1, 60, 60, 8, 3, 2, 5, 4, 4, 3, 3, 4, 5, 5, 5, 3, 2, 4, 4, 3};
     uint32_t all = 0, at;
     for (int kind = 0; kind < KINDS; kind++) all += WEIGHTS[kind];
     at = chance(all);
@@ -148,7 +152,7 @@ static void draw(struct call *calls) {
     for (unsigned i = 0; i < CALLS; i++) {
         if (run == 0) {
             kind = drawn();
-            run = kind == OFFER_CONVERSATION || kind == MOVE ? 1 + chance(conversations) : empties(kind) ? 1 : 1 + chance(2u * ports);
+            run = kind == OFFER_CONVERSATION || kind == MOVE || kind == ADOPT ? 1 + chance(conversations) : empties(kind) ? 1 : 1 + chance(2u * ports);
         }
         run--;
         calls[i] = (struct call){kind, (uint16_t)(1 + (chance(4) ? i % ports : chance(ports))), (uint16_t)(i % conversations), chance(1 << 20)};
