@@ -1,6 +1,6 @@
 /* What is shown of a capture: the findings, then a time axis for each pair of systems, then the frames and the text. */
 
-import { addressOf, bundlesOf, isRemark, nameOf, Records, saidBy, secondsOf } from "./records.js";
+import { addressOf, bundlesOf, isRemark, nameOf, Records, ruleOf, saidBy, secondsOf } from "./records.js";
 import { Packets } from "./packets.js";
 import { fieldsOf } from "./fields.js";
 import { octetsBeside } from "./octets.js";
@@ -13,7 +13,11 @@ import { button, made, table } from "./shapes.js";
 const MOST = 400;
 /* The rules of docs/COMMAND.md whose findings often explain others, and those whose findings often follow from others. */
 const LEADING = [26, 28, 29], FOLLOWING = [12, 13, 17, 22, 23];
-const FAULT = "fault", EFFECT = "likely effect", REMARK = "remark", KINDS = [FAULT, EFFECT, REMARK];
+export const FAULT = "fault";
+export const EFFECT = "likely effect";
+const REMARK = "remark", KINDS = [FAULT, EFFECT, REMARK];
+/* What is said of effects on links of two systems that have no fault. */
+const CAUSELESS = "Its cause is before this capture, or on a link that the capture lacks.", AT_START = [13, "Right after a start rule 13 is normal if both ends distribute later."];
 const isFault = (finding) => !isRemark(finding) && !FOLLOWING.includes(finding.rule);
 export const counted = (number, word) => `${number} ${word}${number === 1 ? "" : "s"}`;
 const upper = (text) => text[0].toUpperCase() + text.slice(1);
@@ -37,7 +41,7 @@ function framesOf(link, choose) {
     const listed = link.frames.filter((it, number) => number < MOST || packets.has(it.packet));
     const rows = listed.map((frame) => {
         const open = button(`${frame.packet}`, () => choose(frame)), said = made("span", saidBy(frame));
-        for (const it of link.findings) if (it.packet === frame.packet) said.append(made("strong", ` ${it.name} (${it.clause})`, lookOf(it)));
+        for (const it of link.findings) if (it.packet === frame.packet) said.append(made("strong", ` ${it.name} (${ruleOf(it)})`, lookOf(it)));
         open.setAttribute("aria-label", `packet ${frame.packet}: its fields`);
         return [open, secondsOf(frame.seconds), frame.end === link.ends[0] ? "\u2192" : "\u2190", said];
     });
@@ -95,7 +99,7 @@ class Pair {
         if (turn !== this.turn) return;
         const head = made("h3", `Packet ${frame.packet} at ${secondsOf(frame.seconds)} s, from ${frame.end.name}`);
         const findings = this.bundle.findings.filter((it) => it.packet === frame.packet && it.at === frame.end);
-        const said = findings.map((it) => made("p", `${upper(it.name)} (${it.clause}). ${it.advice}`, lookOf(it)));
+        const said = findings.map((it) => made("p", `${upper(it.name)} (${ruleOf(it)}). ${it.advice}`, lookOf(it)));
         const octets = found ? octetsBeside(found.octets, fieldsOf(found.octets, found.link)) : made("p", "Its octets are not found in the file.");
         this.fields.replaceChildren(button("Close", () => this.close(), "close"), head, ...said, octets);
         this.fields.hidden = false;
@@ -146,21 +150,29 @@ function placeIn(finding, pair) {
         pair.take(frame);
     });
     const { name, system } = finding.at, of = system ? ` of system ${addressOf(system)}` : "";
-    const where = made("span", `${finding.clause}: ${name}${of}, `, "quiet");
+    const where = made("span", `${ruleOf(finding)}: ${name}${of}, `, "quiet");
     where.append(link, finding.seconds === null ? "" : ` at ${finding.seconds.toFixed(6)} s`, valueOf(finding, frame));
     return where;
 }
 
-/* What the findings of one rule are: effects where each pair of systems that has them has a fault, too. */
-function kindOfRule(findings, pairOf) {
-    if (isRemark(findings[0])) return REMARK;
-    return findings.every((it) => !isFault(it) && pairOf(it).bundle.findings.some(isFault)) ? EFFECT : FAULT;
+/* What the findings of one rule are. */
+function kindOfRule([finding]) {
+    if (isRemark(finding)) return REMARK;
+    return isFault(finding) ? FAULT : EFFECT;
+}
+
+/* What is said of an effect where its pair of systems has no fault. */
+function causeOf(findings, pairOf) {
+    const isCaused = findings.every((it) => pairOf(it).bundle.findings.some(isFault)), [rule, said] = AT_START;
+    if (isCaused) return [];
+    return [made("span", findings[0].rule === rule ? ` ${CAUSELESS} ${said}` : ` ${CAUSELESS}`)];
 }
 
 /* What is found by one rule: what, what to do, and where it shows. */
 function itemOf(findings, kind, pairOf) {
     const item = made("li"), [{ name, advice }] = findings;
     item.append(made("strong", kind === FAULT ? upper(name) : `${upper(kind)}: ${name}`), made("span", advice));
+    if (kind === EFFECT) item.append(...causeOf(findings, pairOf));
     item.append(...togetherOf(findings).map((it) => made("strong", it)));
     item.append(...findings.map((it) => placeIn(it, pairOf(it))));
     return item;
@@ -172,7 +184,7 @@ export function showRecords(records, blob, findingsAt, linksAt) {
     const pairs = bundles.map((it, number) => new Pair(it, packets, number === 0));
     const pairOf = (finding) => pairs.find((it) => it.bundle.findings.includes(finding));
     const rules = [...new Set(findings.map((it) => it.rule))].map((rule) => findings.filter((it) => it.rule === rule));
-    const items = rules.map((it) => ({ findings: it, kind: kindOfRule(it, pairOf) }));
+    const items = rules.map((it) => ({ findings: it, kind: kindOfRule(it) }));
     const rankOf = ({ findings: [{ rule }], kind }) => KINDS.indexOf(kind) - LEADING.includes(rule);
     items.sort((one, other) => rankOf(one) - rankOf(other));
     findingsAt.replaceChildren(...items.map((it) => itemOf(it.findings, it.kind, pairOf)));

@@ -2,7 +2,7 @@
 
 import { Lagtool } from "./module.js";
 import { Records } from "./records.js";
-import { counted, picturesOf, showRecords } from "./capture.js";
+import { counted, EFFECT, FAULT, picturesOf, showRecords } from "./capture.js";
 import { Playing } from "./playing.js";
 import { digitsOf, Payload } from "./payload.js";
 import { offer, textOfReport } from "./saving.js";
@@ -12,6 +12,8 @@ import { byId } from "./shapes.js";
 const MOST_SHOWN = 2000000, MOST_BEHIND = 100000;
 /* A larger file is no script and no payload. */
 const MOST_TEXT = 16000000;
+/* So many seconds show each time-out (docs/TROUBLE.md). */
+const ENOUGH = 100;
 
 const octetsIn = (id) => Uint8Array.from(atob(byId(id).textContent), (it) => it.charCodeAt(0));
 
@@ -39,10 +41,10 @@ class Text {
 /* What is shown now: the pairs of systems, and the job that runs. */
 const now = { pairs: [], job: null };
 
-function put(name, verdict, isGood, said) {
+function put(name, verdict, look, said) {
     byId("name").textContent = name;
     byId("verdict").textContent = verdict;
-    byId("verdict").className = isGood ? "good" : "bad";
+    byId("verdict").className = look;
     byId("said").textContent = said;
     byId("said").hidden = !said;
     byId("shown").hidden = false;
@@ -54,9 +56,9 @@ function clear(name) {
     byId("findings").replaceChildren();
     byId("links").replaceChildren();
     byId("legend").hidden = true;
-    byId("undrawn-frames").textContent = "";
+    byId("lasts").textContent = byId("undrawn-frames").textContent = "";
     byId("text").textContent = byId("copied").textContent = "";
-    put(name, "It is being read.", true, "");
+    put(name, "It is being read.", "good", "");
     byId("name").focus();
 }
 
@@ -76,13 +78,36 @@ async function run(lagtool, file, options, printed) {
 
 const ADVICE = "Look whether LACP is on: at a switch the mode of the group is active, not on (static); bonding has mode=802.3ad.";
 
+/* What is said of frames that could not be read: a capture that cuts frames cuts all LACPDUs alike; rule 7 has those that were short on the link. */
+function unreadIn({ unread, frames, all, findings }) {
+    if (!unread) return "";
+    const isRead = all.some((it) => it.system), isShort = findings.some((it) => it.rule === 7);
+    const count = `${isRead ? "" : "No LACPDU could be read: "}${unread} of ${counted(frames, "frame")} of the slow protocols could not be read`;
+    if (isShort) return `${count}: see rule 7.`;
+    return `${count}: capture whole frames (tcpdump -s 0)${isRead ? ", unless they are of another protocol, as OAM" : ""}.`;
+}
+
+/* What the findings are, in few words, and how they look: effects alone are neither good nor bad. */
+function foundIn(records, kinds, said) {
+    const has = (kind) => kinds.some((it) => it[1] === kind), places = counted(records.findings.length, "place");
+    const found = `${kinds.map(([number, kind]) => counted(number, kind)).join(", ")}, at ${places}`;
+    if (said || has(FAULT)) return [`${found}:`, "bad"];
+    return has(EFFECT) ? [`${found}; no cause in this capture:`, ""] : [`No fault found; ${found}:`, "good"];
+}
+
 function verdictOf(records, kinds, said) {
-    const isGood = !said && kinds.every(([, kind]) => kind === "remark"), places = counted(records.findings.length, "place");
-    const found = kinds.map(([number, kind]) => counted(number, kind)).join(", ");
-    if (found) return [`${isGood ? "No fault found; " : ""}${found}, at ${places}:`, isGood];
-    if (said) return ["", false];
-    if (records.counts?.slow) return ["Nothing found.", true];
-    return [`No frame of the slow protocols (LACPDU, Marker PDU) is in this capture. ${ADVICE}`, false];
+    const unread = unreadIn(records), [found, look] = kinds.length ? foundIn(records, kinds, said) : ["", "bad"];
+    if (unread) return [`${unread} ${found}`.trim(), "bad"];
+    if (found || said) return [found, look];
+    if (records.frames > records.others) return ["Nothing found.", "good"];
+    return [`No frame of the slow protocols (LACPDU, Marker PDU) is in this capture. ${ADVICE}`, "bad"];
+}
+
+/* How long a capture lasts, as far as its LACPDUs show it. */
+function lastingOf({ lasts }) {
+    if (lasts === null) return "";
+    const said = `Its LACPDUs span ${lasts.toFixed(1)} s`;
+    return lasts < ENOUGH ? `${said}, shorter than ${ENOUGH} s: time-outs may not show.` : `${said}.`;
 }
 
 /* The records first, with what they show; then the text. */
@@ -96,6 +121,7 @@ async function explain(lagtool, name, file) {
     now.pairs = pairs;
     byId("legend").hidden = !pairs.length;
     byId("undrawn-frames").textContent = records.frames > records.kept ? `Of ${records.frames} frames ${records.kept} are drawn.` : "";
+    byId("lasts").textContent = lastingOf(records);
     put(name, ...verdictOf(records, kinds, said), isStopped ? "Stopped: the findings want the whole capture." : said);
     if (!isStopped) {
         told = await run(lagtool, file, {}, (piece) => text.add(piece));
@@ -111,7 +137,7 @@ async function show(lagtool, name, file) {
     } catch (error) {
         if (error.message === "stopped") return;
         const said = `This page could not explain it: ${error.message}. lagtool capture reads files of any size.`;
-        put(name, "", false, said);
+        put(name, "", "bad", said);
         window.shown = { name, status: 2, printed: "", said };
     }
 }

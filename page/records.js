@@ -8,6 +8,8 @@ const NO_SYSTEM = "00-00-00-00-00-00";
 const BITS = ["active", "short", "aggregatable", "synchronized", "collecting", "distributing", "defaulted", "expired"];
 
 export const isRemark = (finding) => REMARKS.includes(finding.rule);
+/* By what a finding is looked up: its rule, and the section of the standard. */
+export const ruleOf = (finding) => `rule ${finding.rule}, ${finding.clause}`;
 export const bitsOf = (octet) => BITS.filter((_, bit) => (octet >> bit) & 1);
 export const hexadecimal = (number, digits = 2) => number.toString(16).padStart(digits, "0");
 export const secondsOf = (seconds) => seconds === null ? "-" : seconds.toFixed(6);
@@ -73,6 +75,9 @@ export class Records {
         this.findings = [];
         this.frames = 0;
         this.kept = 0;
+        this.unread = 0;
+        this.others = 0;
+        this.lacpdus = { first: Infinity, last: -Infinity };
         this.counts = null;
     }
 
@@ -93,15 +98,35 @@ export class Records {
     add(record) {
         if (record.record === "frame") this.addFrame(record);
         if (record.record === "finding") this.addFinding(record);
+        if (record.record === "end") this.addEnd(record);
         if (record.record === "counts") this.counts = record;
     }
 
     addFrame(frame) {
-        this.frames += 1;
+        this.count(frame);
         const port = portOf(frame), { interface: number, source } = frame;
         if (this.all.length >= MOST_ENDS && !this.ends.has(port === null ? `${number} ${source}` : `${number} ${source} ${port}`)) return;
         this.kept += 1;
         this.end(number, source, port).take(frame);
+    }
+
+    /* A frame that is refused could not be read, unless it is of another slow protocol by its subtype. */
+    count(frame) {
+        this.frames += 1;
+        if (frame.kind !== "refused") return;
+        if (frame.fault.startsWith("octet 0 names")) this.others += 1;
+        else this.unread += 1;
+    }
+
+    addEnd({ first, last }) {
+        if (first === null || last === null) return;
+        this.lacpdus = { first: Math.min(this.lacpdus.first, first), last: Math.max(this.lacpdus.last, last) };
+    }
+
+    /* How many seconds there are from the first LACPDU to the last; null where nothing says so. */
+    get lasts() {
+        const { first, last } = this.lacpdus;
+        return first <= last ? last - first : null;
     }
 
     addFinding(finding) {
@@ -113,7 +138,9 @@ export class Records {
 
     addLines(text) {
         for (const line of text.split("\n")) {
-            if (this.kept >= MOST_KEPT && line.startsWith('{"record":"frame"')) this.frames += 1;
+            const isCounted = this.kept >= MOST_KEPT && line.startsWith('{"record":"frame"');
+            if (isCounted && !line.includes('"kind":"refused"')) this.frames += 1;
+            else if (isCounted) this.count(JSON.parse(line));
             else if (line) this.add(JSON.parse(line));
         }
     }

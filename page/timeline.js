@@ -1,6 +1,6 @@
 /* The links of one pair of systems on one time axis, from left to right: of each end a bar for each state, and an arrow for each frame. */
 
-import { bitsOf, hexadecimal, isRemark, machinesOf, saidBy, secondsOf } from "./records.js";
+import { bitsOf, hexadecimal, isRemark, machinesOf, ruleOf, saidBy, secondsOf } from "./records.js";
 import { shape } from "./shapes.js";
 
 const GUTTER = 66, RIGHT = 14, AXIS = 26, ROW = 13, NAME = 18, ARROWS = 54, BETWEEN = 16, LETTER = 6.2;
@@ -142,7 +142,7 @@ export class Drawing {
 
 /* What a frame says, for who cannot see it. */
 function labelOf(frame, findings) {
-    const found = findings.map((it) => `; finding: ${it.name} (${it.clause})`).join("");
+    const found = findings.map((it) => `; finding: ${it.name} (${ruleOf(it)})`).join("");
     return `packet ${frame.packet}, ${secondsOf(frame.seconds)} s, from ${frame.end.name}: ${saidBy(frame)}${found}`;
 }
 

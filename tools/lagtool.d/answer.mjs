@@ -5,9 +5,12 @@ import { fstatSync, openSync, readFileSync, readSync } from "node:fs";
 const at = (path) => new URL(`../../${path}`, import.meta.url);
 const { Lagtool, explained, numbersOf } = await import(`data:text/javascript;base64,${readFileSync(at("page/module.js"), "base64")}`);
 const PAGE = /<script type="application\/x-base64" id="module">([^<]*)</, JOBS = { capture: 1, replay: 1, decode: 1, respond: 2, vectors: 0 };
+const OPTIONS = ["--explain", "--progress", "--all", "--no-frames", "--json"];
+/* The words of the program for errors of the operating system; of others its own text. */
+const ERRORS = { ENOENT: "no such file", EACCES: "permission denied", EPERM: "permission denied", EISDIR: "is a folder" };
 
 const words = process.argv.slice(2), options = [];
-while (words[0]?.startsWith("--")) options.push(words.shift());
+while (OPTIONS.includes(words[0])) options.push(words.shift());
 const [name, ...given] = words, file = given[0] === "-" ? "standard input" : given[0];
 
 /* A file as explained() reads one; the octets of what is no plain file. */
@@ -33,9 +36,23 @@ function* steps(lagtool) {
     return told;
 }
 
+/* Why the words are no line of the program; nothing where they are one. */
+function misused() {
+    const late = given.find((it) => OPTIONS.includes(it));
+    if (late && name in JOBS) return `options stand before the subcommand: lagtool ${late} ${name} ..`;
+    return JOBS[name] === given.length ? "" : `without the toolchain: [OPTION..] ${Object.keys(JOBS).join(", ")}, and their words; options: ${OPTIONS.join(" ")}`;
+}
+
+/* What the program says of a file that cannot be read. */
+function unread(error) {
+    const text = error.message.replace(/^[A-Z0-9]+: (.*?)(, \w+.*)?$/, "$1");
+    return `${file}: ${given[0] === "-" ? "reading failed" : ERRORS[error.code] ?? text}`;
+}
+
 /* The exit status, after all is written. */
 async function answered() {
-    if (JOBS[name] !== given.length) throw new Error(`without the toolchain: [OPTION..] ${Object.keys(JOBS).join(", ")}, and their words`);
+    const wrong = misused();
+    if (wrong) throw new Error(wrong);
     const answer = steps(await Lagtool.of(Buffer.from(PAGE.exec(readFileSync(at("docs/try.html"), "latin1"))[1], "base64")));
     let step = answer.next();
     for (; !step.done; step = answer.next()) process.stdout.write(step.value.printed);
@@ -48,6 +65,6 @@ async function answered() {
 process.stdout.on("error", () => process.exit(141)); // nobody reads on
 answered().catch((error) => {
     console.error(`lagtool: ${error.syscall ? `cannot read ${given[0]}` : error.message}`);
-    if (error.syscall && options.includes("--explain")) console.error(`lagtool: ${error.message}`);
+    if (error.syscall && options.includes("--explain")) console.error(`lagtool: ${unread(error)}`);
     return 2;
 }).then((status) => { process.exitCode = status; });

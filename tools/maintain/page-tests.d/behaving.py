@@ -38,6 +38,8 @@ def of_page(tests: Tests, browser: Browser, folder: str) -> None:
     of_axis(tests, browser)
     of_bundles(tests, browser, folder)
     of_silence(tests, browser, folder)
+    of_unread(tests, browser, folder)
+    of_lasting(tests, browser, folder)
     of_hostile(tests, browser, folder)
     of_keyboard(tests, browser)
     tests.same("a file that is dropped is explained", [browser.drop(UNEQUAL)[it] for it in ("status", "said")], [1, ""])
@@ -86,7 +88,7 @@ def of_verdicts(tests: Tests, browser: Browser, folder: str) -> None:
         ],
     )
     where = browser.value("document.querySelector('#findings li .quiet').textContent.split(', packet')[0]")
-    tests.same("a finding has the system of its end", where, "6.3.6: 02-35-6b-bd-97-92 port 2 of system 02-00-00-00-01-00")
+    tests.same("a finding has its rule, and the system of its end", where, "rule 15, 6.3.6: 02-35-6b-bd-97-92 port 2 of system 02-00-00-00-01-00")
     browser.choose(os.path.join(CAPTURES, "open-vswitch.pcap"))
     tests.same("a remark alone is no fault", browser.value(verdict), ["No fault found; 1 remark, at 1 place:", "good"])
     tests.same("it is not drawn as one", browser.value("document.querySelectorAll('#links svg .found:not(.quiet), #links svg .bad').length"), 0)
@@ -96,7 +98,9 @@ def of_verdicts(tests: Tests, browser: Browser, folder: str) -> None:
     browser.choose(cut)
     tests.same("of a capture that is cut short it is not said", browser.value(verdict), ["1 remark, at 1 place:", "bad"])
     browser.choose(os.path.join(CAPTURES, "bonding.pcap"))
-    tests.same("an effect without a fault is one itself", browser.value(verdict), ["1 fault, at 1 place:", "bad"])
+    tests.same("an effect without a fault has its cause elsewhere", browser.value(verdict), ["1 likely effect, at 1 place; no cause in this capture:", ""])
+    said = browser.value("document.querySelector('#findings li').textContent")
+    tests.same("a loss of synchronization after a start is normal", "rule 13 is normal if both ends distribute later" in said, True)
     split = os.path.join(folder, "split.pcap")
     made.split(split)
     browser.choose(split)
@@ -171,6 +175,39 @@ def of_silence(tests: Tests, browser: Browser, folder: str) -> None:
     browser.choose(path)
     said = browser.value("document.getElementById('verdict').textContent")
     tests.same("without an LACPDU it asks whether LACP is on", [it in said for it in ("No frame", "active, not on", "mode=802.3ad")], [True] * 3)
+
+
+def of_unread(tests: Tests, browser: Browser, folder: str) -> None:
+    """Frames of the slow protocols that are refused are no good news, unless they are of another protocol."""
+    verdict = "[document.getElementById('verdict').textContent, document.getElementById('verdict').className]"
+    one, other = made.Party(1, 7, 1, made.UP), made.Party(2, 7, 1, made.UP)
+    whole = [made.frame(it.source(), made.lacpdu(it, one if it is other else other)) for it in (one, other)]
+    oam = [made.frame(one.source(), b"\x03" + bytes(109))]
+    frames, how, path = "frames of the slow protocols could not be read", "capture whole frames (tcpdump -s 0)", os.path.join(folder, "short.pcap")
+    cases = {
+        "no LACPDU": (whole, 60, [f"No LACPDU could be read: 2 of 2 {frames}: {how}.", "bad"]),
+        "one of three": ([*whole, made.frame(one.source(), b"\x01\x01\x01\x13" + bytes(106))], 124, [f"1 of 3 {frames}: {how}, unless they are of another protocol, as OAM.", "bad"]),
+        "a short one": ([*whole, whole[0][:60]], 124, [f"1 of 3 {frames}: see rule 7. 1 fault, at 1 place:", "bad"]),
+        "each": ([*whole, *oam], 124, ["Nothing found.", "good"]),
+    }
+    for name, (packets, most, wanted) in cases.items():
+        made.pcap(path, [(float(number), it) for number, it in enumerate(packets)], most)
+        browser.choose(path)
+        tests.same(f"{name} of the frames could be read: the page says so", browser.value(verdict), wanted)
+    made.pcap(path, [(0.0, oam[0])])
+    browser.choose(path)
+    tests.same("OAM alone is no LACP", browser.value(verdict)[0].startswith("No frame of the slow protocols (LACPDU, Marker PDU)"), True)
+
+
+def of_lasting(tests: Tests, browser: Browser, folder: str) -> None:
+    """A capture says how long it lasts, and whether that is too short for time-outs."""
+    one, other = made.Party(1, 7, 1, made.UP), made.Party(2, 7, 1, made.UP)
+    frames, path = [made.frame(it.source(), made.lacpdu(it, one if it is other else other)) for it in (one, other)], os.path.join(folder, "long.pcap")
+    for last, more in (99, ", shorter than 100 s: time-outs may not show."), (100, "."):
+        made.pcap(path, [(second, frames[way]) for second in range(last + 1) for way in (0, 1)])
+        browser.choose(path)
+        said = browser.value("document.getElementById('lasts').textContent")
+        tests.same(f"{last} seconds of a capture", said, f"Its LACPDUs span {last}.0 s{more}")
 
 
 def of_bundles(tests: Tests, browser: Browser, folder: str) -> None:

@@ -34,12 +34,13 @@ def frame(source: bytes, payload: bytes) -> bytes:
     return SLOW + source + b"\x88\x09" + payload
 
 
-def pcap(path: str, packets: Iterable[tuple[float, bytes]]) -> None:
+def pcap(path: str, packets: Iterable[tuple[float, bytes]], most: int = 262144) -> None:
+    """A capture; of a packet at most so many octets are captured."""
     with open(path, "wb") as out:
-        out.write(struct.pack("<IHHiIII", 0xA1B2C3D4, 2, 4, 0, 0, 262144, 1))
+        out.write(struct.pack("<IHHiIII", 0xA1B2C3D4, 2, 4, 0, 0, most, 1))
         for seconds, octets in packets:
             time = struct.pack("<II", 1_700_000_000 + int(seconds), int(seconds % 1 * 1e6))
-            out.write(time + struct.pack("<II", len(octets), len(octets)) + octets)
+            out.write(time + struct.pack("<II", len(octets[:most]), len(octets)) + octets[:most])
 
 
 def pcapng(path: str, packets: Iterable[bytes]) -> None:

@@ -3,6 +3,7 @@
 from __future__ import annotations
 
 import os
+import pathlib
 import shutil
 import subprocess
 
@@ -57,6 +58,25 @@ def test_standard_input_vectors_and_refusals() -> None:
     status, printed, said = answer("capture", os.path.abspath(__file__))
     assert (status, printed) == (2, "packets 0 slow 0 ends 0 findings 0\n") and "octet 0: neither pcap nor pcapng" in said
     assert answer("check", path)[0] == answer("capture")[0] == 2
+
+
+@needs_node
+def test_a_file_that_cannot_be_read_has_the_words_of_the_program(tmp_path: pathlib.Path) -> None:
+    locked = tmp_path / "locked"
+    locked.touch(0)
+    causes = {"/none": "no such file", str(tmp_path): "is a folder", f"{__file__}/x": "not a directory"}
+    for path, cause in {**causes, **({} if os.access(locked, os.R_OK) else {str(locked): "permission denied"})}.items():
+        for job in "capture", "replay":
+            assert answer("--explain", job, path) == (2, "", f"lagtool: cannot read {path}\nlagtool: {path}: {cause}\n")
+
+
+@needs_node
+def test_an_option_behind_the_subcommand_is_told_its_place() -> None:
+    path = os.path.join(CAPTURES, "flapping.pcap")
+    for words in (["capture", "--json", path], ["capture", path, "--json"]):
+        assert answer(*words) == (2, "", "lagtool: options stand before the subcommand: lagtool --json capture ..\n")
+    status, printed, said = answer("--jsn", "capture", path)
+    assert (status, printed) == (2, "") and "--json" in said
 
 
 def test_where_there_is_no_node_a_line_leads_to_the_browser(monkeypatch: pytest.MonkeyPatch) -> None:
