@@ -2,12 +2,11 @@
 
 /* So many frames of so many ends are kept to be drawn; lagtool examines 64 ends. */
 const MOST_KEPT = 100000, MOST_ENDS = 128;
-/* The rules of docs/COMMAND.md that call for nothing. */
-const REMARKS = [6, 8, 27];
 const NO_SYSTEM = "00-00-00-00-00-00";
 const BITS = ["active", "short", "aggregatable", "synchronized", "collecting", "distributing", "defaulted", "expired"];
 
-export const isRemark = (finding) => REMARKS.includes(finding.rule);
+/* Whether a finding calls for nothing, by its advice. */
+export const isRemark = (finding) => finding.advice.startsWith("None is needed");
 /* By what a finding is looked up: its rule, and the section of the standard. */
 export const ruleOf = (finding) => `rule ${finding.rule}, ${finding.clause}`;
 export const bitsOf = (octet) => BITS.filter((_, bit) => (octet >> bit) & 1);

@@ -43,9 +43,11 @@ def test_a_module_for_another_processor_is_retargeted_or_refused() -> None:
 
 
 def test_trouble_ranks_findings_as_the_page_does() -> None:
-    of_page = dict(re.findall(r"(LEADING|FOLLOWING|REMARKS) = \[([\d, ]+)\]", packing.text_of("capture.js") + packing.text_of("records.js")))
+    ranks = dict(re.findall(r"(LEADING|FOLLOWING) = \[([\d, ]+)\]", packing.text_of("capture.js")))
+    with open(os.path.join(packing.TOP, "crates", "findings", "src", "rule.rt"), encoding="utf-8") as it:
+        remarks = re.findall(r"number: (\d+),[^{}]*advice: \"None is needed", it.read())
     with open(os.path.join(packing.TOP, "docs", "TROUBLE.md"), encoding="utf-8") as it:
         told = re.search(r"Rules (.*) explain others\. Those of (.*) often follow[^.]*\.\s+(.*) want nothing\.", it.read())
     assert told
-    for name, text in zip(("LEADING", "FOLLOWING", "REMARKS"), told.groups()):
-        assert sorted(re.findall(r"\d+", text)) == sorted(re.findall(r"\d+", of_page[name])), name
+    for text, rules in zip(told.groups(), (ranks["LEADING"], ranks["FOLLOWING"], " ".join(remarks))):
+        assert sorted(re.findall(r"\d+", text)) == sorted(re.findall(r"\d+", rules)), text
