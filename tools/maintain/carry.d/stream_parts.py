@@ -14,7 +14,7 @@ import threading
 import time
 from typing import Callable, Iterator
 
-from bonds import COMES_BACK, DEVICE, End, Event, Programs, check_end, kernel_count, pair
+from bonds import ANSWERS, COMES_BACK, DEVICE, End, Event, Programs, check_end, kernel_count, pair
 from checking import Failed, check, within
 from spaces import OURS, THEIRS, inside, ip, packet_socket, within_space
 from streams import ADDRESSES, give_addresses
@@ -142,13 +142,14 @@ def streams(programs: Programs) -> None:
         check_end(theirs, "the receiving end")
 
 
-def whole(octets: int, size: int) -> bytes:
+def whole(octets: int, size: int, tags: bytes = b"") -> bytes:
     """A packet of TCP as a packet socket takes it, which is to be cut into segments of so many octets."""
     addresses = b"".join(map(socket.inet_aton, ADDRESSES))
     network = struct.pack("!BBHHHBBH", 0x45, 0, 40 + octets, 0, 0x4000, 64, 6, 0) + addresses
     beside = sum_of(addresses + struct.pack("!HH", 6, 20 + octets))
     tcp = struct.pack("!HHIIBBHHH", PORT, PORT, 0, 0, 0x50, 0x10, 500, beside, 0)
-    return struct.pack("=BBHHHH", 1, 1, 54, size, 34, 16) + bytes([2] * 12) + b"\x08\x00" + network + tcp + bytes(octets)
+    head = struct.pack("=BBHHHH", 1, 1, 54 + len(tags), size, 34 + len(tags), 16)
+    return head + bytes([2] * 12) + tags + b"\x08\x00" + network + tcp + bytes(octets)
 
 
 def small_segments(programs: Programs) -> None:
@@ -164,6 +165,12 @@ def small_segments(programs: Programs) -> None:
         check(within(COMES, lambda: ours.carry()["from_host"] - before == frames), f"{frames:,} segments are cut of {SMALL_PACKETS} packets",
               ours.text())
         check_end(ours, "the sending end")
+    with pair(programs, delays=()) as (_, ours, theirs):
+        with packet_socket(OURS, DEVICE, 0) as host:
+            host.setsockopt(SOL_PACKET, PACKET_VNET_HDR, 1)
+            host.send(whole(3000, 1000, b"\x88\xa8\x00\x05" + b"\x81\x00\x00\x05" * 2))
+        check(within(ANSWERS, lambda: theirs.carry()["handed_up"] == 3), "a packet with three tags is cut, too",
+              ours.text())
 
 
 def stream_troubles(programs: Programs) -> None:
