@@ -73,6 +73,7 @@ void hand_up(struct lagd *lagd, uint32_t aggregator, uint8_t *packet, size_t len
 /* host.c */
 struct iovec;
 void take_host(struct lagd *lagd);
+bool is_cutting(struct lagd *lagd);
 bool give_host(struct lagd *lagd, const struct iovec *parts, unsigned count, size_t length);
 
 /* hash.c */

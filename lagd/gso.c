@@ -8,6 +8,13 @@ static bool is_of(unsigned kind, unsigned version) {
     return (kind == VIRTIO_NET_HDR_GSO_TCPV4 && version == 4) || (kind == VIRTIO_NET_HDR_GSO_TCPV6 && version == 6);
 }
 
+/* Where the header of IP is, behind all tags that the frame of a packet has. */
+static size_t network_of(const uint8_t *packet, size_t length) {
+    size_t at = head_octets() + ETH_HLEN;
+    while (at + TAG_OCTETS <= length && (read16(packet + at - 2) == ETH_P_8021Q || read16(packet + at - 2) == ETH_P_8021AD)) at += TAG_OCTETS;
+    return at;
+}
+
 /* Reads how a packet of several segments is cut; answers whether it can be. */
 bool read_cut(const uint8_t *packet, size_t length, struct cut *cut) {
     size_t head = head_octets(), behind_ip;
@@ -16,8 +23,7 @@ bool read_cut(const uint8_t *packet, size_t length, struct cut *cut) {
     unsigned version;
     if (length < head + ETH_HLEN) return false;
     memcpy(&told, packet, sizeof told);
-    *cut = (struct cut){packet, {.network = head + ETH_HLEN + tag_octets(packet + head, length - head), .transport = head + told.csum_start,
-        .length = length}, told.gso_size, 0};
+    *cut = (struct cut){packet, {.network = network_of(packet, length), .transport = head + told.csum_start, .length = length}, told.gso_size, 0};
     if (!(told.flags & VIRTIO_NET_HDR_F_NEEDS_CSUM) || told.csum_offset != TCP_SUM || cut->size == 0) return false;
     if (whole->network + IPV4_OCTETS > whole->transport || whole->transport + TCP_OCTETS > length) return false;
     version = packet[whole->network] >> 4;

@@ -8,11 +8,16 @@
 #include "daemon.h"
 #include "team.h"
 
+/* The most segments of a packet that are taken in a turn: more than one of a usual stream has. */
+#define MOST_CUT 1024
+
 /* What this file keeps for a daemon. */
 struct host_private {
     int tap;
     uint8_t *packets; /* for the packets of a batch */
     uint8_t *segments; /* for those into which one of them is cut */
+    struct cut cut; /* of that one */
+    uint32_t next; /* the segment of it that follows */
 };
 
 struct host_private *make_host_private(void) {
@@ -39,24 +44,33 @@ void lose_tap(struct lagd *lagd) {
         "daemon ends", lagd->settings.carry);
 }
 
-/* Takes the segments of a packet; answers how many there are. */
-static unsigned take_segments(struct lagd *lagd, const struct cut *cut) {
-    for (uint32_t number = 0; number < cut->count && !lagd->broken; number++) {
-        uint8_t *packet = room_at(lagd->host->segments, number % BATCH);
-        if (number > 0 && number % BATCH == 0) flush_data(lagd);
-        take_from_host(lagd, packet, put_segment(cut, number, packet));
+/* Whether a packet waits where it is, of which some segments are taken. */
+bool is_cutting(struct lagd *lagd) {
+    return lagd->host->next < lagd->host->cut.count && !lagd->broken;
+}
+
+/* Takes the segments of a packet, some at most; answers how many. Segments of few octets are many: the rest waits for the next turn. */
+static unsigned take_segments(struct lagd *lagd) {
+    struct host_private *own = lagd->host;
+    unsigned taken = 0;
+    for (; taken < MOST_CUT && is_cutting(lagd); taken++, own->next++) {
+        uint8_t *packet = room_at(own->segments, taken % BATCH);
+        if (taken > 0 && taken % BATCH == 0) flush_data(lagd);
+        take_from_host(lagd, packet, put_segment(&own->cut, own->next, packet));
     }
     flush_data(lagd);
-    return cut->count;
+    return taken;
 }
 
 /* Takes a packet whose segments and checksum the host left to a card; answers how many frames it has. A packet that cannot be cut has no
  * octets. */
 static unsigned take_whole(struct lagd *lagd, uint8_t *packet, size_t length) {
-    struct cut cut;
+    struct host_private *own = lagd->host;
     if (has_segments(packet)) {
         lagd->carry.counts[SEGMENTED]++;
-        if (read_cut(packet, length, &cut)) return take_segments(lagd, &cut);
+        own->next = 0;
+        if (read_cut(packet, length, &own->cut)) return take_segments(lagd);
+        own->cut.count = 0;
         length = 0;
     }
     finish_sum(packet, length);
@@ -79,9 +93,13 @@ static unsigned take_next(struct lagd *lagd, uint8_t *packet) {
     return 1;
 }
 
-/* Takes the packets that wait in the TAP device, some at most. */
+/* Takes the packets that wait in the TAP device, some at most, behind what is left of the last one. */
 void take_host(struct lagd *lagd) {
     unsigned left = MOST_BATCHES * BATCH;
+    if (is_cutting(lagd)) {
+        lagd->carry.taken += take_segments(lagd) + MORE_WAITS;
+        return;
+    }
     for (unsigned got = BATCH; left > 0 && got == BATCH;) {
         for (got = 0; got < BATCH && left > 0; got++) {
             unsigned frames = take_next(lagd, room_at(lagd->host->packets, got));

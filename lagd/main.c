@@ -109,7 +109,7 @@ static void take_all_frames(struct lagd *lagd, const struct epoll_event *events,
 
 /* Takes the data of all members, and then that of the host. */
 static void take_all_data(struct lagd *lagd, const struct epoll_event *events, int count) {
-    bool host = false;
+    bool host = is_cutting(lagd);
     for (int i = 0; i < count; i++) {
         host |= events[i].data.u32 == HOST;
         if (events[i].data.u32 >= MEMBERS) serve_data(lagd, events[i].data.u32);
@@ -152,7 +152,7 @@ static void serve(struct lagd *lagd, const struct epoll_event *events, int count
 static int wait_for(struct lagd *lagd, struct epoll_event *events) {
     if (lagd->carry.taken >= MANY && lagd->carry.taken < MORE_WAITS) (void)nanosleep(&(struct timespec){0, GATHERS}, NULL);
     lagd->carry.taken = 0;
-    return epoll_wait(lagd->epoll_file, events, MOST_EVENTS, -1);
+    return epoll_wait(lagd->epoll_file, events, MOST_EVENTS, is_cutting(lagd) ? 0 : -1);
 }
 
 /* Waits, and serves what comes. The first signal that ends it, or a refusal of the library, makes it tell the peers; it ends when they

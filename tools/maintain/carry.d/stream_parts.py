@@ -8,12 +8,13 @@ import hashlib
 import os
 import signal
 import socket
+import struct
 import subprocess
 import threading
 import time
 from typing import Callable, Iterator
 
-from bonds import COMES_BACK, DEVICE, End, Event, Programs, check_end, kernel_count, pair
+from bonds import ANSWERS, COMES_BACK, DEVICE, End, Event, Programs, check_end, kernel_count, pair
 from checking import Failed, check, within
 from spaces import OURS, THEIRS, inside, ip, packet_socket, within_space
 from streams import ADDRESSES, give_addresses
@@ -25,6 +26,10 @@ PORT, PIECE = 7000, 1 << 16
 OCTETS, COMES = 40_000_000, 90
 # Frames of a stream that are looked at on a cable.
 LOOKED = 2000
+# Packets that a program has cut into segments of one octet, and how many each has.
+SMALL_PACKETS, SMALL_SEGMENTS = 4, 65000
+# Of linux/if_packet.h.
+SOL_PACKET, PACKET_VNET_HDR = 263, 15
 
 
 def sum_of(octets: bytes) -> int:
@@ -137,6 +142,37 @@ def streams(programs: Programs) -> None:
         check_end(theirs, "the receiving end")
 
 
+def whole(octets: int, size: int, tags: bytes = b"") -> bytes:
+    """A packet of TCP as a packet socket takes it, which is to be cut into segments of so many octets."""
+    addresses = b"".join(map(socket.inet_aton, ADDRESSES))
+    network = struct.pack("!BBHHHBBH", 0x45, 0, 40 + octets, 0, 0x4000, 64, 6, 0) + addresses
+    beside = sum_of(addresses + struct.pack("!HH", 6, 20 + octets))
+    tcp = struct.pack("!HHIIBBHHH", PORT, PORT, 0, 0, 0x50, 0x10, 500, beside, 0)
+    head = struct.pack("=BBHHHH", 1, 1, 54 + len(tags), size, 34 + len(tags), 16)
+    return head + bytes([2] * 12) + tags + b"\x08\x00" + network + tcp + bytes(octets)
+
+
+def small_segments(programs: Programs) -> None:
+    """Where a packet has very many segments, the daemon does the rest of its work while it cuts it."""
+    with pair(programs, delays=()) as (_, ours, theirs):
+        before, frames = ours.carry()["from_host"], SMALL_PACKETS * SMALL_SEGMENTS
+        with packet_socket(OURS, DEVICE, 0) as host:
+            host.setsockopt(SOL_PACKET, PACKET_VNET_HDR, 1)
+            for _ in range(SMALL_PACKETS):
+                host.send(whole(SMALL_SEGMENTS, 1))
+        counts = [ours.carry()["from_host"] - before for _ in range(3)]
+        check(any(it % SMALL_SEGMENTS for it in counts), "it answers while a packet of 65,000 segments is cut", counts)
+        check(within(COMES, lambda: ours.carry()["from_host"] - before == frames), f"{frames:,} segments are cut of {SMALL_PACKETS} packets",
+              ours.text())
+        check_end(ours, "the sending end")
+    with pair(programs, delays=()) as (_, ours, theirs):
+        with packet_socket(OURS, DEVICE, 0) as host:
+            host.setsockopt(SOL_PACKET, PACKET_VNET_HDR, 1)
+            host.send(whole(3000, 1000, b"\x88\xa8\x00\x05" + b"\x81\x00\x00\x05" * 2))
+        check(within(ANSWERS, lambda: theirs.carry()["handed_up"] == 3), "a packet with three tags is cut, too",
+              ours.text())
+
+
 def stream_troubles(programs: Programs) -> None:
     """A stream goes on where a member goes down, takes less, or is full, where a daemon is stopped, and where there is no memory."""
     def moves(ours: End) -> list[Event]:
@@ -178,4 +214,4 @@ def stream_troubles(programs: Programs) -> None:
         check_deleted(theirs, ours, f"{DEVICE} was deleted while a stream went up")
 
 
-PARTS: dict[str, Callable[[Programs], None]] = {it.__name__: it for it in (streams, stream_troubles)}
+PARTS: dict[str, Callable[[Programs], None]] = {it.__name__: it for it in (streams, small_segments, stream_troubles)}
