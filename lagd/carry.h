@@ -10,11 +10,8 @@
 
 /* The library takes a frame of so many octets at most: of a longer one it is shown the beginning. */
 #define LONGEST_SHOWN (ETH_HLEN + ETH_DATA_LEN + TAG_OCTETS)
-/* Frames that are sent or taken by one call of the kernel, and how many batches are taken of a socket in a turn: a marker on another one
- * waits for no more. */
+/* Frames that are sent by one call of the kernel, or taken of a socket in a turn: a marker on another one waits for no more. */
 #define BATCH 64
-#define MOST_BATCHES 1
-#define MORE_WAITS 65536
 /* A conversation is busy that had a frame within so many milliseconds. */
 #define BUSY 5000
 
@@ -54,7 +51,8 @@ struct carry {
     uint16_t port_of[CONVERSATIONS]; /* of each conversation in it, as ask_ports told last: 0 where it is free or held there */
     bool changed;                  /* whether the library may answer otherwise now */
     bool waiting;                  /* false only where no frame waits */
-    unsigned taken;                /* frames that came in this turn, and MORE_WAITS for each socket that may have more */
+    unsigned taken;                /* frames that came in this turn */
+    bool more_waits;               /* whether a socket may have more */
     struct conversation conversations[CONVERSATIONS];
     uint64_t counts[CARRY_COUNTS];
 };

@@ -9,7 +9,7 @@
 #define MOST_HEADERS 256
 #define LONGEST_IP 65535
 /* Of the octets of IPV4_FRAGMENT: a packet that is no fragment, and becomes none. */
-#define NO_FRAGMENT 0x4000
+#define DONT_FRAGMENT 0x4000
 
 /* What this file keeps for a daemon. */
 struct gro_private {
@@ -27,7 +27,7 @@ struct gro_private *make_gro_private(void) {
 /* Whether a header of IP is usual, of a packet of TCP with so many octets behind it; answers the octets of the header, or 0. */
 static size_t ip_octets(unsigned type, const uint8_t *ip, size_t length) {
     if (type == ETH_P_IP && length >= IPV4_OCTETS && ip[0] == 0x45 && read16(ip + IPV4_LENGTH) == length
-        && read16(ip + IPV4_FRAGMENT) == NO_FRAGMENT && ip[IPV4_PROTOCOL] == IPPROTO_TCP
+        && read16(ip + IPV4_FRAGMENT) == DONT_FRAGMENT && ip[IPV4_PROTOCOL] == IPPROTO_TCP
         && fold(add_octets(0, ip, IPV4_OCTETS)) == UINT16_MAX)
         return IPV4_OCTETS;
     if (type == ETH_P_IPV6 && length >= IPV6_OCTETS && ip[0] >> 4 == 6 && read16(ip + IPV6_LENGTH) == length - IPV6_OCTETS
@@ -52,9 +52,9 @@ static bool read_tcp(const uint8_t *packet, size_t length, struct tcp_packet *tc
 
 /* The sum of the addresses and of the length of a packet of TCP, as its checksum has it. */
 static uint64_t sum_beside(const uint8_t *packet, const struct tcp_packet *tcp) {
-    bool is = has_ipv6(packet, tcp);
+    bool six = has_ipv6(packet, tcp);
     uint64_t sum = (uint64_t)htons(IPPROTO_TCP) + htons((uint16_t)(tcp->length - tcp->transport));
-    return add_octets(sum, packet + tcp->network + (is ? IPV6_ADDRESSES : IPV4_ADDRESSES), is ? 32 : 8);
+    return add_octets(sum, packet + tcp->network + (six ? IPV6_ADDRESSES : IPV4_ADDRESSES), six ? 32 : 8);
 }
 
 /* Whether a packet is as it was sent, as the card says, or its checksum; or whether that is still to be made. */
@@ -97,8 +97,8 @@ static bool give_all(struct lagd *lagd) {
     struct gro_private *own = lagd->gro;
     const struct tcp_packet *all = &own->all;
     const uint8_t *first = own->packets[0].iov_base, *last = own->packets[own->count - 1].iov_base;
-    bool is = has_ipv6(first, all);
-    struct virtio_net_hdr told = {.flags = VIRTIO_NET_HDR_F_NEEDS_CSUM, .gso_type = is ? VIRTIO_NET_HDR_GSO_TCPV6 : VIRTIO_NET_HDR_GSO_TCPV4,
+    bool six = has_ipv6(first, all);
+    struct virtio_net_hdr told = {.flags = VIRTIO_NET_HDR_F_NEEDS_CSUM, .gso_type = six ? VIRTIO_NET_HDR_GSO_TCPV6 : VIRTIO_NET_HDR_GSO_TCPV4,
         .hdr_len = (uint16_t)(all->payload - head_octets()), .gso_size = (uint16_t)(own->packets[0].iov_len - all->payload),
         .csum_start = (uint16_t)(all->transport - head_octets()), .csum_offset = TCP_SUM};
     uint8_t headers[MOST_HEADERS];

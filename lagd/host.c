@@ -95,23 +95,22 @@ static unsigned take_next(struct lagd *lagd, uint8_t *packet) {
 
 /* Takes the packets that wait in the TAP device, some at most, behind what is left of the last one. */
 void take_host(struct lagd *lagd) {
-    unsigned left = MOST_BATCHES * BATCH;
+    unsigned got = 0, left = BATCH;
     if (is_cutting(lagd)) {
-        lagd->carry.taken += take_segments(lagd) + MORE_WAITS;
+        lagd->carry.taken += take_segments(lagd);
+        lagd->carry.more_waits = true;
         return;
     }
-    for (unsigned got = BATCH; left > 0 && got == BATCH;) {
-        for (got = 0; got < BATCH && left > 0; got++) {
-            unsigned frames = take_next(lagd, room_at(lagd->host->packets, got));
-            if (frames == 0) break;
-            lagd->carry.taken += frames;
-            left -= frames < left ? frames : left;
-        }
-        if (got == BATCH || left == 0) lagd->carry.taken += MORE_WAITS;
-        flush_data(lagd);
-        note_read(lagd, got, got < BATCH);
-        pass_on(lagd);
+    for (; left > 0; got++) {
+        unsigned frames = take_next(lagd, room_at(lagd->host->packets, got));
+        if (frames == 0) break;
+        lagd->carry.taken += frames;
+        left -= frames < left ? frames : left;
     }
+    if (left == 0) lagd->carry.more_waits = true;
+    flush_data(lagd);
+    note_read(lagd, got, left > 0);
+    pass_on(lagd);
 }
 
 /* Hands a packet up, which lies in parts; answers whether the device took it. */

@@ -148,10 +148,12 @@ static void serve(struct lagd *lagd, const struct epoll_event *events, int count
     settle_carry(lagd);
 }
 
-/* Waits for events. While many frames come, and none is left, it lets some gather before they are taken: each wake-up costs whoever sends them, too. */
+/* Waits for events. While many frames come, and none is left, it lets some gather before they are taken: each wake-up costs whoever sends
+ * them, too. */
 static int wait_for(struct lagd *lagd, struct epoll_event *events) {
-    if (lagd->carry.taken >= MANY && lagd->carry.taken < MORE_WAITS) (void)nanosleep(&(struct timespec){0, GATHERS}, NULL);
+    if (lagd->carry.taken >= MANY && !lagd->carry.more_waits) (void)nanosleep(&(struct timespec){0, GATHERS}, NULL);
     lagd->carry.taken = 0;
+    lagd->carry.more_waits = false;
     return epoll_wait(lagd->epoll_file, events, MOST_EVENTS, is_cutting(lagd) ? 0 : -1);
 }
 
@@ -189,7 +191,7 @@ static int run_daemon(struct lagd *lagd, const struct options *options) {
     int signals, clock;
     unsigned resumed;
     lagd->settings = options->settings;
-    (void)prctl(PR_SET_TIMERSLACK, 1); /* of wait_for */
+    (void)prctl(PR_SET_TIMERSLACK, 1); /* wait_for sleeps hardly longer than GATHERS */
     signals = open_signals(lagd);
     lagd->epoll_file = epoll_create1(EPOLL_CLOEXEC);
     if (lagd->epoll_file < 0) stop(REFUSED, "epoll", strerror(errno));

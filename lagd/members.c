@@ -485,25 +485,25 @@ static void take_packets(struct lagd *lagd, uint16_t port, const int *fd, bool o
     struct members_private *own = lagd->members;
     struct link *link = &lagd->links[port - 1];
     struct member *member = &own->members[port - 1];
-    for (int turn = 0, got = BATCH; turn < MOST_BATCHES && got == BATCH && *fd >= 0; turn++) {
-        for (unsigned i = 0; i < BATCH; i++) {
-            own->parts[i] = (struct iovec){room_at(own->member_packets, i), packet_room()};
-            own->messages[i].msg_hdr = (struct msghdr){.msg_name = &own->from[i], .msg_namelen = sizeof own->from[i],
-                .msg_iov = &own->parts[i], .msg_iovlen = 1, .msg_control = own->controls[i], .msg_controllen = sizeof own->controls[i]};
-        }
-        got = recvmmsg(*fd, own->messages, BATCH, MSG_DONTWAIT, NULL);
-        if (!only_markers) note_unread(lagd, port, got > 0 ? (unsigned)got : 0, got >= 0 ? got < BATCH : errno == EAGAIN);
-        if (is_unreadable(got)) {
-            member->counts[DATA_RECEIVED]++;
-            member->counts[WRONG_LENGTH]++;
-            got = BATCH;
-            continue;
-        }
-        if (got > 0) take_changes(lagd);
-        if (got > 0) lagd->carry.taken += got < BATCH ? (unsigned)got : MORE_WAITS;
-        for (int i = 0; i < got; i++) take_message(lagd, link, &own->messages[i], only_markers);
-        flush_host(lagd);
+    int got;
+    if (*fd < 0) return;
+    for (unsigned i = 0; i < BATCH; i++) {
+        own->parts[i] = (struct iovec){room_at(own->member_packets, i), packet_room()};
+        own->messages[i].msg_hdr = (struct msghdr){.msg_name = &own->from[i], .msg_namelen = sizeof own->from[i],
+            .msg_iov = &own->parts[i], .msg_iovlen = 1, .msg_control = own->controls[i], .msg_controllen = sizeof own->controls[i]};
     }
+    got = recvmmsg(*fd, own->messages, BATCH, MSG_DONTWAIT, NULL);
+    if (!only_markers) note_unread(lagd, port, got > 0 ? (unsigned)got : 0, got >= 0 ? got < BATCH : errno == EAGAIN);
+    if (is_unreadable(got)) {
+        member->counts[DATA_RECEIVED]++;
+        member->counts[WRONG_LENGTH]++;
+    }
+    if (got <= 0) return;
+    take_changes(lagd);
+    lagd->carry.taken += (unsigned)got;
+    if (got == BATCH) lagd->carry.more_waits = true;
+    for (int i = 0; i < got; i++) take_message(lagd, link, &own->messages[i], only_markers);
+    flush_host(lagd);
 }
 
 /* Takes what waits at a member. */

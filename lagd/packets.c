@@ -8,6 +8,7 @@
 
 /* The octets of a packet of several segments, without its head: those of an IP packet, and of its header of Ethernet with two tags. */
 #define LONGEST_SEGMENTED (65536 + ETH_HLEN + 2 * TAG_OCTETS)
+/* The octets of most packets, and more. */
 #define USUAL_OCTETS 2048
 /* The octets of a header of UDP. */
 #define UDP_OCTETS 8
@@ -29,7 +30,7 @@ size_t packet_room(void) {
     return head + LONGEST_SEGMENTED;
 }
 
-/* How far rooms are from each other: the beginnings of those whose packets are short would share lines of a cache, if that were 64 KiB. */
+/* How far rooms lie apart: no multiple of 64 KiB, or the beginnings of all packets would share a few lines of a cache. */
 static size_t room_octets(void) {
     return packet_room() + TAG_OCTETS + USUAL_OCTETS;
 }

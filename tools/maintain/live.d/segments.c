@@ -66,9 +66,9 @@ static uint32_t plain_sum(uint32_t sum, const uint8_t *octets, size_t length) {
 }
 
 static uint32_t pseudo_sum(const uint8_t *packet, const struct tcp_packet *tcp) {
-    bool is = packet[tcp->network] >> 4 == 6;
+    bool six = packet[tcp->network] >> 4 == 6;
     uint32_t length = (uint32_t)(tcp->length - tcp->transport);
-    return plain_sum(6 + length, packet + tcp->network + (is ? 8 : 12), is ? 32 : 8);
+    return plain_sum(6 + length, packet + tcp->network + (six ? 8 : 12), six ? 32 : 8);
 }
 
 /* Makes a packet of several segments of a stream, as the host hands it over. */
