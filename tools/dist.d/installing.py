@@ -32,6 +32,8 @@ THEIRS = (
 CONFIGURATION = "etc/lagd/kept-by-the-admin.conf"
 # What an admin wrote.
 WRITTEN = (CONFIGURATION, admin.FILE.lstrip("/"))
+# What a removal leaves beside it, until a purge: configuration, and what Debian's helper of systemd keeps of units.
+UNTIL_PURGED = "etc/", "var/lib/systemd/deb-systemd-helper-"
 LACPDU = trying.LACPDU
 # Commands in the tree, what each gets on standard input, and what it prints first.
 RUNS = [
@@ -157,7 +159,7 @@ def try_life(count: Count, tree: str, files: Sequence[str], newer: Sequence[str]
     told = versions(tree, names)
     count.add("apt upgrades the packages, and keeps the configuration", "" if told == {f"install ok installed {version()}+1"} and os.path.exists(f"{tree}/{CONFIGURATION}") else f"{told}")
     done(tree, "apt-get", "remove", "-y", *names)
-    left = [it for it in there(tree) - before if it not in WRITTEN and not it.startswith("etc/")]
+    left = [it for it in there(tree) - before if it not in WRITTEN and not it.startswith(UNTIL_PURGED)]
     count.add("apt removes them, but for the configuration", "; ".join(left) or ("" if os.path.exists(f"{tree}/{CONFIGURATION}") else "the configuration is gone"))
     written = {it for it in WRITTEN if os.path.exists(f"{tree}/{it}")}
     try_purge(count, tree, newer, before | written, "what an admin wrote")
