@@ -80,7 +80,8 @@ ghost use Rattle.lagprogress.specs.Timers.{EachCallKeepsTimed, EachHostCallKeeps
 /// port has Short Timeout or is in EXPIRED, else Long_Timeout_Time (900); periodic_timer at most Fast_Periodic_Time (10)
 /// in FAST, else Slow_Periodic_Time (300); wait_while at most Aggregate_Wait_Time (20); and no age of the transmit window
 /// is above 10 (6.4.4, 6.4.16). So it is in each first state, and each call keeps it, whatever the distribution algorithm
-/// returns. `set_mode` is none of these calls: after it current_while goes on until the next LACPDU starts it (profile).
+/// returns. `set_mode` is none of these calls: after it current_while goes on until it expires or an LACPDU starts it anew
+/// (profile).
 pub fn timers_are_bounded<F: Fn(u16, usize) -> usize>()
     ensures first { FirstIsTimed }
     ensures kept { (algorithm : F) → EachCallKeepsTimed (F.post algorithm) }

@@ -1,11 +1,11 @@
 -- How many members an aggregator has, and that no STANDBY port comes next after step 2 of settling.
 use Rattle.lagsystem.proofs.Common.{Bool, List, None, Option, Some, [], ap, arith, cond, eqb-true, false, inl, inr, length, nat_le, nat_lt}
 use Rattle.lagsystem.proofs.Common.{option_map, refl, slice_get, slice_set, subst, suc, sym, true, zero, ℕ, ◌&&◌, ◌+◌, ◌<◌, ◌==◌, ◌∙◌, ◌∷◌, ◌≡◌, ◌≤◌}
-use Rattle.lagsystem.proofs.Common.{◌⊎◌, cases_Bool, nat_tests, none-some, same_Some, AllByRecursion, AllZip, AggId, Choice, Selected, Standby, Unselected}
-use Rattle.lagsystem.proofs.Common.{Machines, PortView, is_aggregator, ports_that_chose, AggregatorsValue, has_room, is_below, has_chosen, stands_by}
-use Rattle.lagsystem.proofs.Common.{NoneStandsBy, is_next, none_is_next, nothing_is_next, SystemPort, NoneIsNext, WithinLimit, aggregator_numbered}
-use Rattle.lagsystem.proofs.Common.{ChoosesIn, PortChangesBy, PortsChangeBy, PromotesFirst, PromotesNext, aggregator_for, choice_if, choice_in, with_choice}
-use Rattle.lagsystem.proofs.Common.{selection_view, views}
+use Rattle.lagsystem.proofs.Common.{◌⊎◌, cases_Bool, nat_tests, none-some, same_Some, AllByRecursion, AllZip, AggId, Choice, Selected, Standby}
+use Rattle.lagsystem.proofs.Common.{Unselected, Machines, PortView, is_aggregator, ports_that_chose, AggregatorsValue, has_room, is_below, has_chosen}
+use Rattle.lagsystem.proofs.Common.{stands_by, NoneStandsBy, is_next, none_is_next, nothing_is_next, SystemPort, NoneIsNext, WithinLimit}
+use Rattle.lagsystem.proofs.Common.{aggregator_numbered, ChoosesIn, PortChangesBy, PortsChangeBy, PromotesFirst, PromotesNext, aggregator_for}
+use Rattle.lagsystem.proofs.Common.{choice_if, choice_in, with_choice, selection_view, views}
 use Rattle.lagsystem.proofs.Lists.{AllZip-weaker}
 use Rattle.lagsystem.proofs.NoneLeft.{may_then, unselected}
 use Rattle.lagsystem.proofs.Occupying.{LeavesOrStays}

@@ -1,7 +1,7 @@
 -- Where ports only leave, a STANDBY port comes next only if one has left.
 use Rattle.lagsystem.proofs.Common.{Bool, List, None, Option, Some, [], ap, false, inl, inr, refl, slice_get, slice_set, subst, suc, sym, zero, ℕ}
-use Rattle.lagsystem.proofs.Common.{◌||◌, ◌∙◌, ◌∷◌, ◌≡◌, false≢true, none-some, or_parts, same_Some, AllZip, list_any, is_unselected, Machines}
-use Rattle.lagsystem.proofs.Common.{count_down, receive_rows, RunsToRest, AggregatorsValue, none_is_next, nothing_is_next, SystemPort}
+use Rattle.lagsystem.proofs.Common.{◌||◌, ◌∙◌, ◌∷◌, ◌≡◌, false≢true, or_parts, none-some, same_Some, AllZip, list_any, is_unselected, Machines}
+use Rattle.lagsystem.proofs.Common.{receive_rows, RunsToRest, count_down, AggregatorsValue, none_is_next, nothing_is_next, SystemPort}
 use Rattle.lagsystem.proofs.Common.{OnlyPortChangesBy, PortAtChangesBy, SetsLink, SetsPortEnabled, Ticks, NextOnlyIfUnselected, OnlyPortBecomes}
 use Rattle.lagsystem.proofs.Common.{PortChangesBy, PortsChangeBy, IsSound, SystemState, aggregators_value, port_index, views}
 use Rattle.lagsystem.proofs.Limiting.{SameChoices, same_none}

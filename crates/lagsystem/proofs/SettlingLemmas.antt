@@ -1,7 +1,7 @@
 -- What settling does, from what its loops do.
-use Rattle.lagsystem.proofs.Common.{Bool, List, None, Option, Some, [], ap, arith, cond, false, filter, if◌then◌else◌, option_map, refl}
-use Rattle.lagsystem.proofs.Common.{slice_get, slice_set, subst, suc, sym, true, zero, ℕ, ◌&&◌, ◌||◌, ◌∙◌, ◌∷◌, ◌≡◌, or_parts, nat_tests, list_all}
-use Rattle.lagsystem.proofs.Common.{list_any, AggId, Key, Choice, Selected, Standby, Unselected, is_selected, is_unselected, Machines, mux_rows, RunsPeriodic}
+use Rattle.lagsystem.proofs.Common.{Bool, List, None, Option, Some, [], ap, arith, cond, false, filter, if◌then◌else◌, option_map, refl, slice_get}
+use Rattle.lagsystem.proofs.Common.{slice_set, subst, suc, sym, true, zero, ℕ, ◌&&◌, ◌||◌, ◌∙◌, ◌∷◌, ◌≡◌, or_parts, nat_tests, list_all, list_any}
+use Rattle.lagsystem.proofs.Common.{AggId, Key, Choice, Selected, Standby, Unselected, is_selected, is_unselected, Machines, mux_rows, RunsPeriodic}
 use Rattle.lagsystem.proofs.Common.{RunsToRest, PortView, chosen_aggregator, ports_that_chose, AggregatorsValue, has_chosen, has_waited}
 use Rattle.lagsystem.proofs.Common.{is_detached_or_waiting, SystemPort, ChoosesIn, PortChangesBy, PortsChangeBy, SettlesPorts, after_choice_at}
 use Rattle.lagsystem.proofs.Common.{aggregator_for, choice_for, choice_in, is_restless, ready_of, with_choice, SystemState, aggregators_value}

@@ -1,5 +1,5 @@
--- How many members each aggregator has, and a bound on how many STANDBY ports may still be promoted, by which a loop is shown
--- to end (profile).
+-- How many members each aggregator has; a bound on how many STANDBY ports may still be promoted, by which a loop is shown to end;
+-- and when none comes next (profile).
 use Rattle.std.specs.Prelude.{◌≡◌, ◌<◌, ℕ, zero, suc, false, List, [], ◌∷◌, cond, filter, get_or, length}
 use Rattle.std.specs.List.{list_any}
 use Rattle.lagtypes.specs.declared.identifiers.AggId.{AggId}

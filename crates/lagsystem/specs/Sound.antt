@@ -85,7 +85,7 @@ pub record PortsAgree (s : SystemState) : Type 0 where
 
 -- What every call promises. It is a `Step`; the model allows it, with the visible acts that its reply has; each port
 -- keeps its transmit limit; the ports agree after it (`PortsAgree`); the configuration stays, with the count of
--- conversations and the limit of links; and no call makes the host hold a port.
+-- conversations and the limit of links; and if the host holds no port before it, it holds none after it.
 pub record CallPromise (gives : ℕ → ℕ → ℕ → Type 0) (old : SystemState) (call : Call) (reply : Reply) (new : SystemState) : Type 0 where
   pub step : Step gives old call reply new
   pub moves : JoinedByLawfulMoves old call reply new

@@ -124,12 +124,14 @@ impl<F: Fn(u16, usize) -> usize + Drop> System<F> {
         self.inner.configure(port, change)
     }
 
-    // promise: after `restart` the system is as `new` left it; a configuration has one first state
+    // promise: after `restart` the system is as `new` left it, but for a limit of links and a CollectorMaxDelay set since; a configuration has
+    //    one first state
     // contract: `restart` (`answers`: `IsFirst`; `shows`), `first_state_is_one`
     // promise: no call changes what a restart goes back to: identifier, keys, ports, first marker, limit, count of conversations
     // contract: `answers` (`configured`, `conversations`; for the limit `step`)
     /// Goes back to the state that `new` made: all links down, every conversation free, the first marker identifier
-    /// next. What `configure` changed is undone. Takes no memory (profile).
+    /// next. What `configure`, `hold_port` and `set_mode` changed is undone; a limit of links and a CollectorMaxDelay that
+    /// were set stay. Takes no memory (profile).
     pub fn restart(&mut self)
         ensures answers { CallPromise (F.post self.old.algorithm) self.old.state Call.Restart Reply.Restart self.new.state }
         ensures shows { model_view self.new.state ≡ first_view (model_setup self.old.state) }

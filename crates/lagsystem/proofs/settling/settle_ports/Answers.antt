@@ -1,4 +1,4 @@
-use Rattle.lagsystem.proofs.Common.{false, OnFalse_at, OnFalse_from, RunsToRest, mux_rows}
+use Rattle.lagsystem.proofs.Common.{false, OnFalse_at, OnFalse_from, mux_rows, RunsToRest}
 use Rattle.lagsystem.proofs.NextStays.{zip_next}
 use Rattle.lagsystem.proofs.Occupying.{mux_stays}
 use Rattle.lagsystem.proofs.SettlingLemmas.{runs_again, settling_made}

@@ -1,5 +1,5 @@
-use Rattle.lagsystem.proofs.Common.{List, ap, arith, length, refl, subst, sym, ◌∙◌, with_items_is, with_items, ChangesAssignments, SystemPort}
-use Rattle.lagsystem.proofs.Common.{after_holding, stopped, inner_state, NextOnlyIfUnselected, OnFalse, SettlesPorts, with_system_ports}
+use Rattle.lagsystem.proofs.Common.{List, ap, arith, length, refl, subst, sym, ◌∙◌, with_items_is, OnFalse, with_items, ChangesAssignments}
+use Rattle.lagsystem.proofs.Common.{SystemPort, after_holding, stopped, inner_state, NextOnlyIfUnselected, SettlesPorts, with_system_ports}
 use Rattle.lagsystem.proofs.Stopped.{leaves_made, were_many}
 use Rattle.lagsystem.proofs.Keeps.{ports_keep, ports_table, settling_joined}
 use Rattle.lagsystem.proofs.StateLemmas.{settled_made}
