@@ -191,7 +191,7 @@ impl Rule {
                 number: 12,
                 name: "defaulted or expired for longer than 6 seconds",
                 clause: "6.4.12",
-                advice: "Look whether LACP runs at the partner (switch: mode active, not on; bonding: mode=802.3ad), and whether its LACPDUs reach this end.",
+                advice: "If the capture has LACPDUs of the partner, look why they do not reach this end (its receiver, a device between); else set LACP on there (switch: mode active, not on; bonding: mode=802.3ad).",
             },
             Rule::Desynchronized => RuleRow {
                 number: 13,
@@ -209,7 +209,7 @@ impl Rule {
                 number: 15,
                 name: "keys differ within one pair of systems",
                 clause: "6.3.6",
-                advice: "Give the ports that are to aggregate one key at each system (switch: same channel-group; bonding: it follows speed, duplex, ad_user_port_key): these are two groups.",
+                advice: "Change the system that has two keys on these links (switch: same channel-group; bonding: it follows speed, duplex, ad_user_port_key; Open vSwitch: lacp-aggregation-key): these are two groups.",
             },
             Rule::Segment => RuleRow {
                 number: 16,
@@ -227,7 +227,7 @@ impl Rule {
                 number: 18,
                 name: "LACPDUs in one direction only",
                 clause: "6.4.12",
-                advice: "Look whether LACP runs at the other end (switch: mode active, not on; bonding: mode=802.3ad), and whether the capture has both directions.",
+                advice: "If this end names no partner, look whether LACP runs at the other end (switch: mode active, not on; bonding: mode=802.3ad); if it names one, look whether the capture has both directions.",
             },
             Rule::Unanswered => RuleRow {
                 number: 19,

@@ -1,6 +1,7 @@
 -- What is said of the ends of links, and the counts.
 use Rattle.std.specs.Prelude.{◌==◌, ◌++◌, ◌/◌, ◌%◌, ℕ, List, [], ◌∷◌, Option, Some, None, codes, decimal, flat_map, if◌then◌else◌}
 use Rattle.findings.specs.declared.slow_frame.LinkEnd.{LinkEnd}
+use Rattle.slowpdu.specs.declared.pdu.Info.{Info}
 use Rattle.lagtool_capture.specs.declared.ends.LacpduSender.{LacpduSender}
 use Rattle.lagtool_capture.specs.declared.ends.Phase.{Phase}
 use Rattle.lagtool_capture.specs.declared.names.Identity.{Identity}
@@ -25,9 +26,9 @@ abbrev pub median_part : Option ℕ → List ℕ
 median_part (Some tenths) = codes " median " ++ tenths_text tenths
 median_part None = []
 
--- the end that it named last, by its short name
-unfoldable pub names_part : List Identity → LacpduSender → List ℕ
-names_part names e = codes " names " ++ name_text (number_of names (identity_of e.last.partner)) (identity_of e.last.partner)
+-- a word, and the short name of the end with this information
+unfoldable pub name_part : List ℕ → List Identity → Info → List ℕ
+name_part word names info = 32 ∷ (word ++ 32 ∷ name_text (number_of names (identity_of info)) (identity_of info))
 
 -- the end that names it, if there is one
 abbrev pub named_by_part : Option LinkEnd → List ℕ
@@ -47,7 +48,8 @@ phase_part word first phase = phase_text word first phase.began phase.ended
 -- who it is, who it names and who names it, among all ends, which have these short names
 unfoldable pub who_text : List Identity → List LacpduSender → LacpduSender → List ℕ
 who_text names all e =
-    end_text e.sender ++ (names_part names e ++ named_by_part (named_by all e))
+    end_text e.sender ++ (name_part (codes "is") names e.last.actor
+    ++ (name_part (codes "names") names e.last.partner ++ named_by_part (named_by all e)))
 
 -- the line of an end among all ends, with times from the first of the capture
 unfoldable pub end_line : Option ℕ → List Identity → List LacpduSender → LacpduSender → List ℕ

@@ -127,7 +127,8 @@ partner_value None = codes "null"
 -- what it says of the end that it named last, and of the one that names it, among all ends
 unfoldable pub parties_part : List LacpduSender → LacpduSender → List ℕ
 parties_part all e =
-    members (member (codes "names") (identity_value (identity_of e.last.partner))
+    members (member (codes "identity") (identity_value (identity_of e.last.actor))
+    ∷ member (codes "names") (identity_value (identity_of e.last.partner))
     ∷ member (codes "named_by") (partner_value (named_by all e)) ∷ [])
 
 -- the median of times in tenths of a second; null if there is none

@@ -1,6 +1,6 @@
 ghost use Rattle.std.specs.Prelude.{Some};
 ghost use Rattle.lagtool_capture.specs.Ends.{named_by};
-ghost use Rattle.lagtool_capture.specs.EndTexts.{counts_text, end_line, ends_text, gaps_part, median_part, named_by_part, names_part, phase_part, tenths_text, who_text};
+ghost use Rattle.lagtool_capture.specs.EndTexts.{counts_text, end_line, ends_text, gaps_part, median_part, name_part, named_by_part, phase_part, tenths_text, who_text};
 ghost use Rattle.lagtool_capture.specs.Gaps.{median};
 
 use crate::ends::{LacpduSender, Phase, named_by};
@@ -8,6 +8,7 @@ use crate::finding_texts::EndText;
 use crate::line::{SecondsText, SinceText};
 use crate::names::{Identity, NameText, number_of};
 use findings::LinkEnd;
+use slowpdu::Info;
 use std::fmt;
 
 /// The shortest and the longest time between two LACPDUs, if they are known.
@@ -62,22 +63,24 @@ impl fmt::Display for MedianPart {
     }
 }
 
-/// The end that it named last.
+/// A word, and the short name of the end that an LACPDU has this information of.
 #[derive(Clone, Copy)]
-struct NamesPart<'a> {
+struct NamePart<'a> {
+    word: &'a str,
     names: &'a [Identity],
-    end: &'a LacpduSender,
+    info: &'a Info,
 }
 
-impl fmt::Display for NamesPart<'_> {
-    ghost output = { λ t. Some (names_part t.names.now t.end.now) };
+impl fmt::Display for NamePart<'_> {
+    ghost output = { λ t. Some (name_part t.word.now t.names.now t.info.now) };
 
-    #[tactic(auto, unfolding(crate::specs::EndTexts::names_part))]
+    #[tactic(auto, unfolding(crate::specs::EndTexts::name_part))]
     fn fmt<W: fmt::Write>(&self, f: &mut fmt::Formatter<W>) -> fmt::Result {
-        let identity = Identity::of(&self.end.last.partner);
+        let word = self.word;
+        let identity = Identity::of(self.info);
         let number = number_of(self.names, &identity);
         let name = NameText { number, identity };
-        write!(f, " names {name}")
+        write!(f, " {word} {name}")
     }
 }
 
@@ -110,12 +113,18 @@ impl fmt::Display for WhoText<'_> {
     #[tactic(auto, unfolding(crate::specs::EndTexts::who_text))]
     fn fmt<W: fmt::Write>(&self, f: &mut fmt::Formatter<W>) -> fmt::Result {
         let end = EndText(self.end.sender);
-        let names = NamesPart {
+        let own = NamePart {
+            word: "is",
             names: self.names,
-            end: self.end,
+            info: &self.end.last.actor,
+        };
+        let partner = NamePart {
+            word: "names",
+            names: self.names,
+            info: &self.end.last.partner,
         };
         let named = NamedByPart(named_by(self.all, self.end));
-        write!(f, "{end}{names}{named}")
+        write!(f, "{end}{own}{partner}{named}")
     }
 }
 

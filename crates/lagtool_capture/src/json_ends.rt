@@ -51,7 +51,7 @@ impl fmt::Display for IdentityValue {
     }
 }
 
-/// The fields of an end for the partner that it named last, and for the end, among all, that names it.
+/// The fields of an end for who it is and the partner that it named last, and for the end, among all, that names it.
 #[derive(Clone, Copy)]
 struct PartiesPart<'a> {
     all: &'a [LacpduSender],
@@ -63,9 +63,10 @@ impl fmt::Display for PartiesPart<'_> {
 
     #[tactic(auto, unfolding(crate::specs::Json::parties_part))]
     fn fmt<W: fmt::Write>(&self, f: &mut fmt::Formatter<W>) -> fmt::Result {
+        let own = IdentityValue(Identity::of(&self.end.last.actor));
         let names = IdentityValue(Identity::of(&self.end.last.partner));
         let named = PartnerValue(named_by(self.all, self.end));
-        write!(f, "\"names\":{names},\"named_by\":{named}")
+        write!(f, "\"identity\":{own},\"names\":{names},\"named_by\":{named}")
     }
 }
 

@@ -153,10 +153,10 @@ fn an_end_is_named_on_its_own_interface(rt: HostRuntime) -> Result<(), Fail> {
         },
     ];
     let texts = [
-        "end 02-00-00-00-00-01 port 1 names P3 named by 02-00-00-00-00-02 port 2 lacpdus 1",
-        "end 02-00-00-00-00-02 port 2 names P2 named by 02-00-00-00-00-01 port 1 lacpdus 1",
-        "end 02-00-00-00-00-01 interface 1 port 1 names P3 named by 02-00-00-00-00-03 interface 1 port 3 lacpdus 1",
-        "end 02-00-00-00-00-03 interface 1 port 3 names P2 lacpdus 1",
+        "end 02-00-00-00-00-01 port 1 is P2 names P3 named by 02-00-00-00-00-02 port 2 lacpdus 1",
+        "end 02-00-00-00-00-02 port 2 is P3 names P2 named by 02-00-00-00-00-01 port 1 lacpdus 1",
+        "end 02-00-00-00-00-01 interface 1 port 1 is P2 names P3 named by 02-00-00-00-00-03 interface 1 port 3 lacpdus 1",
+        "end 02-00-00-00-00-03 interface 1 port 3 is P1 names P2 lacpdus 1",
     ];
     assert!(rt; tells(rt.alloc(), &told, &texts)?);
     Ok(())
@@ -187,10 +187,10 @@ fn an_end_is_named_by_its_port(rt: HostRuntime) -> Result<(), Fail> {
         },
     ];
     let texts = [
-        "end 02-00-00-00-00-02 port 4 names P2 named by 02-00-00-00-00-01 port 2 lacpdus 1",
-        "end 02-00-00-00-00-02 port 3 names P4 named by 02-00-00-00-00-01 port 1 lacpdus 1",
-        "end 02-00-00-00-00-01 port 1 names P3 named by 02-00-00-00-00-02 port 3 lacpdus 1",
-        "end 02-00-00-00-00-01 port 2 names P1 named by 02-00-00-00-00-02 port 4 lacpdus 1",
+        "end 02-00-00-00-00-02 port 4 is P1 names P2 named by 02-00-00-00-00-01 port 2 lacpdus 1",
+        "end 02-00-00-00-00-02 port 3 is P3 names P4 named by 02-00-00-00-00-01 port 1 lacpdus 1",
+        "end 02-00-00-00-00-01 port 1 is P4 names P3 named by 02-00-00-00-00-02 port 3 lacpdus 1",
+        "end 02-00-00-00-00-01 port 2 is P2 names P1 named by 02-00-00-00-00-02 port 4 lacpdus 1",
     ];
     assert!(rt; tells(rt.alloc(), &told, &texts)?);
     Ok(())

@@ -121,7 +121,7 @@ fn an_end_is_expired_for_too_long(rt: HostRuntime) -> Result<(), Fail> {
         (110, 124, lacpdu(1, EXPIRED, 2, UP)),
     ];
     let line =
-        "finding 12 end 02-00-00-00-00-01 port 1 packet 5 at 9.000000: defaulted or expired for longer than 6 seconds (6.4.12). Look whether LACP runs at the partner (switch: mode active, not on; bonding: mode=802.3ad), and whether its LACPDUs reach this end.\n";
+        "finding 12 end 02-00-00-00-00-01 port 1 packet 5 at 9.000000: defaulted or expired for longer than 6 seconds (6.4.12). If the capture has LACPDUs of the partner, look why they do not reach this end (its receiver, a device between); else set LACP on there (switch: mode active, not on; bonding: mode=802.3ad).\n";
     assert!(rt; has_just(rt.alloc(), &frames, line)?);
     Ok(())
 }

@@ -29,13 +29,14 @@ FIELDS = [
 ]
 ACTOR = {"system": "4096/02-00-00-00-00-01", "key": 7, "port": "128/2", "state": 61}
 PARTNER = {"system": "0/00-00-00-00-00-00", "key": 0, "port": "0/0", "state": 0}
+OWN = {"system": "4096/02-00-00-00-00-01", "key": 7, "port": "128/2"}
 NAMES = {"system": "0/00-00-00-00-00-00", "key": 0, "port": "0/0"}
 SOURCE = "02-00-00-00-00-01"
 RECORDS: list[dict[str, object]] = [
     {"record": "frame", "packet": 1, "seconds": 0.0, "interface": 0, "source": SOURCE, "kind": "lacpdu", "actor": ACTOR, "partner": PARTNER,
      "max_delay": 50},
     {"record": "frame", "packet": 2, "seconds": -0.000001, "source": SOURCE, "kind": "marker-response", "port": 2, "system": SOURCE, "id": 9},
-    {"record": "end", "interface": 0, "source": SOURCE, "port": 2, "names": NAMES, "named_by": None, "median": None},
+    {"record": "end", "interface": 0, "source": SOURCE, "port": 2, "identity": OWN, "names": NAMES, "named_by": None, "median": None},
     {"record": "counts", "packets": 2, "slow": 2, "ends": 1, "findings": 0},
 ]
 
@@ -98,7 +99,8 @@ def test_the_lines_and_the_records_of_a_capture_are_the_same_fields(monkeypatch:
 
 @pytest.mark.parametrize(
     ("place", "changed"), [(0, {"max_delay": 51}), (0, {"actor": {**ACTOR, "state": 60}}), (1, {"id": 8}), (2, {"median": 1.0}),
-     (2, {"names": {**NAMES, "key": 1}}), (2, {"named_by": {"interface": 0, "source": SOURCE, "port": 2}}), (3, {"ends": 2}), (3, {"findings": 1})]
+     (2, {"identity": {**OWN, "port": "128/3"}}), (2, {"names": {**NAMES, "key": 1}}), (2, {"named_by": {"interface": 0, "source": SOURCE,
+     "port": 2}}), (3, {"ends": 2}), (3, {"findings": 1})]
 )
 def test_a_record_that_says_something_else_is_found(monkeypatch: pytest.MonkeyPatch, place: int, changed: dict[str, object]) -> None:
     answers(monkeypatch, LINES, [{**it, **changed} if number == place else it for number, it in enumerate(RECORDS)])
