@@ -11,7 +11,7 @@ use Rattle.findings.specs.declared.rule.Rule.{Rule}
 use Rattle.findings.specs.declared.rule.Rule.TheVariants as variants
 use Rattle.findings.specs.Ends.{faces, frames_of, lacpdus, latest}
 use Rattle.findings.specs.Holds.{is_rushed, is_passive, is_late, lasts, twice, is_attached, is_relapsing, is_unheard, is_discarded, is_desynchronized, is_individual, seconds}
-use Rattle.findings.specs.Holds.{has_other_system, has_other_port, has_other_key, has_other_keys, has_rival, has_third, is_hasty, is_one_way, is_silent, is_split}
+use Rattle.findings.specs.Holds.{has_other_system, has_other_port, has_other_key, has_other_keys, has_rival, has_third, is_hasty, is_one_way, is_silent, is_split, names_own_system}
 use Rattle.findings.specs.Markers.{first_unanswered}
 use Rattle.findings.specs.Orders.{first_back, if_of, unless_back}
 use Rattle.findings.specs.Responses.{first_late, first_unasked}
@@ -101,6 +101,7 @@ first_of variants.Third until = first_heard (twice has_third)
 first_of variants.Hasty until = first_heard is_hasty
 first_of variants.Backward until = first_backward
 first_of variants.Split until = first_heard (lasts is_split (seconds 6))
+first_of variants.OwnSystem until = first_heard names_own_system
 
 -- what is found of an end by a rule
 abbrev pub finding_of : Rule → LinkEnd → Option Shown → Option Finding

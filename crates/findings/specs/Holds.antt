@@ -198,6 +198,10 @@ abbrev pub is_split : Heard → Bool
 is_split a =
     may_aggregate a.pdu && and_if (λ x. is_fresh a x && (parts_from a x && may_aggregate x.pdu)) a.others.fellow
 
+-- The partner's system is the end's own (6.3.2), and a System Identifier is of one system: current information names it.
+abbrev pub names_own_system : Heard → List Heard → Bool
+names_own_system a before = is_current a && same_system a.pdu.partner.system a.pdu.actor.system
+
 -- Aggregate_Wait_Time of 2 seconds, less the tolerance of a timer (6.4.4)
 abbrev pub least_wait : ℕ
 least_wait = 1750000000

@@ -10,7 +10,7 @@ use Rattle.findings.specs.declared.kept_end.KeptEnd.{KeptEnd}
 use Rattle.findings.specs.Ends.{frames_of, lacpdus, others, said}
 use Rattle.findings.specs.Firsts.{first, shown_heard, shown_frame}
 use Rattle.findings.specs.Holds.{is_rushed, is_passive, is_late, lasts, twice, since, is_attached, has_relapsed, is_relapsing, is_unheard, is_discarded, is_desynchronized, is_individual, seconds}
-use Rattle.findings.specs.Holds.{has_other_system, has_other_port, has_other_key, has_other_keys, has_rival, has_third, is_alone, is_alone_short, is_hasty, is_one_way, is_split, no_wait}
+use Rattle.findings.specs.Holds.{has_other_system, has_other_port, has_other_key, has_other_keys, has_rival, has_third, is_alone, is_alone_short, is_hasty, is_one_way, is_split, names_own_system, no_wait}
 use Rattle.findings.specs.Markers.{asking}
 use Rattle.findings.specs.Responses.{responding}
 use Rattle.findings.specs.Holds.{has_other_version, has_other_length, has_reserved, has_other_destination, has_tag, has_other_types, has_other_source}
@@ -52,6 +52,7 @@ lacpdu_rules l = record {
   third = first shown_heard (twice has_third) l;
   hasty = first shown_heard is_hasty l;
   split = first shown_heard (lasts is_split (seconds 6)) l;
+  own_system = first shown_heard names_own_system l;
 }
 
 -- the first frame that shows each rule

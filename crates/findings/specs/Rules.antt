@@ -72,6 +72,8 @@ row_of variants.Backward = rule_row 28 (codes "more than a second earlier than t
     (codes "Sort the packets by reordercap and read them again: rules 18 to 21 are left out, and no time is judged from a packet to an earlier one.")
 row_of variants.Split = rule_row 29 (codes "links of one system lead to two systems") (codes "6.3.6")
     (codes "Cable these links to one system, or make the two systems one (MLAG); give links that are to stay apart keys of their own.")
+row_of variants.OwnSystem = rule_row 30 (codes "the partner's system is the end's own") (codes "6.3.2")
+    (codes "Look for a loop (a cable between two ports of this system, or a port that hears itself); if there are two machines, one has a copied identifier, and no LACPDU tells which: give each its own (bonding: ad_actor_system; Open vSwitch: lacp-system-id).")
 
 abbrev pub rule_number : Rule → ℕ
 rule_number rule = (row_of rule).number
@@ -92,4 +94,4 @@ all_rules =
     ∷ variants.Reserved ∷ variants.Destination ∷ variants.Tag ∷ variants.Silence ∷ variants.Unheard ∷ variants.Desynchronized
     ∷ variants.Individual ∷ variants.Keys ∷ variants.Segment ∷ variants.Discarded ∷ variants.OneWay ∷ variants.Unanswered
     ∷ variants.Unasked ∷ variants.Late ∷ variants.Attached ∷ variants.Relapsing ∷ variants.Types ∷ variants.Source
-    ∷ variants.Third ∷ variants.Hasty ∷ variants.Backward ∷ variants.Split ∷ []
+    ∷ variants.Third ∷ variants.Hasty ∷ variants.Backward ∷ variants.Split ∷ variants.OwnSystem ∷ []

@@ -2,7 +2,7 @@ ghost use Rattle.std.specs.Prelude.{◌≡◌, List};
 ghost use Rattle.findings.specs.declared.recent.Heard.{Heard};
 ghost use Rattle.findings.specs.Firsts.{shown_heard};
 ghost use Rattle.findings.specs.Holds.{is_current, is_fresh, is_passive, is_individual, is_named_system, is_sibling_of, has_keys_of, names_partner_of};
-ghost use Rattle.findings.specs.Holds.{is_split, parts_from};
+ghost use Rattle.findings.specs.Holds.{is_split, names_own_system, parts_from};
 ghost use Rattle.findings.specs.Holds.{has_other_system, has_other_port, has_other_key, has_other_keys, has_rival, has_third, names_as};
 
 use crate::finding::Shown;
@@ -194,6 +194,13 @@ impl Heard {
     {
         let actor = self.pdu.actor.state;
         !actor.is_active() && !self.pdu.partner.state.is_active() && !actor.is_defaulted()
+    }
+
+    /// Whether the Partner's system is the sender's own.
+    pub(crate) fn names_own_system(&self) -> bool
+        ensures { (l : List Heard) → result ≡ names_own_system self.now l }
+    {
+        self.is_current() && self.pdu.partner.system == self.pdu.actor.system
     }
 
     /// Whether the sender alone is Individual.

@@ -129,6 +129,7 @@ impl KeptEnd {
             Rule::Hasty => self.lacpdus.hasty,
             Rule::Backward => order.back_of(&self.end),
             Rule::Split => self.lacpdus.split,
+            Rule::OwnSystem => self.lacpdus.own_system,
         }
     }
 }

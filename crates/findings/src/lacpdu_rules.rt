@@ -26,6 +26,7 @@ pub(crate) struct LacpduRules {
     pub(crate) third: Option<Shown>,
     pub(crate) hasty: Option<Shown>,
     pub(crate) split: Option<Shown>,
+    pub(crate) own_system: Option<Shown>,
 }
 
 impl LacpduRules {
@@ -56,5 +57,6 @@ impl LacpduRules {
         keep_earlier(&mut self.third, recent.has_third(now), &shown);
         keep_earlier(&mut self.hasty, recent.is_hasty(now), &shown);
         keep_earlier(&mut self.split, recent.is_split(now), &shown);
+        keep_earlier(&mut self.own_system, now.names_own_system(), &shown);
     }
 }

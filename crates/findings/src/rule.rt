@@ -68,6 +68,8 @@ pub enum Rule {
     /// 29: for longer than 6 seconds, the latest LACPDU, within 90 seconds, of another port of the system with the same key has
     /// named another partner system; both may be aggregated.
     Split,
+    /// 30: the partner that it names has its own system identifier, priority and MAC address; it is neither Defaulted nor Expired.
+    OwnSystem,
 }
 
 /// What is said of a rule: its number, what is found, the section that has it, and what to do.
@@ -81,7 +83,7 @@ struct RuleRow {
 
 impl Rule {
     /// All rules, in the order of their numbers.
-    pub const ALL: [Rule; 29] = [
+    pub const ALL: [Rule; 30] = [
         Rule::Rate,
         Rule::System,
         Rule::Port,
@@ -111,6 +113,7 @@ impl Rule {
         Rule::Hasty,
         Rule::Backward,
         Rule::Split,
+        Rule::OwnSystem,
     ];
 
     /// The row of the rule.
@@ -294,6 +297,12 @@ impl Rule {
                 name: "links of one system lead to two systems",
                 clause: "6.3.6",
                 advice: "Cable these links to one system, or make the two systems one (MLAG); give links that are to stay apart keys of their own.",
+            },
+            Rule::OwnSystem => RuleRow {
+                number: 30,
+                name: "the partner's system is the end's own",
+                clause: "6.3.2",
+                advice: "Look for a loop (a cable between two ports of this system, or a port that hears itself); if there are two machines, one has a copied identifier, and no LACPDU tells which: give each its own (bonding: ad_actor_system; Open vSwitch: lacp-system-id).",
             },
         }
     }

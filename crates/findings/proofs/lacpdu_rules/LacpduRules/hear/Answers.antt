@@ -24,4 +24,5 @@ returns c = λ l recent is.
       third = next c.keep_earlier-16.ensures (ap (λ (r : LacpduRules). r.third) is) (c.has_third.ensures l recent) c.shown-shown.ensures i;
       hasty = next c.keep_earlier-17.ensures (ap (λ (r : LacpduRules). r.hasty) is) (c.is_hasty.ensures l recent) c.shown-shown.ensures i;
       split = next c.keep_earlier-18.ensures (ap (λ (r : LacpduRules). r.split) is) (c.is_split.ensures l recent) c.shown-shown.ensures i;
+      own_system = next c.keep_earlier-19.ensures (ap (λ (r : LacpduRules). r.own_system) is) (c.names_own_system.ensures l) c.shown-shown.ensures i;
     }
