@@ -43,7 +43,7 @@ row_of variants.Desynchronized = rule_row 13 (codes "synchronization lost") (cod
 row_of variants.Individual = rule_row 14 (codes "one end is Individual") (codes "6.3.5")
     (codes "Set this end's port to full duplex, and let it be aggregated, not individual: it may not be aggregated with others.")
 row_of variants.Keys = rule_row 15 (codes "keys differ within one pair of systems") (codes "6.3.6")
-    (codes "Change the system that has two keys on these links (switch: same channel-group; bonding: it follows speed, duplex, ad_user_port_key; Open vSwitch: lacp-aggregation-key): these are two groups.")
+    (codes "Change the system that has two keys on these links (switch: same channel-group; bonding: it follows speed, duplex, ad_user_port_key; Open vSwitch: one bond): these are two groups.")
 row_of variants.Segment = rule_row 16 (codes "two actors on one segment") (codes "6.4.9")
     (codes "Look for a hub, or for a switch between the ends that passes the slow protocols on.")
 row_of variants.Discarded = rule_row 17 (codes "distributing while the partner is not collecting") (codes "6.4.15")

@@ -212,7 +212,7 @@ impl Rule {
                 number: 15,
                 name: "keys differ within one pair of systems",
                 clause: "6.3.6",
-                advice: "Change the system that has two keys on these links (switch: same channel-group; bonding: it follows speed, duplex, ad_user_port_key; Open vSwitch: lacp-aggregation-key): these are two groups.",
+                advice: "Change the system that has two keys on these links (switch: same channel-group; bonding: it follows speed, duplex, ad_user_port_key; Open vSwitch: one bond): these are two groups.",
             },
             Rule::Segment => RuleRow {
                 number: 16,
