@@ -11,14 +11,16 @@ import { button, made, table } from "./shapes.js";
 
 /* The most frames that are listed of a link, besides those of findings. */
 const MOST = 400;
-/* The rules of docs/COMMAND.md whose findings often explain others, and those whose findings often follow from others. */
-const LEADING = [26, 28, 29], FOLLOWING = [12, 13, 17, 22, 23];
+/* The rules of docs/COMMAND.md whose findings often explain others, those whose often follow, and of these the faults where there is no other. */
+const LEADING = [26, 28, 29], FOLLOWING = [12, 13, 17, 22, 23], UNHEARD = [12, 23];
 export const FAULT = "fault";
 export const EFFECT = "likely effect";
 const REMARK = "remark", KINDS = [FAULT, EFFECT, REMARK];
 /* What is said of effects on links of two systems that have no fault. */
-const CAUSELESS = "Its cause is before this capture, or on a link that the capture lacks.", AT_START = [13, "Right after a start rule 13 is normal if both ends distribute later."];
+const CAUSELESS = "This capture does not show why: ask both ends, and capture all links.";
+const AT_START = [13, "Right after a start rule 13 is normal if both ends distribute later."];
 const isFault = (finding) => !isRemark(finding) && !FOLLOWING.includes(finding.rule);
+const isCause = (finding) => isFault(finding) || UNHEARD.includes(finding.rule);
 export const counted = (number, word) => `${number} ${word}${number === 1 ? "" : "s"}`;
 const upper = (text) => text[0].toUpperCase() + text.slice(1);
 const lookOf = (finding) => isRemark(finding) ? "quiet" : "bad";
@@ -155,16 +157,19 @@ function placeIn(finding, pair) {
     return where;
 }
 
-/* What the findings of one rule are. */
-function kindOfRule([finding]) {
+const isCaused = (finding, pairOf, test) => pairOf(finding).bundle.findings.some(test);
+
+/* What the findings of one rule are. Whoever hears nothing may name nobody: the fault may be of any end on its interface. */
+function kindOfRule(findings, pairOf, faults) {
+    const [finding] = findings, isAlone = (it) => !isCaused(it, pairOf, isFault) && !faults.some(({ at }) => at.interface === it.at.interface);
     if (isRemark(finding)) return REMARK;
-    return isFault(finding) ? FAULT : EFFECT;
+    return isFault(finding) || (isCause(finding) && findings.some(isAlone)) ? FAULT : EFFECT;
 }
 
 /* What is said of an effect where its pair of systems has no fault. */
 function causeOf(findings, pairOf) {
-    const isCaused = findings.every((it) => pairOf(it).bundle.findings.some(isFault)), [rule, said] = AT_START;
-    if (isCaused) return [];
+    const [rule, said] = AT_START;
+    if (findings.every((it) => isCaused(it, pairOf, isCause))) return [];
     return [made("span", findings[0].rule === rule ? ` ${CAUSELESS} ${said}` : ` ${CAUSELESS}`)];
 }
 
@@ -184,7 +189,7 @@ export function showRecords(records, blob, findingsAt, linksAt) {
     const pairs = bundles.map((it, number) => new Pair(it, packets, number === 0));
     const pairOf = (finding) => pairs.find((it) => it.bundle.findings.includes(finding));
     const rules = [...new Set(findings.map((it) => it.rule))].map((rule) => findings.filter((it) => it.rule === rule));
-    const items = rules.map((it) => ({ findings: it, kind: kindOfRule(it) }));
+    const items = rules.map((it) => ({ findings: it, kind: kindOfRule(it, pairOf, findings.filter(isFault)) }));
     const rankOf = ({ findings: [{ rule }], kind }) => KINDS.indexOf(kind) - LEADING.includes(rule);
     items.sort((one, other) => rankOf(one) - rankOf(other));
     findingsAt.replaceChildren(...items.map((it) => itemOf(it.findings, it.kind, pairOf)));

@@ -76,7 +76,8 @@ async function run(lagtool, file, options, printed) {
     }
 }
 
-const ADVICE = "Look whether LACP is on: at a switch the mode of the group is active, not on (static); bonding has mode=802.3ad.";
+const ADVICE = "Look whether LACP is on, and not passive at both ends: at a switch the mode of the group is active, not on (static); "
+    + "bonding has mode=802.3ad.";
 
 /* What is said of frames that could not be read: a capture that cuts frames cuts all LACPDUs alike; rule 7 has those that were short on the link. */
 function unreadIn({ unread, frames, all, findings }) {

@@ -13,6 +13,9 @@ from stored import CAPTURES, UNEQUAL, Tests, captures, printed, read
 HOSTILE = '<img src=x onerror="window.taken = true"><script>window.taken = true</script>'
 # The frame that is chosen, and the packet whose fields are shown.
 CHOSEN = "[document.activeElement.dataset.packet ?? '', document.querySelector('.chosen-frame:not([hidden]) h3')?.textContent.split(' ')[1] ?? '']"
+VERDICT = "[document.getElementById('verdict').textContent, document.getElementById('verdict').className]"
+TITLES = "[...document.querySelectorAll('#findings li')].map((it) => [...it.querySelectorAll('strong')].map((part) => part.textContent))"
+UNSHOWN = "This capture does not show why"
 # The fields of each frame that is drawn, by a click on it.
 FIELDS = """(async () => {
     const all = {};
@@ -34,6 +37,7 @@ def of_page(tests: Tests, browser: Browser, folder: str) -> None:
     """How the page behaves."""
     of_findings(tests, browser)
     of_verdicts(tests, browser, folder)
+    of_effects(tests, browser, folder)
     of_fields(tests, browser)
     of_axis(tests, browser)
     of_bundles(tests, browser, folder)
@@ -73,13 +77,11 @@ def of_findings(tests: Tests, browser: Browser) -> None:
 
 def of_verdicts(tests: Tests, browser: Browser, folder: str) -> None:
     """A fault is told from what often follows from it, and from what calls for nothing."""
-    verdict = "[document.getElementById('verdict').textContent, document.getElementById('verdict').className]"
-    titles = "[...document.querySelectorAll('#findings li')].map((it) => [...it.querySelectorAll('strong')].map((part) => part.textContent))"
     browser.choose(UNEQUAL)
-    tests.same("unequal keys are one fault, with its effects", browser.value(verdict), ["1 fault, 2 likely effects, 1 remark, at 9 places:", "bad"])
+    tests.same("unequal keys are one fault, with its effects", browser.value(VERDICT), ["1 fault, 2 likely effects, 1 remark, at 9 places:", "bad"])
     tests.same(
         "the fault stands first, and says which system has which keys",
-        browser.value(titles),
+        browser.value(TITLES),
         [
             ["Keys differ within one pair of systems", "02-00-00-00-02-00 has keys 20 and 21"],
             ["Likely effect: synchronization lost"],
@@ -90,22 +92,41 @@ def of_verdicts(tests: Tests, browser: Browser, folder: str) -> None:
     where = browser.value("document.querySelector('#findings li .quiet').textContent.split(', packet')[0]")
     tests.same("a finding has its rule, and the system of its end", where, "rule 15, 6.3.6: 02-35-6b-bd-97-92 port 2 of system 02-00-00-00-01-00")
     browser.choose(os.path.join(CAPTURES, "open-vswitch.pcap"))
-    tests.same("a remark alone is no fault", browser.value(verdict), ["No fault found; 1 remark, at 1 place:", "good"])
+    tests.same("a remark alone is no fault", browser.value(VERDICT), ["No fault found; 1 remark, at 1 place:", "good"])
     tests.same("it is not drawn as one", browser.value("document.querySelectorAll('#links svg .found:not(.quiet), #links svg .bad').length"), 0)
     cut = os.path.join(folder, "cut.pcap")
     with open(os.path.join(CAPTURES, "open-vswitch.pcap"), "rb") as it, open(cut, "wb") as out:
         out.write(it.read()[:-1])
     browser.choose(cut)
-    tests.same("of a capture that is cut short it is not said", browser.value(verdict), ["1 remark, at 1 place:", "bad"])
-    browser.choose(os.path.join(CAPTURES, "bonding.pcap"))
-    tests.same("an effect without a fault has its cause elsewhere", browser.value(verdict), ["1 likely effect, at 1 place; no cause in this capture:", ""])
-    said = browser.value("document.querySelector('#findings li').textContent")
-    tests.same("a loss of synchronization after a start is normal", "rule 13 is normal if both ends distribute later" in said, True)
+    tests.same("of a capture that is cut short it is not said", browser.value(VERDICT), ["1 remark, at 1 place:", "bad"])
     split = os.path.join(folder, "split.pcap")
     made.split(split)
     browser.choose(split)
     said = ["Links of one system lead to two systems", "02-00-00-00-00-01 leads to 02-00-00-00-00-02 and 02-00-00-00-00-03"]
-    tests.same("links to two systems are one fault, which names both", [*browser.value(verdict), browser.value(titles)], ["1 fault, at 2 places:", "bad", [said]])
+    tests.same("links to two systems are one fault, which names both", [*browser.value(VERDICT), browser.value(TITLES)], ["1 fault, at 2 places:", "bad", [said]])
+
+
+def of_effects(tests: Tests, browser: Browser, folder: str) -> None:
+    """What often follows from a fault, where there is no other: LACPDUs that do not arrive are one; of others the capture does not show why."""
+    alone, first = ["1 likely effect, at 1 place; no cause in this capture:", ""], "document.querySelector('#findings li').textContent"
+    browser.choose(os.path.join(CAPTURES, "bonding.pcap"))
+    tests.same("an effect without a fault has no cause in this capture", browser.value(VERDICT), alone)
+    said = browser.value(first)
+    wanted = UNSHOWN, "rule 13 is normal if both ends distribute later"
+    tests.same("it says so, and that it is normal after a start", [it in said for it in wanted], [True, True])
+    path = os.path.join(folder, "attached.pcap")
+    made.attached(path, True)
+    browser.choose(path)
+    tests.same("so has a link that the partner does not attach", [*browser.value(VERDICT), UNSHOWN in browser.value(first)], [*alone, True])
+    made.attached(path, False)
+    browser.choose(path)
+    tests.same("an end that hears nothing is a fault", browser.value(VERDICT), ["1 fault, 1 likely effect, at 2 places:", "bad"])
+    titles = [["Defaulted or expired for longer than 6 seconds"], ["Likely effect: attached for longer than 6 seconds while the partner is not synchronized"]]
+    said = browser.value("document.getElementById('findings').textContent")
+    tests.same("it stands first, and explains the other", [browser.value(TITLES), UNSHOWN in said], [titles, False])
+    made.astray(path)
+    browser.choose(path)
+    tests.same("it follows from a fault of whoever is on its interface", browser.value(VERDICT), ["1 fault, 1 likely effect, at 3 places:", "bad"])
 
 
 def fields_wanted(record: dict[str, Any]) -> list[list[str]]:
@@ -174,12 +195,11 @@ def of_silence(tests: Tests, browser: Browser, folder: str) -> None:
     made.pcap(path, [(0.0, bytes([255] * 6 + [2, 0, 0, 0, 0, 1]) + b"\x08\x06" + bytes(46))])
     browser.choose(path)
     said = browser.value("document.getElementById('verdict').textContent")
-    tests.same("without an LACPDU it asks whether LACP is on", [it in said for it in ("No frame", "active, not on", "mode=802.3ad")], [True] * 3)
+    tests.same("without an LACPDU it asks whether LACP is on", [it in said for it in ("No frame", "passive at both", "active, not on", "mode=802.3ad")], [True] * 4)
 
 
 def of_unread(tests: Tests, browser: Browser, folder: str) -> None:
     """Frames of the slow protocols that are refused are no good news, unless they are of another protocol."""
-    verdict = "[document.getElementById('verdict').textContent, document.getElementById('verdict').className]"
     one, other = made.Party(1, 7, 1, made.UP), made.Party(2, 7, 1, made.UP)
     whole = [made.frame(it.source(), made.lacpdu(it, one if it is other else other)) for it in (one, other)]
     oam = [made.frame(one.source(), b"\x03" + bytes(109))]
@@ -193,10 +213,10 @@ def of_unread(tests: Tests, browser: Browser, folder: str) -> None:
     for name, (packets, most, wanted) in cases.items():
         made.pcap(path, [(float(number), it) for number, it in enumerate(packets)], most)
         browser.choose(path)
-        tests.same(f"{name} of the frames could be read: the page says so", browser.value(verdict), wanted)
+        tests.same(f"{name} of the frames could be read: the page says so", browser.value(VERDICT), wanted)
     made.pcap(path, [(0.0, oam[0])])
     browser.choose(path)
-    tests.same("OAM alone is no LACP", browser.value(verdict)[0].startswith("No frame of the slow protocols (LACPDU, Marker PDU)"), True)
+    tests.same("OAM alone is no LACP", browser.value(VERDICT)[0].startswith("No frame of the slow protocols (LACPDU, Marker PDU)"), True)
 
 
 def of_lasting(tests: Tests, browser: Browser, folder: str) -> None:

@@ -6,7 +6,7 @@ import struct
 from typing import Iterable, NamedTuple
 
 SLOW, DEFAULTS = bytes.fromhex("0180c2000002"), bytes(18)
-UP, DOWN, DEFAULTED = 0x3D, 0x05, 0x45  # state octets
+UP, DOWN, DEFAULTED, ATTACHED = 0x3D, 0x05, 0x45, 0x0D  # state octets
 
 
 class Party(NamedTuple):
@@ -74,6 +74,23 @@ def split(path: str) -> None:
             packets.append((second + port / 100, frame(one.source(), lacpdu(one, other))))
             packets.append((second + port / 100 + 0.004, frame(other.source(), lacpdu(other, one))))
     pcap(path, packets)
+
+
+def attached(path: str, heard: bool) -> None:
+    """System 2 is attached, and system 1 is not: it hears nothing, or has no room for the link."""
+    packets: list[tuple[float, bytes]] = []
+    for second in range(20):
+        one, other = Party(1, 7, 1, DOWN if heard else DEFAULTED), Party(2, 8, 1, ATTACHED)
+        packets.append((second, frame(one.source(), lacpdu(one, other if heard else None))))
+        packets.append((second + 0.004, frame(other.source(), lacpdu(other, one))))
+    pcap(path, packets)
+
+
+def astray(path: str) -> None:
+    """Two ends that hear nothing: the frames of one go to another address."""
+    one, other = Party(1, 7, 1, DEFAULTED), Party(2, 8, 1, DEFAULTED)
+    frames = [frame(one.source(), lacpdu(one, None)), SLOW[:-1] + b"\x00" + frame(other.source(), lacpdu(other, None))[6:]]
+    pcap(path, ((second + way / 250, frames[way]) for second in range(20) for way in (0, 1)))
 
 
 def crowd(path: str, count: int) -> None:
