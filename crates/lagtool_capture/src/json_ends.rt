@@ -66,7 +66,10 @@ impl fmt::Display for PartiesPart<'_> {
         let own = IdentityValue(Identity::of(&self.end.last.actor));
         let names = IdentityValue(Identity::of(&self.end.last.partner));
         let named = PartnerValue(named_by(self.all, self.end));
-        write!(f, "\"identity\":{own},\"names\":{names},\"named_by\":{named}")
+        write!(
+            f,
+            "\"identity\":{own},\"names\":{names},\"named_by\":{named}"
+        )
     }
 }
 
