@@ -34,6 +34,7 @@ def of_page(tests: Tests, browser: Browser, folder: str) -> None:
     """How the page behaves."""
     of_findings(tests, browser)
     of_verdicts(tests, browser, folder)
+    of_copies(tests, browser, folder)
     of_fields(tests, browser)
     of_axis(tests, browser)
     of_bundles(tests, browser, folder)
@@ -106,6 +107,19 @@ def of_verdicts(tests: Tests, browser: Browser, folder: str) -> None:
     browser.choose(split)
     said = ["Links of one system lead to two systems", "02-00-00-00-00-01 leads to 02-00-00-00-00-02 and 02-00-00-00-00-03"]
     tests.same("links to two systems are one fault, which names both", [*browser.value(verdict), browser.value(titles)], ["1 fault, at 2 places:", "bad", [said]])
+
+
+def of_copies(tests: Tests, browser: Browser, folder: str) -> None:
+    """Two machines with one system, and a port that hears itself."""
+    copied = os.path.join(folder, "copied.pcap")
+    made.copied(copied)
+    browser.choose(copied)
+    tests.same("each end is a place of a copied system", browser.value("document.getElementById('verdict').textContent"), "2 faults, at 5 places:")
+    titles = browser.value("[...document.querySelectorAll('#findings li strong:first-child')].map((it) => it.textContent)")
+    tests.same("it stands before what follows from it", titles, ["The partner's system is the end's own", "Two actors on one segment"])
+    ends = browser.value("[...document.querySelectorAll('#links svg .name')].map((it) => it.textContent)")
+    alone = ["02-00-00-00-01-02 port 2", "the other end is not heard"]
+    tests.same("a port that hears itself has no other end", ends, ["02-00-00-00-01-01 port 1", "02-00-00-00-09-01 port 1", *alone])
 
 
 def fields_wanted(record: dict[str, Any]) -> list[list[str]]:
