@@ -12,7 +12,7 @@ import { button, made, table } from "./shapes.js";
 /* The most frames that are listed of a link, besides those of findings. */
 const MOST = 400;
 /* The rules of docs/COMMAND.md whose findings often explain others, those whose often follow, and of these the faults where there is no other. */
-const LEADING = [26, 28, 29], FOLLOWING = [12, 13, 17, 22, 23], UNHEARD = [12, 23];
+const LEADING = [26, 28, 29, 30], FOLLOWING = [12, 13, 17, 22, 23], UNHEARD = [12, 23];
 export const FAULT = "fault";
 export const EFFECT = "likely effect";
 const REMARK = "remark", KINDS = [FAULT, EFFECT, REMARK];
@@ -123,6 +123,7 @@ const VALUES = new Map([
     [4, ({ partner }) => `names key ${partner.key}`],
     [15, ({ actor, partner }) => `key ${actor.key}, the partner's key ${partner.key}`],
     [29, ({ partner }) => `names system ${partner.system}`],
+    [30, ({ partner }) => `names system ${partner.system}`],
 ]);
 const valueOf = (finding, frame) => frame?.kind === "lacpdu" && VALUES.has(finding.rule) ? `: ${VALUES.get(finding.rule)(frame)}` : "";
 const frameOf = (finding) => finding.at.frames.find((it) => it.packet === finding.packet);

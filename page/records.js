@@ -204,7 +204,7 @@ export function bundlesOf(records) {
     const pairs = new Map(links.map(({ systems }) => [systems.join(" "), systems])), bundles = new Map();
     for (const { link, systems } of links) {
         const pair = (isKnown(systems[1]) ? null : pairOfUnknown(systems, [...pairs.values()])) ?? systems, name = pair.join(" ");
-        if (pair[1] === systems[0]) link.ends.reverse();
+        if (pair[0] !== systems[0]) link.ends.reverse();
         if (!bundles.has(name)) bundles.set(name, { systems: pair, links: [], findings: [] });
         bundles.get(name).links.push(link);
         bundles.get(name).findings.push(...link.findings);

@@ -38,6 +38,7 @@ def of_page(tests: Tests, browser: Browser, folder: str) -> None:
     of_findings(tests, browser)
     of_verdicts(tests, browser, folder)
     of_effects(tests, browser, folder)
+    of_copies(tests, browser, folder)
     of_fields(tests, browser)
     of_axis(tests, browser)
     of_bundles(tests, browser, folder)
@@ -127,6 +128,19 @@ def of_effects(tests: Tests, browser: Browser, folder: str) -> None:
     made.astray(path)
     browser.choose(path)
     tests.same("it follows from a fault of whoever is on its interface", browser.value(VERDICT), ["1 fault, 1 likely effect, at 3 places:", "bad"])
+
+
+def of_copies(tests: Tests, browser: Browser, folder: str) -> None:
+    """Two machines with one system, and a port that hears itself."""
+    copied = os.path.join(folder, "copied.pcap")
+    made.copied(copied)
+    browser.choose(copied)
+    tests.same("each end is a place of a copied system", browser.value("document.getElementById('verdict').textContent"), "2 faults, at 5 places:")
+    titles = browser.value("[...document.querySelectorAll('#findings li strong:first-child')].map((it) => it.textContent)")
+    tests.same("it stands before what follows from it", titles, ["The partner's system is the end's own", "Two actors on one segment"])
+    ends = browser.value("[...document.querySelectorAll('#links svg .name')].map((it) => it.textContent)")
+    alone = ["02-00-00-00-01-02 port 2", "the other end is not heard"]
+    tests.same("a port that hears itself has no other end", ends, ["02-00-00-00-01-01 port 1", "02-00-00-00-09-01 port 1", *alone])
 
 
 def fields_wanted(record: dict[str, Any]) -> list[list[str]]:

@@ -93,6 +93,17 @@ def astray(path: str) -> None:
     pcap(path, ((second + way / 250, frames[way]) for second in range(20) for way in (0, 1)))
 
 
+def copied(path: str) -> None:
+    """Two machines with one system, one key and one port number; and a port of the system that hears itself."""
+    packets: list[tuple[float, bytes]] = []
+    one, itself = Party(1, 7, 1, DOWN), Party(1, 7, 2, DOWN)
+    for second in range(10):
+        packets.append((second, frame(one.source(), lacpdu(one, one))))
+        packets.append((second + 0.1, frame(Party(9, 7, 1, DOWN).source(), lacpdu(one, one))))
+        packets.append((second + 0.2, frame(itself.source(), lacpdu(itself, itself))))
+    pcap(path, packets)
+
+
 def crowd(path: str, count: int) -> None:
     """So many ends that send one LACPDU each."""
     partner = Party(2, 7, 1, UP)
