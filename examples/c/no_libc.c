@@ -2,6 +2,7 @@
  * large as NIW_MEMORY says for two systems.
  *
  * cc -ffreestanding -nostdlib -static -o no_libc examples/c/no_libc.c -l:liblag.a && ./no_libc
+ * No header of a C library is wanted.
  *
  * Only niw_new asks for memory, and what it got goes back by niw_free alone: so nothing is kept of a block but its length. */
 #include "lag.h"
@@ -14,6 +15,9 @@ static size_t taken;
 void *malloc(size_t size);
 void *realloc(void *at, size_t size);
 void free(void *at);
+void *memcpy(void *restrict to, const void *restrict from, size_t length);
+void *memmove(void *to, const void *from, size_t length);
+void *memset(void *to, int value, size_t length);
 
 /* Each block stands behind 16 octets that have its length. */
 void *malloc(size_t size) {

@@ -1,5 +1,5 @@
-/* A port moves from one LAG of a switch to another, each of which has a handle. A handle has its ports for life: so both are freed, and made anew by
- * niw_resume with the new ports. The others of both LAGs go on carrying, and the peer sees nothing there. */
+/* A port moves from one LAG of a switch to another, each of which has a handle. A handle has its ports for life: so niw_resume makes both LAGs anew,
+ * with the new ports, in a second handle, and then the first is freed. The other ports go on carrying, and the peer sees nothing there. */
 #include <stdio.h>
 #include <stdlib.h>
 
@@ -8,7 +8,8 @@
 #define LAGS 2
 #define PORTS 4 /* of the switch: 1 and 2 are LAG 0, 3 and 4 LAG 1; later port 2 is of LAG 1, too */
 
-static struct niw_system lags[LAGS], peer; /* the peer has all ports, with a key for each LAG */
+static struct niw_system handles[LAGS][2], *lags[LAGS]; /* of two handles of a LAG the one that has it */
+static struct niw_system peer;                          /* it has all ports, with a key for each LAG */
 static unsigned of[PORTS + 1] = {0, 0, 0, 1, 1};
 static struct niw_saved saved[PORTS + 1]; /* the last LACPDU of each port, and how old it is */
 static struct niw_view seen[NIW_MOST_PORTS];
@@ -23,19 +24,21 @@ static struct niw_port port_of(uint16_t number, uint8_t system, unsigned lag) {
     return (struct niw_port){number, 128, {2, 0, 0, 0, 1, system}, (uint16_t)(lag + 1), true, true, true};
 }
 
-/* Makes the LAG with the ports that are its own now; those whose LACPDUs it is given go on distributing. */
+/* Makes the LAG in its other handle, with the ports that are its own now; those whose LACPDUs it is given go on distributing. */
 static void make(unsigned lag, uint32_t first_marker, const struct niw_saved *from, size_t count) {
     struct niw_config config = {.priority = 32768, .mac = {2, 0, 0, 0, 0, 1}, .first_marker = first_marker, .conversations = NIW_FEW_CONVERSATIONS};
     const uint16_t key = (uint16_t)(lag + 1);
     struct niw_port ports[PORTS];
     size_t ports_count = 0;
+    struct niw_system *other = &handles[lag][lags[lag] == handles[lag]];
     struct niw_made made;
     for (uint16_t port = 1; port <= PORTS; port++)
         if (of[port] == lag) ports[ports_count++] = port_of(port, 1, lag);
-    made = from ? niw_resume(&lags[lag], &config, &key, 1, ports, ports_count, from, count) : niw_new(&lags[lag], &config, &key, 1, ports, ports_count);
+    made = from ? niw_resume(other, &config, &key, 1, ports, ports_count, from, count) : niw_new(other, &config, &key, 1, ports, ports_count);
     must(made.status == NIW_OK, niw_status_text(made.status));
+    lags[lag] = other;
     for (uint16_t port = 1; port <= PORTS; port++)
-        if (of[port] == lag) niw_set_link(&lags[lag], port, true);
+        if (of[port] == lag) niw_set_link(other, port, true);
 }
 
 static void make_peer(void) {
@@ -51,15 +54,15 @@ static void make_peer(void) {
 static void pass(void) {
     uint8_t frame[NIW_FRAME], response[NIW_FRAME];
     niw_tick(&peer);
-    for (unsigned lag = 0; lag < LAGS; lag++) niw_tick(&lags[lag]);
+    for (unsigned lag = 0; lag < LAGS; lag++) niw_tick(lags[lag]);
     for (uint16_t port = 1; port <= PORTS; port++) {
         saved[port].age++;
         while (niw_transmit(&peer, port, frame, sizeof frame).is)
-            if (niw_receive(&lags[of[port]], port, frame, sizeof frame, response, sizeof response).what == NIW_RECEIVED_TOOK_LACPDU) {
+            if (niw_receive(lags[of[port]], port, frame, sizeof frame, response, sizeof response).what == NIW_RECEIVED_TOOK_LACPDU) {
                 saved[port] = (struct niw_saved){.port = port};
                 memcpy(saved[port].frame, frame, sizeof frame);
             }
-        while (niw_transmit(&lags[of[port]], port, frame, sizeof frame).is) niw_receive(&peer, port, frame, sizeof frame, response, sizeof response);
+        while (niw_transmit(lags[of[port]], port, frame, sizeof frame).is) niw_receive(&peer, port, frame, sizeof frame, response, sizeof response);
     }
 }
 
@@ -69,15 +72,16 @@ static void show(const char *what) {
     printf("\n");
 }
 
-/* Frees a LAG, and makes it anew with its ports of now. Port `moves` is new or gone, so nothing is said of it. */
+/* Makes a LAG anew with its ports of now, and frees what it was. Port `moves` is new or gone, so nothing is said of it. */
 static void renew(unsigned lag, uint16_t moves) {
+    struct niw_system *before = lags[lag];
     struct niw_saved kept[PORTS];
     size_t count = 0;
-    uint32_t marker = niw_next_marker(&lags[lag]).id;
+    uint32_t marker = niw_next_marker(before).id;
     for (uint16_t port = 1; port <= PORTS; port++)
         if (of[port] == lag && port != moves) kept[count++] = saved[port];
-    niw_free(&lags[lag]);
     make(lag, marker, kept, count);
+    niw_free(before);
 }
 
 int main(void) {
@@ -99,7 +103,7 @@ int main(void) {
     show("port 2 moved to the other");
     for (uint16_t port = 1; port <= PORTS; port++) printf("port %u: the peer noticed %s\n", port, noticed >> (port - 1) & 1 ? "it" : "nothing");
     printf("port 2 is in the aggregator of port 3: %s\n", niw_choice(&peer, 2).number == niw_choice(&peer, 3).number ? "yes" : "no");
-    for (unsigned lag = 0; lag < LAGS; lag++) niw_free(&lags[lag]);
+    for (unsigned lag = 0; lag < LAGS; lag++) niw_free(lags[lag]);
     niw_free(&peer);
     return 0;
 }

@@ -26,7 +26,10 @@
 #include <stdbool.h>
 #include <stddef.h>
 #include <stdint.h>
+/* For programs: nothing of this header wants it, so -ffreestanding leaves it out. */
+#if __STDC_HOSTED__
 #include <string.h>
+#endif
 
 #ifdef __cplusplus
 extern "C" {
@@ -515,20 +518,24 @@ struct niw_counts lagffi_queue_counts(struct niw_queue *handle);
 
 /* The functions to call: they refuse a null pointer, and else pass on. */
 
+#ifdef __cplusplus
+#define NIW_ZEROS {}
+#else
+#define NIW_ZEROS {0}
+#endif
+
 static inline uint32_t niw_null_status(void) {
     return NIW_NULL;
 }
 
 static inline struct niw_number niw_null_number(void) {
-    struct niw_number refused;
-    memset(&refused, 0, sizeof refused);
+    struct niw_number refused = NIW_ZEROS;
     refused.status = NIW_NULL;
     return refused;
 }
 
 static inline struct niw_truth niw_null_truth(void) {
-    struct niw_truth refused;
-    memset(&refused, 0, sizeof refused);
+    struct niw_truth refused = NIW_ZEROS;
     refused.status = NIW_NULL;
     return refused;
 }
@@ -537,9 +544,8 @@ static inline struct niw_truth niw_null_truth(void) {
  * port numbers rise. */
 static inline struct niw_made niw_new(struct niw_system *handle, const struct niw_config *config, const uint16_t *keys,
     size_t key_count, const struct niw_port *ports, size_t port_count) {
-    struct niw_made refused;
+    struct niw_made refused = NIW_ZEROS;
     if (handle && config && keys && ports) return lagffi_new(handle, config, keys, key_count, ports, port_count);
-    memset(&refused, 0, sizeof refused);
     refused.status = NIW_NULL;
     return refused;
 }
@@ -553,9 +559,8 @@ static inline uint32_t niw_free(struct niw_system *handle) {
  * is written only for NIW_RECEIVED_RESPOND, at its front. */
 static inline struct niw_received niw_receive(struct niw_system *handle, uint16_t port, const uint8_t *frame, size_t length,
     uint8_t *response, size_t room) {
-    struct niw_received refused;
+    struct niw_received refused = NIW_ZEROS;
     if (handle && frame && response) return lagffi_receive(handle, port, frame, length, response, room);
-    memset(&refused, 0, sizeof refused);
     refused.status = NIW_NULL;
     return refused;
 }
@@ -590,9 +595,8 @@ static inline uint32_t niw_restart(struct niw_system *handle) {
 /* The frame that is due on a port, if `is` is true: it is written at the front of `frame` then, which has NIW_FRAME octets or more. To
  * be called until `is` is false. */
 static inline struct niw_sent niw_transmit(struct niw_system *handle, uint16_t port, uint8_t *frame, size_t room) {
-    struct niw_sent refused;
+    struct niw_sent refused = NIW_ZEROS;
     if (handle && frame) return lagffi_transmit(handle, port, frame, room);
-    memset(&refused, 0, sizeof refused);
     refused.status = NIW_NULL;
     return refused;
 }
@@ -643,9 +647,8 @@ static inline uint32_t niw_adopt(struct niw_system *handle, uint16_t agg, uint16
 /* A marker that asks whether the peer of a port answers markers, to be sent now, if `is` is true: it is written at the front of `frame`
  * then, which has NIW_FRAME octets or more. `is` is false while the link is down, and where no identifier is left. */
 static inline struct niw_sent niw_probe(struct niw_system *handle, uint16_t port, uint8_t *frame, size_t room) {
-    struct niw_sent refused;
+    struct niw_sent refused = NIW_ZEROS;
     if (handle && frame) return lagffi_probe(handle, port, frame, room);
-    memset(&refused, 0, sizeof refused);
     refused.status = NIW_NULL;
     return refused;
 }
@@ -712,27 +715,24 @@ static inline struct niw_truth niw_is_due(struct niw_system *handle, uint16_t po
 
 /* The own parameters of a port. */
 static inline struct niw_actor niw_party(struct niw_system *handle, uint16_t port) {
-    struct niw_actor refused;
+    struct niw_actor refused = NIW_ZEROS;
     if (handle) return lagffi_party(handle, port);
-    memset(&refused, 0, sizeof refused);
     refused.status = NIW_NULL;
     return refused;
 }
 
 /* The recorded partner of a port. */
 static inline struct niw_info niw_partner(struct niw_system *handle, uint16_t port) {
-    struct niw_info refused;
+    struct niw_info refused = NIW_ZEROS;
     if (handle) return lagffi_partner(handle, port);
-    memset(&refused, 0, sizeof refused);
     refused.status = NIW_NULL;
     return refused;
 }
 
 /* The Link Aggregation Group of a port. */
 static inline struct niw_group_id niw_group(struct niw_system *handle, uint16_t port) {
-    struct niw_group_id refused;
+    struct niw_group_id refused = NIW_ZEROS;
     if (handle) return lagffi_group(handle, port);
-    memset(&refused, 0, sizeof refused);
     refused.status = NIW_NULL;
     return refused;
 }
@@ -811,9 +811,8 @@ static inline struct niw_number niw_distributing(struct niw_system *handle, uint
  * nothing between the two systems; every conversation is free. `place` of the answer has the port that is refused. */
 static inline struct niw_made niw_resume(struct niw_system *handle, const struct niw_config *config, const uint16_t *keys,
     size_t key_count, const struct niw_port *ports, size_t port_count, const struct niw_saved *saved, size_t saved_count) {
-    struct niw_made refused;
+    struct niw_made refused = NIW_ZEROS;
     if (handle && config && keys && ports && saved) return lagffi_resume(handle, config, keys, key_count, ports, port_count, saved, saved_count);
-    memset(&refused, 0, sizeof refused);
     refused.status = NIW_NULL;
     return refused;
 }
@@ -854,9 +853,8 @@ static inline struct niw_number niw_conversation(struct niw_system *handle, cons
 
 /* What a conversation of an aggregator is doing. */
 static inline struct niw_assignment niw_conversation_state(struct niw_system *handle, uint16_t agg, uint16_t conv) {
-    struct niw_assignment refused;
+    struct niw_assignment refused = NIW_ZEROS;
     if (handle) return lagffi_conversation_state(handle, agg, conv);
-    memset(&refused, 0, sizeof refused);
     refused.status = NIW_NULL;
     return refused;
 }
@@ -881,9 +879,8 @@ static inline struct niw_number niw_released(struct niw_system *handle, uint16_t
 
 /* The identifier of the next marker. */
 static inline struct niw_marker niw_next_marker(struct niw_system *handle) {
-    struct niw_marker refused;
+    struct niw_marker refused = NIW_ZEROS;
     if (handle) return lagffi_next_marker(handle);
-    memset(&refused, 0, sizeof refused);
     refused.status = NIW_NULL;
     return refused;
 }
@@ -892,9 +889,8 @@ static inline struct niw_marker niw_next_marker(struct niw_system *handle) {
  * sleep, and make the ticks up by niw_ticks before it hands over a frame or makes another call. `ever` is false if nothing happens
  * without another call. */
 static inline struct niw_wait niw_ticks_until_due(struct niw_system *handle) {
-    struct niw_wait refused;
+    struct niw_wait refused = NIW_ZEROS;
     if (handle) return lagffi_ticks_until_due(handle);
-    memset(&refused, 0, sizeof refused);
     refused.status = NIW_NULL;
     return refused;
 }
@@ -904,9 +900,8 @@ static inline struct niw_wait niw_ticks_until_due(struct niw_system *handle) {
 /* Reads the payload of a control frame, what follows its EtherType 0x8809, and writes its numbers into `pdu`. Octets after the first
  * NIW_PAYLOAD_LENGTH are not looked at. A payload that is refused leaves `pdu` as it was. */
 static inline struct niw_decoded niw_decode(const uint8_t *payload, size_t length, struct niw_pdu *pdu) {
-    struct niw_decoded refused;
+    struct niw_decoded refused = NIW_ZEROS;
     if (payload && pdu) return lagffi_decode(payload, length, pdu);
-    memset(&refused, 0, sizeof refused);
     refused.status = NIW_NULL;
     return refused;
 }
@@ -924,9 +919,8 @@ static inline uint32_t niw_encode(const struct niw_pdu *pdu, uint8_t *payload, s
  * fewer: a longer list is refused with NIW_NOT_ASSIGNED. `is` is false if there is no such move. */
 static inline struct niw_move niw_next_move(const uint16_t *ports, size_t port_count, const struct niw_carried *carried,
     size_t carried_count) {
-    struct niw_move refused;
+    struct niw_move refused = NIW_ZEROS;
     if (ports && carried) return lagffi_next_move(ports, port_count, carried, carried_count);
-    memset(&refused, 0, sizeof refused);
     refused.status = NIW_NULL;
     return refused;
 }
@@ -956,8 +950,7 @@ static inline uint32_t niw_count_sent(struct niw_counters *counters, const uint8
  * gives each. */
 
 static inline struct niw_queued niw_null_queued(void) {
-    struct niw_queued refused;
-    memset(&refused, 0, sizeof refused);
+    struct niw_queued refused = NIW_ZEROS;
     refused.status = NIW_NULL;
     return refused;
 }
@@ -1009,9 +1002,8 @@ static inline struct niw_number niw_queue_waiting(struct niw_queue *handle, uint
 
 /* How many frames wait, were dropped and were refused. */
 static inline struct niw_counts niw_queue_counts(struct niw_queue *handle) {
-    struct niw_counts refused;
+    struct niw_counts refused = NIW_ZEROS;
     if (handle) return lagffi_queue_counts(handle);
-    memset(&refused, 0, sizeof refused);
     refused.status = NIW_NULL;
     return refused;
 }
@@ -1112,15 +1104,17 @@ static inline const char *niw_state_name(unsigned bit) {
  * room for them. Answers how many octets they need. */
 static inline size_t niw_state_text(uint8_t state, char *text, size_t room) {
     size_t length = 0, needed = 0;
-    for (unsigned bit = 0; bit < 8; bit++)
-        if (state >> bit & 1) needed += strlen(niw_state_name(bit)) + 1;
+    for (unsigned bit = 0; bit < 8; bit++) {
+        if (!(state >> bit & 1)) continue;
+        for (const char *name = niw_state_name(bit); *name; name++) needed++;
+        needed++;
+    }
     if (needed == 0) needed = 1;
     if (!text || room < needed) return needed;
     for (unsigned bit = 0; bit < 8; bit++) {
         if (!(state >> bit & 1)) continue;
         if (length > 0) text[length++] = ' ';
-        memcpy(text + length, niw_state_name(bit), strlen(niw_state_name(bit)));
-        length += strlen(niw_state_name(bit));
+        for (const char *name = niw_state_name(bit); *name; name++) text[length++] = *name;
     }
     text[length] = 0;
     return needed;

@@ -125,8 +125,7 @@ def wrapper(it: Export, nulls: list[str]) -> str:
     null = "niw_null_status" if it.answer == "uint32_t" else f"niw_null_{it.answer.removeprefix('struct niw_')}"
     few = f"    return {f'({asked})' if len(pointers) > 1 else asked} ? {call} : {null}();"
     if null not in nulls:
-        rest = [f"    {it.answer} refused;", f"    if ({asked}) return {call};", "    memset(&refused, 0, sizeof refused);",
-                "    refused.status = NIW_NULL;", "    return refused;"]
+        rest = [f"    {it.answer} refused = NIW_ZEROS;", f"    if ({asked}) return {call};", "    refused.status = NIW_NULL;", "    return refused;"]
     else:
         rest = [few] if len(pointers) < 3 else [f"    if ({asked}) return {call};", f"    return {null}();"]
     said = "\n * ".join(it.said)

@@ -11,7 +11,7 @@ import shutil
 import library
 from checking import check, command
 from linking import EXAMPLES, RUN_BY, STRICT, build, ran
-from repository import MAINTAIN, TOP
+from repository import COMPILER, MAINTAIN, TOP
 
 EXAMPLE = os.path.join(EXAMPLES, "two_ends.c")
 CARGO = os.path.join(TOP, "examples", "rust", "Cargo.toml")
@@ -37,8 +37,9 @@ def check_programs(folder: str, libraries: list[str]) -> None:
 
 
 def check_no_libc(folder: str, libraries: list[str]) -> None:
-    """The library works without a C library, over the functions that docs/ABI.md lists."""
-    words = [*STRICT, "-ffreestanding", "-nostdlib", "-static"]
+    """The library works without a C library, over the functions that docs/ABI.md lists, and lag.h without its headers: with the compiler's alone."""
+    headers = command(*COMPILER, "-print-file-name=include").stdout.strip()
+    words = [*STRICT, "-ffreestanding", "-nostdinc", "-isystem", headers, "-nostdlib", "-static"]
     told = ran(build(os.path.join(folder, "no_libc"), [os.path.join(EXAMPLES, "no_libc.c")], libraries, *words))
     check(told.returncode == 0, "examples/c/no_libc.c: two ends come up without a C library", f"it ended with {told.returncode}")
 

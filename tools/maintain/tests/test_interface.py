@@ -89,9 +89,8 @@ static inline uint32_t niw_null_status(void) {
  * and no more. */
 static inline struct niw_end niw_tell(struct niw_system *handle, const uint16_t *keys, size_t key_count, uint8_t *response,
     size_t room, struct niw_end *end, uint16_t port) {
-    struct niw_end refused;
+    struct niw_end refused = NIW_ZEROS;
     if (handle && keys && response && end) return lagffi_tell(handle, keys, key_count, response, room, end, port);
-    memset(&refused, 0, sizeof refused);
     refused.status = NIW_NULL;
     return refused;
 }
