@@ -78,6 +78,8 @@ bool give_host(struct lagd *lagd, const struct iovec *parts, unsigned count, siz
 struct niw_number conversation_of(struct lagd *lagd, const uint8_t *frame, size_t length);
 
 /* packets.c: a packet is a frame, and what the kernel tells before it */
+#define USUAL_TAGS 2 /* that of a customer, and that of a provider (IEEE 802.1Q) */
+#define ALL_TAGS SIZE_MAX
 size_t head_octets(void);
 size_t packet_room(void);
 uint8_t *make_rooms(void);
@@ -85,7 +87,7 @@ uint8_t *room_at(uint8_t *rooms, unsigned number);
 bool passes_segments(struct lagd *lagd);
 bool has_segments(const uint8_t *packet);
 uint32_t count_segments(const uint8_t *packet, size_t length);
-size_t tag_octets(const uint8_t *frame, size_t length);
+size_t tag_octets(const uint8_t *frame, size_t length, size_t most);
 bool has_right_length(const uint8_t *packet, size_t length, uint32_t mtu);
 uint8_t *put_tag(uint8_t *packet, uint16_t type, uint16_t tag);
 

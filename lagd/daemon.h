@@ -9,6 +9,8 @@
 
 /* How many functions are called at the end of the program at most. */
 #define MOST_ENDINGS 8
+/* For how many nanoseconds too long the kernel may let the daemon sleep: hardly longer than frames are to gather (main.c). */
+#define TIMER_SLACK 1
 
 /* The files that keep something for a daemon, and the fields by which it is found. */
 #define EACH_FILE(DO) \

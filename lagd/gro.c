@@ -38,7 +38,7 @@ static size_t ip_octets(unsigned type, const uint8_t *ip, size_t length) {
 
 /* Reads where a packet has its headers, if it may be one of several: of TCP, with a payload, and no flag that asks for something. */
 static bool read_tcp(const uint8_t *packet, size_t length, struct tcp_packet *tcp) {
-    size_t head = head_octets(), network = head + ETH_HLEN + tag_octets(packet + head, length - head), octets;
+    size_t head = head_octets(), network = head + ETH_HLEN + tag_octets(packet + head, length - head, USUAL_TAGS), octets;
     const uint8_t *flags;
     if (has_segments(packet) || length < network) return false;
     octets = ip_octets(read16(packet + network - 2), packet + network, length - network);
@@ -59,8 +59,7 @@ static uint64_t sum_beside(const uint8_t *packet, const struct tcp_packet *tcp) 
 
 /* Whether a packet is as it was sent, as the card says, or its checksum; or whether that is still to be made. */
 static bool is_as_sent(const uint8_t *packet, const struct tcp_packet *tcp) {
-    struct virtio_net_hdr told;
-    memcpy(&told, packet, sizeof told);
+    struct virtio_net_hdr told = head_of(packet);
     if (told.flags & VIRTIO_NET_HDR_F_NEEDS_CSUM) return told.csum_start + head_octets() == tcp->transport && told.csum_offset == TCP_SUM;
     if (told.flags & VIRTIO_NET_HDR_F_DATA_VALID) return true;
     return fold(add_octets(sum_beside(packet, tcp), packet + tcp->transport, tcp->length - tcp->transport)) == UINT16_MAX;

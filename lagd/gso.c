@@ -8,13 +8,6 @@ static bool is_of(unsigned kind, unsigned version) {
     return (kind == VIRTIO_NET_HDR_GSO_TCPV4 && version == 4) || (kind == VIRTIO_NET_HDR_GSO_TCPV6 && version == 6);
 }
 
-/* Where the header of IP is, behind all tags that the frame of a packet has. */
-static size_t network_of(const uint8_t *packet, size_t length) {
-    size_t at = head_octets() + ETH_HLEN;
-    while (at + TAG_OCTETS <= length && (read16(packet + at - 2) == ETH_P_8021Q || read16(packet + at - 2) == ETH_P_8021AD)) at += TAG_OCTETS;
-    return at;
-}
-
 /* Reads how a packet of several segments is cut; answers whether it can be. */
 bool read_cut(const uint8_t *packet, size_t length, struct cut *cut) {
     size_t head = head_octets(), behind_ip;
@@ -22,8 +15,9 @@ bool read_cut(const uint8_t *packet, size_t length, struct cut *cut) {
     struct virtio_net_hdr told;
     unsigned version;
     if (length < head + ETH_HLEN) return false;
-    memcpy(&told, packet, sizeof told);
-    *cut = (struct cut){packet, {.network = network_of(packet, length), .transport = head + told.csum_start, .length = length}, told.gso_size, 0};
+    told = head_of(packet);
+    *cut = (struct cut){packet, {.transport = head + told.csum_start, .length = length}, told.gso_size, 0};
+    whole->network = head + ETH_HLEN + tag_octets(packet + head, length - head, ALL_TAGS);
     if (!(told.flags & VIRTIO_NET_HDR_F_NEEDS_CSUM) || told.csum_offset != TCP_SUM || cut->size == 0) return false;
     if (whole->network + IPV4_OCTETS > whole->transport || whole->transport + TCP_OCTETS > length) return false;
     version = packet[whole->network] >> 4;
@@ -67,11 +61,8 @@ size_t put_segment(const struct cut *cut, uint32_t number, uint8_t *packet) {
 
 /* Puts the checksum into the frame of a packet of one segment, if the host left it to a card. */
 void finish_sum(uint8_t *packet, size_t length) {
-    struct virtio_net_hdr told;
-    size_t start, field;
-    memcpy(&told, packet, sizeof told);
-    start = head_octets() + told.csum_start;
-    field = told.csum_offset;
+    struct virtio_net_hdr told = head_of(packet);
+    size_t start = head_octets() + told.csum_start, field = told.csum_offset;
     if (!(told.flags & VIRTIO_NET_HDR_F_NEEDS_CSUM) || start + field + sizeof(uint16_t) > length) return;
     put_sum(packet + start, length - start, field);
     memset(packet, 0, head_octets());

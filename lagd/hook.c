@@ -5,6 +5,7 @@
 #include <spawn.h>
 #include <stdio.h>
 #include <string.h>
+#include <sys/prctl.h>
 #include <unistd.h>
 
 #include "daemon.h"
@@ -27,14 +28,27 @@ static void set_files(posix_spawn_file_actions_t *files) {
     posix_spawn_file_actions_adddup2(files, STDERR_FILENO, STDOUT_FILENO);
 }
 
-/* Runs the hook, with the state of the bundle in its environment. */
-void run_hook(struct lagd *lagd, const char *path, enum bundle_state before) {
-    char name[NAME_ROOM + 16], state[32], previous[32], links_text[32], carrying[32], aggregator[32];
+/* Starts a program, which has the timer slack that the daemon began with: it gets what the daemon has just then. Answers 0, or errno. */
+static int start(const char *path, char *const *environment) {
     char *words[] = {(char *)(uintptr_t)path, NULL};
-    char *environment[] = {"PATH=/usr/sbin:/usr/bin:/sbin:/bin", name, state, previous, links_text, carrying, aggregator, NULL};
     posix_spawnattr_t attributes;
     posix_spawn_file_actions_t files;
     pid_t child;
+    int fault;
+    set_attributes(&attributes);
+    set_files(&files);
+    (void)prctl(PR_SET_TIMERSLACK, 0); /* the one that it began with */
+    fault = posix_spawn(&child, path, &files, &attributes, words, environment);
+    (void)prctl(PR_SET_TIMERSLACK, TIMER_SLACK);
+    posix_spawn_file_actions_destroy(&files);
+    posix_spawnattr_destroy(&attributes);
+    return fault;
+}
+
+/* Runs the hook, with the state of the bundle in its environment. */
+void run_hook(struct lagd *lagd, const char *path, enum bundle_state before) {
+    char name[NAME_ROOM + 16], state[32], previous[32], links_text[32], carrying[32], aggregator[32];
+    char *environment[] = {"PATH=/usr/sbin:/usr/bin:/sbin:/bin", name, state, previous, links_text, carrying, aggregator, NULL};
     int fault;
     snprintf(name, sizeof name, "LAGD_BUNDLE=%s", lagd->settings.name);
     snprintf(state, sizeof state, "LAGD_STATE=%s", bundle_state_text(lagd->bundle.state));
@@ -42,10 +56,6 @@ void run_hook(struct lagd *lagd, const char *path, enum bundle_state before) {
     snprintf(links_text, sizeof links_text, "LAGD_LINKS=%u", lagd->link_count);
     snprintf(carrying, sizeof carrying, "LAGD_CARRYING=%u", lagd->bundle.carrying);
     snprintf(aggregator, sizeof aggregator, "LAGD_AGGREGATOR=%u", lagd->bundle.aggregator);
-    set_attributes(&attributes);
-    set_files(&files);
-    fault = posix_spawn(&child, path, &files, &attributes, words, environment);
+    fault = start(path, environment);
     if (fault) (void)say(lagd, LOG_WARNING | ABOUT_HOOK, "hook %s: %s", path, strerror(fault));
-    posix_spawn_file_actions_destroy(&files);
-    posix_spawnattr_destroy(&attributes);
 }

@@ -191,7 +191,7 @@ static int run_daemon(struct lagd *lagd, const struct options *options) {
     int signals, clock;
     unsigned resumed;
     lagd->settings = options->settings;
-    (void)prctl(PR_SET_TIMERSLACK, 1); /* wait_for sleeps hardly longer than GATHERS */
+    (void)prctl(PR_SET_TIMERSLACK, TIMER_SLACK);
     signals = open_signals(lagd);
     lagd->epoll_file = epoll_create1(EPOLL_CLOEXEC);
     if (lagd->epoll_file < 0) stop(REFUSED, "epoll", strerror(errno));

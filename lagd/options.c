@@ -23,7 +23,7 @@ static const char HELP_BEGINS[] =
 static const char HELP_ENDS[] =
     "  -h, --help      -V, --version\n"
     "\n"
-    "Words of an interface stand over the options: key=N, priority=N, short, long, active, passive, individual.\n"
+    "Words of an interface stand over the options: %s.\n"
     "Status: 0; 1: the kernel or another lagd is in the way, or none answers; 2: a wrong word or file.\n";
 
 /* An option: a key of the bundle, or one that says what the program is to do. */
@@ -47,7 +47,23 @@ static const struct option_text BEHIND_KEYS[] = {
     {'V', "version", NULL, NULL},
 };
 
+/* The words of an interface: the key of a port that each gives, and its value; NULL: that is the number behind `=`. */
+static const struct {
+    const char *word, *key, *value;
+} PORT_WORDS[] = {
+    {"key=N", "key", NULL},
+    {"priority=N", "priority", NULL},
+    {"short", "timeout", "short"},
+    {"long", "timeout", "long"},
+    {"active", "activity", "active"},
+    {"passive", "activity", "passive"},
+    {"individual", "individual", "yes"},
+};
+
+enum { PORT_WORD_COUNT = sizeof PORT_WORDS / sizeof *PORT_WORDS };
+
 enum { OPTION_ROOM = MOST_BUNDLE_KEYS + sizeof BEFORE_KEYS / sizeof *BEFORE_KEYS + sizeof BEHIND_KEYS / sizeof *BEHIND_KEYS };
+
 /* What this file keeps for a daemon. */
 struct options_private {
     struct option_text rows[OPTION_ROOM];
@@ -85,12 +101,16 @@ static void print_row(const struct option_text *row) {
     printf("%s\n", text);
 }
 
+static const char *port_word(size_t index) {
+    return PORT_WORDS[index].word;
+}
+
 static void print_help(struct lagd *lagd) {
     struct options_private *own = lagd->options;
     fputs(HELP_BEGINS, stdout);
     for (size_t i = 0; i < own->row_count; i++)
         if (own->rows[i].help) print_row(&own->rows[i]);
-    fputs(HELP_ENDS, stdout);
+    printf(HELP_ENDS, list_words(lagd, port_word, PORT_WORD_COUNT, ", ", ""));
 }
 
 /* A command line is one line. */
@@ -144,14 +164,15 @@ static void read_option(struct lagd *lagd, int option, const char *last) {
     }
 }
 
-/* A word of an interface: a key of its own, or one of the words that stand for a key and its value. */
+/* A word of an interface; answers NULL, or what was expected. */
 static const char *read_port_word(struct lagd *lagd, const char *word, struct port_settings *port) {
-    if (strncmp(word, "key=", 4) == 0) return set_port(lagd, port, "key", word + 4);
-    if (strncmp(word, "priority=", 9) == 0) return set_port(lagd, port, "priority", word + 9);
-    if (strcmp(word, "short") == 0 || strcmp(word, "long") == 0) return set_port(lagd, port, "timeout", word);
-    if (strcmp(word, "active") == 0 || strcmp(word, "passive") == 0) return set_port(lagd, port, "activity", word);
-    if (strcmp(word, "individual") == 0) return set_port(lagd, port, "individual", "yes");
-    return "key=N, priority=N, short, long, active, passive or individual";
+    for (size_t i = 0; i < PORT_WORD_COUNT; i++) {
+        const char *value = PORT_WORDS[i].value;
+        size_t begin = strlen(PORT_WORDS[i].word) - 1; /* up to N */
+        if (value ? strcmp(word, PORT_WORDS[i].word) == 0 : strncmp(word, PORT_WORDS[i].word, begin) == 0)
+            return set_port(lagd, port, PORT_WORDS[i].key, value ? value : word + begin);
+    }
+    return list_words(lagd, port_word, PORT_WORD_COUNT, " or ", "");
 }
 
 /* INTERFACE[:WORD,..], for the next port. */

@@ -7,7 +7,7 @@
 #include "segments.h"
 
 /* The octets of a packet of several segments, without its head: those of an IP packet, and of its header of Ethernet with two tags. */
-#define LONGEST_SEGMENTED (65536 + ETH_HLEN + 2 * TAG_OCTETS)
+#define LONGEST_SEGMENTED (65536 + ETH_HLEN + USUAL_TAGS * TAG_OCTETS)
 /* The octets of most packets, and more. */
 #define USUAL_OCTETS 2048
 /* The octets of a header of UDP. */
@@ -48,13 +48,6 @@ uint8_t *room_at(uint8_t *rooms, unsigned number) {
     return rooms + number * room_octets() + TAG_OCTETS;
 }
 
-/* What the kernel tells of a packet. */
-static struct virtio_net_hdr head_of(const uint8_t *packet) {
-    struct virtio_net_hdr told;
-    memcpy(&told, packet, sizeof told);
-    return told;
-}
-
 /* Whether a frame has several segments, into which it is cut later. */
 bool has_segments(const uint8_t *packet) {
     return head_of(packet).gso_type != VIRTIO_NET_HDR_GSO_NONE;
@@ -79,10 +72,10 @@ uint32_t count_segments(const uint8_t *packet, size_t length) {
     return (uint32_t)((length - before + told.gso_size - 1) / told.gso_size);
 }
 
-/* The octets of the tags of a frame, of two at most. */
-size_t tag_octets(const uint8_t *frame, size_t length) {
+/* The octets of the tags of a frame, of so many tags at most. */
+size_t tag_octets(const uint8_t *frame, size_t length, size_t most) {
     size_t octets = 0;
-    while (octets < 2 * TAG_OCTETS && ETH_HLEN + octets + TAG_OCTETS <= length) {
+    while (octets / TAG_OCTETS < most && ETH_HLEN + octets + TAG_OCTETS <= length) {
         unsigned type = (unsigned)frame[12 + octets] << 8 | frame[13 + octets];
         if (type != ETH_P_8021Q && type != ETH_P_8021AD) break;
         octets += TAG_OCTETS;
@@ -96,7 +89,7 @@ bool has_right_length(const uint8_t *packet, size_t length, uint32_t mtu) {
     size_t octets;
     if (length < head + ETH_HLEN) return false;
     octets = has_segments(packet) ? octets_before(packet, length) + head_of(packet).gso_size : length - head;
-    return octets <= ETH_HLEN + tag_octets(packet + head, length - head) + (size_t)mtu;
+    return octets <= ETH_HLEN + tag_octets(packet + head, length - head, USUAL_TAGS) + (size_t)mtu;
 }
 
 /* Puts a tag back into the frame of a packet, which has TAG_OCTETS before it; answers where the packet begins then. */

@@ -33,6 +33,13 @@ static inline void write32(uint8_t *at, uint32_t number) {
     write16(at + 2, number & UINT16_MAX);
 }
 
+/* What the kernel tells of a packet. */
+static inline struct virtio_net_hdr head_of(const uint8_t *packet) {
+    struct virtio_net_hdr told;
+    memcpy(&told, packet, sizeof told);
+    return told;
+}
+
 static inline bool has_ipv6(const uint8_t *packet, const struct tcp_packet *tcp) {
     return packet[tcp->network] >> 4 == 6;
 }

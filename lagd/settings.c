@@ -256,6 +256,11 @@ static const struct {
 
 enum { PORT_KEY_COUNT = sizeof PORT_KEYS / sizeof *PORT_KEYS };
 
+/* What a port has for one of its keys. */
+static int *value_at(struct port_settings *port, size_t index) {
+    return (int *)(void *)((char *)port + PORT_KEYS[index].at);
+}
+
 static const char *name_of_bundle_key(size_t index) {
     return BUNDLE_KEYS[index].name;
 }
@@ -266,20 +271,20 @@ static const char *name_of_port_key(size_t index) {
 
 /* What this file keeps for a daemon. */
 struct settings_private {
-    char text[512]; /* of expected_keys */
+    char text[512]; /* of list_words */
 };
 
 struct settings_private *make_settings_private(void) {
     return make_room(sizeof(struct settings_private));
 }
 
-/* What is expected in the place of a key that is none: the names of all. */
-static const char *expected_keys(struct lagd *lagd, const char *(*name)(size_t index), size_t count, const char *end) {
+/* Words in a row, with `last` before the last one and `end` behind it. They stand until the next call. */
+const char *list_words(struct lagd *lagd, const char *(*word)(size_t index), size_t count, const char *last, const char *end) {
     struct settings_private *own = lagd->settings_private;
     size_t length = 0;
     for (size_t i = 0; i < count && length < sizeof own->text; i++) {
-        const char *joint = i == 0 ? "" : i + 1 < count ? ", " : " or ";
-        length += (size_t)snprintf(own->text + length, sizeof own->text - length, "%s%s", joint, name(i));
+        const char *joint = i == 0 ? "" : i + 1 < count ? ", " : last;
+        length += (size_t)snprintf(own->text + length, sizeof own->text - length, "%s%s", joint, word(i));
     }
     if (length < sizeof own->text) snprintf(own->text + length, sizeof own->text - length, "%s", end);
     return own->text;
@@ -294,7 +299,7 @@ const char *set_bundle(struct lagd *lagd, struct settings *settings, const char 
         settings->lines[i] = line;
         return BUNDLE_KEYS[i].take(text, settings) ? NULL : BUNDLE_KEYS[i].expected;
     }
-    return expected_keys(lagd, name_of_bundle_key, BUNDLE_KEY_COUNT, " as a key of [Bundle]");
+    return list_words(lagd, name_of_bundle_key, BUNDLE_KEY_COUNT, " or ", " as a key of [Bundle]");
 }
 
 /* The line that gives a key of the bundle, or 0. */
@@ -311,8 +316,8 @@ const char *set_port(struct lagd *lagd, struct port_settings *port, const char *
     bool is_first;
     int *value;
     while (i < PORT_KEY_COUNT && strcmp(name, PORT_KEYS[i].name) != 0) i++;
-    if (i == PORT_KEY_COUNT) return expected_keys(lagd, name_of_port_key, PORT_KEY_COUNT, " as a key of [Port]");
-    value = (int *)(void *)((char *)port + PORT_KEYS[i].at);
+    if (i == PORT_KEY_COUNT) return list_words(lagd, name_of_port_key, PORT_KEY_COUNT, " or ", " as a key of [Port]");
+    value = value_at(port, i);
     if (*value != AS_BUNDLE) return EACH_KEY_ONCE;
     if (!PORT_KEYS[i].first) {
         if (!read_number(text, 0, UINT16_MAX, &number)) return PORT_KEYS[i].expected;
@@ -332,11 +337,9 @@ const char *add_port(struct settings *settings, const char *name, size_t length)
         if (strlen(settings->ports[i].name) == length && memcmp(settings->ports[i].name, name, length) == 0)
             return "each interface once";
     if (settings->port_count == NIW_MOST_PORTS) return "at most 64 interfaces";
-    *port = (struct port_settings){
-        .key = AS_BUNDLE, .priority = AS_BUNDLE, .active = AS_BUNDLE, .short_timeout = AS_BUNDLE, .individual = AS_BUNDLE,
-        .hold = AS_BUNDLE,
-    };
+    memset(port, 0, sizeof *port);
     memcpy(port->name, name, length);
+    for (size_t i = 0; i < PORT_KEY_COUNT; i++) *value_at(port, i) = AS_BUNDLE;
     settings->port_count++;
     return NULL;
 }

@@ -33,8 +33,12 @@ HARDENING = ["-fstack-protector-strong", "-D_FORTIFY_SOURCE=2", "-Wl,-z,relro,-z
 
 
 def printed(*words: str, given: str | None = None, cwd: str | None = None, env: dict[str, str] | None = None) -> str:
-    """What a command prints; stops the tool where it fails."""
-    ended = subprocess.run(words, input=given or "", capture_output=True, text=True, cwd=cwd, env=env)
+    """What a command prints; stops the tool where it fails, or is not here."""
+    try:
+        ended = subprocess.run(words, input=given or "", capture_output=True, text=True, cwd=cwd, env=env)
+    except FileNotFoundError:
+        want(words[0])
+        raise
     if ended.returncode:
         raise Missing(f"{' '.join(words)[:300]} failed: {(ended.stderr or ended.stdout).strip()[-400:]}")
     return ended.stdout

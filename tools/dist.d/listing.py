@@ -71,9 +71,9 @@ def relation(one: str, kind: str, other: str) -> dict[str, str]:
     return {"spdxElementId": identifier(one), "relationshipType": kind, "relatedSpdxElement": identifier(other)}
 
 
-def materials(parts: Parts, folder: str) -> str:
-    """What is in the archive: its files, and the libraries and the toolchain that they were made of."""
-    name, tool = f"niwhopera-{parts.processor.machine}", printed(RT, "version").split("\n")[0].strip()
+def materials(parts: Parts, folder: str, tool: str) -> str:
+    """What is in the archive: its files, and the libraries and the toolchain, of this version, that they were made of."""
+    name = f"niwhopera-{parts.processor.machine}"
     inside, others = of_toolchain(), loaded(parts, folder)
     files = [
         {"SPDXID": identifier(f"file-{part.path}"), "fileName": f"./{part.path}", "checksums": checksums(part.octets)}
@@ -105,8 +105,9 @@ def materials(parts: Parts, folder: str) -> str:
 def listed(parts: Parts, out: str, folder: str, files: list[str]) -> list[str]:
     """Writes both lists beside what was made; answers their files."""
     inside, checked = (os.path.join(out, f"niwhopera-{version()}-{parts.processor.machine}.{it}") for it in ("spdx.json", "sha256"))
+    tool = printed(RT, "version").split("\n")[0].strip()
     with open(inside, "w", encoding="utf-8") as it:
-        it.write(materials(parts, folder))
+        it.write(materials(parts, folder, tool))
     with open(checked, "w", encoding="utf-8") as it:
         it.write(sums([*files, inside]))
     return [inside, checked]

@@ -27,7 +27,7 @@ def found(pages: Read, path: str, pattern: str) -> list[str]:
     """The groups of a pattern in a file, where it finds the same ones wherever it stands."""
     every = {it.groups() for it in re.finditer(pattern, pages.page(path), re.M)}
     if len(every) != 1:
-        raise Missing(f"{path} has {len(every)} times, and not once: {pattern}")
+        raise Missing(f"{path} is to have one text that fits {pattern}, and has {len(every)}")
     return list(every.pop())
 
 
@@ -80,8 +80,10 @@ def coming_up(pages: Read) -> list[str]:
     """The time until both ends distribute, one or both active; and with both until the first LACPDU, and from there on."""
     first, other = (pages.page(f"examples/{it}.txt") for it in ("two-ports-come-up", "one-end-is-passive"))
     until, sent = ticks(first, "1 "), ticks(first, "1 ", r"-> lacpdu")
-    if ticks(other, "1 ") != until or not sent:
-        raise Missing(f"{TROUBLE} has one time for two examples, in one of which it is another")
+    if not sent:
+        raise Missing("examples/two-ports-come-up.txt has no LACPDU of system 1, whose time stands in " + TROUBLE)
+    if ticks(other, "1 ") != until:
+        raise Missing(f"{TROUBLE} has one time for two-ports-come-up and one-end-is-passive, which take {until} and {ticks(other, '1 ')} ticks")
     return [seconds(until), seconds(sent), seconds(until - sent)]
 
 
@@ -104,8 +106,10 @@ def lines_of_a_move(pages: Read) -> list[str]:
     sent, moves = lines(r"offer 1 1 .* -> port 1 serial \d+ sent"), lines(r"move 1 1 48 2 -> moved")
     refused, marker = lines("offer 1 1 .* -> refused 5 held"), lines(r"emit 1 1 -> marker \d+ sent")
     freed, later = lines(r"deliver 1 1 -> released \d+"), lines(r"offer 1 1 .* -> port 2 serial \d+ sent")
-    if [len(it) for it in (moves, marker, freed, later)] != 4 * [1] or sent != list(range(sent[0], sent[-1] + 1)) or not refused:
-        raise Missing(f"{COMMAND} tells of another report than that of a-conversation-moves-behind-a-marker")
+    in_a_row = bool(sent) and sent == list(range(sent[0], sent[-1] + 1))
+    if [len(it) for it in (moves, marker, freed, later)] != 4 * [1] or not in_a_row or not refused:
+        told = f"frames sent in the lines {sent}, moves {moves}, held {refused}, markers {marker}, responses {freed}, later frames {later}"
+        raise Missing(f"{COMMAND} tells of one move, and a-conversation-moves-behind-a-marker.txt has {told}")
     return [str(sent[0]), str(sent[-1]), word(len(sent)), *(str(it[0]) for it in (moves, refused, marker, freed, later))]
 
 
@@ -150,7 +154,7 @@ def line_of(path: str, text: str) -> Callable[[Read], list[str]]:
     def figures(pages: Read) -> list[str]:
         numbers = [number for number, line in enumerate(pages.page(path).splitlines(), 1) if line.lstrip().startswith(text)]
         if len(numbers) != 1:
-            raise Missing(f"{path} has {len(numbers)} lines, and not one, that begin with {text}")
+            raise Missing(f"{path} has {len(numbers)} lines that begin with {text}, and is to have one")
         return [str(numbers[0])]
 
     return figures
@@ -227,7 +231,7 @@ def rules_found(page: str, stored: Callable[[str], Sequence[int]]) -> list[str]:
     wrong = []
     for name, told in re.findall(r"^\|[^|]*?([\w-]+)\.pcap(?:ng)?\b[^|]*\|[^|]*\|rules? ([^|;]*)[^|]*\|$", page, re.M):
         said, wanted = sorted(map(int, re.findall(r"\d+", told))), sorted(set(stored(name)))
-        wrong += [f"{EXAMPLES}: {name} is said to have the rules {said}, and not {wanted}"] if said != wanted else []
+        wrong += [f"{EXAMPLES}: of {name} it has the rules {said}, and what is stored of the capture {wanted}"] if said != wanted else []
     return wrong
 
 

@@ -21,49 +21,48 @@ from streams import ADDRESSES, give_addresses
 from tap_parts import check_deleted
 
 ADDRESSES6 = ("2001:db8::1", "2001:db8::2")
-PORT, PIECE = 7000, 1 << 16
+PORT, OCTETS_AT_ONCE = 7000, 1 << 16
 # How many octets a stream has, and in how many seconds it has to come, whatever happens meanwhile.
-OCTETS, COMES = 40_000_000, 90
-# Frames of a stream that are looked at on a cable.
-LOOKED = 2000
+OCTETS, COMES_WITHIN = 40_000_000, 90
+# The most frames of a stream that are looked at on a cable.
+MOST_FRAMES = 2000
 # Packets that a program has cut into segments of one octet, and how many each has.
 SMALL_PACKETS, SMALL_SEGMENTS = 4, 65000
 # Of linux/if_packet.h.
 SOL_PACKET, PACKET_VNET_HDR = 263, 15
 
 
-def sum_of(octets: bytes) -> int:
-    """The sum of the Internet checksum."""
+def internet_sum(octets: bytes) -> int:
+    """The sum of which the checksum of IP and TCP is the complement; of octets with a right one 0xFFFF."""
     octets += bytes(len(octets) % 2)
     total = sum(int.from_bytes(octets[at:at + 2], "big") for at in range(0, len(octets), 2))
     return total % 0xFFFF or 0xFFFF
 
 
-def is_whole(frame: bytes) -> bool:
+def is_complete(frame: bytes) -> bool:
     """Whether a frame of TCP has the lengths and the checksums that it has by itself."""
-    ip_header, six = frame[14:], frame[12:14] == b"\x86\xdd"
-    behind = 40 if six else 20
-    length = int.from_bytes(ip_header[4:6], "big") + 40 if six else int.from_bytes(ip_header[2:4], "big")
-    tcp = ip_header[behind:length]
-    beside = ip_header[8:40] if six else ip_header[12:20]
-    holds = sum_of(beside + len(tcp).to_bytes(4, "big") + (6).to_bytes(4, "big") + tcp) == 0xFFFF
-    return len(frame) <= 1514 and len(ip_header) >= length and holds and (six or sum_of(ip_header[:20]) == 0xFFFF)
+    packet, six = frame[14:], frame[12:14] == b"\x86\xdd"
+    header = packet[:40] if six else packet[:20]
+    length = int.from_bytes(header[4:6], "big") + 40 if six else int.from_bytes(header[2:4], "big")
+    tcp, addresses = packet[len(header):length], header[8:] if six else header[12:]
+    sum_holds = internet_sum(addresses + len(tcp).to_bytes(4, "big") + (6).to_bytes(4, "big") + tcp) == 0xFFFF
+    return len(frame) <= 1514 and len(packet) >= length and sum_holds and (six or internet_sum(header) == 0xFFFF)
 
 
 @contextlib.contextmanager
-def watched(whole: list[bool], space: str, name: str) -> Iterator[None]:
-    """Looks at the frames of TCP with a payload that an interface receives."""
+def checking_frames(complete: list[bool], space: str, name: str) -> Iterator[None]:
+    """Tells of each frame of TCP with a payload that an interface receives whether it is complete."""
     ended = threading.Event()
     wire = packet_socket(space, name, 3)
     wire.settimeout(0.2)
 
     def look() -> None:
-        while not ended.is_set() and len(whole) < LOOKED:
+        while not ended.is_set() and len(complete) < MOST_FRAMES:
             with contextlib.suppress(TimeoutError):
                 frame = wire.recv(70000)
                 protocol = frame[20] if frame[12:14] == b"\x86\xdd" else frame[23] if frame[12:14] == b"\x08\x00" else 0
                 if protocol == 6 and len(frame) > 200:
-                    whole.append(is_whole(frame))
+                    complete.append(is_complete(frame))
 
     thread = threading.Thread(target=look)
     thread.start()
@@ -75,49 +74,49 @@ def watched(whole: list[bool], space: str, name: str) -> Iterator[None]:
         wire.close()
 
 
-def sent(host: str, events: list[Event], octets: int = OCTETS) -> bool:
+def stream_comes(address: str, events: list[Event], octets: int = OCTETS) -> bool:
     """Whether a stream to an address of the other end comes as it was sent, while events happen."""
-    family = socket.AF_INET6 if ":" in host else socket.AF_INET
+    family = socket.AF_INET6 if ":" in address else socket.AF_INET
     with within_space(THEIRS):
-        server = socket.create_server((host, PORT), family=family)
+        server = socket.create_server((address, PORT), family=family)
     with within_space(OURS):
         client = socket.socket(family)
-    told: list[str] = []
+    digests: list[str] = []
 
     def receive() -> None:
-        got = hashlib.sha256()
+        received = hashlib.sha256()
         with server, contextlib.suppress(OSError):
-            server.settimeout(COMES)
-            taken = server.accept()[0]
-            taken.settimeout(COMES)
-            with taken:
-                while piece := taken.recv(1 << 20):
-                    got.update(piece)
-        told.append(got.hexdigest())
+            server.settimeout(COMES_WITHIN)
+            connection = server.accept()[0]
+            connection.settimeout(COMES_WITHIN)
+            with connection:
+                while part := connection.recv(1 << 20):
+                    received.update(part)
+        digests.append(received.hexdigest())
 
-    def happen() -> None:
+    def have_events() -> None:
         begin = time.monotonic()
         for at, event in events:
             time.sleep(max(0.0, begin + at - time.monotonic()))
             event()
 
-    threads = [threading.Thread(target=receive), threading.Thread(target=happen)]
-    wanted = hashlib.sha256()
+    threads = [threading.Thread(target=receive), threading.Thread(target=have_events)]
+    sent = hashlib.sha256()
     for thread in threads:
         thread.start()
     with client, contextlib.suppress(OSError):
-        client.settimeout(COMES)
-        client.connect((host, PORT))
-        for _ in range(octets // PIECE):
-            piece = os.urandom(PIECE)
-            wanted.update(piece)
-            client.sendall(piece)
+        client.settimeout(COMES_WITHIN)
+        client.connect((address, PORT))
+        for _ in range(octets // OCTETS_AT_ONCE):
+            part = os.urandom(OCTETS_AT_ONCE)
+            sent.update(part)
+            client.sendall(part)
     for thread in threads:
-        thread.join(COMES)
-    return told == [wanted.hexdigest()]
+        thread.join(COMES_WITHIN)
+    return digests == [sent.hexdigest()]
 
 
-def give_both(ends: tuple[str, str] = (DEVICE, DEVICE)) -> None:
+def give_both_addresses(ends: tuple[str, str] = (DEVICE, DEVICE)) -> None:
     """Both ends get addresses of IPv4 and IPv6."""
     give_addresses(ends)
     for space, device, address in zip((OURS, THEIRS), ends, ADDRESSES6):
@@ -128,13 +127,14 @@ def give_both(ends: tuple[str, str] = (DEVICE, DEVICE)) -> None:
 def streams(programs: Programs) -> None:
     """A stream has frames on the cables as each card takes them, comes as it was sent, and each of its frames is counted."""
     with pair(programs, delays=(), options=["--hash", "layer3+4"]) as (_, ours, theirs):
-        give_both()
-        for host in ADDRESSES[1], ADDRESSES6[1]:
-            whole: list[bool] = []
+        give_both_addresses()
+        for address in ADDRESSES[1], ADDRESSES6[1]:
+            complete: list[bool] = []
             before, up = theirs.carry()["handed_up"], kernel_count(THEIRS, DEVICE, "rx_packets")
-            with watched(whole, THEIRS, "b0"), watched(whole, THEIRS, "b1"):
-                check(sent(host, []), f"a stream to {host} comes as it was sent", ours.text(), theirs.text())
-            check(len(whole) > 100 and all(whole), f"{len(whole)} frames of it have their lengths and checksums on the cables", whole.count(False))
+            with checking_frames(complete, THEIRS, "b0"), checking_frames(complete, THEIRS, "b1"):
+                check(stream_comes(address, []), f"a stream to {address} comes as it was sent", ours.text(), theirs.text())
+            check(len(complete) > 100 and all(complete), f"{len(complete)} frames of it have their lengths and checksums on the cables",
+                  complete.count(False))
             frames, packets = theirs.carry()["handed_up"] - before, kernel_count(THEIRS, DEVICE, "rx_packets") - up
             check(packets < frames / 2, f"its {frames:,} frames go up as {packets:,} packets", theirs.text())
         check(ours.carry()["segmented"] > 0, f"{ours.carry()['segmented']:,} packets of several segments came from the host", ours.text())
@@ -142,14 +142,14 @@ def streams(programs: Programs) -> None:
         check_end(theirs, "the receiving end")
 
 
-def whole(octets: int, size: int, tags: bytes = b"") -> bytes:
-    """A packet of TCP as a packet socket takes it, which is to be cut into segments of so many octets."""
+def packet_to_cut(octets: int, size: int, tags: bytes = b"") -> bytes:
+    """A packet of TCP as a packet socket takes it, with so many octets, which is to be cut into segments of `size` of them."""
     addresses = b"".join(map(socket.inet_aton, ADDRESSES))
-    network = struct.pack("!BBHHHBBH", 0x45, 0, 40 + octets, 0, 0x4000, 64, 6, 0) + addresses
-    beside = sum_of(addresses + struct.pack("!HH", 6, 20 + octets))
-    tcp = struct.pack("!HHIIBBHHH", PORT, PORT, 0, 0, 0x50, 0x10, 500, beside, 0)
-    head = struct.pack("=BBHHHH", 1, 1, 54 + len(tags), size, 34 + len(tags), 16)
-    return head + bytes([2] * 12) + tags + b"\x08\x00" + network + tcp + bytes(octets)
+    ip_header = struct.pack("!BBHHHBBH", 0x45, 0, 40 + octets, 0, 0x4000, 64, 6, 0) + addresses
+    pseudo_sum = internet_sum(addresses + struct.pack("!HH", 6, 20 + octets))
+    tcp_header = struct.pack("!HHIIBBHHH", PORT, PORT, 0, 0, 0x50, 0x10, 500, pseudo_sum, 0)
+    told = struct.pack("=BBHHHH", 1, 1, 54 + len(tags), size, 34 + len(tags), 16)  # struct virtio_net_hdr
+    return told + bytes([2] * 12) + tags + b"\x08\x00" + ip_header + tcp_header + bytes(octets)
 
 
 def small_segments(programs: Programs) -> None:
@@ -159,59 +159,64 @@ def small_segments(programs: Programs) -> None:
         with packet_socket(OURS, DEVICE, 0) as host:
             host.setsockopt(SOL_PACKET, PACKET_VNET_HDR, 1)
             for _ in range(SMALL_PACKETS):
-                host.send(whole(SMALL_SEGMENTS, 1))
-        counts = [ours.carry()["from_host"] - before for _ in range(3)]
-        check(any(it % SMALL_SEGMENTS for it in counts), "it answers while a packet of 65,000 segments is cut", counts)
-        check(within(COMES, lambda: ours.carry()["from_host"] - before == frames), f"{frames:,} segments are cut of {SMALL_PACKETS} packets",
+                host.send(packet_to_cut(SMALL_SEGMENTS, 1))
+        taken = [ours.carry()["from_host"] - before for _ in range(3)]
+        check(any(it % SMALL_SEGMENTS for it in taken), "it answers while a packet of 65,000 segments is cut", taken)
+        check(within(COMES_WITHIN, lambda: ours.carry()["from_host"] - before == frames), f"{frames:,} segments are cut of {SMALL_PACKETS} packets",
               ours.text())
         check_end(ours, "the sending end")
     with pair(programs, delays=()) as (_, ours, theirs):
         with packet_socket(OURS, DEVICE, 0) as host:
             host.setsockopt(SOL_PACKET, PACKET_VNET_HDR, 1)
-            host.send(whole(3000, 1000, b"\x88\xa8\x00\x05" + b"\x81\x00\x00\x05" * 2))
+            host.send(packet_to_cut(3000, 1000, b"\x88\xa8\x00\x05" + b"\x81\x00\x00\x05" * 2))
         check(within(ANSWERS, lambda: theirs.carry()["handed_up"] == 3), "a packet with three tags is cut, too",
               ours.text())
 
 
 def stream_troubles(programs: Programs) -> None:
     """A stream goes on where a member goes down, takes less, or is full, where a daemon is stopped, and where there is no memory."""
-    def moves(ours: End) -> list[Event]:
-        return [(0.2 * turn, lambda: ours.process.send_signal(signal.SIGUSR2)) for turn in range(1, 20)]
+    def moves_of(end: End) -> list[Event]:
+        return [(0.2 * turn, lambda: end.process.send_signal(signal.SIGUSR2)) for turn in range(1, 20)]
 
     with pair(programs, delays=(), program=programs.little_memory, options=["--hash", "layer3+4"]) as (_, ours, theirs):
-        give_both()
-        check(sent(ADDRESSES[1], []), "without memory for packets of several segments a stream comes", theirs.text())
+        give_both_addresses()
+        check(stream_comes(ADDRESSES[1], []), "without memory for packets of several segments a stream comes", theirs.text())
         check(theirs.carry()["host_untaken"] == 0, "and each of its frames goes up", theirs.text())
         check_end(theirs, "the receiving end")
     with pair(programs, delays=(), options=["--hash", "layer3+4"]) as (_, ours, theirs):
-        give_both()
-        check(sent(ADDRESSES[1], moves(ours)), "a stream that moves comes as it was sent", ours.text())
+        give_both_addresses()
+        check(stream_comes(ADDRESSES[1], moves_of(ours)), "a stream that moves comes as it was sent", ours.text())
         for name in "a0", "a1":
             events: list[Event] = [(0.3, lambda: ip(OURS, "link", "set", name, "down")), (2, lambda: ip(OURS, "link", "set", name, "up"))]
-            check(sent(ADDRESSES[1], events, 4 * OCTETS), f"so does one while {name} goes down and comes", ours.text())
+            check(stream_comes(ADDRESSES[1], events, 4 * OCTETS), f"so does one while {name} goes down and comes", ours.text())
             if not within(COMES_BACK, lambda: ours.links() == theirs.links() == 2):
                 raise Failed("both links come back", ours.text())
         for end, name in (ours, "sending"), (theirs, "receiving"):
             events = [(0.3, lambda: end.process.send_signal(signal.SIGSTOP)), (1.0, lambda: end.process.send_signal(signal.SIGCONT))]
-            check(sent(ADDRESSES6[1], events), f"and one while the {name} daemon is stopped", ours.text())
+            check(stream_comes(ADDRESSES6[1], events), f"and one while the {name} daemon is stopped", ours.text())
         events = [(0.3, lambda: ip(OURS, "link", "set", "a0", "mtu", "1300")), (1.0, lambda: ip(OURS, "link", "set", "a0", "mtu", "1500"))]
-        check(sent(ADDRESSES[1], events, 4 * OCTETS), "and one while a member takes less", ours.text())
+        check(stream_comes(ADDRESSES[1], events, 4 * OCTETS), "and one while a member takes less", ours.text())
         check_end(ours, "the sending end")
         check_end(theirs, "the receiving end")
-        words = ["ip", "netns", "exec", OURS, "python3", "-c", f"import socket; it = socket.create_connection(('{ADDRESSES[1]}', {PORT}))\n"
-                 "while True: it.sendall(bytes(1 << 16))"]
-        with within_space(THEIRS):
-            server = socket.create_server((ADDRESSES[1], PORT))
-        sender = subprocess.Popen(words, stderr=subprocess.DEVNULL)
-        with server, server.accept()[0] as taken:
-            taken.settimeout(2)
-            threading.Timer(0.5, lambda: ip(THEIRS, "link", "del", DEVICE)).start()
-            with contextlib.suppress(OSError):
-                while taken.recv(1 << 20):
-                    pass
-        sender.kill()
-        sender.wait()
-        check_deleted(theirs, ours, f"{DEVICE} was deleted while a stream went up")
+        delete_device(ours, theirs)
+
+
+def delete_device(ours: End, theirs: End) -> None:
+    """The device of the receiving end is deleted while a stream goes up there."""
+    words = ["ip", "netns", "exec", OURS, "python3", "-c", f"import socket; it = socket.create_connection(('{ADDRESSES[1]}', {PORT}))\n"
+             "while True: it.sendall(bytes(1 << 16))"]
+    with within_space(THEIRS):
+        server = socket.create_server((ADDRESSES[1], PORT))
+    sender = subprocess.Popen(words, stderr=subprocess.DEVNULL)
+    with server, server.accept()[0] as connection:
+        connection.settimeout(2)
+        threading.Timer(0.5, lambda: ip(THEIRS, "link", "del", DEVICE)).start()
+        with contextlib.suppress(OSError):
+            while connection.recv(1 << 20):
+                pass
+    sender.kill()
+    sender.wait()
+    check_deleted(theirs, ours, f"{DEVICE} was deleted while a stream went up")
 
 
 PARTS: dict[str, Callable[[Programs], None]] = {it.__name__: it for it in (streams, small_segments, stream_troubles)}

@@ -71,12 +71,12 @@ static uint32_t pseudo_sum(const uint8_t *packet, const struct tcp_packet *tcp) 
     return plain_sum(6 + length, packet + tcp->network + (six ? 8 : 12), six ? 32 : 8);
 }
 
-/* Makes a packet of several segments of a stream, as the host hands it over. */
-static uint8_t *make_whole(struct tcp_packet *tcp, size_t size, size_t payload) {
-    bool six = below(2), tagged = below(2);
+/* Makes a packet of several segments of a stream, as the host hands it over, with so many tags. */
+static uint8_t *make_whole(struct tcp_packet *tcp, unsigned tags, size_t size, size_t payload) {
+    bool six = below(2);
     size_t options = 4 * below(11);
     uint8_t *packet;
-    *tcp = (struct tcp_packet){.network = HEAD + 14 + (tagged ? 4u : 0u)};
+    *tcp = (struct tcp_packet){.network = HEAD + 14 + 4 * tags};
     tcp->transport = tcp->network + (six ? 40 : 20);
     tcp->payload = tcp->transport + 20 + options;
     tcp->length = tcp->payload + payload;
@@ -85,7 +85,7 @@ static uint8_t *make_whole(struct tcp_packet *tcp, size_t size, size_t payload) 
     memcpy(packet, &(struct virtio_net_hdr){.flags = VIRTIO_NET_HDR_F_NEEDS_CSUM,
         .gso_type = six ? VIRTIO_NET_HDR_GSO_TCPV6 : VIRTIO_NET_HDR_GSO_TCPV4, .gso_size = (uint16_t)size,
         .csum_start = (uint16_t)(tcp->transport - HEAD), .csum_offset = 16}, HEAD);
-    if (tagged) write16(packet + HEAD + 12, 0x8100);
+    for (unsigned i = 0; i < tags; i++) write16(packet + HEAD + 12 + 4 * i, i + 1 < tags ? 0x88a8 : 0x8100);
     write16(packet + tcp->network - 2, six ? ETH_P_IPV6 : ETH_P_IP);
     packet[tcp->network] = six ? 0x60 : 0x45;
     packet[tcp->network + (six ? 6 : 9)] = IPPROTO_TCP;
@@ -96,6 +96,17 @@ static uint8_t *make_whole(struct tcp_packet *tcp, size_t size, size_t payload) 
     packet[tcp->transport + 13] = (uint8_t)(0x10 | (below(2) ? 0x08 : 0));
     write16(packet + tcp->transport + 16, pseudo_sum(packet, tcp));
     return packet;
+}
+
+/* Puts in the checksums that a packet has by itself. */
+static void put_sums(uint8_t *packet, const struct tcp_packet *tcp) {
+    uint8_t *ip = packet + tcp->network, *of = packet + tcp->transport;
+    if (ip[0] >> 4 == 4) {
+        write16(ip + 10, 0);
+        write16(ip + 10, ~plain_sum(0, ip, 20) & UINT16_MAX);
+    }
+    write16(of + 16, 0);
+    write16(of + 16, ~plain_sum(pseudo_sum(packet, tcp), of, tcp->length - tcp->transport) & UINT16_MAX);
 }
 
 /* A segment has the headers that it has by itself. */
@@ -158,7 +169,7 @@ static void put_rooms(uint32_t count) {
 static void check_round(void) {
     size_t size = 1 + below(1500), payload = 1 + below((uint32_t)(size * BATCH < 60000 ? size * BATCH : 60000));
     struct tcp_packet tcp;
-    uint8_t *whole = make_whole(&tcp, size, payload), *octet;
+    uint8_t *whole = make_whole(&tcp, below(3), size, payload), *octet;
     uint32_t count = cut_whole(whole, tcp.length), damaged = below(count);
     put_rooms(count);
     CHECK(took == 1);
@@ -190,18 +201,28 @@ static void check_differences(void) {
         {0, HEAD}, {0, HEAD + 6}, {1, 1}, {1, 8}, {1, 12}, {1, 16}, {2, 0}, {2, 2}, {2, 4}, {2, 8}, {2, 14}, {2, 18}};
     for (unsigned i = 0; i < 4 * sizeof fields / sizeof *fields; i++) {
         struct tcp_packet tcp;
-        uint8_t *whole = make_whole(&tcp, 1000, 3000);
+        uint8_t *whole = make_whole(&tcp, below(2), 1000, 3000);
         uint32_t count = cut_whole(whole, tcp.length);
         size_t from = fields[i / 4].from == 1 ? tcp.network : fields[i / 4].from == 2 ? tcp.transport : 0;
-        uint8_t *second = rooms[1];
-        second[from + fields[i / 4].at] ^= 1;
+        rooms[1][from + fields[i / 4].at] ^= 1;
         tcp.length = room_lengths[1];
-        if (second[tcp.network] >> 4 == 4) write16(second + tcp.network + 10, 0);
-        if (second[tcp.network] >> 4 == 4) write16(second + tcp.network + 10, ~plain_sum(0, second + tcp.network, 20) & UINT16_MAX);
-        write16(second + tcp.transport + 16, 0);
-        write16(second + tcp.transport + 16, ~plain_sum(pseudo_sum(second, &tcp), second + tcp.transport, tcp.length - tcp.transport) & UINT16_MAX);
+        put_sums(rooms[1], &tcp);
         put_rooms(count);
         CHECK(took == 3);
+        check_taken(count);
+        forget_taken();
+        free(whole);
+    }
+}
+
+/* A packet is cut behind any number of tags, and goes up together behind two at most. */
+static void check_tags(void) {
+    for (unsigned tags = 0; tags < 12; tags++) {
+        struct tcp_packet tcp;
+        uint8_t *whole = make_whole(&tcp, tags, 1000, 3000);
+        uint32_t count = cut_whole(whole, tcp.length);
+        put_rooms(count);
+        CHECK(count == 3 && took == (tags <= 2 ? 1 : 3));
         check_taken(count);
         forget_taken();
         free(whole);
@@ -211,7 +232,7 @@ static void check_differences(void) {
 /* Whether it goes up or not, each packet is counted. */
 static void check_refused(void) {
     struct tcp_packet tcp;
-    uint8_t *whole = make_whole(&tcp, 1000, 3000);
+    uint8_t *whole = make_whole(&tcp, 0, 1000, 3000);
     uint64_t before = lagd->carry.counts[HOST_UNTAKEN];
     refuses_all = true;
     put_rooms(cut_whole(whole, tcp.length));
@@ -238,7 +259,7 @@ static void check_sums(void) {
 static void check_rubbish(void) {
     for (unsigned round = 0; round < 20 * ROUNDS; round++) {
         struct tcp_packet tcp;
-        uint8_t *whole = make_whole(&tcp, 1 + below(400), 1 + below(900)), *packet;
+        uint8_t *whole = make_whole(&tcp, below(4), 1 + below(400), 1 + below(900)), *packet;
         size_t length = HEAD + below((uint32_t)(tcp.length - HEAD) + 1);
         struct cut cut;
         packet = malloc(length);
@@ -261,6 +282,7 @@ int main(void) {
     for (unsigned i = 0; i < 2 * BATCH; i++) rooms[i] = malloc(MOST);
     for (unsigned round = 0; round < ROUNDS; round++) check_round();
     check_differences();
+    check_tags();
     check_refused();
     check_sums();
     check_rubbish();

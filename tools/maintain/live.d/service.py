@@ -341,8 +341,9 @@ def metrics_of_two(part: Part) -> None:
 
 def hooks(part: Part) -> None:
     """A program is run where the bundle is up, degraded or down, and nobody waits for it."""
-    hook, told = os.path.join(part.folder, "hook"), os.path.join(part.folder, "told")
-    write(hook, f'#!/bin/sh\necho "$LAGD_BUNDLE $LAGD_PREVIOUS $LAGD_STATE $LAGD_CARRYING/$LAGD_LINKS $LAGD_AGGREGATOR" >> {told}\nexec sleep 60\n')
+    hook, told, slack = (os.path.join(part.folder, name) for name in ("hook", "told", "slack"))
+    state = "$LAGD_BUNDLE $LAGD_PREVIOUS $LAGD_STATE $LAGD_CARRYING/$LAGD_LINKS $LAGD_AGGREGATOR"
+    write(hook, f'#!/bin/sh\ncat /proc/self/timerslack_ns > {slack}\necho "{state}" >> {told}\nexec sleep 60\n')
     os.chmod(hook, 0o755)
     ours, theirs = part.ours(options=["--hook", hook]), part.theirs()
     both_up(ours, theirs, "both links distribute")
@@ -352,6 +353,8 @@ def hooks(part: Part) -> None:
     check(within(GOES_DOWN, lambda: len(seen()) >= 2 and seen()[-1].endswith(" down 0/2 0")), "the hook is run, though the one before has not ended", seen(), ours.printed())
     lines = seen()
     check("a0 down up 2/2 1" in lines and lines[-1].startswith("a0 "), "it has the state in its environment", *lines)
+    slacks = [open(path, encoding="utf-8").read() for path in (slack, "/proc/self/timerslack_ns")]
+    check(slacks[0] == slacks[1], "and the timer slack that the daemon was started with", *slacks)
     children = command("ps", "--ppid", str(ours.process.pid), "-o", "stat=").stdout
     check("Z" not in children, "hooks that end leave nothing", children)
     for line in command("ps", "--ppid", str(ours.process.pid), "-o", "pid=").stdout.split():

@@ -54,3 +54,8 @@ def test_what_a_command_prints() -> None:
 def test_a_command_that_fails_is_told_with_what_it_said() -> None:
     with pytest.raises(Missing, match="failed: no such thing"):
         library.printed("sh", "-c", "echo no such thing >&2; exit 3")
+
+
+def test_a_command_that_is_not_here_is_told() -> None:
+    with pytest.raises(Missing, match="there is no command no-such-command in PATH"):
+        library.printed("no-such-command")
