@@ -42,12 +42,30 @@ def test_a_module_for_another_processor_is_retargeted_or_refused() -> None:
         module.retargeted("call void @llvm.x86.sse2.pause()\n")
 
 
+def told_in(*places: str) -> str:
+    with open(os.path.join(packing.TOP, *places), encoding="utf-8") as it:
+        return it.read()
+
+
+def numbers(text: str) -> list[int]:
+    return sorted(int(it) for it in re.findall(r"\d+", text))
+
+
+def remarks() -> list[str]:
+    """The rules whose advice asks for nothing."""
+    return re.findall(r"number: (\d+),[^{}]*advice: \"None is needed", told_in("crates", "findings", "src", "rule.rt"))
+
+
 def test_trouble_ranks_findings_as_the_page_does() -> None:
     ranks = dict(re.findall(r"(LEADING|FOLLOWING) = \[([\d, ]+)\]", packing.text_of("capture.js")))
-    with open(os.path.join(packing.TOP, "crates", "findings", "src", "rule.rt"), encoding="utf-8") as it:
-        remarks = re.findall(r"number: (\d+),[^{}]*advice: \"None is needed", it.read())
-    with open(os.path.join(packing.TOP, "docs", "TROUBLE.md"), encoding="utf-8") as it:
-        told = re.search(r"Rules (.*) explain others\. Those of (.*) often follow[^.]*\.\s+(.*) want nothing\.", it.read())
+    told = re.search(r"Rules (.*) explain others\. Those of (.*) often follow[^.]*\.\s+(.*) want nothing\.", told_in("docs", "TROUBLE.md"))
     assert told
-    for text, rules in zip(told.groups(), (ranks["LEADING"], ranks["FOLLOWING"], " ".join(remarks))):
-        assert sorted(re.findall(r"\d+", text)) == sorted(re.findall(r"\d+", rules)), text
+    for text, rules in zip(told.groups(), (ranks["LEADING"], ranks["FOLLOWING"], " ".join(remarks()))):
+        assert numbers(text) == numbers(rules), text
+
+
+def test_trouble_says_of_each_rule_which_end_has_to_change() -> None:
+    of_ends = set(numbers(" ".join(re.findall(r"number: (\d+),", told_in("crates", "findings", "src", "rule.rt")))))
+    of_ends -= {28, *map(int, remarks())}  # 28 is of the capture
+    table = told_in("docs", "TROUBLE.md").split("**Which end has to change?**")[1].split("\n\n")[1]
+    assert numbers(" ".join(re.findall(r"^\|([\d, ]+)\|", table, re.M))) == sorted(of_ends)
