@@ -1,6 +1,6 @@
 /* What is shown of a capture: the findings, then a time axis for each pair of systems, then the frames and the text. */
 
-import { addressOf, bundlesOf, isRemark, nameOf, Records, ruleOf, saidBy, secondsOf } from "./records.js";
+import { addressOf, bundlesOf, carriedOf, isRemark, nameOf, Records, ruleOf, saidBy, secondsOf } from "./records.js";
 import { Packets } from "./packets.js";
 import { fieldsOf } from "./fields.js";
 import { octetsBeside } from "./octets.js";
@@ -17,7 +17,7 @@ export const FAULT = "fault";
 export const EFFECT = "likely effect";
 const REMARK = "remark", KINDS = [FAULT, EFFECT, REMARK];
 /* What is said of effects on links of two systems that have no fault. */
-const CAUSELESS = "This capture does not show why: ask both ends, and capture all links.";
+export const CAUSELESS = "This capture does not show why: ask both ends, and capture all links.";
 const AT_START = [13, "Right after a start rule 13 is normal if both ends distribute later."];
 const isFault = (finding) => !isRemark(finding) && !FOLLOWING.includes(finding.rule);
 const isCause = (finding) => isFault(finding) || UNHEARD.includes(finding.rule);
@@ -184,7 +184,7 @@ function itemOf(findings, kind, pairOf) {
     return item;
 }
 
-/* Shows what the records say; `blob` has the capture. Gives the pairs, and how many rules are found of each kind. */
+/* Shows what the records say; `blob` has the capture. Gives the pairs, how many rules are found of each kind, and how many links carry. */
 export function showRecords(records, blob, findingsAt, linksAt) {
     const packets = new Packets(blob), bundles = bundlesOf(records), { findings } = records;
     const pairs = bundles.map((it, number) => new Pair(it, packets, number === 0));
@@ -195,7 +195,8 @@ export function showRecords(records, blob, findingsAt, linksAt) {
     items.sort((one, other) => rankOf(one) - rankOf(other));
     findingsAt.replaceChildren(...items.map((it) => itemOf(it.findings, it.kind, pairOf)));
     linksAt.replaceChildren(...pairs.map((it) => it.part));
-    return { pairs, kinds: KINDS.map((kind) => [items.filter((it) => it.kind === kind).length, kind]).filter(([number]) => number) };
+    const kinds = KINDS.map((kind) => [items.filter((it) => it.kind === kind).length, kind]).filter(([number]) => number);
+    return { pairs, kinds, carried: carriedOf(bundles) };
 }
 
 const recordsIn = (text) => {

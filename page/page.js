@@ -2,7 +2,7 @@
 
 import { Lagtool } from "./module.js";
 import { Records } from "./records.js";
-import { counted, EFFECT, FAULT, picturesOf, showRecords } from "./capture.js";
+import { CAUSELESS, counted, EFFECT, FAULT, picturesOf, showRecords } from "./capture.js";
 import { Playing } from "./playing.js";
 import { digitsOf, Payload } from "./payload.js";
 import { offer, textOfReport } from "./saving.js";
@@ -88,19 +88,28 @@ function unreadIn({ unread, frames, all, findings }) {
     return `${count}: capture whole frames (tcpdump -s 0)${isRead ? ", unless they are of another protocol, as OAM" : ""}.`;
 }
 
+/* What is said of links that do not carry where there is no fault. */
+function idleIn({ all, idle }) {
+    return idle ? `No fault found, but ${idle} of ${counted(all, "link")} ${idle === 1 ? "is" : "are"} not seen to carry. ${CAUSELESS}` : "";
+}
+
+/* Where there is no fault: it is good if a link carries, and none does not. */
+const faultlessLook = ({ all, idle }) => all && !idle ? "good" : "";
+
 /* What the findings are, in few words, and how they look: effects alone are neither good nor bad. */
-function foundIn(records, kinds, said) {
+function foundIn(records, kinds, said, carried) {
     const has = (kind) => kinds.some((it) => it[1] === kind), places = counted(records.findings.length, "place");
     const found = `${kinds.map(([number, kind]) => counted(number, kind)).join(", ")}, at ${places}`;
     if (said || has(FAULT)) return [`${found}:`, "bad"];
-    return has(EFFECT) ? [`${found}; no cause in this capture:`, ""] : [`No fault found; ${found}:`, "good"];
+    if (has(EFFECT)) return [`${found}; no cause in this capture:`, ""];
+    return [carried.idle ? `${idleIn(carried)} ${found}:` : `No fault found; ${found}:`, faultlessLook(carried)];
 }
 
-function verdictOf(records, kinds, said) {
-    const unread = unreadIn(records), [found, look] = kinds.length ? foundIn(records, kinds, said) : ["", "bad"];
+function verdictOf(records, kinds, said, carried) {
+    const unread = unreadIn(records), [found, look] = kinds.length ? foundIn(records, kinds, said, carried) : ["", "bad"];
     if (unread) return [`${unread} ${found}`.trim(), "bad"];
     if (found || said) return [found, look];
-    if (records.frames > records.others) return ["Nothing found.", "good"];
+    if (records.frames > records.others) return [idleIn(carried) || "Nothing found.", faultlessLook(carried)];
     return [`No frame of the slow protocols (LACPDU, Marker PDU) is in this capture. ${ADVICE}`, "bad"];
 }
 
@@ -118,12 +127,12 @@ async function explain(lagtool, name, file) {
     const onStop = (error) => error.message === "stopped" ? error : Promise.reject(error);
     let told = await run(lagtool, file, { json: true }, (piece) => records.addLines(piece)).catch(onStop);
     const isStopped = told instanceof Error, said = isStopped ? told.message : told.said;
-    const { pairs, kinds } = showRecords(records, file, byId("findings"), byId("links"));
+    const { pairs, kinds, carried } = showRecords(records, file, byId("findings"), byId("links"));
     now.pairs = pairs;
     byId("legend").hidden = !pairs.length;
     byId("undrawn-frames").textContent = records.frames > records.kept ? `Of ${records.frames} frames ${records.kept} are drawn.` : "";
     byId("lasts").textContent = lastingOf(records);
-    put(name, ...verdictOf(records, kinds, said), isStopped ? "Stopped: the findings want the whole capture." : said);
+    put(name, ...verdictOf(records, kinds, said, carried), isStopped ? "Stopped: the findings want the whole capture." : said);
     if (!isStopped) {
         told = await run(lagtool, file, {}, (piece) => text.add(piece));
     }

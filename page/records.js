@@ -40,6 +40,7 @@ export class End {
         this.partners = new Set();
         this.system = null;
         this.named = null;
+        this.distributes = false;
     }
 
     get name() {
@@ -55,6 +56,7 @@ export class End {
         this.partners.add(`${frame.partner.system} ${frame.partner.port}`);
         this.system = frame.actor.system;
         this.named = frame.partner.system;
+        this.distributes = bitsOf(frame.actor.state).includes("distributing");
     }
 }
 
@@ -117,9 +119,11 @@ export class Records {
         else this.unread += 1;
     }
 
-    addEnd({ first, last }) {
+    addEnd({ interface: number, source, port, first, last, distributing: { began, ended } }) {
         if (first === null || last === null) return;
         this.lacpdus = { first: Math.min(this.lacpdus.first, first), last: Math.max(this.lacpdus.last, last) };
+        const end = this.ends.get(`${number} ${source} ${port}`);
+        if (end && this.kept >= MOST_KEPT) end.distributes = began !== null && (ended === null || ended < began);
     }
 
     /* How many seconds there are from the first LACPDU to the last; null where nothing says so. */
@@ -211,6 +215,12 @@ export function bundlesOf(records) {
     }
     for (const it of bundles.values()) it.links = findingsFirst(it.links);
     return findingsFirst([...bundles.values()]);
+}
+
+/* How many links have an LACPDU, and of how many not both ends are seen to distribute in the end. */
+export function carriedOf(bundles) {
+    const links = bundles.flatMap((it) => it.links).filter(({ ends }) => ends.some((it) => it?.system));
+    return { all: links.length, idle: links.filter(({ ends }) => !ends.every((it) => it?.distributes)).length };
 }
 
 /* The MAC address of a system. */

@@ -37,6 +37,7 @@ def of_page(tests: Tests, browser: Browser, folder: str) -> None:
     """How the page behaves."""
     of_findings(tests, browser)
     of_verdicts(tests, browser, folder)
+    of_idle_links(tests, browser, folder)
     of_effects(tests, browser, folder)
     of_copies(tests, browser, folder)
     of_fields(tests, browser)
@@ -105,6 +106,21 @@ def of_verdicts(tests: Tests, browser: Browser, folder: str) -> None:
     browser.choose(split)
     said = ["Links of one system lead to two systems", "02-00-00-00-00-01 leads to 02-00-00-00-00-02 and 02-00-00-00-00-03"]
     tests.same("links to two systems are one fault, which names both", [*browser.value(VERDICT), browser.value(TITLES)], ["1 fault, at 2 places:", "bad", [said]])
+
+
+def of_idle_links(tests: Tests, browser: Browser, folder: str) -> None:
+    """Without a finding it is good news only where all links carry."""
+    path, unshown = os.path.join(folder, "links.pcap"), f"{UNSHOWN}: ask both ends, and capture all links."
+    cases: dict[str, tuple[list[int], list[str]]] = {
+        "a link that carries": ([made.UP], ["Nothing found.", "good"]),
+        "a link that does not": ([made.DOWN], [f"No fault found, but 1 of 1 link is not seen to carry. {unshown}", ""]),
+        "one of three": ([made.UP, made.DOWN, made.UP], [f"No fault found, but 1 of 3 links is not seen to carry. {unshown}", ""]),
+        "two of three": ([made.UP, made.DOWN, made.DOWN], [f"No fault found, but 2 of 3 links are not seen to carry. {unshown}", ""]),
+    }
+    for name, (states, wanted) in cases.items():
+        made.links(path, states)
+        browser.choose(path)
+        tests.same(f"{name}: without a finding the page says what carries", browser.value(VERDICT), wanted)
 
 
 def of_effects(tests: Tests, browser: Browser, folder: str) -> None:

@@ -65,6 +65,17 @@ def bundle(path: str) -> None:
     pcap(path, packets)
 
 
+def links(path: str, states: Iterable[int]) -> None:
+    """Links of two systems whose ends name each other: both ends of each have one state all the time."""
+    packets: list[tuple[float, bytes]] = []
+    for port, state in enumerate(states, 1):
+        one, other = Party(1, 7, port, state), Party(2, 8, port, state)
+        for second in range(20):
+            packets.append((second + port / 100, frame(one.source(), lacpdu(one, other))))
+            packets.append((second + port / 100 + 0.004, frame(other.source(), lacpdu(other, one))))
+    pcap(path, sorted(packets))
+
+
 def split(path: str) -> None:
     """Two ports of system 1, with one key, lead to the systems 2 and 3."""
     packets: list[tuple[float, bytes]] = []
