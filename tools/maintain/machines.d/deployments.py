@@ -43,14 +43,12 @@ fast=yes
 [Port ens1f0]
 [Port ens1f1]
 """
-SERVER_MEMBERS = "[Match]\nName=ens1f0 ens1f1\n[Link]\nMTUBytes=9000\nRequiredForOnline=no\n[Network]\nLinkLocalAddressing=no\nIPv6AcceptRA=no\n"
-SERVER_LAG = "[Match]\nName=lag0\n[Network]\nBridge=br0\n[BridgeVLAN]\nVLAN=10-20\n"
-BRIDGE = "[NetDev]\nName=br0\nKind=bridge\n[Bridge]\nVLANFiltering=yes\nDefaultPVID=none\nSTP=no\n"
-# What the .netdev file sets goes with the first port of 1,500 octets, which lag0 is until it has members.
-BRIDGE_NETWORK = "[Match]\nName=br0\n[Link]\nMTUBytes=9000\n[Network]\nVLAN=br0.10\nLinkLocalAddressing=no\nConfigureWithoutCarrier=yes\n[BridgeVLAN]\nVLAN=10\n"
-VLAN = "[NetDev]\nName=br0.10\nKind=vlan\nMTUBytes=9000\n[VLAN]\nId=10\n"
-VLAN_NETWORK = "[Match]\nName=br0.10\n[Network]\nAddress=10.10.0.1/24\n"
-MACHINE = "[Match]\nName=vm0\n[Link]\nMTUBytes=9000\n[Network]\nBridge=br0\nLinkLocalAddressing=no\n[BridgeVLAN]\nVLAN=20\nPVID=20\nEgressUntagged=20\n"
+# Its files of networkd are those that stand beside the daemon, in the order in which networkd reads them.
+SERVER_NETWORKS = {"10-members.network": "members.network", "20-lag0.network": "lag0-in-br0.network", "30-br0.netdev": "br0.netdev",
+                   "30-br0.network": "br0.network", "40-br0.10.netdev": "br0.10.netdev", "40-br0.10.network": "br0.10.network",
+                   "50-vm0.network": "vm0.network"}  # fmt: skip
+# What differs in them here: jumbo frames, the names of the cards, and the address.
+SERVER_WORDS = {"#MTUBytes=": "MTUBytes=", "eth1": "ens1f0", "eth2": "ens1f1", "192.0.2.1/24": "10.10.0.1/24"}
 # The virtual machine; and two switches in namespaces, each with one link, whose daemons are one system. A host is behind the first one, and
 # frames go from switch to switch by a link of their own: those that come by it go out to no server, as MLAG has it while both links carry, and
 # nothing is learned of them.
@@ -123,14 +121,19 @@ def switch_files() -> dict[str, str]:
     return files
 
 
+def of_server(name: str) -> str:
+    """An example as the administrator of the server has it."""
+    text = example(name)
+    for old, new in SERVER_WORDS.items():
+        text = text.replace(old, new)
+    return text
+
+
 def server_files() -> dict[str, str]:
     """What the administrator of the server wrote."""
-    networks = {"10-members.network": SERVER_MEMBERS, "20-lag0.network": SERVER_LAG, "30-br0.netdev": BRIDGE, "30-br0.network": BRIDGE_NETWORK,
-                "40-br0.10.netdev": VLAN, "40-br0.10.network": VLAN_NETWORK, "50-vm0.network": MACHINE}  # fmt: skip
-    files = {f"etc/systemd/network/{name}": text for name, text in networks.items()}
-    names = {"eth1": "ens1f0", "eth2": "ens1f1"}
-    files |= {LINKS.format(old): link(MACS[old], new) for old, new in names.items()}
-    return {**files, "etc/lagd/uplink.conf": SERVER, "etc/udev/rules.d/90-lagd.rules": example("90-lagd.rules").replace("eth1|eth2", "ens1f0|ens1f1")}
+    files = {f"etc/systemd/network/{name}": of_server(source) for name, source in SERVER_NETWORKS.items()}
+    files |= {LINKS.format(old): link(MACS[old], SERVER_WORDS[old]) for old in ("eth1", "eth2")}
+    return {**files, "etc/lagd/uplink.conf": SERVER, "etc/udev/rules.d/90-lagd.rules": of_server("90-lagd.rules")}
 
 
 def reaches(guest: Guest, space: str, to: str, octets: int, what: str) -> str:

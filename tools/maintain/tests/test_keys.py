@@ -1,0 +1,27 @@
+"""The keys of lagd's files and its options: an option is looked up by its letter, a key by its name, and the first row that has it is taken."""
+
+from __future__ import annotations
+
+import re
+from pathlib import Path
+
+import loading  # noqa: F401
+from repository import TOP
+
+LAGD = Path(TOP, "lagd")
+
+
+def table(file: str, name: str) -> str:
+    """The rows of a table in C."""
+    found = re.search(rf"\b{name}\[\] = \{{\n(.*?)\n\}};", (LAGD / file).read_text(encoding="utf-8"), re.S)
+    assert found, name
+    return found[1]
+
+
+def test_letters_and_names_of_options_and_keys_stand_once() -> None:
+    bundle = re.findall(r"^    \{\"([\w-]+)\", .*?, take_\w+, (?:'(\w)'|0),", table("settings.c", "BUNDLE_KEYS"), re.M | re.S)
+    others = [row for name in ("BEFORE_KEYS", "BEHIND_KEYS") for row in re.findall(r"^    \{'(\w)', \"([\w-]+)\"", table("options.c", name), re.M)]
+    ports = re.findall(r"^    \{\"([\w-]+)\"", table("settings.c", "PORT_KEYS"), re.M)
+    assert len(bundle) == table("settings.c", "BUNDLE_KEYS").count(", take_") and len(others) == 9 and len(ports) == 6
+    for words in [letter for _, letter in bundle if letter] + [letter for letter, _ in others], [name for name, _ in bundle] + [name for _, name in others], ports:
+        assert sorted(words) == sorted(set(words))
