@@ -124,7 +124,7 @@ abbrev pub partner_value : Option LinkEnd → List ℕ
 partner_value (Some e) = link_end_value e
 partner_value None = codes "null"
 
--- what it says of the end that it named last, and of the one that names it, among all ends
+-- who it is, the end that it named last, and the one that names it, among all ends
 unfoldable pub parties_part : List LacpduSender → LacpduSender → List ℕ
 parties_part all e =
     members (member (codes "identity") (identity_value (identity_of e.last.actor))

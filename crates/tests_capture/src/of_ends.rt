@@ -129,11 +129,13 @@ fn tells(alloc: Global, told: &[Told], texts: &[&str]) -> Result<bool, AllocErro
 
 #[test]
 fn an_end_is_named_on_its_own_interface(rt: HostRuntime) -> Result<(), Fail> {
+    let mut keyed = end(2, 2);
+    keyed.key = Key(2);
     let told = [
-        // The first that names port 1 of system 1 is on another interface than the second.
+        // The first that names port 1 of system 1 is on another interface than the second, and has the port number of that one.
         Told {
             interface: 1,
-            actor: end(3, 3),
+            actor: end(3, 2),
             partner: end(1, 1),
         },
         Told {
@@ -149,14 +151,14 @@ fn an_end_is_named_on_its_own_interface(rt: HostRuntime) -> Result<(), Fail> {
         Told {
             interface: 1,
             actor: end(1, 1),
-            partner: end(2, 2),
+            partner: keyed,
         },
     ];
     let texts = [
         "end 02-00-00-00-00-01 port 1 is P2 names P3 named by 02-00-00-00-00-02 port 2 lacpdus 1",
         "end 02-00-00-00-00-02 port 2 is P3 names P2 named by 02-00-00-00-00-01 port 1 lacpdus 1",
-        "end 02-00-00-00-00-01 interface 1 port 1 is P2 names P3 named by 02-00-00-00-00-03 interface 1 port 3 lacpdus 1",
-        "end 02-00-00-00-00-03 interface 1 port 3 is P1 names P2 lacpdus 1",
+        "end 02-00-00-00-00-01 interface 1 port 1 is P2 names P4 named by 02-00-00-00-00-03 interface 1 port 2 lacpdus 1",
+        "end 02-00-00-00-00-03 interface 1 port 2 is P1 names P2 lacpdus 1",
     ];
     assert!(rt; tells(rt.alloc(), &told, &texts)?);
     Ok(())

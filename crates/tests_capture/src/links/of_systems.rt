@@ -132,3 +132,14 @@ fn an_end_without_current_information_names_its_own_system(rt: HostRuntime) {
         shows(&rt, &frames, 2000, &[]);
     }
 }
+
+// Of the Actor's state only Defaulted and Expired count, of the Partner's nothing.
+#[test]
+fn other_bits_do_not_matter(rt: HostRuntime) {
+    for (own, seen) in [(0x00, 0xc1), (FAST, 0xff)] {
+        let mut said = a_to_a(1, 2);
+        said.actor.state = info(A, own).state;
+        said.partner.state = info(A, seen).state;
+        shows(&rt, &[at(0, said)], 500, &[(30, 1)]);
+    }
+}
