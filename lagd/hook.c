@@ -28,7 +28,7 @@ static void set_files(posix_spawn_file_actions_t *files) {
     posix_spawn_file_actions_adddup2(files, STDERR_FILENO, STDOUT_FILENO);
 }
 
-/* Starts a program, which has the timer slack that the daemon began with: it gets what the daemon has just then. Answers 0, or errno. */
+/* Starts a program with the timer slack that the daemon was started with: a child inherits what holds at its start. Answers 0, or errno. */
 static int start(const char *path, char *const *environment) {
     char *words[] = {(char *)(uintptr_t)path, NULL};
     posix_spawnattr_t attributes;

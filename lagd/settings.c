@@ -278,12 +278,12 @@ struct settings_private *make_settings_private(void) {
     return make_room(sizeof(struct settings_private));
 }
 
-/* Words in a row, with `last` before the last one and `end` behind it. They stand until the next call. */
-const char *list_words(struct lagd *lagd, const char *(*word)(size_t index), size_t count, const char *last, const char *end) {
+/* Words in a row, with `before_last` before the last one and `end` behind it. They stand until the next call. */
+const char *list_words(struct lagd *lagd, const char *(*word)(size_t index), size_t count, const char *before_last, const char *end) {
     struct settings_private *own = lagd->settings_private;
     size_t length = 0;
     for (size_t i = 0; i < count && length < sizeof own->text; i++) {
-        const char *joint = i == 0 ? "" : i + 1 < count ? ", " : last;
+        const char *joint = i == 0 ? "" : i + 1 < count ? ", " : before_last;
         length += (size_t)snprintf(own->text + length, sizeof own->text - length, "%s%s", joint, word(i));
     }
     if (length < sizeof own->text) snprintf(own->text + length, sizeof own->text - length, "%s", end);

@@ -105,7 +105,7 @@ struct settings usual_settings(void);
 const char *hash_text(enum hash hash);
 const char *way_text(const struct settings *settings);
 const struct bundle_key *bundle_key(size_t index);
-const char *list_words(struct lagd *lagd, const char *(*word)(size_t index), size_t count, const char *last, const char *end);
+const char *list_words(struct lagd *lagd, const char *(*word)(size_t index), size_t count, const char *before_last, const char *end);
 const char *set_bundle(struct lagd *lagd, struct settings *settings, const char *name, const char *text, unsigned line);
 unsigned line_of(const struct settings *settings, const char *name);
 const char *set_port(struct lagd *lagd, struct port_settings *port, const char *name, const char *text);

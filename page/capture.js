@@ -1,6 +1,6 @@
 /* What is shown of a capture: the findings, then a time axis for each pair of systems, then the frames and the text. */
 
-import { addressOf, bundlesOf, carriedOf, isRemark, nameOf, Records, ruleOf, saidBy, secondsOf } from "./records.js";
+import { addressOf, bundlesOf, carriedOf, isKnown, isRemark, nameOf, Records, ruleOf, saidBy, secondsOf } from "./records.js";
 import { Packets } from "./packets.js";
 import { fieldsOf } from "./fields.js";
 import { octetsBeside } from "./octets.js";
@@ -11,7 +11,7 @@ import { button, made, table } from "./shapes.js";
 
 /* The most frames that are listed of a link, besides those of findings. */
 const MOST = 400;
-/* The rules of docs/COMMAND.md whose findings often explain others, those whose often follow, and of these the faults where there is no other. */
+/* The rules of docs/COMMAND.md whose findings often explain others, those whose findings often follow, and of these the faults where there is no other. */
 const LEADING = [26, 28, 29, 30], FOLLOWING = [12, 13, 17, 22, 23], UNHEARD = [12, 23];
 export const FAULT = "fault";
 export const EFFECT = "likely effect";
@@ -160,9 +160,12 @@ function placeIn(finding, pair) {
 
 const isCaused = (finding, pairOf, test) => pairOf(finding).bundle.findings.some(test);
 
-/* What the findings of one rule are. Whoever hears nothing may name nobody: the fault may be of any end on its interface. */
+/* Whether a fault of any end on its interface may explain a finding: whoever hears nothing may name nobody. */
+const isOfUnknown = (it, pairOf, faults) => !pairOf(it).bundle.systems.every(isKnown) && faults.some(({ at }) => at.interface === it.at.interface);
+
+/* What the findings of one rule are. */
 function kindOfRule(findings, pairOf, faults) {
-    const [finding] = findings, isAlone = (it) => !isCaused(it, pairOf, isFault) && !faults.some(({ at }) => at.interface === it.at.interface);
+    const [finding] = findings, isAlone = (it) => !isCaused(it, pairOf, isFault) && !isOfUnknown(it, pairOf, faults);
     if (isRemark(finding)) return REMARK;
     return isFault(finding) || (isCause(finding) && findings.some(isAlone)) ? FAULT : EFFECT;
 }

@@ -186,7 +186,7 @@ function linksOf(ends) {
     return links;
 }
 
-const isKnown = (system) => system !== "" && !system.endsWith(NO_SYSTEM);
+export const isKnown = (system) => system !== "" && !system.endsWith(NO_SYSTEM);
 
 /* The two systems of a link, the lower one first; its ends are turned likewise. */
 function systemsOf(link) {
@@ -217,7 +217,7 @@ export function bundlesOf(records) {
     return findingsFirst([...bundles.values()]);
 }
 
-/* How many links have an LACPDU, and of how many not both ends are seen to distribute in the end. */
+/* How many links have an LACPDU, and on how many of them not both ends distribute at the end. */
 export function carriedOf(bundles) {
     const links = bundles.flatMap((it) => it.links).filter(({ ends }) => ends.some((it) => it?.system));
     return { all: links.length, idle: links.filter(({ ends }) => !ends.every((it) => it?.distributes)).length };

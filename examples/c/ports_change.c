@@ -8,7 +8,7 @@
 #define LAGS 2
 #define PORTS 4 /* of the switch: 1 and 2 are LAG 0, 3 and 4 LAG 1; later port 2 is of LAG 1, too */
 
-static struct niw_system handles[LAGS][2], *lags[LAGS]; /* of two handles of a LAG the one that has it */
+static struct niw_system handles[LAGS][2], *lags[LAGS]; /* each LAG has two handles, and lags the one in use */
 static struct niw_system peer;                          /* it has all ports, with a key for each LAG */
 static unsigned of[PORTS + 1] = {0, 0, 0, 1, 1};
 static struct niw_saved saved[PORTS + 1]; /* the last LACPDU of each port, and how old it is */
