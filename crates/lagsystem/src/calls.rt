@@ -103,8 +103,8 @@ impl<F: Fn(u16, usize) -> usize + Drop> System<F> {
     // promise: a port whose link goes down under a limit is UNSELECTED before the settling; without a limit Selected stays
     // contract: `step` of `set_link` (`SetsPortEnabled`)
     /// Sets port_enabled: the link of a port is up or down now. Its receive machine runs; if the link is down now,
-    /// every conversation of the port is free, and with a limit of links the port is UNSELECTED; one settling follows. `NoPort` if there is no such port (6.4.7, 6.4.12;
-    /// profile).
+    /// every conversation of the port is free, and with a limit of links the port is UNSELECTED; one settling follows.
+    /// `NoPort` if there is no such port (6.4.7, 6.4.12; profile).
     pub fn set_link(&mut self, port: u16, up: bool) -> Result<(), SystemFault>
         ensures answers { CallPromise (F.post self.old.algorithm) self.old.state (Call.Set_link port up)
             (Reply.SetLink result) self.new.state }
@@ -125,10 +125,11 @@ impl<F: Fn(u16, usize) -> usize + Drop> System<F> {
     }
 
     // promise: after `restart` the system is as `new` left it, but for a limit of links and a CollectorMaxDelay set since; a configuration has
-    //    one first state
+    //    at most one first state
     // contract: `restart` (`answers`: `IsFirst`; `shows`), `first_state_is_one`
-    // promise: no call changes what a restart goes back to: identifier, keys, ports, first marker, limit, count of conversations
-    // contract: `answers` (`configured`, `conversations`; for the limit `step`)
+    // promise: no `Call` changes what a restart goes back to: identifier, keys, ports, first marker, count of conversations, limit of
+    //    links, CollectorMaxDelay; a setting only the last two
+    // contract: `answers` (`step`, `configured`, `conversations`, `max_links`); of a setting `promise` (`configured`, `ports`, `conversations`)
     /// Goes back to the state that `new` made: all links down, every conversation free, the first marker identifier
     /// next. What `configure`, `hold_port` and `set_mode` changed is undone; a limit of links and a CollectorMaxDelay that
     /// were set stay. Takes no memory (profile).

@@ -29,7 +29,8 @@ pub fn window_holds<F: Fn(u16, usize) -> usize>()
     ensures start { (algorithm : F) → WindowFromStart (F.post algorithm) }
 {}
 
-/// A configuration has exactly one first state, so a restart gives the state that `new` made (profile).
+/// A configuration, with its limit of links and CollectorMaxDelay, has at most one first state: where neither was set since, a
+/// restart gives the state that `new` made (profile).
 pub fn first_state_is_one()
     ensures { (s t : SystemState) → t ≡ with_table (with_system_ports s t.system_ports) t.table → IsFirst s → IsFirst t → t ≡ s }
 {}

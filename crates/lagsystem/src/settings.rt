@@ -205,7 +205,7 @@ impl<F: Fn(u16, usize) -> usize + Drop> Inner<F> {
 }
 
 impl<F: Fn(u16, usize) -> usize + Drop> System<F> {
-    // promise: `hold_port`, `set_mode`, `set_max_delay`, `set_max_links` keep what calls keep; a held port is UNSELECTED
+    // promise: `hold_port`, `set_mode`, `set_max_delay`, `set_max_links` keep the law, agreement and the window; a held port is UNSELECTED
     // contract: `promise` (`SettingPromise`); `IsSound` (`held`)
     /// Holds a port, or lets it go. A port that is held is UNSELECTED and chooses no aggregator: it leaves its aggregator, what is
     /// On it becomes Wanted there, and its LACPDUs say that it is not in sync, so that the peer's port leaves too. It goes on
