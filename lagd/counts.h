@@ -36,7 +36,7 @@
  * is one of HANDED_UP to OTHER_AGGREGATOR, or counted of the member. */
 #define EACH_CARRY_COUNT(COUNT) \
     COUNT(FROM_HOST, "from_host", "frames that came from the TAP device") \
-    COUNT(UNFIT, "unfit", "of these, too short, too long or of the slow protocols") \
+    COUNT(UNFIT, "unfit", "of these, too short, too long, of the slow protocols or, with fast, for a member that is gone") \
     COUNT(NONE_CARRIES, "none_carries", "of these, lost since no port carried") \
     COUNT(QUEUE_FULL, "queue_full", "of these, lost since too many waited") \
     COUNT(HELD_TOO_LONG, "held_too_long", "of these, lost since they waited too long") \

@@ -99,7 +99,7 @@ static __always_inline bool is_too_long(struct __sk_buff *skb, uint32_t interfac
     return bpf_check_mtu(skb, interface, &mtu, is_tag(type) ? -TAG_OCTETS : 0, how) != 0;
 }
 
-/* Whether the frame is of the slow protocols, or too long for a member, or one of its segments is. */
+/* Whether the frame is of the slow protocols, or too long for a member, or one of its segments is; or the member is gone. */
 static __always_inline bool is_unfit(struct __sk_buff *skb, uint32_t member, uint16_t type) {
     if (!skb->vlan_present && type == ETH_P_SLOW) return true;
     if (skb->gso_size != 0) return is_too_long(skb, member, 0, BPF_MTU_CHK_SEGS);
