@@ -9,6 +9,7 @@ import os
 import re
 import shlex
 import shutil
+import signal
 import subprocess
 import sys
 from typing import Callable, NoReturn
@@ -113,6 +114,13 @@ def make_program() -> None:
     # The module of docs/try.html, which answers where there is no rt, has no `check`.
     if subprocess.run([made, "check", os.devnull], stdout=subprocess.DEVNULL).returncode:
         raise Missing(f"{made} check fails, as the lines above say")
+
+
+def hear_signals() -> None:
+    """Has the signals by which a daemon ends or reads its file anew no longer ignored, as nohup has SIGHUP: a daemon leaves what is ignored so."""
+    for it in signal.SIGHUP, signal.SIGINT, signal.SIGQUIT:
+        if signal.getsignal(it) == signal.SIG_IGN:
+            signal.signal(it, signal.SIG_DFL)
 
 
 def say(text: object) -> None:
