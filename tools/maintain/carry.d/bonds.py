@@ -123,6 +123,11 @@ class Status(TypedDict):
     ports: list[Member]
 
 
+def counted_of_members(told: Status, name: str) -> int:
+    """What all members counted of this name, by a status."""
+    return sum(port["data"][name] for port in told["ports"])
+
+
 class End(Daemon):
     """A daemon that carries the data of lag0."""
 
@@ -155,7 +160,7 @@ class End(Daemon):
 
     def data(self, name: str) -> int:
         """What all members counted of this name."""
-        return sum(port["data"][name] for port in self.told()["ports"])
+        return counted_of_members(self.told(), name)
 
     def busy_conversations(self) -> list[int]:
         """How many busy conversations each member has."""
@@ -330,24 +335,31 @@ def check_order(outcome: Outcome, what: str, *told: object) -> None:
 
 def check_end(end: End, name: str) -> None:
     """What came from the host was sent, waits, or is counted as lost; what came from the members was handed up, or is counted."""
-    carry = end.carry()
+    told = end.told()  # one status: frames may still come
+    carry = told["carry"]
     unsent = carry["unfit"] + carry["none_carries"] + carry["queue_full"] + carry["held_too_long"] + carry["overflowed"] + carry["waiting"]
-    sent = unsent + end.data("data_sent") + end.data("data_unsent")
-    check(carry["from_host"] == sent, f"{name} accounts for {carry['from_host']:,} frames of its host", carry, end.text())
-    told = carry["handed_up"] + carry["host_untaken"] + carry["other_aggregator"]
-    taken = told + end.data("uncollected") + end.data("wrong_length")
-    received = end.data("data_received")
-    check(received == taken, f"{name} accounts for {received:,} frames of its members", carry, end.text())
+    sent = unsent + counted_of_members(told, "data_sent") + counted_of_members(told, "data_unsent")
+    check(carry["from_host"] == sent, f"{name} accounts for {carry['from_host']:,} frames of its host", told)
+    taken = carry["handed_up"] + carry["host_untaken"] + carry["other_aggregator"]
+    taken += counted_of_members(told, "uncollected") + counted_of_members(told, "wrong_length")
+    received = counted_of_members(told, "data_received")
+    check(received == taken, f"{name} accounts for {received:,} frames of its members", told)
+
+
+def check_taken(outcome: Outcome, ours: End) -> None:
+    """Each frame that the kernel took of its sender came to the daemon, or is counted. Its sender was told of one that overflowed, or that was
+    unfit because its member was gone."""
+    carry, dropped = ours.carry(), kernel_count(OURS, DEVICE, "tx_dropped")
+    came = carry["from_host"] - carry["overflowed"] - carry["unfit"]
+    taken = outcome.sent - outcome.refused
+    check(came + dropped == taken, f"all {taken:,} frames that the kernel took came from {DEVICE}, or it counts them", outcome, dropped, ours.text())
 
 
 def check_whole(outcome: Outcome, ours: End, theirs: End, *, cables_lose: bool) -> None:
     """Each frame that was sent came, or is counted."""
     check_end(ours, "the sending end")
     check_end(theirs, "the receiving end")
-    carry = ours.carry()
-    came = carry["from_host"] - carry["overflowed"] + kernel_count(OURS, DEVICE, "tx_dropped")  # who sent knows of those that overflowed
-    taken = outcome.sent - outcome.refused
-    check(came == taken, f"all {taken:,} frames that the kernel took came from {DEVICE}, or it counts them", outcome)
+    check_taken(outcome, ours)
     up = theirs.carry()["handed_up"] - kernel_count(THEIRS, DEVICE, "rx_dropped") - outcome.lost_here
     check(up == outcome.received, f"all {up:,} frames that were handed up came", outcome, theirs.text())
     sent, taken = ours.data("data_sent"), theirs.data("data_received") + theirs.data("socket_full")

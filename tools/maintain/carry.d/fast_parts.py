@@ -11,8 +11,8 @@ import struct
 import time
 from typing import Any, ContextManager
 
-from bonds import (COMES_BACK, COMES_UP, DEVICE, FLOWS, RIGHTS, Cables, End, Programs, cables, check_end, check_order, check_whole, every,
-                   kernel_count, lay_direct, move_all, pair, run_flows)
+from bonds import (COMES_BACK, COMES_UP, DEVICE, FLOWS, RIGHTS, Cables, End, Programs, cables, check_end, check_order, check_taken, check_whole,
+                   every, kernel_count, lay_direct, move_all, pair, run_flows)
 from checking import Failed, Skipped, check, command, within
 from spaces import OURS, THEIRS, inside, ip, packet_socket, within_space
 from streams import run_stream
@@ -109,9 +109,7 @@ def fast_overload(programs: Programs) -> None:
         outcome = run_flows(programs, 4, every(1, 3, move_all(ours), 1), rate=400000, flows=200)
         check_order(outcome, "in an overload", ours.text())
         check_end(ours, "the sending end")
-        carry = ours.carry()
-        came = carry["from_host"] - carry["overflowed"] + kernel_count(OURS, DEVICE, "tx_dropped")
-        check(came == outcome.sent - outcome.refused, f"all {came:,} frames that the kernel took are counted", outcome, ours.text())
+        check_taken(outcome, ours)
         check_fast(ours)
 
 

@@ -25,8 +25,8 @@ OBJECTS = "1.2.840.10006.300.43.1"
 AGGREGATORS, LISTS, PORTS, COUNTS, LAST_CHANGED = "1.1.1", "1.2.1", "2.1.1", "2.2.1", "3"
 UPTIME = "1.3.6.1.2.1.1.3.0"
 CONFIGURATION = "agentaddress udp:127.0.0.1:1161\nrocommunity public\nmaster agentx\nagentXSocket unix:{}\n"
-# The subagent looks for snmpd every 5 s; a status is no older than a second.
-COMES_BACK, GOES = 15, 4
+# The subagent looks for snmpd every 5 s; a status is no older than a second, and has to be of now behind OLDEST.
+COMES_BACK, GOES, OLDEST = 15, 4, 1.1
 # The bits of LacpState, from the most significant one of its octet on (RFC 2578, 7.1.4: bit 0 comes first).
 BITS = ("activity", "timeout", "aggregation", "synchronization", "collecting", "distributing", "defaulted", "expired")
 # The counters of 7.3.3.1, in the order of the columns.
@@ -175,13 +175,14 @@ def pair(part: Part) -> tuple[Daemon, Daemon, Agent]:
     both = lambda: ours.distributes("a0", "a1") and theirs.distributes("b0", "b1") and status_of(ours)["aggregator"]
     check(within(COMES_UP, both), "both links carry", ours.text())
     within(COMES_BACK, agent.rows)
+    time.sleep(OLDEST)
     return ours, theirs, agent
 
 
 def count_fits(agent: Agent, ours: Daemon) -> bool:
     """Whether the counts are between those of two looks at the status."""
     before = wanted(status_of(ours))
-    time.sleep(1.1)  # what is answered may be a second old
+    time.sleep(OLDEST)
     told, after = agent.walk("2.2"), wanted(status_of(ours))
     names = [name for name in after if name.startswith(f"{COUNTS}.")]
     return len(told) == len(names) == 16 and all(int(before[name]) <= int(told[name]) <= int(after[name]) for name in names)
@@ -381,7 +382,7 @@ def false_daemons(part: Part) -> None:
     good = json.dumps(status_of(ours)).encode()
     for name, answer in false_answers(good).items():
         false = FalseDaemon(ours.folder, name, answer)
-        time.sleep(1.1)
+        time.sleep(OLDEST)
         told = within(GOES, lambda: without_counts(agent.walk()) == right)
         check(told, f"beside a false daemon ({name}) there are the rows of the right one, and no others", agent.walk(), agent.printed()[-500:])
         false.drop()

@@ -192,6 +192,7 @@ def of_axis(tests: Tests, browser: Browser) -> None:
     """The time axis by keys, wheel and drag."""
     browser.choose(UNEQUAL)
     marks = "[...document.querySelectorAll('.timeline svg .grid + text')].map((it) => it.textContent)"
+    browser.wait(f"{marks}.length > 0")  # it is drawn with the next picture
     whole = browser.value(f"document.querySelector('.timeline svg').focus(), {marks}")
     for key in "ArrowRight", "ArrowRight", "Enter":
         browser.key(key)

@@ -17,19 +17,13 @@ DATA = {"data_sent": 90, "data_unsent": 5, "data_received": 50, "uncollected": 4
 
 
 class Told:
-    """An end that has a status, and no daemon."""
+    """An end of one member that has a status, and no daemon."""
 
     def __init__(self, carry: dict[str, int], data: dict[str, int]) -> None:
-        self.told, self.members = carry, data
+        self.status: dict[str, object] = {"carry": carry, "ports": [{"data": data}]}
 
-    def carry(self) -> dict[str, int]:
-        return self.told
-
-    def data(self, name: str) -> int:
-        return self.members[name]
-
-    def text(self) -> str:
-        return "the status"
+    def told(self) -> dict[str, object]:
+        return self.status
 
 
 def said(printed: str) -> list[str]:
