@@ -94,6 +94,27 @@ fn ports_with_a_peer_tell_why(rt: HostRuntime) -> Result<(), SystemFault> {
     plays_with(&rt, rt.alloc(), &[1, 2], 1, &[&both_wait(), &both_attach()])
 }
 
+/// Only ports in DETACHED and WAITING are waited for: a port in ATTACHED, whose peer is not synchronized, is not (6.4.14).
+#[test]
+fn a_port_in_attached_keeps_no_other_waiting(rt: HostRuntime) -> Result<(), SystemFault> {
+    let unsynchronized = Row::Takes(1, end(2, 1, 1, 0x05), end(1, 1, 1, 0x0f));
+    let rows = [
+        Row::Link(1, true),
+        unsynchronized,
+        Row::Ticks(20),
+        Row::Status(1, PortStatus::PartnerNotSynchronized),
+        Row::Link(2, true),
+        Row::Takes(2, end(2, 2, 1, 0x0d), end(1, 2, 1, 0x07)),
+        unsynchronized,
+        Row::Ticks(19),
+        Row::Status(2, PortStatus::Waiting(1)),
+        Row::Ticks(1),
+        Row::Status(1, PortStatus::PartnerNotSynchronized),
+        Row::Status(2, PortStatus::Distributing),
+    ];
+    plays_with(&rt, rt.alloc(), &[1, 2], 1, &[&rows])
+}
+
 /// Ports 1 to 5 come up. Ports 2 and 3 have the same peer, and port 5 has the system itself as its peer.
 fn five_peers() -> [Row<'static>; 10] {
     [
