@@ -70,8 +70,9 @@ class Emulated(Guest):
         memory = os.environ.get("MEMORY", "512")
         words = ["-M", "q35,accel=tcg", "-cpu", os.environ.get("CPU", "max"), "-smp", self.processors, "-m", memory]
         words += ["-icount", f"shift={os.environ.get('SHIFT', '0')},sleep=on", "-nodefaults", "-display", "none", "-no-reboot", "-kernel", kernel.image, "-initrd", f"{self.folder}/initramfs", "-append", APPEND]
+        # Nobody writes these files. A guest of UML locks what it reads, so that qemu would not open it.
         for file in image, kernel.modules:
-            words += ["-drive", f"file={file},if=virtio,format=raw,snapshot=on"]
+            words += ["-drive", f"file={file},file.locking=off,if=virtio,format=raw,snapshot=on"]
         words += ["-serial", f"file:{self.folder}/console", "-device", "virtio-rng-pci", "-device", "virtio-serial-pci"]
         for name, kind in ("shell", "chardev"), ("monitor", "mon"):
             words += ["-chardev", f"socket,path={self.folder}/{name},server=on,wait=off,id={name}"]
