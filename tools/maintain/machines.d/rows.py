@@ -2,6 +2,7 @@
 
 from __future__ import annotations
 
+import re
 import time
 from typing import Callable
 
@@ -14,6 +15,9 @@ from guest import Guest
 SECONDS, LINK_GOES, ONE_END = 5, RATE, 5 * RATE
 # What a daemon may have in hand as it is killed.
 IN_HAND = 256
+# For how long an LACPDU holds with Short Timeout, in milliseconds (6.4.4). In seconds: what a daemon takes at most from there to its line of it,
+# and where it is back so soon, the LACPDUs of a state that is a second old hold.
+TIMEOUT, STARTS, SOON = 3000, 0.5, 0.8
 # Cards whose driver cannot be set to one queue: each processor has one.
 MANY_QUEUES = ("vmxnet3",)
 # For how long cards that were plugged in are looked for.
@@ -139,13 +143,28 @@ def restarts(guest: Guest) -> str:
     return text
 
 
+def holding(state: str, at: float) -> int:
+    """On how many links of a state that was left the last LACPDUs of both ends hold, so many seconds after the guest's kernel began."""
+    links = [line.split() for line in state.splitlines() if line.startswith("link ")]
+    return sum(1000 * at - min(int(heard), int(spoken)) < TIMEOUT for *_, heard, spoken, _ in links)
+
+
 def is_killed(guest: Guest) -> str:
-    outcomes = traffic(guest, SECONDS, lambda: guest.run("systemctl kill --kill-whom=main --signal=SIGKILL lagd@uplink"))
-    text = handed_over(guest, "the daemon is killed", outcomes, IN_HAND)
-    said = guest.text("journalctl --no-pager -u lagd@uplink -o cat | grep 'go on where' | tail -1")
-    check(said.startswith("2 of 2 links"), "the next one goes on where it was", said)
+    """The next daemon goes on with the links whose LACPDUs hold: with all, where it is back within SOON (LAGD, "A crash")."""
+    told: list[str] = []
+    kill = "cut -d ' ' -f 1 /proc/uptime; systemctl kill --kill-whom=main --signal=SIGKILL lagd@uplink; cat /run/lagd/uplink/*.state"
+    outcomes = traffic(guest, SECONDS, lambda: told.append(guest.text(kill)))
+    killed, _, left = told[0].partition("\n")
+    said = guest.text("journalctl --sync; journalctl --no-pager -b -u lagd@uplink -o short-monotonic | grep 'go on where' | tail -1")
+    line = re.search(r"([\d.]+)\] .* (\d) of 2 links", said)
+    if not line or float(line[1]) < float(killed):
+        raise Failed("the next daemon says how many links go on", said, journal(guest))
+    at, count = float(line[1]), int(line[2])
+    least, most = holding(left, at), holding(left, at - STARTS)
+    check(least <= count <= most and (most == 2 or at - float(killed) > SOON), f"of 2 links {least} to {most} go on", said, killed, left)
+    text = handed_over(guest, "the daemon is killed", outcomes, IN_HAND if least == 2 else ONE_END)
     up_again(guest)
-    return text
+    return f"{text}, {count} of 2 links go on"
 
 
 def is_upgraded(guest: Guest) -> str:
