@@ -13,6 +13,8 @@
 #define PART_ROOM 65536
 /* The most parts of an answer: a machine may have many interfaces. */
 #define MOST_PARTS 65536
+/* The last number that the kernel has for errors. */
+#define LAST_ERROR 4095
 
 union message message_of(uint16_t type, unsigned flags, const void *about, size_t length) {
     union message message = {.octets = {0}}; /* libmnl leaves what pads an attribute as it is */
@@ -32,11 +34,11 @@ bool is_whole(const struct nlmsghdr *message, int left) {
     return mnl_nlmsg_ok(message, left) && message->nlmsg_len <= (uint32_t)left;
 }
 
-/* What the last message of an answer tells: 0, or an error, below 0. */
+/* What the last message of an answer tells: 0, or an error, below 0. A number that no error has counts as EPROTO. */
 int error_of(const struct nlmsghdr *message) {
     const int *error = mnl_nlmsg_get_payload(message);
-    if (mnl_nlmsg_get_payload_len(message) >= sizeof *error) return *error;
-    return message->nlmsg_type == NLMSG_ERROR ? -EPROTO : 0;
+    if (mnl_nlmsg_get_payload_len(message) < sizeof *error) return message->nlmsg_type == NLMSG_ERROR ? -EPROTO : 0;
+    return *error <= 0 && *error >= -LAST_ERROR ? *error : -EPROTO;
 }
 
 /* Opens a socket that the kernel alone may send to: any program of the machine may send to others. */

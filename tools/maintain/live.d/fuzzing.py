@@ -21,6 +21,8 @@ ACKNOWLEDGED = struct.pack("=IHHIIi", 36, 2, 0, 0, 0, 0) + struct.pack("=IHHII",
 OPTION = struct.pack("=HH5sxxx", 9, 1, b"mode") + struct.pack("=HHB3x", 5, 3, 5) + struct.pack("=HH12s", 16, 4, b"loadbalance")
 LIST = struct.pack("=HHHH", len(OPTION) + 8, 2 | 0x8000, len(OPTION) + 4, 1 | 0x8000) + OPTION
 OPTIONS = struct.pack("=IHHII", len(LIST) + 20, 30, 2, 0, 0) + bytes([2, 1, 0, 0]) + LIST + struct.pack("=IHHIIi", 20, 3, 2, 0, 0, 0)
+# An answer that ends with a number that no error has.
+WRONG_END = struct.pack("=IHHIIi", 20, 2, 0, 0, 0, -(2**31))
 FRAME = octets(GROUP) + octets("02:00:00:00:00:77") + SLOW_PROTOCOLS.to_bytes(2, "big") + lacpdu("02:00:00:00:00:cc", 1)
 # A control message of level SOL_PACKET and type PACKET_AUXDATA: its head, and a struct tpacket_auxdata without a VLAN tag.
 AUXILIARY = struct.pack("=QII", 36, 263, 8) + struct.pack("=IIIHHHH", 1, 124, 124, 0, 14, 0, 0) + bytes(4)
@@ -34,6 +36,7 @@ SEEDS = [
     b"\5" + MESSAGE,
     b"\6" + MESSAGE + ACKNOWLEDGED,
     b"\6" + OPTIONS,
+    b"\6" + MESSAGE + WRONG_END,
 ]
 
 
