@@ -13,7 +13,7 @@
 #define PART_ROOM 65536
 /* The most parts of an answer: a machine may have many interfaces. */
 #define MOST_PARTS 65536
-/* The last number that the kernel has for errors. */
+/* MAX_ERRNO of the kernel. */
 #define LAST_ERROR 4095
 
 union message message_of(uint16_t type, unsigned flags, const void *about, size_t length) {

@@ -4,7 +4,7 @@ from __future__ import annotations
 
 import re
 import time
-from typing import Callable
+from typing import Callable, NamedTuple
 
 from checking import Failed, check
 from ends import BOND, COMES_UP, NO_BOND, RATE, Outcome, comes_up, journal, ping, status, stream, traffic, up_again, use
@@ -15,9 +15,13 @@ from guest import Guest
 SECONDS, LINK_GOES, ONE_END = 5, RATE, 5 * RATE
 # What a daemon may have in hand as it is killed.
 IN_HAND = 256
-# For how long an LACPDU holds with Short Timeout, in milliseconds (6.4.4). In seconds: what a daemon takes at most from there to its line of it,
-# and where it is back so soon, the LACPDUs of a state that is a second old hold.
-TIMEOUT, STARTS, SOON = 3000, 0.5, 0.8
+# For how long an LACPDU holds with Short Timeout (6.4.4), and how old a state is at most, in seconds.
+TIMEOUT, STATE_AGE = 3, 1.5
+# In seconds: from a daemon's look at the LACPDUs to its line of them, at most; for how long without a daemon those of a state hold in any case,
+# which is the timeout less 1 s for the age of each, and 0.2 s; and when the next daemon is there at the latest.
+TELLS, SOON, BACK = 0.5, 0.8, 3
+# What links may lose that negotiate anew.
+ANEW = 3 * RATE
 # Cards whose driver cannot be set to one queue: each processor has one.
 MANY_QUEUES = ("vmxnet3",)
 # For how long cards that were plugged in are looked for.
@@ -143,10 +147,23 @@ def restarts(guest: Guest) -> str:
     return text
 
 
-def holding(state: str, at: float) -> int:
-    """On how many links of a state that was left the last LACPDUs of both ends hold, so many seconds after the guest's kernel began."""
-    links = [line.split() for line in state.splitlines() if line.startswith("link ")]
-    return sum(1000 * at - min(int(heard), int(spoken)) < TIMEOUT for *_, heard, spoken, _ in links)
+class Left(NamedTuple):
+    """The state that a daemon left: when it was written, and, for each link that carried, when the earlier one of both ends' last LACPDUs was sent;
+    in seconds since the guest's kernel began."""
+
+    written: float
+    spoke: list[float]
+
+    def holding(self, at: float) -> int:
+        """On how many links the LACPDUs of both ends hold at a time."""
+        return sum(at - it < TIMEOUT for it in self.spoke)
+
+
+def left_in(state: str) -> Left:
+    """Reads a state."""
+    lines = [line.split() for line in state.splitlines() if line]
+    written = next((int(line[1]) / 1000 for line in lines if line[0] == "written"), 0)
+    return Left(written, [min(int(line[5]), int(line[6])) / 1000 for line in lines if line[0] == "link" and line[4] == "1"])
 
 
 def is_killed(guest: Guest) -> str:
@@ -154,15 +171,17 @@ def is_killed(guest: Guest) -> str:
     told: list[str] = []
     kill = "cut -d ' ' -f 1 /proc/uptime; systemctl kill --kill-whom=main --signal=SIGKILL lagd@uplink; cat /run/lagd/uplink/*.state"
     outcomes = traffic(guest, SECONDS, lambda: told.append(guest.text(kill)))
-    killed, _, left = told[0].partition("\n")
-    said = guest.text("journalctl --sync; journalctl --no-pager -b -u lagd@uplink -o short-monotonic | grep 'go on where' | tail -1")
-    line = re.search(r"([\d.]+)\] .* (\d) of 2 links", said)
-    if not line or float(line[1]) < float(killed):
-        raise Failed("the next daemon says how many links go on", said, journal(guest))
-    at, count = float(line[1]), int(line[2])
-    least, most = holding(left, at), holding(left, at - STARTS)
-    check(least <= count <= most and (most == 2 or at - float(killed) > SOON), f"of 2 links {least} to {most} go on", said, killed, left)
-    text = handed_over(guest, "the daemon is killed", outcomes, IN_HAND if least == 2 else ONE_END)
+    first, _, state = told[0].partition("\n")
+    killed, left, away = float(first), left_in(state), without_daemon(guest)
+    check(len(left.spoke) == 2 and -STATE_AGE < left.written - killed < TELLS, "a daemon leaves a state of its last second: both links carry", killed, state)
+    said = guest.text("journalctl --no-pager -b -u lagd@uplink -o short-monotonic | grep 'go on where'")
+    lines = [(float(at), int(count)) for at, count in re.findall(r"([\d.]+)\] .* (\d) of 2 links", said) if float(at) > killed]
+    if len(lines) != 1 or away > BACK:
+        raise Failed(f"one daemon follows one that is killed, within {BACK} s ({away:.1f} s)", said, journal(guest))
+    at, count = lines[0]
+    least, most = left.holding(at), left.holding(at - TELLS)
+    check(least <= count <= most and (count == 2 or away > SOON), f"after {away:.1f} s {count} of 2 links go on: {least} to {most} may", said, state)
+    text = handed_over(guest, "the daemon is killed", outcomes, IN_HAND if count == 2 else ANEW)
     up_again(guest)
     return f"{text}, {count} of 2 links go on"
 
