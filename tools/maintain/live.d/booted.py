@@ -133,6 +133,13 @@ class Machine:
         """The number of the daemon's process, within."""
         return self.property("MainPID")
 
+    def comes_up(self) -> None:
+        """Waits until the unit runs; where systemd itself does not, the part is skipped."""
+        active = within(BOOTS, lambda: self.tells("systemctl", "is-active", "lagd@uplink") == "active")
+        if not active and "Journal started" not in self.tells("journalctl", "--no-pager"):
+            raise Skipped(f"systemd does not run here: {self.told()[-300:]}")
+        check(active, "systemd starts the unit, whose Type is notify", self.told())
+
     def told(self) -> str:
         with open(self.log, encoding="utf-8") as it:
             return it.read()[-3000:] + self.tells("journalctl", "--no-pager", "--lines", "60")
@@ -196,10 +203,7 @@ def boot(part: Part) -> None:
     machine = Machine(part)
     try:
         theirs = part.theirs(options=["--timeout", "long"])
-        if not within(BOOTS, lambda: machine.tells("systemctl", "is-active", "lagd@uplink") == "active"):
-            if "Journal started" not in machine.tells("journalctl", "--no-pager"):
-                raise Skipped(f"systemd does not run here: {machine.told()[-300:]}")
-        check(machine.property("ActiveState") == "active", "systemd starts the unit, whose Type is notify", machine.told())
+        machine.comes_up()
         both = lambda: theirs.distributes("b0", "b1") and machine.property("StatusText") == "up, 2 of 2 links carry"
         check(within(COMES_UP, both), "both links distribute, and systemctl status says so", machine.told(), theirs.text())
         text = machine.tells("lagd", "--status")
