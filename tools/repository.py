@@ -19,6 +19,8 @@ TOOLS = os.path.dirname(os.path.abspath(__file__))
 MAINTAIN = os.path.join(TOOLS, "maintain")
 TOP = os.path.dirname(TOOLS)
 CRATES = os.path.join(TOP, "crates")
+# Where tools keep what they fetch: rt wants no links of folders in the repository.
+CACHE = os.environ.get("XDG_CACHE_HOME") or os.path.expanduser("~/.cache")
 # The program that tools/lagtool makes where it is missing; and that which tools run: it, or one that LAGTOOL names.
 MADE = os.path.join(CRATES, "lagtool", "out", "lagtool")
 PROGRAM = os.environ.get("LAGTOOL", MADE)

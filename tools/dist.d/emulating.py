@@ -10,10 +10,10 @@ import tempfile
 
 from counting import Count, clean, ran
 from processors import ARM64, Processor
-from repository import MAINTAIN, TOP
+from repository import CACHE, MAINTAIN, TOP
 
 # Debian's Python of arm64, which is fetched once and not installed: beside that of this machine apt installs none.
-TREE = os.path.join(TOP, "out", "arm64")
+TREE = os.path.join(CACHE, "niwhopera-dist", "arm64")
 VERSION = "3.11"
 PYTHON = os.path.join(TREE, "usr", "bin", f"python{VERSION}")
 PARTS = [f"python{VERSION}-minimal", f"libpython{VERSION}-minimal", f"libpython{VERSION}-stdlib", "libexpat1", "zlib1g", "libffi8", "libssl3"]

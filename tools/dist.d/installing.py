@@ -1,6 +1,6 @@
 """Tries the packages: lintian looks at them, and a minimal tree of Debian installs, runs, upgrades, removes and purges them.
 
-The tree is made by debootstrap once, and kept in out/tree; each run works on a copy. No systemd runs in it.
+The tree is made by debootstrap once, and kept in the cache folder; each run works on a copy. No systemd runs in it.
 """
 
 from __future__ import annotations
@@ -18,10 +18,10 @@ from building import version
 from counting import Count, ran
 from library import printed
 from processors import AMD64, Processor
-from repository import TOP, Missing, say
+from repository import CACHE, Missing, say
 
 RELEASE = "bookworm"
-TREE = os.path.join(TOP, "out", "tree")
+TREE = os.path.join(CACHE, "niwhopera-dist", "tree")
 # What the tree has besides; systemd-standalone-sysusers makes users where systemd is not installed.
 NEEDED = ["python3", "bash-completion", "systemd-standalone-sysusers"]
 # What apt and dpkg write for themselves, and copies that are made as users are made.

@@ -6,7 +6,7 @@ import contextlib
 import os
 from typing import Iterable, Iterator, Sequence
 
-from bonds import CACHE, COMES_UP, DELAYS, Cables, Programs, cables
+from bonds import COMES_UP, DELAYS, PEERS, Cables, Programs, cables
 from checking import Skipped, within
 from fetching import Packages
 from openvswitch import OpenVSwitch
@@ -16,7 +16,7 @@ from spaces import OURS, THEIRS, ip
 @contextlib.contextmanager
 def switch_ends(programs: Programs, delays: Sequence[int] = DELAYS) -> Iterator[tuple[Cables, list[OpenVSwitch]]]:
     """The cables between two bonds whose links all carry."""
-    packages = Packages(CACHE, True)
+    packages = Packages(PEERS, True)
     with cables(programs, delays) as laid:
         ends = [OpenVSwitch(packages, programs.folder, OURS, ("a0", "a1")), OpenVSwitch(packages, programs.folder)]
         try:

@@ -18,12 +18,12 @@ from typing import Callable, Iterator, Sequence, TypedDict
 from checking import Failed, Skipped, check, command, within
 from daemon import OTHER, SYSTEM, Daemon
 from linking import DAEMON, STRICT, build, build_daemon
-from repository import MAINTAIN, TOP, WARNINGS
+from repository import CACHE, MAINTAIN, TOP, WARNINGS
 from spaces import OURS, THEIRS, inside, ip, within_space
 
 MIDDLE = f"lag-middle-{os.getpid()}"
 DEVICE = "lag0"
-CACHE = os.path.join(os.environ.get("XDG_CACHE_HOME") or os.path.expanduser("~/.cache"), "niwhopera-peers")
+PEERS = os.path.join(CACHE, "niwhopera-peers")
 # Of two links, in microseconds.
 DELAYS = (0, 20000)
 FLIGHT = 300

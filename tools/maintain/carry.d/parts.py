@@ -11,7 +11,7 @@ from typing import Callable
 from above import PARTS as ABOVE
 from all_queues import PARTS as ALL_QUEUES
 from announced import announced
-from bonds import (CACHE, COMES_BACK, COMES_UP, DEVICE, FLOWS, RIGHTS, Cables, Carry, End, Event, Programs, ask_gro, cables, check_end,
+from bonds import (COMES_BACK, COMES_UP, DEVICE, FLOWS, PEERS, RIGHTS, Cables, Carry, End, Event, Programs, ask_gro, cables, check_end,
                    check_order, check_whole, every, lay_direct, move_all, pair, run_flows)
 from fast_parts import (fast, fast_away, fast_ends, fast_hash, fast_overload, fast_refused, fast_requeued, fast_troubles, fast_unfit,
                         fast_unwaited, offload)
@@ -216,7 +216,7 @@ def mute(programs: Programs) -> None:
 
 def open_vswitch(programs: Programs) -> None:
     """A bond of Open vSwitch receives."""
-    packages = Packages(CACHE, True)
+    packages = Packages(PEERS, True)
     with cables(programs) as laid:
         peer = OpenVSwitch(packages, programs.folder)
         ours = End(programs, OURS)

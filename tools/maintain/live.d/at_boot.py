@@ -11,11 +11,11 @@ from checking import Skipped, check, within
 from daemon import Daemon, Part
 from daemons import COMES_UP
 from fetching import Packages
-from repository import TOP
+from repository import CACHE, TOP
 from service import FILE
 from spaces import THEIRS, inside, ip
 
-CACHE = os.path.join(os.environ.get("XDG_CACHE_HOME") or os.path.expanduser("~/.cache"), "niwhopera-peers")
+PEERS = os.path.join(CACHE, "niwhopera-peers")
 # The address of our end in those files, and that of the other one.
 OURS_AT, THEIRS_AT = "192.0.2.1", "192.0.2.2"
 BUNDLE = FILE.replace("partner=first\n", "carry=lag0\nhash=layer3+4\n")
@@ -84,7 +84,7 @@ def boot_with(name: str) -> Callable[[Part], None]:
         part.unhurried()
         if not os.path.exists("/dev/net/tun"):
             raise Skipped("there is no /dev/net/tun")
-        machine = Machine(part, more=lay_over(Packages(CACHE, True), name))
+        machine = Machine(part, more=lay_over(Packages(PEERS, True), name))
         try:
             theirs = part.theirs(options=["--carry", "lag0"])
             within(ANSWERS, lambda: inside(THEIRS, "ip", "link", "set", "lag0", "up").returncode == 0)
