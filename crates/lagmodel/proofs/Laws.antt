@@ -25,7 +25,7 @@ pub group_swapped : (a b : Party) → SamePair (pair_of a b) (pair_of b a)
 group_swapped a b = inr (ap (λ i. end_of i a) (individual_sym a b), ap (λ i. end_of i b) (individual_sym a b))
 
 -- the group of parties that name each other
-crossed : (a b c d : Party) → a ≡ d → b ≡ c → SamePair (pair_of a b) (pair_of c d)
+pub crossed : (a b c d : Party) → a ≡ d → b ≡ c → SamePair (pair_of a b) (pair_of c d)
 crossed a b c d e h = subst (λ d. SamePair (pair_of a b) (pair_of c d)) e
     (subst (λ c. SamePair (pair_of a b) (pair_of c a)) h (group_swapped a b))
 

@@ -29,7 +29,7 @@ made : (x : WorldSetup) (s : Side) (call : ModelCall) (stamp : ℕ) (ms : List (
 made x s call stamp ms old mid h c r f a =
     (ms, a, (mid.count, (λ t p. inl (same_parties x s call stamp ms mid r f a t p ∙ h t p, ap (λ (n : Side → ℕ → ℕ). n t p) c)), refl))
 
-abbrev party_of : ℕ → Party
+abbrev pub party_of : ℕ → Party
 party_of n = record {
   system = record { priority = n; mac = [] };
   key = record { 0 = 1 };
@@ -38,7 +38,7 @@ party_of n = record {
   aggregatable = true;
 }
 
-abbrev setup_of : ℕ → SystemSetup
+abbrev pub setup_of : ℕ → SystemSetup
 setup_of n = record {
   system = record { priority = n; mac = [] };
   party = λ p. cond (eqb p 1) (Some (party_of n)) None;
@@ -50,7 +50,7 @@ abbrev priority_of : Side → ℕ
 priority_of One = 1
 priority_of Two = 2
 
-abbrev x₀ : WorldSetup
+abbrev pub x₀ : WorldSetup
 x₀ = record { setup = λ s. setup_of (priority_of s); cables = record { one = 1; two = 1 } ∷ [] }
 
 abbrev pdu₁ : LacpMessage
@@ -59,7 +59,7 @@ pdu₁ = record { actor = party_of 2; partner = zero_party; synchronized = false
 abbrev pdu₂ : LacpMessage
 pdu₂ = record { actor = party_of 1; partner = party_of 2; synchronized = true }
 
-abbrev pdu₃ : LacpMessage
+abbrev pub pdu₃ : LacpMessage
 pdu₃ = record { actor = party_of 2; partner = party_of 1; synchronized = true }
 
 abbrev next : Side → ℕ → List (Move × Bool) → World → World
@@ -112,21 +112,21 @@ abbrev w₈ : World
 w₈ = next Two 0 [] (handed_up true (Data One 1 48 0) (with_messages w₇ 1 Two []))
 
 -- no port of these is in an aggregator
-abbrev Outside : (ℕ → Option PortFacts) → Type 0
+abbrev pub Outside : (ℕ → Option PortFacts) → Type 0
 Outside ports = (q : ℕ) (b : PortFacts) → ports q ≡ Some b → b.aggregator ≢ Some 1
 
-outside_first : (n : ℕ) → Outside (first_view (setup_of n)).port
+pub outside_first : (n : ℕ) → Outside (first_view (setup_of n)).port
 outside_first n q b h e = let m = mapped_some first_port (cond (eqb q 1) (Some (party_of n)) None) b h in none-some 1
     (ap (λ (a : PortFacts). a.aggregator) m.2 ∙ e)
 
-outside_kept : (ports : ℕ → Option PortFacts) (a : PortFacts) (f : PortFacts → PortFacts) → ports 1 ≡ Some a
+pub outside_kept : (ports : ℕ → Option PortFacts) (a : PortFacts) (f : PortFacts → PortFacts) → ports 1 ≡ Some a
     → ((f a).aggregator ≡ Some 1 → ⊥) → Outside ports → Outside (at_port ports 1 f)
 outside_kept ports a f h n i q b hb e = elim (changed_port ports 1 q f a b h hb) [
   | inl x ↦ n (ap (λ (b : PortFacts). b.aggregator) x.1 ∙ e)
   | inr x ↦ i q b x.1 e
 ]
 
-ne₁ : (party_of 2).system ≢ (party_of 1).system
+pub ne₁ : (party_of 2).system ≢ (party_of 1).system
 ne₁ e = let h : ◌≡◌ {A = ℕ} 2 1 = ap (λ (s : SystemId). s.priority) e in absurd (omega (arith, h))
 
 ne₂ : (party_of 1).system ≢ (party_of 2).system
@@ -188,7 +188,7 @@ e₈ = (
       (λ t p. refl) refl refl refl tt,
 )
 
-fixed₀ : IsWorldSetup x₀
+pub fixed₀ : IsWorldSetup x₀
 fixed₀ = record {
   setup = λ s. record {
     system = λ p a h. party_system s p a h;

@@ -2,4 +2,8 @@ pub mod View
 pub mod Move
 pub mod World
 pub mod Law
+pub mod Overtaking
+pub mod AnyPeer
+pub mod TruthfulPeer
+pub mod Succession
 pub mod Bridge

@@ -51,3 +51,41 @@ ghost use Rattle.lagmodel.specs.Law.{SomethingArrives};
 pub fn something_arrives()
     ensures { SomethingArrives }
 {}
+
+ghost use Rattle.lagmodel.specs.AnyPeer.{EachCallIsOne, HoldsWithAnyPeer, OrderHolds, TookInSync};
+
+/// One system beside peers of any kind and number, however they are wired: ports that distribute in one aggregator name one partner; a
+/// port that distributes, and is not defaulted, took last an LACPDU that said IN_SYNC, whose Actor it names; and what the peers hand up of a
+/// conversation that was never forced is a subsequence of what was sent, if a Marker Response answers the marker that has come first on its
+/// cable; also where LACPDUs overtake. Each lawful call is one of the happenings (6.2.4, 6.4.9, 6.4.14, 6.5.4; profile).
+pub fn order_with_any_peer()
+    ensures one_partner { HoldsWithAnyPeer (λ w. OnePartner w.view) }
+    ensures took_synchronized { HoldsWithAnyPeer TookInSync }
+    ensures in_order { HoldsWithAnyPeer OrderHolds }
+    ensures each_call { EachCallIsOne }
+{}
+
+ghost use Rattle.lagmodel.specs.Succession.{HoldsThroughSuccession};
+
+/// The headline, as in `headline`, where at any time another system may take the place of one and go on where it was, as after a warm start:
+/// one partner, agreement and order (6.2.4, 6.3.6, 6.4.14; profile).
+pub fn headline_through_succession()
+    ensures one_partner { HoldsThroughSuccession (λ x w. (s : Side) → OnePartner (w.view s)) }
+    ensures agree { HoldsThroughSuccession (λ x w. EndsAgree x w) }
+    ensures in_order { HoldsThroughSuccession (λ x w. InOrder w) }
+{}
+
+ghost use Rattle.lagmodel.specs.AnyPeer.{ArrivesAtAnyPeer};
+
+/// `order_with_any_peer` is not empty: there is a run in which a port distributes and a frame arrives (profile).
+pub fn something_arrives_at_any_peer()
+    ensures { ArrivesAtAnyPeer }
+{}
+
+ghost use Rattle.lagmodel.specs.TruthfulPeer.{NamesTruthfulPeer};
+
+/// Agreement beside peers that name themselves as they are, among others that lie: a port that is not defaulted has recorded such a peer as it
+/// is, unless that changed since it sent the LACPDU that the port took last (6.3.6, 6.4.9; profile).
+pub fn a_truthful_peer_is_named_as_it_is()
+    ensures { NamesTruthfulPeer }
+{}

@@ -1,0 +1,146 @@
+-- Order, whatever is at the other ends.
+use Rattle.lagmodel.proofs.Common.{Bool, List, None, Option, Some, [], eqb, eqb-true, false, inl, inr, refl, subst, sym, ℕ, ◌∙◌, ◌∷◌, ◌≡◌}
+use Rattle.lagmodel.proofs.Common.{cases_Bool, none-some, true≢false, IsSystemSetup, Members, Move, Lacp, Marker, ModelCall}
+use Rattle.lagmodel.proofs.Common.{OnePartner, Response, SystemSetup}
+use Rattle.lagmodel.proofs.Common.{Control, Data, Message, One}
+use Rattle.lagmodel.specs.AnyPeer.{Scene, Happening, Calls, Gone, Says, Answers, HandsUp, Takes, Cuts, Joins, Restarts, Forces, Comes}
+use Rattle.lagmodel.specs.AnyPeer.{OvertakesOut, OvertakesBack}
+use Rattle.lagmodel.proofs.Common.{AllAllowed, view_after_all}
+use Rattle.lagmodel.specs.AnyPeer.{EachCallIsOne}
+use Rattle.lagmodel.proofs.Overtaken.{lanes_out_overtaken, lanes_back_overtaken}
+use Rattle.lagmodel.specs.AnyPeer.{ComesAll, HoldsWithAnyPeer, IsNoResponse, Moves, OrderHolds, TookInSync, first_scene, only, scene_after}
+use Rattle.lagmodel.proofs.Base.{cond_false}
+use Rattle.lagmodel.proofs.Lines.{answers, ResponseBelow}
+use Rattle.lagmodel.proofs.Orderly.{handed_front}
+use Rattle.lagmodel.proofs.Lanes.{Lanes}
+use Rattle.lagmodel.proofs.Laws.{crossed}
+use Rattle.lagmodel.proofs.Ports.{members_first, one_partner}
+use Rattle.lagmodel.proofs.Stamps.{AllHeard, heard_first, heard_own}
+use Rattle.lagmodel.proofs.Worlds.{members_own}
+use Rattle.lagmodel.proofs.LaneMoves.{Within, lanes_own, lanes_back_plain, lanes_back_response, lanes_out_taken, lanes_back_taken, lanes_handed}
+use Rattle.lagmodel.proofs.LaneMoves.{lanes_forced, lanes_cut, lanes_joined, lanes_restarted, lanes_first}
+
+pub record Kept (u : SystemSetup) (ends : ℕ → Option ℕ) (w : Scene) : Type 0 where
+  pub lanes : Lanes One ends w.view.flows w.out w.back w.whole w.sent w.collected w.forced
+  pub members : Members u w.view.port
+  pub heard : AllHeard w.view.port w.taken
+
+-- what changes the cables and the records alone
+lanes_kept : (u : SystemSetup) (ends : ℕ → Option ℕ) (w : Scene) → Kept u ends w → (v : Scene) → v.view ≡ w.view → v.taken ≡ w.taken
+    → Lanes One ends v.view.flows v.out v.back v.whole v.sent v.collected v.forced → Kept u ends v
+lanes_kept u ends w i v e f l = record {
+  lanes = l;
+  members = subst (λ y. Members u y.port) (sym e) i.members;
+  heard = subst (λ t. AllHeard v.view.port t) (sym f) (subst (λ y. AllHeard y.port w.taken) (sym e) i.heard);
+}
+
+moves_kept : (u : SystemSetup) (ends : ℕ → Option ℕ) (call : ModelCall) (stamp : ℕ) (ms : List (Move × Bool)) (old new : Scene)
+    → Within call stamp ends old.back old.whole old.forced → Kept u ends old → Moves u ends call stamp ms old new → Kept u ends new
+moves_kept u ends call stamp [] old new w i z = subst (Kept u ends) (sym z) i
+moves_kept u ends call stamp (m ∷ ms) old new w i z =
+    moves_kept u ends call stamp ms (scene_after u ends stamp m old) new w
+    (record {
+      lanes = lanes_own One ends old.whole old.collected old.forced old.back u call stamp (λ p. 0) m.1 old.view m.0 old.out old.sent z.0 w
+          i.lanes;
+      members = members_own u call old.view m.0 z.0 w.running i.members;
+      heard = heard_own u call stamp old.view m.0 old.taken z.0 w.running i.heard;
+    }) z.1
+
+pub only_there : (c d : ℕ) → only c d ≡ Some 0 → d ≡ c
+only_there c d h = elim (cases_Bool (eqb d c)) [
+  | inl e ↦ eqb-true d c e
+  | inr e ↦ absurd (none-some 0 (sym (cond_false (eqb d c) (Some 0) None e) ∙ h))
+]
+
+below_none : (m : Message) → IsNoResponse m → (b : ℕ) → ResponseBelow b m
+below_none (Control (Lacp pdu) stamp) h b = tt
+below_none (Control (Marker mac p n) stamp) h b = tt
+below_none (Control (Response mac p n) stamp) h b = absurd h
+below_none (Data origin g k n) h b = tt
+
+answers_none : (m : Message) → IsNoResponse m → (n : ℕ) → answers n m ≡ false
+answers_none (Control (Lacp pdu) stamp) h n = refl
+answers_none (Control (Marker mac p i) stamp) h n = refl
+answers_none (Control (Response mac p i) stamp) h n = absurd h
+answers_none (Data origin g k i) h n = refl
+
+pub comes_kept : (u : SystemSetup) (ends : ℕ → Option ℕ) (e : Happening) (old new : Scene) → IsSystemSetup u
+    → ((c d p : ℕ) → ends c ≡ Some p → ends d ≡ Some p → c ≡ d) → Kept u ends old → Comes u ends e old new → Kept u ends new
+comes_kept u ends (Calls call stamp moves) old new f one i z =
+    moves_kept u ends call stamp moves old new
+    (record { running = z.0.running; came = z.0.came; downed = z.0.downed; forcing = z.0.forcing }) i z.1
+comes_kept u ends (Gone c m ms) old new f one i z =
+    subst (Kept u ends) (sym z.1) (lanes_kept u ends old i _ refl refl (lanes_back_taken i.lanes c m ms z.0))
+comes_kept u ends (Says c kept m) old new f one i z =
+    subst (Kept u ends) (sym z.1) (lanes_kept u ends old i _ refl refl
+    (lanes_back_plain One ends old.whole old.sent old.collected old.forced old.view.flows old.out old.back (only c) kept 0 m
+    (below_none m z.0) (answers_none m z.0) i.lanes))
+comes_kept u ends (Answers c kept mac p n stamp ms) old new f one i z =
+    subst (Kept u ends) (sym z.1) (lanes_kept u ends old i _ refl refl
+    (lanes_back_response One ends old.whole old.sent old.collected old.forced old.view.flows old.out old.back (only c) kept 0 mac p n stamp
+    (λ d h. (ms, subst (λ d. old.out d ≡ Control (Marker mac p n) stamp ∷ ms) (sym (only_there c d h)) z.0)) i.lanes))
+comes_kept u ends (HandsUp c g k n ms) old new f one i z =
+    subst (Kept u ends) (sym z.1) (lanes_kept u ends old i _ refl refl (lanes_handed i.lanes c g k n ms one z.0))
+comes_kept u ends (Takes c m ms) old new f one i z =
+    subst (Kept u ends) (sym z.1) (lanes_kept u ends old i _ refl refl (lanes_out_taken i.lanes c m ms z.0))
+comes_kept u ends (OvertakesOut c ms) old new f one i z =
+    subst (Kept u ends) (sym z.1) (lanes_kept u ends old i _ refl refl
+    (lanes_out_overtaken One ends old.view.flows old.whole old.sent old.collected old.forced old.out old.back c ms z.0 i.lanes))
+comes_kept u ends (OvertakesBack c ms) old new f one i z =
+    subst (Kept u ends) (sym z.1) (lanes_kept u ends old i _ refl refl
+    (lanes_back_overtaken One ends old.view.flows old.whole old.sent old.collected old.forced old.out old.back c ms z.0 i.lanes))
+comes_kept u ends (Cuts c) old new f one i z =
+    subst (Kept u ends) (sym z) (lanes_kept u ends old i _ refl refl (lanes_cut i.lanes c))
+comes_kept u ends (Joins c) old new f one i z =
+    subst (Kept u ends) (sym z) (lanes_kept u ends old i _ refl refl (lanes_joined i.lanes c))
+comes_kept u ends Restarts old new f one i z = subst (Kept u ends) (sym z)
+    (record { lanes = lanes_restarted i.lanes u.first_marker; members = members_first u f; heard = heard_first u old.taken })
+comes_kept u ends (Forces g k) old new f one i z =
+    subst (Kept u ends) (sym z) (lanes_kept u ends old i _ refl refl (lanes_forced i.lanes g k))
+
+all_kept : (u : SystemSetup) (ends : ℕ → Option ℕ) (es : List Happening) (old new : Scene) → IsSystemSetup u
+    → ((c d p : ℕ) → ends c ≡ Some p → ends d ≡ Some p → c ≡ d) → Kept u ends old → ComesAll u ends es old new → Kept u ends new
+all_kept u ends [] old new f one i z = subst (Kept u ends) (sym z) i
+all_kept u ends (e ∷ es) old new f one i z = all_kept u ends es z.0 new f one (comes_kept u ends e old z.0 f one i z.1) z.2
+
+pub first_kept : (u : SystemSetup) (ends : ℕ → Option ℕ) → IsSystemSetup u → Kept u ends (first_scene u)
+first_kept u ends f =
+    record { lanes = lanes_first One ends u.first_marker; members = members_first u f; heard = heard_first u _ }
+
+kept : (u : SystemSetup) (ends : ℕ → Option ℕ) (es : List Happening) (w : Scene) → IsSystemSetup u
+    → ((c d p : ℕ) → ends c ≡ Some p → ends d ≡ Some p → c ≡ d) → ComesAll u ends es (first_scene u) w → Kept u ends w
+kept u ends es w f one z = all_kept u ends es (first_scene u) w f one
+    (record { lanes = lanes_first One ends u.first_marker; members = members_first u f; heard = heard_first u _ }) z
+
+pub order_with_any_peer : HoldsWithAnyPeer OrderHolds
+order_with_any_peer u ends es w f one z g k h = handed_front ((kept u ends es w f one z).lanes.orderly g k 0 h)
+
+pub partner_with_any_peer : HoldsWithAnyPeer (λ w. OnePartner w.view)
+partner_with_any_peer u ends es w f one z = one_partner u w.view (kept u ends es w f one z).members
+
+pub took_from_any_peer : HoldsWithAnyPeer TookInSync
+took_from_any_peer u ends es w f one z p a h d n =
+    let i = kept u ends es w f one z in
+    let r = i.heard p a h n in
+    let y = r.3 ((i.members.member p a h d).1) in (
+      r.0,
+      r.1,
+      r.2,
+      y.0,
+      λ g. elim y.1 [
+        | inl e ↦ crossed r.0.pdu.actor r.0.pdu.partner a.party a.partner (sym r.2) e
+        | inr n ↦ absurd (true≢false (sym g ∙ n))
+      ],
+    )
+
+all_moves : (u : SystemSetup) (ends : ℕ → Option ℕ) (call : ModelCall) (stamp : ℕ) (accepts : Move → Bool) (ms : List Move) (old : Scene)
+    → AllAllowed u call old.view ms
+    → (moves : List (Move × Bool)) × (new : Scene) × Moves u ends call stamp moves old new × (new.view ≡ view_after_all u ms old.view)
+all_moves u ends call stamp accepts [] old a = ([], old, refl, refl)
+all_moves u ends call stamp accepts (m ∷ ms) old a =
+    let r = all_moves u ends call stamp accepts ms (scene_after u ends stamp (m, accepts m) old) a.1 in
+    ((m, accepts m) ∷ r.0, r.1, (a.0, r.2), r.3)
+
+pub each_call_is_one : EachCallIsOne
+each_call_is_one u ends call stamp accepts seen old v h fits =
+    let r = all_moves u ends call stamp accepts h.0 old h.1 in (r.0, r.1, (fits, r.2), r.3 ∙ sym h.3)

@@ -1,0 +1,64 @@
+-- A system that takes the place of one keeps the facts of two systems.
+use Rattle.lagmodel.proofs.Common.{Bool, List, None, Option, Some, [], inl, inr, refl, subst, sym, ℕ, ◌∷◌, ◌≡◌, ◌≤◌}
+use Rattle.lagmodel.proofs.Common.{DistributorFacts, Event, Flushing, IsWorldSetup, Message, On, One, Party, Side}
+use Rattle.lagmodel.proofs.Common.{TakenLacpdu, Two, View, World, WorldSetup, conversation_port, first_world, party_at}
+use Rattle.lagmodel.specs.Succession.{IsSuccessor, SuccessionRun, with_successor}
+use Rattle.lagmodel.proofs.Lines.{MarkerBelow, ResponseBelow, every_weaker, marker_higher, response_higher}
+use Rattle.lagmodel.proofs.Lanes.{Lanes}
+use Rattle.lagmodel.proofs.Stamps.{Stamps}
+use Rattle.lagmodel.proofs.Worlds.{Half, Lawful}
+use Rattle.lagmodel.proofs.Events.{happens_kept, lawful_first}
+
+lanes_succeeded : (me : Side) (ends : ℕ → Option ℕ) (f g : DistributorFacts) (out back : ℕ → List Message) (whole : ℕ → Bool)
+    (sent collected : ℕ → ℕ → List ℕ) (forced : ℕ → ℕ → Bool)
+    → ((h k p : ℕ) → conversation_port (f.state h k) ≡ Some p → g.state h k ≡ On p)
+    → ((h k p n : ℕ) → g.state h k ≡ Flushing p n → ⊥) → f.next ≤ g.next
+    → Lanes me ends f out back whole sent collected forced → Lanes me ends g out back whole sent collected forced
+lanes_succeeded me ends f g out back whole sent collected forced on waits next i = record {
+  waits = λ h k p n e. absurd (waits h k p n e);
+  markers = λ c. every_weaker (MarkerBelow f.next) (MarkerBelow g.next) (marker_higher f.next g.next next) (out c) (i.markers c);
+  responses = λ c. every_weaker (ResponseBelow f.next) (ResponseBelow g.next) (response_higher f.next g.next next) (back c) (i.responses c);
+  origin = i.origin;
+  cut = i.cut;
+  orderly = λ h k c u. let o = i.orderly h k c u in record {
+    place = elim o.place [
+      | inl e ↦ inl e
+      | inr y ↦ inr (y.0, y.1, subst (λ d. conversation_port d ≡ Some y.0) (sym (on h k y.0 y.2)) refl)
+    ];
+    behind = λ p n e. absurd (waits h k p n e);
+    answered = λ p n e. absurd (waits h k p n e);
+    in_order = o.in_order;
+  };
+}
+
+half_succeeded : (x : WorldSetup) (w : World) (s : Side) (after : View) (ends theirs : ℕ → Option ℕ) (out back : ℕ → List Message)
+    (their_taken : ℕ → Option TakenLacpdu) → IsSuccessor x w s after
+    → Half (x.setup s) s ends theirs (w.view s) (party_at (w.view s)) (w.count s) out back w.whole (w.sent s) (w.collected s) (w.forced s)
+    (w.taken s) their_taken
+    → Half (x.setup s) s ends theirs after (party_at after) (w.count s) out back w.whole (w.sent s) (w.collected s) (w.forced s)
+    (w.taken s) their_taken
+half_succeeded x w s after ends theirs out back their_taken y i = record {
+  members = y.members;
+  lanes = lanes_succeeded s ends (w.view s).flows after.flows out back w.whole (w.sent s) (w.collected s) (w.forced s) y.on y.waits y.next
+      i.lanes;
+  stamps = subst (λ (party : ℕ → Option Party). Stamps ends theirs party (w.count s) out their_taken) (λ i p. sym (y.parties p) i) i.stamps;
+  heard = y.heard;
+}
+
+succeeds_kept : (x : WorldSetup) (s : Side) (after : View) (w : World) → IsSuccessor x w s after → Lawful x w
+    → Lawful x (with_successor w s after)
+succeeds_kept x One after w y i One = half_succeeded x w One after _ _ _ _ _ y (i One)
+succeeds_kept x One after w y i Two = i Two
+succeeds_kept x Two after w y i Two = half_succeeded x w Two after _ _ _ _ _ y (i Two)
+succeeds_kept x Two after w y i One = i One
+
+all_kept : (x : WorldSetup) (es : List (Option Event)) (old new : World) → IsWorldSetup x → Lawful x old → SuccessionRun x es old new
+    → Lawful x new
+all_kept x [] old new f i z = subst (Lawful x) (sym z) i
+all_kept x (Some e ∷ es) old new f i z = all_kept x es z.0 new f (happens_kept x e old z.0 f i z.1) z.2
+all_kept x (None ∷ es) old new f i z =
+    all_kept x es z.0 new f (subst (Lawful x) (sym z.1.3) (succeeds_kept x z.1.0 z.1.1 old z.1.2 i)) z.2
+
+pub lawful_through_succession : (x : WorldSetup) (es : List (Option Event)) (w : World) → IsWorldSetup x
+    → SuccessionRun x es (first_world x) w → Lawful x w
+lawful_through_succession x es w f z = all_kept x es (first_world x) w f (lawful_first x f) z

@@ -1,0 +1,14 @@
+use Rattle.lagmodel.proofs.AnyPeer.{each_call_is_one, order_with_any_peer, partner_with_any_peer, took_from_any_peer}
+use Rattle.lagmodel.proofs.order_with_any_peer.Goals as goal
+
+pub returns-clause-one_partner : goal.returns-clause-one_partner
+returns-clause-one_partner c = partner_with_any_peer
+
+pub returns-clause-took_synchronized : goal.returns-clause-took_synchronized
+returns-clause-took_synchronized c = took_from_any_peer
+
+pub returns-clause-in_order : goal.returns-clause-in_order
+returns-clause-in_order c = order_with_any_peer
+
+pub returns-clause-each_call : goal.returns-clause-each_call
+returns-clause-each_call c = each_call_is_one
