@@ -1,0 +1,9 @@
+mod Common
+pub mod NetworkLines
+pub mod Networks
+pub mod NetworkEvents
+pub mod NetworkLaws
+pub mod NetworkWitness
+pub mod NetworkCounting
+pub mod NetworkCalls
+pub mod NetworkArriving

@@ -1,0 +1,97 @@
+-- The serial numbers of each conversation of a network are 0, 1, 2 and so on.
+use Rattle.lagnetwork.proofs.Common.{Bool, List, None, Option, Some, [], arith, get_or, inl, inr, length, length-append, subst, sym, ℕ}
+use Rattle.lagnetwork.proofs.Common.{◌++◌, ◌<◌, ◌∙◌, ◌∷◌, ◌≡◌, cases_lt, Act, Move, Sends, Sends_frame, Took, act, ModelCall, Control, Data, Message, sent_after}
+use Rattle.lagnetwork.specs.Network.{Place, NetworkSetup, Network, NetworkCall, NetworkEvent, NetworkHappens, NetworkRun, network_after, network_after_all}
+use Rattle.lagnetwork.specs.Network.{first_network, without_first, handed_up_from, DeliversFirstAt, RepeatsFirstAt, at_system}
+use Rattle.lagnetwork.specs.NetworkLaw.{AllCountFromZero}
+use Rattle.std.proofs.lemmas.List.{get_or_append_left, get_or_push}
+use Rattle.lagmodel.proofs.Lanes.{two_cases}
+use Rattle.lagnetwork.proofs.Networks.{there, elsewhere, is_or_not}
+
+abbrev IsCount : List ℕ → Type 0
+IsCount xs = (i : ℕ) → i < length xs → get_or xs i 0 ≡ i
+
+one_more : (xs : List ℕ) → IsCount xs → IsCount (xs ++ length xs ∷ [])
+one_more xs h i lt = elim (cases_lt i (length xs)) [
+  | inl below ↦ get_or_append_left xs (length xs ∷ []) 0 i below ∙ h i below
+  | inr above ↦ (let same : i ≡ length xs = omega (arith, length-append xs (length xs ∷ [])) in get_or_push xs (length xs) 0 i (sym same)
+      ∙ sym same)
+]
+
+counted_act : (o : Option Act) (sent : ℕ → ℕ → List ℕ) → ((g k : ℕ) → IsCount (sent g k)) → (g k : ℕ) → IsCount (sent_after o sent g k)
+counted_act None sent h g k = h g k
+counted_act (Some (Sends p pdu)) sent h g k = h g k
+counted_act (Some (Took p pdu)) sent h g k = h g k
+counted_act (Some (Sends_frame p j l)) sent h g k = elim (two_cases sent j l (sent j l ++ length (sent j l) ∷ []) g k) [
+  | inl x ↦ subst IsCount (sym x.2) (one_more (sent j l) (h j l))
+  | inr x ↦ subst IsCount (sym x.1) (h g k)
+]
+
+counted_all : (x : NetworkSetup) (s : ℕ) (stamp : ℕ) (ms : List (Move × Bool)) (w : Network) → AllCountFromZero w
+    → AllCountFromZero (network_after_all x s stamp ms w)
+counted_all x s stamp [] w h = h
+counted_all x s stamp (m ∷ ms) w h = counted_all x s stamp ms (network_after x s stamp m w) one
+  where
+    more : ℕ → ℕ → List ℕ
+    more = sent_after (act (x.setup s) m.0 (w.view s)) (w.sent s)
+
+    one : AllCountFromZero (network_after x s stamp m w)
+    one t g k = is_or_not (IsCount (at_system w.sent s more t g k)) t s
+        (λ e. subst (λ t. IsCount (at_system w.sent s more t g k)) (sym e) (subst (λ (f : ℕ → ℕ → List ℕ). IsCount (f g k))
+        (sym (there w.sent s more)) (counted_act (act (x.setup s) m.0 (w.view s)) (w.sent s) (h s) g k)))
+        (λ ne. subst (λ (f : ℕ → ℕ → List ℕ). IsCount (f g k)) (sym (elsewhere w.sent s more t ne)) (h t g k))
+
+counted_call : (x : NetworkSetup) (s : ℕ) (call : ModelCall) (stamp : ℕ) (old mid new : Network) → AllCountFromZero mid
+    → NetworkCall x s call stamp old mid new → AllCountFromZero new
+counted_call x s call stamp old mid new h z = subst AllCountFromZero (sym z.2.2) (counted_all x s stamp z.0 mid h)
+
+counted_up : (t : ℕ) (o : Option Place) (up : Option ℕ) (g k n : ℕ) (w : Network) → AllCountFromZero w
+    → AllCountFromZero (handed_up_from t o up g k n w)
+counted_up t None up g k n w h = h
+counted_up t (Some a) None g k n w h = h
+counted_up t (Some a) (Some y) g k n w h = h
+
+counted_comes : (x : NetworkSetup) (s p : ℕ) (line : List Message) (old new : Network) → AllCountFromZero old
+    → DeliversFirstAt x s p line old new → AllCountFromZero new
+counted_comes x s p [] old new h z = subst AllCountFromZero (sym z) h
+counted_comes x s p (Control pdu stamp ∷ ms) old new h z = subst AllCountFromZero (sym z.2)
+    (counted_call x s (ModelCall.Receive p (Some pdu)) stamp old old z.0 h z.1)
+counted_comes x s p (Data origin g k n ∷ ms) old new h z = subst AllCountFromZero (sym z.3)
+    (counted_up s (x.far s p) z.0 g k n (without_first s p z.1) (counted_call x s (ModelCall.Receive p None) 0 old old z.1 h z.2))
+
+counted_again : (x : NetworkSetup) (s p : ℕ) (line : List Message) (old new : Network) → AllCountFromZero old
+    → RepeatsFirstAt x s p line old new → AllCountFromZero new
+counted_again x s p [] old new h z = subst AllCountFromZero (sym z) h
+counted_again x s p (Data origin g k n ∷ ms) old new h z = subst AllCountFromZero (sym z) h
+counted_again x s p (Control pdu stamp ∷ ms) old new h z = counted_call x s (ModelCall.Receive p (Some pdu)) stamp old old new h z
+
+counted_happens : (x : NetworkSetup) (e : NetworkEvent) (old new : Network) → AllCountFromZero old → NetworkHappens x e old new
+    → AllCountFromZero new
+counted_happens x (NetworkEvent.Tick s n) old new h z = counted_call x s ModelCall.Tick 0 old old new h z
+counted_happens x (NetworkEvent.Emit s p) old new h z = counted_call x s ModelCall.Transmit 0 old old new h z
+counted_happens x (NetworkEvent.Deliver s p) old new h z = counted_comes x s p (old.towards s p) old new h z
+counted_happens x (NetworkEvent.Lose s p) old new h z = subst AllCountFromZero (sym z) h
+counted_happens x (NetworkEvent.Repeat s p) old new h z = counted_again x s p (old.towards s p) old new h z
+counted_happens x (NetworkEvent.Cut s p) old new h z = subst AllCountFromZero (sym z) h
+counted_happens x (NetworkEvent.Join s p) old new h z = subst AllCountFromZero (sym z) h
+counted_happens x (NetworkEvent.Sense s p) old new h z = counted_call x s (ModelCall.Set_link p (old.whole s p)) 0 old old new h z
+counted_happens x (NetworkEvent.Restart s) old new h z = subst AllCountFromZero (sym z.2) h
+counted_happens x (NetworkEvent.Configure s p change) old new h z = counted_call x s ModelCall.Configure 0 old old new h z
+counted_happens x (NetworkEvent.Offer s g frame) old new h z = counted_call x s ModelCall.Offer 0 old old new h z
+counted_happens x (NetworkEvent.Move_conversation s g k p) old new h z = counted_call x s ModelCall.Move_conversation 0 old old new h z
+counted_happens x (NetworkEvent.Force s g k) old new h z = elim z [
+  | inl e ↦ subst AllCountFromZero (sym e) h
+  | inr y ↦ counted_call x s (ModelCall.Force g k) 0 old _ new h y
+]
+counted_happens x (NetworkEvent.Hear s p pdu stamp) old new h z = counted_call x s (ModelCall.Receive p pdu) stamp old old new h z.1
+
+counted_run : (x : NetworkSetup) (es : List NetworkEvent) (old new : Network) → AllCountFromZero old → NetworkRun x es old new
+    → AllCountFromZero new
+counted_run x [] old new h z = subst AllCountFromZero (sym z) h
+counted_run x (e ∷ es) old new h z = counted_run x es z.0 new (counted_happens x e old z.0 h z.1) z.2
+
+none_sent : (i : ℕ) → i < 0 → ⊥
+none_sent i lt = omega arith
+
+pub counts_from_zero : (x : NetworkSetup) (es : List NetworkEvent) (w : Network) → NetworkRun x es (first_network x) w → AllCountFromZero w
+counts_from_zero x es w z = counted_run x es (first_network x) w (λ s g k i lt. absurd (none_sent i lt)) z

@@ -1,0 +1,465 @@
+-- Every event of a network preserves the facts, and so does every run.
+use Rattle.lagnetwork.proofs.Common.{Bool, List, None, Option, Some, [], ap, cond, eq-eqb, eqb, eqb-true, false, inl, inr, refl, subst, sym, true, ℕ}
+use Rattle.lagnetwork.proofs.Common.{◌&&◌, ◌++◌, ◌∙◌, ◌∷◌, ◌≡◌, ◌⊎◌, cases_Bool, false≢true, true≢false, none-some, and_from, and_parts}
+use Rattle.lagnetwork.proofs.Common.{ModelCall, Receive, Set_link, Force, Configure, Tick, Transmit, Offer, Move_conversation}
+use Rattle.lagnetwork.proofs.Common.{ControlMessage, first_view, is_restart, Control, Data, Message, One, Side, at_two, party_at, at_cable}
+use Rattle.lagmodel.specs.View.{Restart}
+use Rattle.std.specs.Prelude.{drop}
+use Rattle.lagnetwork.specs.Network.{Place, NetworkSetup, IsNetworkSetup, Network, NetworkCall, CountsNetworkChanges, is_place}
+use Rattle.lagnetwork.specs.Network.{at_place, at_system, is_end, ends_at, is_at, first_network, NetworkEvent, NetworkHappens, NetworkRun}
+use Rattle.lagnetwork.specs.Network.{without_first, handed_up_from, DeliversFirstAt, RepeatsFirstAt}
+use Rattle.lagmodel.proofs.Base.{cond_true, cond_false}
+use Rattle.lagmodel.proofs.Lines.{IsFrom, Every}
+use Rattle.lagmodel.proofs.Ports.{members_first}
+use Rattle.lagmodel.proofs.Lanes.{two_cases}
+use Rattle.lagmodel.proofs.LaneMoves.{lanes_handed, lanes_restarted, lanes_first, cable_cases}
+use Rattle.lagmodel.proofs.Stamps.{heard_first, stamps_first, stamps_emptied}
+use Rattle.lagmodel.proofs.Events.{quiet}
+use Rattle.lagnetwork.proofs.NetworkLines.{ends_of, theirs_of, at_far, out_of, SeenAlike, BeginsWith, Amid, IsLess, lanes_less, ends_once}
+use Rattle.lagnetwork.proofs.NetworkLines.{same_near, is_place-some, some-is_place, same_bool}
+use Rattle.lagnetwork.proofs.Networks.{apart_first, Fine, FineIn, AllFine, Calling, call_kept, begins_call, fine_along, less_part, counted_part, forced_part, there}
+use Rattle.lagnetwork.proofs.Networks.{elsewhere, is_or_not}
+
+quiet_not : (call other : ModelCall) → quiet call ≡ true → quiet other ≡ false → call ≡ other → ⊥
+quiet_not call other h n e = true≢false (sym h ∙ ap quiet e ∙ n)
+
+quiet-running : (call : ModelCall) → quiet call ≡ true → is_restart call ≡ false
+quiet-running Restart h = absurd (false≢true h)
+quiet-running call h = refl
+
+amid_quiet : (x : NetworkSetup) (call : ModelCall) (stamp s : ℕ) (towards : ℕ → ℕ → List Message) (whole : ℕ → ℕ → Bool) (forced : ℕ → ℕ → Bool)
+    → quiet call ≡ true → Amid x call stamp s towards whole forced
+amid_quiet x call stamp s towards whole forced h = record {
+  running = quiet-running call h;
+  came = λ p pdu a e n. absurd (quiet_not call (Receive p (Some pdu)) h refl e);
+  downed = λ p e. absurd (quiet_not call (Set_link p false) h refl e);
+  forcing = λ g k e. absurd (quiet_not call (Force g k) h refl e);
+}
+
+receive_parts : (p q : ℕ) (a b : ControlMessage) → Receive p (Some a) ≡ Receive q (Some b) → (p ≡ q) × (a ≡ b)
+receive_parts p q a b e = (cc, cc)
+
+receive_link : (p q : ℕ) (a : Option ControlMessage) (up : Bool) → Receive p a ≡ Set_link q up → ⊥
+receive_link p q a up e = cc
+
+receive_force : (p g k : ℕ) (a : Option ControlMessage) → Receive p a ≡ Force g k → ⊥
+receive_force p g k a e = cc
+
+link_parts : (p q : ℕ) (a b : Bool) → Set_link p a ≡ Set_link q b → (p ≡ q) × (a ≡ b)
+link_parts p q a b e = (cc, cc)
+
+link_force : (p g k : ℕ) (a : Bool) → Set_link p a ≡ Force g k → ⊥
+link_force p g k a e = cc
+
+force_parts : (g k h j : ℕ) → Force g k ≡ Force h j → (g ≡ h) × (k ≡ j)
+force_parts g k h j e = (cc, cc)
+
+amid_receive : (x : NetworkSetup) (s p : ℕ) (pdu : ControlMessage) (stamp : ℕ) (towards : ℕ → ℕ → List Message) (whole : ℕ → ℕ → Bool) (forced : ℕ → ℕ → Bool)
+    → BeginsWith (Control pdu stamp) (towards s p) → Amid x (Receive p (Some pdu)) stamp s towards whole forced
+amid_receive x s p pdu stamp towards whole forced h = record {
+  running = refl;
+  came = λ q other a e n. let parts = receive_parts p q pdu other e in
+      subst (λ q. BeginsWith (Control other stamp) (towards s q)) parts.0
+      (subst (λ (y : ControlMessage). BeginsWith (Control y stamp) (towards s p)) parts.1 h);
+  downed = λ q e. absurd (receive_link p q (Some pdu) false e);
+  forcing = λ g k e. absurd (receive_force p g k (Some pdu) e);
+}
+
+started : (x : NetworkSetup) (s : ℕ) (call : ModelCall) (stamp : ℕ) (w : Network) → AllFine x w
+    → Amid x call stamp s w.towards w.whole (w.forced s) → Calling x s call stamp (λ t. party_at (w.view t)) w
+started x s call stamp w i a = record { amid = a; alike = i.alike; parties = λ h p. refl; each = i.each }
+
+quiet_kept : (x : NetworkSetup) → IsNetworkSetup x → (s : ℕ) (call : ModelCall) (old new : Network) → quiet call ≡ true → AllFine x old
+    → NetworkCall x s call 0 old old new → AllFine x new
+quiet_kept x f s call old new q i z =
+    call_kept x f s call 0 old old new refl (started x s call 0 old i (amid_quiet x call 0 s old.towards old.whole (old.forced s) q)) z
+
+less_nothing : (new : List Message) → IsLess new [] → new ≡ []
+less_nothing new h = elim h [ inl x ↦ x | inr y ↦ elim y [ inl x ↦ x | inr x ↦ absurd (impossible x.0 x.1) ] ]
+  where
+    impossible : (m : Message) → [] ≡ m ∷ new → ⊥
+    impossible m e = cc
+
+out_less : (x : NetworkSetup) (towards towards' : ℕ → ℕ → List Message) → ((t q : ℕ) → IsLess (towards' t q) (towards t q))
+    → (r c : ℕ) → IsLess (out_of x towards' r c) (out_of x towards r c)
+out_less x towards towards' h r c = go (x.far r c)
+  where
+    go : (o : Option Place) → IsLess (at_far towards' o) (at_far towards o)
+    go None = inl refl
+    go (Some a) = h a.system a.port
+
+-- a cut cable holds nothing, nor does it when less is on it
+still_nothing : (x : NetworkSetup) (w : Network) → AllFine x w → (towards' : ℕ → ℕ → List Message)
+    → ((t q : ℕ) → IsLess (towards' t q) (w.towards t q))
+    → (r c : ℕ) → w.whole r c ≡ false → out_of x towards' r c ≡ []
+still_nothing x w i towards' h r c e =
+    less_nothing (out_of x towards' r c) (subst (IsLess (out_of x towards' r c)) ((i.each r).lanes.cut c e)
+    (out_less x w.towards towards' h r c))
+
+-- less is on the cables
+less_kept : (x : NetworkSetup) (w : Network) → AllFine x w → (towards' : ℕ → ℕ → List Message) (whole' : ℕ → ℕ → Bool)
+    → SeenAlike x whole' → ((t q : ℕ) → IsLess (towards' t q) (w.towards t q))
+    → ((r c : ℕ) → whole' r c ≡ false → out_of x towards' r c ≡ []) → AllFine x (record w { towards = towards'; whole = whole' })
+less_kept x w i towards' whole' alike h cut = record {
+  alike = alike;
+  each = λ r. less_part (i.each r) (out_of x towards' r) (towards' r) (whole' r) (out_less x w.towards towards' h r) (h r) (cut r);
+}
+
+first_less : (l : List Message) → IsLess (drop 1 l) l
+first_less [] = inl refl
+first_less (m ∷ ms) = inr (inr (m, refl))
+
+place_less : (towards : ℕ → ℕ → List Message) (s p t q : ℕ)
+    → IsLess (at_place towards s p (drop 1 (towards s p)) t q) (towards t q)
+place_less towards s p t q = elim (cases_Bool (eqb t s && eqb q p)) [
+  | inl e ↦ (let b = and_parts (eqb t s) (eqb q p) e in
+      subst (λ l. IsLess l (towards t q)) (sym (cond_true (eqb t s && eqb q p) (drop 1 (towards s p)) (towards t q) e))
+      (subst (λ t. IsLess (drop 1 (towards s p)) (towards t q)) (sym (eqb-true t s b.0))
+      (subst (λ q. IsLess (drop 1 (towards s p)) (towards s q)) (sym (eqb-true q p b.1)) (first_less (towards s p)))))
+  | inr e ↦ inl (cond_false (eqb t s && eqb q p) (drop 1 (towards s p)) (towards t q) e)
+]
+
+popped_kept : (x : NetworkSetup) (w : Network) (s p : ℕ) → AllFine x w → AllFine x (without_first s p w)
+popped_kept x w s p i =
+    let less = place_less w.towards s p in
+    less_kept x w i (at_place w.towards s p (drop 1 (w.towards s p))) w.whole i.alike less
+    (still_nothing x w i (at_place w.towards s p (drop 1 (w.towards s p))) less)
+
+-- the ends of a cable
+end_other : (x : NetworkSetup) → IsNetworkSetup x → (s p t q r c : ℕ) → x.far t q ≡ Some (record { system = r; port = c })
+    → is_end x s p t q ≡ true → is_end x s p r c ≡ true
+end_other x f s p t q r c h e = elim (cases_Bool (eqb t s && eqb q p)) [
+  | inl here ↦ (let b = and_parts (eqb t s) (eqb q p) here in
+      any (eqb r s && eqb c p) (is_place (x.far s p) r c) (inr (some-is_place (x.far s p) r c
+      (subst (λ t. x.far t p ≡ Some (record { system = r; port = c })) (eqb-true t s b.0)
+      (subst (λ q. x.far t q ≡ Some (record { system = r; port = c })) (eqb-true q p b.1) h)))))
+  | inr off ↦ (let y : is_place (x.far s p) t q ≡ true = sym (cond_false (eqb t s && eqb q p) true (is_place (x.far s p) t q) off) ∙ e in
+      let both = same_near x f r c s p (record { system = t; port = q }) (f.cables t q r c h) (is_place-some (x.far s p) t q y) in
+      any (eqb r s && eqb c p) (is_place (x.far s p) r c) (inl (and_from (eqb r s) (eqb c p) (eq-eqb r s both.0) (eq-eqb c p both.1))))
+]
+  where
+    any : (a b : Bool) → (a ≡ true) ⊎ (b ≡ true) → cond a true b ≡ true
+    any true b h = refl
+    any false b h = elim h [ inl e ↦ absurd (false≢true e) | inr e ↦ e ]
+
+end_alike : (x : NetworkSetup) → IsNetworkSetup x → (s p t q r c : ℕ) → x.far t q ≡ Some (record { system = r; port = c })
+    → is_end x s p t q ≡ is_end x s p r c
+end_alike x f s p t q r c h = same_bool (is_end x s p t q) (is_end x s p r c) (end_other x f s p t q r c h)
+    (end_other x f s p r c t q (f.cables t q r c h))
+
+blank_less : (b : Bool) (l : List Message) → IsLess (cond b [] l) l
+blank_less true l = inr (inl refl)
+blank_less false l = inl refl
+
+cut_kept : (x : NetworkSetup) → IsNetworkSetup x → (w : Network) (s p : ℕ) → AllFine x w → AllFine x (record w {
+  whole = λ t q. cond (is_end x s p t q) false (w.whole t q);
+  towards = λ t q. cond (is_end x s p t q) [] (w.towards t q);
+})
+cut_kept x f w s p i =
+    less_kept x w i (λ t q. cond (is_end x s p t q) [] (w.towards t q)) (λ t q. cond (is_end x s p t q) false (w.whole t q)) alike
+    (λ t q. blank_less (is_end x s p t q) (w.towards t q)) cut
+  where
+    alike : SeenAlike x (λ t q. cond (is_end x s p t q) false (w.whole t q))
+    alike t q r c h = ap (λ (b : Bool). cond b false (w.whole t q)) (end_alike x f s p t q r c h)
+        ∙ ap (λ (v : Bool). cond (is_end x s p r c) false v) (i.alike t q r c h)
+
+    cut : (r c : ℕ) → cond (is_end x s p r c) false (w.whole r c) ≡ false
+        → out_of x (λ t q. cond (is_end x s p t q) [] (w.towards t q)) r c ≡ []
+    cut r c e = go (x.far r c) refl
+      where
+        go : (o : Option Place) → x.far r c ≡ o → at_far (λ t q. cond (is_end x s p t q) [] (w.towards t q)) o ≡ []
+        go None h = refl
+        go (Some a) h = elim (cases_Bool (is_end x s p r c)) [
+          | inl y ↦ cond_true (is_end x s p a.system a.port) [] (w.towards a.system a.port)
+              (sym (end_alike x f s p r c a.system a.port h) ∙ y)
+          | inr y ↦ (let none : w.towards a.system a.port ≡ [] = subst (λ o. at_far w.towards o ≡ []) h
+              ((i.each r).lanes.cut c (sym (cond_false (is_end x s p r c) false (w.whole r c) y) ∙ e)) in
+              cond_false (is_end x s p a.system a.port) [] (w.towards a.system a.port)
+              (sym (end_alike x f s p r c a.system a.port h) ∙ y) ∙ none)
+        ]
+
+joined_kept : (x : NetworkSetup) → IsNetworkSetup x → (w : Network) (s p : ℕ) → AllFine x w
+    → AllFine x (record w { whole = λ t q. cond (is_end x s p t q) true (w.whole t q) })
+joined_kept x f w s p i =
+    less_kept x w i w.towards (λ t q. cond (is_end x s p t q) true (w.whole t q)) alike (λ t q. inl refl) cut
+  where
+    alike : SeenAlike x (λ t q. cond (is_end x s p t q) true (w.whole t q))
+    alike t q r c h = ap (λ (b : Bool). cond b true (w.whole t q)) (end_alike x f s p t q r c h)
+        ∙ ap (λ (v : Bool). cond (is_end x s p r c) true v) (i.alike t q r c h)
+
+    cut : (r c : ℕ) → cond (is_end x s p r c) true (w.whole r c) ≡ false → out_of x w.towards r c ≡ []
+    cut r c e = go (is_end x s p r c) e
+      where
+        go : (b : Bool) → cond b true (w.whole r c) ≡ false → out_of x w.towards r c ≡ []
+        go true e = absurd (true≢false e)
+        go false e = (i.each r).lanes.cut c e
+
+-- a restart
+any_true : (a b : Bool) → b ≡ true → cond a true b ≡ true
+any_true true b h = refl
+any_true false b h = h
+
+restarted_kept : (x : NetworkSetup) → IsNetworkSetup x → (w : Network) (s : ℕ) (count : ℕ → ℕ → ℕ) → AllFine x w
+    → CountsNetworkChanges w (record w {
+      view = at_system w.view s (first_view (x.setup s));
+      towards = λ t q. cond (ends_at x s t q) [] (w.towards t q);
+    }) count
+    → AllFine x (record w {
+      view = at_system w.view s (first_view (x.setup s));
+      towards = λ t q. cond (ends_at x s t q) [] (w.towards t q);
+      count = count;
+    })
+restarted_kept x f w s count i h = record {
+  alike = i.alike;
+  each = λ r. counted_part (before r) (count r) (h r);
+}
+  where
+    towards' : ℕ → ℕ → List Message
+    towards' = λ t q. cond (ends_at x s t q) [] (w.towards t q)
+
+    less : (t q : ℕ) → IsLess (towards' t q) (w.towards t q)
+    less t q = blank_less (ends_at x s t q) (w.towards t q)
+
+    out_none : (c : ℕ) → [] ≡ out_of x towards' s c
+    out_none c = go (x.far s c) refl
+      where
+        go : (o : Option Place) → x.far s c ≡ o → [] ≡ at_far towards' o
+        go None e = refl
+        go (Some a) e = sym (cond_true (ends_at x s a.system a.port) [] (w.towards a.system a.port)
+            (any_true (eqb a.system s) (is_at s (x.far a.system a.port))
+            (ap (is_at s) (f.cables s c a.system a.port e) ∙ eq-eqb s s refl)))
+
+    back_none : (q : ℕ) → [] ≡ towards' s q
+    back_none q = sym (cond_true (ends_at x s s q) [] (w.towards s q) (cond_true (eqb s s) true (is_at s (x.far s q)) (eq-eqb s s refl)))
+
+    at_start : Fine x s (first_view (x.setup s)) (party_at (w.view s)) (w.count s) (λ c. []) (λ c. []) (w.whole s) (w.sent s)
+        (w.collected s) (w.forced s) (w.taken s) w.taken
+    at_start = record {
+      members = members_first (x.setup s) (f.setup s);
+      lanes = lanes_restarted ((i.each s).lanes) (x.setup s).first_marker;
+      heard = heard_first (x.setup s) (w.taken s);
+      stamps = λ t. stamps_emptied ((i.each s).stamps t);
+      names = λ c. tt;
+      apart = apart_first (x.setup s);
+      named = (i.each s).named;
+    }
+
+    before : (r : ℕ) → Fine x r (at_system w.view s (first_view (x.setup s)) r) (party_at (w.view r)) (w.count r) (out_of x towards' r)
+        (towards' r) (w.whole r) (w.sent r) (w.collected r) (w.forced r) (w.taken r) w.taken
+    before r = is_or_not (Fine x r (at_system w.view s (first_view (x.setup s)) r) (party_at (w.view r)) (w.count r) (out_of x towards' r)
+        (towards' r) (w.whole r) (w.sent r) (w.collected r) (w.forced r) (w.taken r) w.taken) r s
+        (λ e. subst (λ r. Fine x r (at_system w.view s (first_view (x.setup s)) r) (party_at (w.view r)) (w.count r) (out_of x towards' r)
+        (towards' r) (w.whole r) (w.sent r) (w.collected r) (w.forced r) (w.taken r) w.taken) (sym e)
+        (fine_along x s (party_at (w.view s)) (w.count s) (w.whole s) (w.collected s) (w.forced s) _ _ _ _ _ _ _ _ _ _ w.taken
+        (sym (there w.view s (first_view (x.setup s)))) (λ j c. out_none c j) (λ j q. back_none q j) refl refl at_start))
+        (λ ne. fine_along x r (party_at (w.view r)) (w.count r) (w.whole r) (w.collected r) (w.forced r) _ _ _ _ _ _ _ _ _ _ w.taken
+        (sym (elsewhere w.view s (first_view (x.setup s)) r ne)) refl refl refl refl
+        (less_part (i.each r) (out_of x towards' r) (towards' r) (w.whole r) (out_less x w.towards towards' less r) (less r)
+        (still_nothing x w i towards' less r)))
+
+-- a frame is handed up
+handed_kept : (x : NetworkSetup) → IsNetworkSetup x → (w : Network) (s p up : ℕ) (a : Place) (g k n : ℕ) (ms : List Message) → AllFine x w
+    → x.far s p ≡ Some a → w.towards s p ≡ Data One g k n ∷ ms → AllFine x (handed_up_from s (Some a) (Some up) g k n (without_first s p w))
+handed_kept x f w s p up a g k n ms i e h = record {
+  alike = i.alike;
+  each = λ r. is_or_not (FineIn x (λ t. party_at (w.view t)) (handed_up_from s (Some a) (Some up) g k n (without_first s p w)) r) r a.system
+      (λ y. subst (FineIn x (λ t. party_at (w.view t)) (handed_up_from s (Some a) (Some up) g k n (without_first s p w))) (sym y) here)
+      (λ ne. collects r _ (sym (elsewhere w.collected a.system (at_two (w.collected a.system) g k (w.collected a.system g k ++ n ∷ [])) r ne))
+      (popped.each r));
+}
+  where
+    popped : AllFine x (without_first s p w)
+    popped = popped_kept x w s p i
+
+    towards' : ℕ → ℕ → List Message
+    towards' = at_place w.towards s p (drop 1 (w.towards s p))
+
+    collects : (r : ℕ) (collected' : ℕ → ℕ → List ℕ) {collected : ℕ → ℕ → List ℕ} → collected ≡ collected'
+        → Fine x r (w.view r) (party_at (w.view r)) (w.count r) (out_of x towards' r) (towards' r) (w.whole r) (w.sent r) collected
+        (w.forced r) (w.taken r) w.taken
+        → Fine x r (w.view r) (party_at (w.view r)) (w.count r) (out_of x towards' r) (towards' r) (w.whole r) (w.sent r) collected'
+        (w.forced r) (w.taken r) w.taken
+    collects r collected' y z = subst (λ (c : ℕ → ℕ → List ℕ). Fine x r (w.view r) (party_at (w.view r)) (w.count r) (out_of x towards' r)
+        (towards' r) (w.whole r) (w.sent r) c (w.forced r) (w.taken r) w.taken) y z
+
+    back : x.far a.system a.port ≡ Some (record { system = s; port = p })
+    back = f.cables s p a.system a.port e
+
+    first : out_of x w.towards a.system a.port ≡ Data One g k n ∷ ms
+    first = ap (at_far w.towards) back ∙ h
+
+    rest : at_place w.towards s p (drop 1 (w.towards s p)) s p ≡ ms
+    rest = cond_true (eqb s s && eqb p p) (drop 1 (w.towards s p)) (w.towards s p)
+        (and_from (eqb s s) (eqb p p) (eq-eqb s s refl) (eq-eqb p p refl)) ∙ ap (λ (l : List Message). drop 1 l) h
+
+    same : (c : ℕ) → out_of x towards' a.system c ≡ at_cable (out_of x w.towards a.system) a.port ms c
+    same c = elim (cable_cases (out_of x w.towards a.system) a.port ms c) [
+      | inl y ↦ ap (out_of x towards' a.system) y.0 ∙ ap (at_far towards') back ∙ rest ∙ sym y.1
+      | inr y ↦ go (x.far a.system c) refl y.0 ∙ sym y.1
+    ]
+      where
+        go : (o : Option Place) → x.far a.system c ≡ o → (c ≡ a.port → ⊥) → at_far towards' o ≡ at_far w.towards o
+        go None z ne = refl
+        go (Some b) z ne = elim (cases_Bool (eqb b.system s && eqb b.port p)) [
+          | inl y ↦ (let both = and_parts (eqb b.system s) (eqb b.port p) y in
+              let m : record { system = b.system; port = b.port } ≡ record { system = s; port = p } =
+              λ j. record { system = eqb-true b.system s both.0 j; port = eqb-true b.port p both.1 j } in
+              absurd (ne ((same_near x f a.system c a.system a.port (record { system = s; port = p })
+              (z ∙ ap (λ (b : Place). Some b) m) back).1)))
+          | inr y ↦ cond_false (eqb b.system s && eqb b.port p) (drop 1 (w.towards s p)) (w.towards b.system b.port) y
+        ]
+
+    here : FineIn x (λ t. party_at (w.view t)) (handed_up_from s (Some a) (Some up) g k n (without_first s p w)) a.system
+    here = collects a.system _
+        (sym (there w.collected a.system (at_two (w.collected a.system) g k (w.collected a.system g k ++ n ∷ [])))) (record {
+          members = (popped.each a.system).members;
+          heard = (popped.each a.system).heard;
+          stamps = (popped.each a.system).stamps;
+          names = (popped.each a.system).names;
+          apart = (popped.each a.system).apart;
+          named = (popped.each a.system).named;
+          lanes = lanes_less (lanes_handed ((i.each a.system).lanes) a.port g k n ms (ends_once x a.system) first)
+              (out_of x towards' a.system) (towards' a.system) (w.whole a.system) (λ c. inl (same c)) (place_less w.towards s p a.system)
+              ((popped.each a.system).lanes.cut);
+        })
+
+-- a frame comes from the other end
+from_far : (x : NetworkSetup) → IsNetworkSetup x → (w : Network) (s p : ℕ) (a : Place) (origin : Side) (g k n : ℕ) (ms : List Message)
+    → AllFine x w → x.far s p ≡ Some a → w.towards s p ≡ Data origin g k n ∷ ms → origin ≡ One
+from_far x f w s p a origin g k n ms i e h =
+    (subst (Every (IsFrom One)) (ap (at_far w.towards) (f.cables s p a.system a.port e) ∙ h) ((i.each a.system).lanes.origin a.port)).0
+
+up_kept : (x : NetworkSetup) → IsNetworkSetup x → (w : Network) (s p : ℕ) (origin : Side) (g k n : ℕ) (up : Option ℕ)
+    → BeginsWith (Data origin g k n) (w.towards s p) → AllFine x w
+    → AllFine x (handed_up_from s (x.far s p) up g k n (without_first s p w))
+up_kept x f w s p origin g k n up b i = go (x.far s p) refl up
+  where
+    go : (o : Option Place) → x.far s p ≡ o → (up : Option ℕ) → AllFine x (handed_up_from s o up g k n (without_first s p w))
+    go None e up = popped_kept x w s p i
+    go (Some a) e None = popped_kept x w s p i
+    go (Some a) e (Some h) = handed_kept x f w s p h a g k n b.0 i e
+        (b.1 ∙ ap (λ (o : Side). Data o g k n ∷ b.0) (from_far x f w s p a origin g k n b.0 i e b.1))
+
+comes_kept : (x : NetworkSetup) → IsNetworkSetup x → (s p : ℕ) (line : List Message) (old new : Network) → AllFine x old
+    → old.towards s p ≡ line → DeliversFirstAt x s p line old new → AllFine x new
+comes_kept x f s p [] old new i e z = subst (AllFine x) (sym z) i
+comes_kept x f s p (Control pdu stamp ∷ ms) old new i e z = subst (AllFine x) (sym z.2) (popped_kept x z.0 s p
+    (call_kept x f s (Receive p (Some pdu)) stamp old old z.0 refl
+    (started x s (Receive p (Some pdu)) stamp old i (amid_receive x s p pdu stamp old.towards old.whole (old.forced s) (ms, e))) z.1))
+comes_kept x f s p (Data origin g k n ∷ ms) old new i e z = subst (AllFine x) (sym z.3)
+    (up_kept x f z.1 s p origin g k n z.0 (begins_call x s (Receive p None) 0 old old z.1 (Data origin g k n) s p z.2 (ms, e))
+    (quiet_kept x f s (Receive p None) old z.1 refl i z.2))
+
+again_kept : (x : NetworkSetup) → IsNetworkSetup x → (s p : ℕ) (line : List Message) (old new : Network) → AllFine x old
+    → old.towards s p ≡ line → RepeatsFirstAt x s p line old new → AllFine x new
+again_kept x f s p [] old new i e z = subst (AllFine x) (sym z) i
+again_kept x f s p (Data origin g k n ∷ ms) old new i e z = subst (AllFine x) (sym z) i
+again_kept x f s p (Control pdu stamp ∷ ms) old new i e z = call_kept x f s (Receive p (Some pdu)) stamp old old new refl
+    (started x s (Receive p (Some pdu)) stamp old i (amid_receive x s p pdu stamp old.towards old.whole (old.forced s) (ms, e))) z
+
+senses_kept : (x : NetworkSetup) → IsNetworkSetup x → (s p : ℕ) (old new : Network) → AllFine x old
+    → NetworkCall x s (Set_link p (old.whole s p)) 0 old old new → AllFine x new
+senses_kept x f s p old new i z = call_kept x f s (Set_link p (old.whole s p)) 0 old old new refl
+    (started x s (Set_link p (old.whole s p)) 0 old i (record {
+      running = refl;
+      came = λ q pdu a y n. absurd (receive_link q p (Some pdu) (old.whole s p) (sym y));
+      downed = λ q y. let parts = link_parts p q (old.whole s p) false y in
+          subst (λ q. old.whole s q ≡ false) parts.0 parts.1;
+      forcing = λ g k y. absurd (link_force p g k (old.whole s p) y);
+    })) z
+
+-- a conversation is forced
+forced_kept : (x : NetworkSetup) (s g k : ℕ) (w : Network) → AllFine x w
+    → AllFine x (record w { forced = at_system w.forced s (at_two (w.forced s) g k true) })
+forced_kept x s g k w i = record {
+  alike = i.alike;
+  each = λ r. is_or_not (FineIn x (λ t. party_at (w.view t)) (record w { forced = at_system w.forced s (at_two (w.forced s) g k true) }) r) r s
+      (λ e. subst (FineIn x (λ t. party_at (w.view t)) (record w { forced = at_system w.forced s (at_two (w.forced s) g k true) })) (sym e)
+      (subst (λ (c : ℕ → ℕ → Bool). Fine x s (w.view s) (party_at (w.view s)) (w.count s) (out_of x w.towards s) (w.towards s) (w.whole s)
+      (w.sent s) (w.collected s) c (w.taken s) w.taken) (sym (there w.forced s (at_two (w.forced s) g k true))) (forced_part (i.each s) g k)))
+      (λ ne. subst (λ (c : ℕ → ℕ → Bool). Fine x r (w.view r) (party_at (w.view r)) (w.count r) (out_of x w.towards r) (w.towards r)
+      (w.whole r) (w.sent r) (w.collected r) c (w.taken r) w.taken)
+      (sym (elsewhere w.forced s (at_two (w.forced s) g k true) r ne)) (i.each r));
+}
+
+amid_force : (x : NetworkSetup) (s : ℕ) (forced : ℕ → ℕ → ℕ → Bool) (g k : ℕ) (towards : ℕ → ℕ → List Message) (whole : ℕ → ℕ → Bool)
+    → Amid x (Force g k) 0 s towards whole (at_system forced s (at_two (forced s) g k true) s)
+amid_force x s forced g k towards whole = record {
+  running = refl;
+  came = λ q pdu a y n. absurd (receive_force q g k (Some pdu) (sym y));
+  downed = λ q y. absurd (link_force q g k false (sym y));
+  forcing = λ h j y. let parts = force_parts g k h j y in
+      ap (λ (c : ℕ → ℕ → Bool). c h j) (there forced s (at_two (forced s) g k true))
+      ∙ elim (two_cases (forced s) g k true h j) [ inl z ↦ z.2 | inr z ↦ absurd (z.0 (sym parts.0, sym parts.1)) ];
+}
+
+force_kept : (x : NetworkSetup) → IsNetworkSetup x → (s g k : ℕ) (old new : Network) → AllFine x old
+    → NetworkHappens x (NetworkEvent.Force s g k) old new → AllFine x new
+force_kept x f s g k old new i z = elim z [
+  | inl e ↦ subst (AllFine x) (sym e) i
+  | inr y ↦ (let mid : Network = record old { forced = at_system old.forced s (at_two (old.forced s) g k true) } in
+      call_kept x f s (Force g k) 0 old mid new refl
+      (started x s (Force g k) 0 mid (forced_kept x s g k old i) (amid_force x s old.forced g k old.towards old.whole)) y)
+]
+
+-- a port without a cable hears anything
+hears_kept : (x : NetworkSetup) → IsNetworkSetup x → (s p : ℕ) (pdu : Option ControlMessage) (stamp : ℕ) (old new : Network) → AllFine x old
+    → x.far s p ≡ None → NetworkCall x s (Receive p pdu) stamp old old new → AllFine x new
+hears_kept x f s p None stamp old new i none z = call_kept x f s (Receive p None) stamp old old new refl
+    (started x s (Receive p None) stamp old i (amid_quiet x (Receive p None) stamp s old.towards old.whole (old.forced s) refl)) z
+hears_kept x f s p (Some pdu) stamp old new i none z = call_kept x f s (Receive p (Some pdu)) stamp old old new refl
+    (started x s (Receive p (Some pdu)) stamp old i (record {
+      running = refl;
+      came = λ q other a e h. absurd (none-some a (sym none ∙ ap (x.far s) ((receive_parts p q pdu other e).0) ∙ h));
+      downed = λ q e. absurd (receive_link p q (Some pdu) false e);
+      forcing = λ g k e. absurd (receive_force p g k (Some pdu) e);
+    })) z
+
+-- every event
+pub happens_kept : (x : NetworkSetup) → IsNetworkSetup x → (e : NetworkEvent) (old new : Network) → AllFine x old
+    → NetworkHappens x e old new → AllFine x new
+happens_kept x f (NetworkEvent.Tick s n) old new i z = quiet_kept x f s Tick old new refl i z
+happens_kept x f (NetworkEvent.Emit s p) old new i z = quiet_kept x f s Transmit old new refl i z
+happens_kept x f (NetworkEvent.Deliver s p) old new i z = comes_kept x f s p (old.towards s p) old new i refl z
+happens_kept x f (NetworkEvent.Lose s p) old new i z = subst (AllFine x) (sym z) (popped_kept x old s p i)
+happens_kept x f (NetworkEvent.Repeat s p) old new i z = again_kept x f s p (old.towards s p) old new i refl z
+happens_kept x f (NetworkEvent.Cut s p) old new i z = subst (AllFine x) (sym z) (cut_kept x f old s p i)
+happens_kept x f (NetworkEvent.Join s p) old new i z = subst (AllFine x) (sym z) (joined_kept x f old s p i)
+happens_kept x f (NetworkEvent.Sense s p) old new i z = senses_kept x f s p old new i z
+happens_kept x f (NetworkEvent.Restart s) old new i z = subst (AllFine x) (sym z.2) (restarted_kept x f old s z.0 i z.1)
+happens_kept x f (NetworkEvent.Configure s p change) old new i z = quiet_kept x f s Configure old new refl i z
+happens_kept x f (NetworkEvent.Offer s g frame) old new i z = quiet_kept x f s Offer old new refl i z
+happens_kept x f (NetworkEvent.Move_conversation s g k p) old new i z = quiet_kept x f s Move_conversation old new refl i z
+happens_kept x f (NetworkEvent.Force s g k) old new i z = force_kept x f s g k old new i z
+happens_kept x f (NetworkEvent.Hear s p pdu stamp) old new i z = hears_kept x f s p pdu stamp old new i z.0 z.1
+
+-- every run
+pub run_kept : (x : NetworkSetup) → IsNetworkSetup x → (es : List NetworkEvent) (old new : Network) → AllFine x old
+    → NetworkRun x es old new → AllFine x new
+run_kept x f [] old new i z = subst (AllFine x) (sym z) i
+run_kept x f (e ∷ es) old new i z = run_kept x f es z.0 new (happens_kept x f e old z.0 i z.1) z.2
+
+pub first_fine : (x : NetworkSetup) → IsNetworkSetup x → AllFine x (first_network x)
+first_fine x f = record { alike = λ s p t q h. refl; each = start }
+  where
+    nothing_out : (r c : ℕ) → [] ≡ out_of x (λ t q. []) r c
+    nothing_out r c = go (x.far r c)
+      where
+        go : (o : Option Place) → [] ≡ at_far (λ t q. []) o
+        go None = refl
+        go (Some a) = refl
+
+    start : (r : ℕ) → FineIn x (λ s. party_at (first_view (x.setup s))) (first_network x) r
+    start r = subst (λ (out : ℕ → List Message). Fine x r (first_view (x.setup r)) (party_at (first_view (x.setup r))) (λ p. 0) out
+        (λ q. []) (λ p. true) (λ g k. []) (λ g k. []) (λ g k. false) (λ p. None) (λ s p. None)) (λ j c. nothing_out r c j) (record {
+          members = members_first (x.setup r) (f.setup r);
+          lanes = lanes_first One (ends_of x r) (x.setup r).first_marker;
+          heard = heard_first (x.setup r) (λ p. None);
+          stamps = λ s. stamps_first (ends_of x r) (theirs_of x r s) (party_at (first_view (x.setup r)));
+          names = λ c. tt;
+          apart = apart_first (x.setup r);
+          named = λ s c p m e h. absurd (none-some m h);
+        })
+
+pub all_fine : (x : NetworkSetup) (es : List NetworkEvent) (w : Network) → IsNetworkSetup x → NetworkRun x es (first_network x) w → AllFine x w
+all_fine x es w f z = run_kept x f es (first_network x) w (first_fine x f) z

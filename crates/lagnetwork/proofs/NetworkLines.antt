@@ -1,0 +1,308 @@
+-- What is on the cables of a network, as one system sees it: each of its ports is a cable with the number of the port.
+use Rattle.lagnetwork.proofs.Common.{Bool, List, None, Option, Some, [], ap, cond, eq-eqb, eqb, eqb-true, false, inl, inr, length, option_map}
+use Rattle.lagnetwork.proofs.Common.{refl, subst, sym, true, ℕ, ◌&&◌, ◌++◌, ◌∙◌, ◌∷◌, ◌≡◌, ◌⊎◌, and_from, and_parts, false≢true}
+use Rattle.lagnetwork.proofs.Common.{none-some, same_Some, Act, Sends, Sends_frame, Took, ModelCall, Receive, Set_link, Force}
+use Rattle.lagnetwork.proofs.Common.{ControlMessage, DistributorFacts, Control, Data, Message, One, Side, is_port, on_cable_after, put_on_cable}
+use Rattle.lagnetwork.proofs.Common.{TakenLacpdu, is_restart, Party, Conversation, IsSubsequence, append-nil}
+use Rattle.lagnetwork.proofs.Common.{Lacp, LacpMessage, Marker, Response}
+use Rattle.lagmodel.specs.World.{stamp_of}
+use Rattle.lagtypes.specs.declared.identifiers.SystemId.{SystemId}
+use Rattle.lagnetwork.specs.Network.{Place, NetworkSetup, IsNetworkSetup, is_place, put_on_line, towards_after}
+use Rattle.lagmodel.proofs.Base.{cond_true, cond_false, chosen, mapped_some}
+use Rattle.lagmodel.proofs.Lines.{Every, every_push, put_each, every_weaker, answers, MarkerBelow, ResponseBelow, IsFrom}
+use Rattle.lagmodel.proofs.Orderly.{Orderly, taken_away, answer_taken, handed_front}
+use Rattle.lagmodel.proofs.Lanes.{Lanes}
+use Rattle.lagmodel.proofs.LaneMoves.{Within}
+use Rattle.lagmodel.proofs.Stamps.{Stamps, Fresh}
+
+-- the port of system s among places
+abbrev pub port_in : ℕ → Option Place → Option ℕ
+port_in s None = None
+port_in s (Some a) = cond (eqb a.system s) (Some a.port) None
+
+-- the ports of system r that have a cable
+abbrev pub ends_of : NetworkSetup → ℕ → ℕ → Option ℕ
+ends_of x r c = option_map (λ (a : Place). c) (x.far r c)
+
+-- the port of system s at the other end of the cable of a port of system r, if it is there
+abbrev pub theirs_of : NetworkSetup → ℕ → ℕ → ℕ → Option ℕ
+theirs_of x r s q = port_in s (x.far r q)
+
+abbrev pub at_far : (ℕ → ℕ → List Message) → Option Place → List Message
+at_far towards None = []
+at_far towards (Some a) = towards a.system a.port
+
+-- what is on the cable of a port of system r, away from it
+abbrev pub out_of : NetworkSetup → (ℕ → ℕ → List Message) → ℕ → ℕ → List Message
+out_of x towards r c = at_far towards (x.far r c)
+
+-- Booleans
+drop_false : (w v : Bool) → (w && false) ≡ (v && false)
+drop_false true true = refl
+drop_false true false = refl
+drop_false false true = refl
+drop_false false false = refl
+
+pub same_and : (k w v a b : Bool) → (a ≡ true → w ≡ v) → a ≡ b → (k && (w && a)) ≡ (k && (v && b))
+same_and k w v true b h e = ap (λ (z : Bool). k && (z && true)) (h refl) ∙ ap (λ (b : Bool). k && (v && b)) e
+same_and k w v false b h e = ap (λ (z : Bool). k && z) (drop_false w v) ∙ ap (λ (b : Bool). k && (v && b)) e
+
+pub same_bool : (a b : Bool) → (a ≡ true → b ≡ true) → (b ≡ true → a ≡ true) → a ≡ b
+same_bool true b f g = sym (f refl)
+same_bool false true f g = g refl
+same_bool false false f g = refl
+
+not_true : (a : Bool) → (a ≡ true → ⊥) → a ≡ false
+not_true true h = absurd (h refl)
+not_true false h = refl
+
+never : (k w a : Bool) → a ≡ false → (k && (w && a)) ≡ false
+never true true a e = e
+never true false a e = refl
+never false w a e = refl
+
+-- places
+pub is_place-some : (o : Option Place) (t q : ℕ) → is_place o t q ≡ true → o ≡ Some (record { system = t; port = q })
+is_place-some None t q h = absurd (false≢true h)
+is_place-some (Some a) t q h =
+    let both = and_parts (eqb t a.system) (eqb q a.port) h in
+    ap (λ (a : Place). Some a) (same (sym (eqb-true t a.system both.0)) (sym (eqb-true q a.port both.1)))
+  where
+    same : a.system ≡ t → a.port ≡ q → a ≡ record { system = t; port = q }
+    same e f i = record { system = e i; port = f i }
+
+pub some-is_place : (o : Option Place) (t q : ℕ) → o ≡ Some (record { system = t; port = q }) → is_place o t q ≡ true
+some-is_place o t q h = subst (λ o. is_place o t q ≡ true) (sym h) (and_from (eqb t t) (eqb q q) (eq-eqb t t refl) (eq-eqb q q refl))
+
+pub port_in-some : (s : ℕ) (o : Option Place) (p : ℕ) → port_in s o ≡ Some p → o ≡ Some (record { system = s; port = p })
+port_in-some s None p h = absurd (none-some p h)
+port_in-some s (Some a) p h = elim (chosen (eqb a.system s) (Some a.port) None (Some p) h) [
+  | inl x ↦ ap (λ (a : Place). Some a) (same (eqb-true a.system s x.0) (same_Some a.port p x.1))
+  | inr x ↦ absurd (none-some p x.1)
+]
+  where
+    same : a.system ≡ s → a.port ≡ p → a ≡ record { system = s; port = p }
+    same e f i = record { system = e i; port = f i }
+
+pub some-port_in : (s : ℕ) (o : Option Place) (p : ℕ) → o ≡ Some (record { system = s; port = p }) → port_in s o ≡ Some p
+some-port_in s o p h = subst (λ o. port_in s o ≡ Some p) (sym h) (cond_true (eqb s s) (Some p) None (eq-eqb s s refl))
+
+is_port-some : (p : ℕ) (o : Option ℕ) → is_port p o ≡ true → o ≡ Some p
+is_port-some p None h = absurd (false≢true h)
+is_port-some p (Some q) h = ap (λ (n : ℕ). Some n) (eqb-true q p h)
+
+some-is_port : (p : ℕ) (o : Option ℕ) → o ≡ Some p → is_port p o ≡ true
+some-is_port p o h = subst (λ o. is_port p o ≡ true) (sym h) (eq-eqb p p refl)
+
+pub ends-some : (x : NetworkSetup) (r c p : ℕ) → ends_of x r c ≡ Some p → c ≡ p
+ends-some x r c p h = go (x.far r c) h
+  where
+    go : (o : Option Place) → option_map (λ (a : Place). c) o ≡ Some p → c ≡ p
+    go None h = absurd (none-some p h)
+    go (Some a) h = same_Some c p h
+
+pub ends_once : (x : NetworkSetup) (r c d p : ℕ) → ends_of x r c ≡ Some p → ends_of x r d ≡ Some p → c ≡ d
+ends_once x r c d p h k = ends-some x r c p h ∙ sym (ends-some x r d p k)
+
+place_parts : (a b : Place) → Some a ≡ Some b → (a.system ≡ b.system) × (a.port ≡ b.port)
+place_parts a b h = let e : a ≡ b = same_Some a b h in (ap (λ (a : Place). a.system) e, ap (λ (a : Place). a.port) e)
+
+-- two ports whose cables end at one port are one
+pub same_near : (x : NetworkSetup) → IsNetworkSetup x → (s p t q : ℕ) (a : Place) → x.far s p ≡ Some a → x.far t q ≡ Some a
+    → (s ≡ t) × (p ≡ q)
+same_near x f s p t q a h k = place_parts (record { system = s; port = p }) (record { system = t; port = q }) (sym (f.cables s p a.system a.port h) ∙ f.cables t q a.system a.port k)
+
+-- the cable of a port is whole as seen from either end
+abbrev pub SeenAlike : NetworkSetup → (ℕ → ℕ → Bool) → Type 0
+SeenAlike x whole = (s p t q : ℕ) → x.far s p ≡ Some (record { system = t; port = q }) → whole s p ≡ whole t q
+
+-- what system s sends is on its own cable
+module _ (x : NetworkSetup) (f : IsNetworkSetup x) (whole : ℕ → ℕ → Bool) (alike : SeenAlike x whole) (kept : Bool) (s p : ℕ) (m : Message)
+    (towards : ℕ → ℕ → List Message) where
+  own_put : (c : ℕ) → out_of x (put_on_line x whole kept s p m towards) s c
+      ≡ put_on_cable (ends_of x s) (whole s) kept p m (out_of x towards s) c
+  own_put c = go (x.far s c) refl
+    where
+      go : (o : Option Place) → x.far s c ≡ o → at_far (put_on_line x whole kept s p m towards) o
+          ≡ cond (kept && (whole s c && is_port p (option_map (λ (a : Place). c) o))) (at_far towards o ++ m ∷ []) (at_far towards o)
+      go None e = sym (cond_false (kept && (whole s c && false)) (m ∷ []) [] (never kept (whole s c) false refl))
+      go (Some a) e = ap (λ (b : Bool). cond b (towards a.system a.port ++ m ∷ []) (towards a.system a.port))
+          (same_and kept (whole s p) (whole s c) (is_place (x.far s p) a.system a.port) (eqb c p)
+          (λ h. ap (whole s) (here h))
+          (same_bool (is_place (x.far s p) a.system a.port) (eqb c p) (λ h. eq-eqb c p (sym (here h)))
+          (λ h. some-is_place (x.far s p) a.system a.port (ap (x.far s) (sym (eqb-true c p h)) ∙ e))))
+        where
+          here : is_place (x.far s p) a.system a.port ≡ true → p ≡ c
+          here h = (same_near x f s p s c a (is_place-some (x.far s p) a.system a.port h) e).1
+
+  -- and not on that of another system
+  other_put : (r : ℕ) → (r ≡ s → ⊥) → (c : ℕ) → out_of x (put_on_line x whole kept s p m towards) r c ≡ out_of x towards r c
+  other_put r ne c = go (x.far r c) refl
+    where
+      go : (o : Option Place) → x.far r c ≡ o → at_far (put_on_line x whole kept s p m towards) o ≡ at_far towards o
+      go None e = refl
+      go (Some a) e = cond_false (kept && (whole s p && is_place (x.far s p) a.system a.port)) _ _
+          (never kept (whole s p) (is_place (x.far s p) a.system a.port)
+          (not_true _ (λ h. ne (sym (same_near x f s p r c a (is_place-some (x.far s p) a.system a.port h) e).0))))
+
+  -- it comes towards the system at the other end
+  back_put : (r q : ℕ) → put_on_line x whole kept s p m towards r q ≡ put_on_cable (theirs_of x r s) (whole r) kept p m (towards r) q
+  back_put r q = ap (λ (b : Bool). cond b (towards r q ++ m ∷ []) (towards r q))
+      (same_and kept (whole s p) (whole r q) (is_place (x.far s p) r q) (is_port p (theirs_of x r s q))
+      (λ h. alike s p r q (is_place-some (x.far s p) r q h))
+      (same_bool (is_place (x.far s p) r q) (is_port p (theirs_of x r s q))
+      (λ h. some-is_port p (theirs_of x r s q) (some-port_in s (x.far r q) p (f.cables s p r q (is_place-some (x.far s p) r q h))))
+      (λ h. some-is_place (x.far s p) r q (f.cables r q s p (port_in-some s (x.far r q) p (is_port-some p (theirs_of x r s q) h))))))
+
+-- the same of an act
+module _ (x : NetworkSetup) (f : IsNetworkSetup x) (whole : ℕ → ℕ → Bool) (alike : SeenAlike x whole) (kept : Bool) (s : ℕ) (count : ℕ → ℕ)
+    (sent : ℕ → ℕ → List ℕ) (towards : ℕ → ℕ → List Message) where
+  pub own_after : (o : Option Act) → out_of x (towards_after x s whole count sent kept o towards) s
+      ≡ on_cable_after One (ends_of x s) (whole s) count sent kept o (out_of x towards s)
+  own_after None = refl
+  own_after (Some (Sends p pdu)) = λ i c. own_put x f whole alike kept s p (Control pdu (stamp_of pdu (count p))) towards c i
+  own_after (Some (Sends_frame p g k)) = λ i c. own_put x f whole alike kept s p (Data One g k (length (sent g k))) towards c i
+  own_after (Some (Took p pdu)) = refl
+
+  pub other_after : (o : Option Act) (r : ℕ) → (r ≡ s → ⊥) → out_of x (towards_after x s whole count sent kept o towards) r
+      ≡ out_of x towards r
+  other_after None r ne = refl
+  other_after (Some (Sends p pdu)) r ne = λ i c.
+      other_put x f whole alike kept s p (Control pdu (stamp_of pdu (count p))) towards r ne c i
+  other_after (Some (Sends_frame p g k)) r ne = λ i c. other_put x f whole alike kept s p (Data One g k (length (sent g k))) towards r ne c i
+  other_after (Some (Took p pdu)) r ne = refl
+
+  pub back_after : (o : Option Act) (r : ℕ) → towards_after x s whole count sent kept o towards r
+      ≡ on_cable_after One (theirs_of x r s) (whole r) count sent kept o (towards r)
+  back_after None r = refl
+  back_after (Some (Sends p pdu)) r = λ i q. back_put x f whole alike kept s p (Control pdu (stamp_of pdu (count p))) towards r q i
+  back_after (Some (Sends_frame p g k)) r = λ i q. back_put x f whole alike kept s p (Data One g k (length (sent g k))) towards r q i
+  back_after (Some (Took p pdu)) r = refl
+
+-- a list that begins with a message still does when others join it
+abbrev pub BeginsWith : Message → List Message → Type 0
+BeginsWith m l = (ms : List Message) × (l ≡ m ∷ ms)
+
+begins_put : (b : Bool) (m n : Message) (l : List Message) → BeginsWith m l → BeginsWith m (cond b (l ++ n ∷ []) l)
+begins_put true m n l h = (h.0 ++ n ∷ [], ap (λ (l : List Message). l ++ n ∷ []) h.1)
+begins_put false m n l h = h
+
+pub begins_after : (x : NetworkSetup) (s : ℕ) (whole : ℕ → ℕ → Bool) (count : ℕ → ℕ) (sent : ℕ → ℕ → List ℕ) (kept : Bool) (o : Option Act)
+    (towards : ℕ → ℕ → List Message) (m : Message) (t q : ℕ) → BeginsWith m (towards t q)
+    → BeginsWith m (towards_after x s whole count sent kept o towards t q)
+begins_after x s whole count sent kept None towards m t q h = h
+begins_after x s whole count sent kept (Some (Sends p pdu)) towards m t q h = begins_put (kept && (whole s p && is_place (x.far s p) t q)) m
+    (Control pdu (stamp_of pdu (count p))) (towards t q) h
+begins_after x s whole count sent kept (Some (Sends_frame p g k)) towards m t q h =
+    begins_put (kept && (whole s p && is_place (x.far s p) t q)) m (Data One g k (length (sent g k))) (towards t q) h
+begins_after x s whole count sent kept (Some (Took p pdu)) towards m t q h = h
+
+-- What is known of a call of system s of a network while it runs, as Within says it of two systems.
+pub record Amid (x : NetworkSetup) (call : ModelCall) (stamp : ℕ) (s : ℕ) (towards : ℕ → ℕ → List Message) (whole : ℕ → ℕ → Bool)
+    (forced : ℕ → ℕ → Bool) : Type 0 where
+  pub running : is_restart call ≡ false
+  pub came : (p : ℕ) (pdu : ControlMessage) (a : Place) → call ≡ Receive p (Some pdu) → x.far s p ≡ Some a
+      → BeginsWith (Control pdu stamp) (towards s p)
+  pub downed : (p : ℕ) → call ≡ Set_link p false → whole s p ≡ false
+  pub forcing : (g k : ℕ) → call ≡ Force g k → forced g k ≡ true
+
+-- for the system itself
+pub within_own : (x : NetworkSetup) (call : ModelCall) (stamp s : ℕ) (towards : ℕ → ℕ → List Message) (whole : ℕ → ℕ → Bool)
+    (forced : ℕ → ℕ → Bool) → Amid x call stamp s towards whole forced → Within call stamp (ends_of x s) (towards s) (whole s) forced
+within_own x call stamp s towards whole forced a = record {
+  running = a.running;
+  came = λ p pdu e c h. let m = mapped_some (λ (a : Place). c) (x.far s c) p h in
+      subst (λ c. BeginsWith (Control pdu stamp) (towards s c)) (sym m.2) (a.came p pdu m.0 e (ap (x.far s) (sym m.2) ∙ m.1));
+  downed = λ p e c h. subst (λ c. whole s c ≡ false) (sym (ends-some x s c p h)) (a.downed p e);
+  forcing = a.forcing;
+}
+
+-- for a system at the other end of its cables
+pub within_far : (x : NetworkSetup) → IsNetworkSetup x → (call : ModelCall) (stamp s : ℕ) (towards : ℕ → ℕ → List Message)
+    (whole : ℕ → ℕ → Bool) (forced : ℕ → ℕ → Bool) → SeenAlike x whole → Amid x call stamp s towards whole forced
+    → (r : ℕ) → Within call stamp (theirs_of x r s) (out_of x towards r) (whole r) forced
+within_far x f call stamp s towards whole forced alike a r = record {
+  running = a.running;
+  came = λ p pdu e c h. subst (λ o. BeginsWith (Control pdu stamp) (at_far towards o)) (sym (port_in-some s (x.far r c) p h))
+      (a.came p pdu (record { system = r; port = c }) e (f.cables r c s p (port_in-some s (x.far r c) p h)));
+  downed = λ p e c h. alike r c s p (port_in-some s (x.far r c) p h) ∙ a.downed p e;
+  forcing = a.forcing;
+}
+
+-- An LACPDU names this system and port as its Actor; nothing is asked of another message.
+abbrev pub IsOwn : SystemId → ℕ → LacpMessage → Type 0
+IsOwn system p pdu = (pdu.actor.system ≡ system) × (pdu.actor.port.number ≡ p)
+
+abbrev pub NamesSender : SystemId → ℕ → Message → Type 0
+NamesSender system p (Control (Lacp pdu) stamp) = IsOwn system p pdu
+NamesSender system p (Control (Marker mac q n) stamp) = Unit {0}
+NamesSender system p (Control (Response mac q n) stamp) = Unit {0}
+NamesSender system p (Data origin g k serial) = Unit {0}
+
+pub names_put : (x : NetworkSetup) (r : ℕ) (system : SystemId) (whole : ℕ → Bool) (kept : Bool) (p : ℕ) (m : Message) (out : ℕ → List Message)
+    → NamesSender system p m → ((c : ℕ) → Every (NamesSender system c) (out c))
+    → (c : ℕ) → Every (NamesSender system c) (put_on_cable (ends_of x r) whole kept p m out c)
+names_put x r system whole kept p m out h i = put_each (λ c l. Every (NamesSender system c) l) (ends_of x r) whole kept p m out
+    (λ c w e. every_push (NamesSender system c) (out c) m (i c) (subst (λ c. NamesSender system c m) (sym (ends-some x r c p e)) h)) i
+
+-- a list that is the same, empty, or without its first message
+abbrev pub IsLess : List Message → List Message → Type 0
+IsLess new old = (new ≡ old) ⊎ ((new ≡ []) ⊎ ((m : Message) × (old ≡ m ∷ new)))
+
+pub every_less : (P : Message → Type 0) (new old : List Message) → IsLess new old → Every P old → Every P new
+every_less P new old h e = elim h [
+  | inl x ↦ subst (Every P) (sym x) e
+  | inr y ↦ elim y [ inl x ↦ subst (Every P) (sym x) tt | inr x ↦ (subst (Every P) x.1 e).1 ]
+]
+
+out_blank : {me : Side} {g k : ℕ} {e : Option ℕ} {c : Conversation} {out back : List Message} {sent collected : List ℕ}
+    → Orderly me g k e c out back sent collected → Orderly me g k e c [] back sent collected
+out_blank {back = back} {sent} {collected} i = record {
+  place = inl refl;
+  behind = λ p n f x. tt;
+  answered = λ p n f x. every_weaker _ (λ m. answers n m ≡ true → [] ≡ []) (λ m h y. refl) back (i.answered p n f x);
+  in_order = subst (λ l. IsSubsequence l sent) (sym (append-nil collected)) (handed_front i);
+}
+
+back_blank : {me : Side} {g k : ℕ} {e : Option ℕ} {c : Conversation} {out back : List Message} {sent collected : List ℕ}
+    → Orderly me g k e c out back sent collected → Orderly me g k e c out [] sent collected
+back_blank i = record { place = i.place; behind = i.behind; answered = λ p n f x. tt; in_order = i.in_order }
+
+module _ {me : Side} {ends : ℕ → Option ℕ} {f : DistributorFacts} {out back : ℕ → List Message} {whole : ℕ → Bool}
+    {sent collected : ℕ → ℕ → List ℕ} {forced : ℕ → ℕ → Bool} (i : Lanes me ends f out back whole sent collected forced) where
+  -- less is on the cables
+  pub lanes_less : (out' back' : ℕ → List Message) (whole' : ℕ → Bool) → ((c : ℕ) → IsLess (out' c) (out c))
+      → ((c : ℕ) → IsLess (back' c) (back c)) → ((c : ℕ) → whole' c ≡ false → out' c ≡ [])
+      → Lanes me ends f out' back' whole' sent collected forced
+  lanes_less out' back' whole' lo lb cut = record {
+    waits = i.waits;
+    markers = λ c. every_less (MarkerBelow f.next) (out' c) (out c) (lo c) (i.markers c);
+    responses = λ c. every_less (ResponseBelow f.next) (back' c) (back c) (lb c) (i.responses c);
+    origin = λ c. every_less (IsFrom me) (out' c) (out c) (lo c) (i.origin c);
+    cut = cut;
+    orderly = λ g k c u.
+        let first : Orderly me g k (ends c) (f.state g k) (out' c) (back c) (sent g k) (collected g k) = elim (lo c) [
+          | inl x ↦ subst (λ l. Orderly me g k (ends c) (f.state g k) l (back c) (sent g k) (collected g k)) (sym x) (i.orderly g k c u)
+          | inr y ↦ elim y [
+            | inl x ↦ subst (λ l. Orderly me g k (ends c) (f.state g k) l (back c) (sent g k) (collected g k)) (sym x)
+                (out_blank (i.orderly g k c u))
+            | inr x ↦ taken_away (subst (λ l. Orderly me g k (ends c) (f.state g k) l (back c) (sent g k) (collected g k)) x.1
+                (i.orderly g k c u))
+          ]
+        ] in
+        elim (lb c) [
+          | inl x ↦ subst (λ l. Orderly me g k (ends c) (f.state g k) (out' c) l (sent g k) (collected g k)) (sym x) first
+          | inr y ↦ elim y [
+            | inl x ↦ subst (λ l. Orderly me g k (ends c) (f.state g k) (out' c) l (sent g k) (collected g k)) (sym x) (back_blank first)
+            | inr x ↦ answer_taken (subst (λ l. Orderly me g k (ends c) (f.state g k) (out' c) l (sent g k) (collected g k)) x.1 first)
+          ]
+        ];
+  }
+
+pub stamps_less : {ends theirs : ℕ → Option ℕ} {party : ℕ → Option Party} {count : ℕ → ℕ} {out : ℕ → List Message} {taken : ℕ
+    → Option TakenLacpdu} → Stamps ends theirs party count out taken → (out' : ℕ → List Message) → ((c : ℕ) → IsLess (out' c) (out c))
+    → Stamps ends theirs party count out' taken
+stamps_less {party = party} {count = count} {out = out} i out' less = record {
+  flight = λ c p e. every_less (Fresh (count p) (party p)) (out' c) (out c) (less c) (i.flight c p e);
+  last = i.last;
+}

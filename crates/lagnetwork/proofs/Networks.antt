@@ -1,0 +1,339 @@
+-- What every event of any number of systems preserves.
+use Rattle.lagnetwork.proofs.Common.{Bool, List, None, Option, Some, [], ap, eq-eqb, eqb, eqb-true, false, inl, inr, refl, subst, suc, sym, true, ℕ}
+use Rattle.lagnetwork.proofs.Common.{◌∙◌, ◌∷◌, ◌≡◌, ◌≢◌, ◌⊎◌, cases_Bool, eqb-false, Party, Members}
+use Rattle.lagnetwork.proofs.Common.{Move, MoveAllowed, act, view_after, ModelCall, SystemSetup, View}
+use Rattle.lagnetwork.proofs.Common.{replies_frame, Control, Data, Message, One, TakenLacpdu, at_two}
+use Rattle.lagnetwork.proofs.Common.{on_cable_after, party_at, sent_after, taken_after}
+use Rattle.lagnetwork.specs.Network.{NetworkSetup, IsNetworkSetup, Network, NetworkCall, AllNetworkMoves}
+use Rattle.lagnetwork.specs.Network.{at_system, network_after, network_after_all}
+use Rattle.lagmodel.proofs.Base.{cond_true, cond_false, none-is_some, value_of, mapped_some}
+use Rattle.lagmodel.proofs.Ports.{changed_port}
+use Rattle.lagnetwork.proofs.Common.{IsSome, true≢false, first_view, is_restart, at_port, port_after, Leave, Reconfigure, Default, Join, first_port}
+use Rattle.lagmodel.proofs.Lanes.{Lanes}
+use Rattle.lagmodel.proofs.LaneMoves.{Within, lanes_own, lanes_peer, lanes_forced, at_cable_each}
+use Rattle.lagmodel.proofs.Stamps.{Stamps, AllHeard, heard_own, stamps_own, stamps_peer, stamps_counted, parties_kept}
+use Rattle.lagmodel.proofs.Worlds.{members_own}
+use Rattle.lagnetwork.proofs.NetworkLines.{ends_of, theirs_of, out_of, SeenAlike, own_after, other_after, back_after, BeginsWith, begins_after}
+use Rattle.lagnetwork.proofs.NetworkLines.{Amid, within_own, within_far, IsLess, lanes_less, stamps_less, every_less, IsOwn, NamesSender, names_put}
+use Rattle.lagmodel.proofs.Lines.{Every}
+use Rattle.lagnetwork.proofs.Common.{IsSomeAnd, PortAllowed, PortMove, Port, Flow, Announce, Respond, Take, Send, Mark, Become, DistributorMove, act_of_port}
+use Rattle.lagnetwork.proofs.Common.{distributor_act, PortFacts, Lacp, Marker, Response, length, same_Some}
+use Rattle.lagmodel.specs.Move.{Restart}
+
+-- a port in an aggregator has a partner that is not its own system
+abbrev pub Apart : (ℕ → Option PortFacts) → Type 0
+Apart ports = (p : ℕ) (a : PortFacts) → ports p ≡ Some a → IsSome a.aggregator → a.partner.system ≢ a.party.system
+
+apart_changed : (ports : ℕ → Option PortFacts) (p : ℕ) (f : PortFacts → PortFacts) (a : PortFacts) → ports p ≡ Some a
+    → (IsSome (f a).aggregator → (f a).partner.system ≢ (f a).party.system) → Apart ports → Apart (at_port ports p f)
+apart_changed ports p f a h n i q b hb = elim (changed_port ports p q f a b h hb) [
+  | inl x ↦ subst (λ (b : PortFacts). IsSome b.aggregator → b.partner.system ≢ b.party.system) x.1 n
+  | inr x ↦ i q b x.1
+]
+
+apart_port : (u : SystemSetup) (call : ModelCall) (ports : ℕ → Option PortFacts) (p : ℕ) (m : PortMove) (a : PortFacts) → ports p ≡ Some a
+    → PortAllowed u call ports p m a → Apart ports → Apart (at_port ports p (port_after m))
+apart_port u call ports p Leave a h x i = apart_changed ports p (port_after Leave) a h (λ s. absurd (none-is_some {A = ℕ} None refl s)) i
+apart_port u call ports p (Reconfigure party) a h x i = apart_changed ports p (port_after (Reconfigure party)) a h
+    (λ s. absurd (none-is_some a.aggregator x.1 s)) i
+apart_port u call ports p Default a h x i = apart_changed ports p (port_after Default) a h
+    (λ s. elim x [
+      | inl none ↦ absurd (none-is_some a.aggregator none s)
+      | inr zero ↦ subst (λ (y : Party). y.system ≢ a.party.system) zero (i p a h s)
+    ]) i
+apart_port u call ports p (Take pdu synchronized) a h x i = apart_changed ports p (port_after (Take pdu synchronized)) a h
+    (λ s. elim x.1 [
+      | inl same ↦ subst (λ (y : Party). y.system ≢ a.party.system) (sym same) (i p a h s)
+      | inr none ↦ absurd (none-is_some a.aggregator none s)
+    ]) i
+apart_port u call ports p (Join g) a h x i = apart_changed ports p (port_after (Join g)) a h (λ s. x.1) i
+apart_port u call ports p m a h x i = apart_changed ports p (port_after m) a h (i p a h) i
+
+apart_own : (u : SystemSetup) (call : ModelCall) (v : View) (m : Move) → MoveAllowed u call v m → is_restart call ≡ false → Apart v.port
+    → Apart ((view_after u m v).port)
+apart_own u call v (Port p m) x r i = let s = value_of (v.port p) (PortAllowed u call v.port p m) x in
+    apart_port u call v.port p m s.0 s.1 s.2 i
+apart_own u call v (Flow m) x r i = i
+apart_own u call v Restart x r i = absurd (true≢false (sym x ∙ r))
+
+pub apart_first : (u : SystemSetup) → Apart (first_view u).port
+apart_first u p a h s = let m = mapped_some first_port (u.party p) a h in
+    absurd (none-is_some a.aggregator (ap (λ (a : PortFacts). a.aggregator) (sym m.2)) s)
+
+-- what a system sends names it and the port
+names_own : (x : NetworkSetup) (r : ℕ) (call : ModelCall) (v : View) (m : Move) (out : ℕ → List Message) (whole : ℕ → Bool) (count : ℕ → ℕ)
+    (sent : ℕ → ℕ → List ℕ) (kept : Bool) → MoveAllowed (x.setup r) call v m → Members (x.setup r) v.port
+    → ((c : ℕ) → Every (NamesSender (x.setup r).system c) (out c)) → (c : ℕ)
+    → Every (NamesSender (x.setup r).system c) (on_cable_after One (ends_of x r) whole count sent kept (act (x.setup r) m v) out c)
+names_own x r call v (Port p m) out whole count sent kept a members i = go m (v.port p) refl
+  where
+    go : (m : PortMove) (o : Option PortFacts) → v.port p ≡ o → (c : ℕ)
+        → Every (NamesSender (x.setup r).system c) (on_cable_after One (ends_of x r) whole count sent kept (act_of_port p m o) out c)
+    go m None e = i
+    go (Announce synchronized) (Some a) e = names_put x r (x.setup r).system whole kept p
+        (Control (Lacp (record { actor = a.party; partner = a.partner; synchronized = synchronized })) (count p)) out
+        (members.own p a e, members.number p a e) i
+    go (Respond mac q n) (Some a) e = names_put x r (x.setup r).system whole kept p (Control (Response mac q n) 0) out tt i
+    go m (Some a) e = i
+names_own x r call v (Flow m) out whole count sent kept a members i = go m
+  where
+    go : (m : DistributorMove) → (c : ℕ) → Every (NamesSender (x.setup r).system c)
+        (on_cable_after One (ends_of x r) whole count sent kept (distributor_act (x.setup r).system.mac m v.flows) out c)
+    go (Send g k p) = names_put x r (x.setup r).system whole kept p (Data One g k (length (sent g k))) out tt i
+    go (Mark p) = names_put x r (x.setup r).system whole kept p (Control (Marker (x.setup r).system.mac p v.flows.next) 0) out tt i
+    go (Become g k m) = i
+names_own x r call v Restart out whole count sent kept a members i = i
+
+-- what a port took names the system and port at the other end of its cable
+named_peer : (x : NetworkSetup) (r s : ℕ) (u : SystemSetup) (call : ModelCall) (stamp : ℕ) (v : View) (m : Move) (out : ℕ → List Message)
+    (whole : ℕ → Bool) (forced : ℕ → ℕ → Bool) (taken : ℕ → Option TakenLacpdu) → MoveAllowed u call v m
+    → Within call stamp (theirs_of x r s) out whole forced → ((c : ℕ) → Every (NamesSender (x.setup r).system c) (out c))
+    → ((c p : ℕ) (l : TakenLacpdu) → theirs_of x r s c ≡ Some p → taken p ≡ Some l → IsOwn (x.setup r).system c l.pdu)
+    → (c p : ℕ) (l : TakenLacpdu) → theirs_of x r s c ≡ Some p → taken_after stamp (act u m v) taken p ≡ Some l
+    → IsOwn (x.setup r).system c l.pdu
+named_peer x r s u call stamp v (Port p m) out whole forced taken a w names i = go m (v.port p) a
+  where
+    go : (m : PortMove) (o : Option PortFacts) → IsSomeAnd o (PortAllowed u call v.port p m) → (c q : ℕ) (l : TakenLacpdu)
+        → theirs_of x r s c ≡ Some q → taken_after stamp (act_of_port p m o) taken q ≡ Some l → IsOwn (x.setup r).system c l.pdu
+    go m None a = i
+    go (Take pdu synchronized) (Some b) a = λ c q l e h. elim (cases_Bool (eqb q p)) [
+      | inl y ↦ (let same : q ≡ p = eqb-true q p y in
+          let this : record { pdu = pdu; stamp = stamp } ≡ l = same_Some (record { pdu = pdu; stamp = stamp }) l
+          (sym (cond_true (eqb q p) _ (taken q) y) ∙ h) in
+          let first = w.came p (Lacp pdu) a.0 c (e ∙ ap (λ (n : ℕ). Some n) same) in
+          let own = subst (Every (NamesSender (x.setup r).system c)) first.1 (names c) in
+          subst (λ (l : TakenLacpdu). IsOwn (x.setup r).system c l.pdu) this own.0)
+      | inr y ↦ i c q l e (sym (cond_false (eqb q p) (Some (record { pdu = pdu; stamp = stamp })) (taken q) y) ∙ h)
+    ]
+    go m (Some b) a = i
+named_peer x r s u call stamp v (Flow m) out whole forced taken a w names i = go m
+  where
+    go : (m : DistributorMove) → (c q : ℕ) (l : TakenLacpdu) → theirs_of x r s c ≡ Some q
+        → taken_after stamp (distributor_act u.system.mac m v.flows) taken q ≡ Some l → IsOwn (x.setup r).system c l.pdu
+    go (Send g k p) = i
+    go m = i
+named_peer x r s u call stamp v Restart out whole forced taken a w names i = i
+
+-- what holds of system r: out is what is on the cable of each of its ports, away from it, back what is on it towards it
+pub record Fine (x : NetworkSetup) (r : ℕ) (v : View) (party : ℕ → Option Party) (count : ℕ → ℕ) (out back : ℕ → List Message)
+    (whole : ℕ → Bool) (sent collected : ℕ → ℕ → List ℕ) (forced : ℕ → ℕ → Bool) (mine : ℕ → Option TakenLacpdu)
+    (taken : ℕ → ℕ → Option TakenLacpdu) : Type 0 where
+  pub members : Members (x.setup r) v.port
+  pub lanes : Lanes One (ends_of x r) v.flows out back whole sent collected forced
+  pub heard : AllHeard v.port mine
+  pub stamps : (s : ℕ) → Stamps (ends_of x r) (theirs_of x r s) party count out (taken s)
+  pub apart : Apart v.port
+  pub names : (c : ℕ) → Every (NamesSender (x.setup r).system c) (out c)
+  pub named : (s c p : ℕ) (m : TakenLacpdu) → theirs_of x r s c ≡ Some p → taken s p ≡ Some m → IsOwn (x.setup r).system c m.pdu
+
+-- of system r in a network; party: the parties, as the event began
+abbrev pub FineIn : NetworkSetup → (ℕ → ℕ → Option Party) → Network → ℕ → Type 0
+FineIn x party w r = Fine x r (w.view r) (party r) (w.count r) (out_of x w.towards r) (w.towards r) (w.whole r) (w.sent r) (w.collected r)
+    (w.forced r) (w.taken r) w.taken
+
+-- of all systems
+pub record AllFine (x : NetworkSetup) (w : Network) : Type 0 where
+  pub alike : SeenAlike x w.whole
+  pub each : (r : ℕ) → FineIn x (λ s. party_at (w.view s)) w r
+
+pub fine_along : (x : NetworkSetup) (r : ℕ) (party : ℕ → Option Party) (count : ℕ → ℕ) (whole : ℕ → Bool) (collected : ℕ → ℕ → List ℕ)
+    (forced : ℕ → ℕ → Bool) (v v' : View) (out out' back back' : ℕ → List Message) (sent sent' : ℕ → ℕ → List ℕ)
+    (mine mine' : ℕ → Option TakenLacpdu) (taken : ℕ → ℕ → Option TakenLacpdu)
+    → v ≡ v' → out ≡ out' → back ≡ back' → sent ≡ sent' → mine ≡ mine'
+    → Fine x r v party count out back whole sent collected forced mine taken
+    → Fine x r v' party count out' back' whole sent' collected forced mine' taken
+fine_along x r party count whole collected forced v v' out out' back back' sent sent' mine mine' taken a b c d e f =
+    subst (λ (v : View). Fine x r v party count out' back' whole sent' collected forced mine' taken) a
+    (subst (λ (out : ℕ → List Message). Fine x r v party count out back' whole sent' collected forced mine' taken) b
+    (subst (λ (back : ℕ → List Message). Fine x r v party count out back whole sent' collected forced mine' taken) c
+    (subst (λ (sent : ℕ → ℕ → List ℕ). Fine x r v party count out back whole sent collected forced mine' taken) d
+    (subst (λ (mine : ℕ → Option TakenLacpdu). Fine x r v party count out back whole sent collected forced mine taken) e f))))
+
+module _ {x : NetworkSetup} {r : ℕ} {v : View} {party : ℕ → Option Party} {count : ℕ → ℕ} {out back : ℕ → List Message} {whole : ℕ → Bool}
+    {sent collected : ℕ → ℕ → List ℕ} {forced : ℕ → ℕ → Bool} {mine : ℕ → Option TakenLacpdu} {taken : ℕ → ℕ → Option TakenLacpdu}
+    (i : Fine x r v party count out back whole sent collected forced mine taken) where
+  -- a move of this system: what it sends, and what it took
+  own_part : (call : ModelCall) (stamp : ℕ) (kept : Bool) (m : Move) → MoveAllowed (x.setup r) call v m
+      → Within call stamp (ends_of x r) back whole forced → (replies_frame call ≡ true → (p : ℕ) → party_at v p ≡ party p)
+      → Fine x r (view_after (x.setup r) m v) party count
+      (on_cable_after One (ends_of x r) whole count sent kept (act (x.setup r) m v) out) back whole
+      (sent_after (act (x.setup r) m v) sent) collected forced (taken_after stamp (act (x.setup r) m v) mine) taken
+  own_part call stamp kept m a w h = record {
+    members = members_own (x.setup r) call v m a w.running i.members;
+    lanes = lanes_own One (ends_of x r) whole collected forced back (x.setup r) call stamp count kept v m out sent a w i.lanes;
+    heard = heard_own (x.setup r) call stamp v m mine a w.running i.heard;
+    stamps = λ s. stamps_own One (ends_of x r) (theirs_of x r s) party count out (taken s) whole sent kept (x.setup r) call v m a h
+        (i.stamps s);
+    names = names_own x r call v m out whole count sent kept a i.members i.names;
+    apart = apart_own (x.setup r) call v m a w.running i.apart;
+    named = i.named;
+  }
+
+  -- a move of system s: what comes towards this system, and what the other took
+  far_part : (s : ℕ) (u : SystemSetup) (sv : View) (s_count : ℕ → ℕ) (s_sent : ℕ → ℕ → List ℕ) (s_forced : ℕ → ℕ → Bool)
+      (call : ModelCall) (stamp : ℕ) (kept : Bool) (m : Move)
+      → MoveAllowed u call sv m → Within call stamp (theirs_of x r s) out whole s_forced
+      → Fine x r v party count out (on_cable_after One (theirs_of x r s) whole s_count s_sent kept (act u m sv) back) whole sent collected
+      forced mine (at_system taken s (taken_after stamp (act u m sv) (taken s)))
+  far_part s u sv s_count s_sent s_forced call stamp kept m a w = record {
+    members = i.members;
+    heard = i.heard;
+    lanes = lanes_peer One (ends_of x r) whole sent collected forced s_forced v.flows out back One (theirs_of x r s) u call stamp s_count
+        s_sent kept sv m a w i.lanes;
+    stamps = at_cable_each (λ t k. Stamps (ends_of x r) (theirs_of x r t) party count out k) taken s
+        (taken_after stamp (act u m sv) (taken s))
+        (stamps_peer (ends_of x r) (theirs_of x r s) party count out (taken s) whole s_forced u call stamp sv m a w (i.stamps s))
+        (λ t ne. i.stamps t);
+    names = i.names;
+    apart = i.apart;
+    named = λ t. at_cable_each (λ t k. (c p : ℕ) (l : TakenLacpdu) → theirs_of x r t c ≡ Some p → k p ≡ Some l
+        → IsOwn (x.setup r).system c l.pdu) taken s (taken_after stamp (act u m sv) (taken s))
+        (named_peer x r s u call stamp sv m out whole s_forced (taken s) a w i.names (i.named s)) (λ t ne. i.named t) t;
+  }
+
+  -- less is on the cables
+  pub less_part : (out' back' : ℕ → List Message) (whole' : ℕ → Bool) → ((c : ℕ) → IsLess (out' c) (out c))
+      → ((c : ℕ) → IsLess (back' c) (back c)) → ((c : ℕ) → whole' c ≡ false → out' c ≡ [])
+      → Fine x r v party count out' back' whole' sent collected forced mine taken
+  less_part out' back' whole' lo lb cut = record {
+    members = i.members;
+    heard = i.heard;
+    lanes = lanes_less i.lanes out' back' whole' lo lb cut;
+    stamps = λ s. stamps_less (i.stamps s) out' lo;
+    names = λ c. every_less (NamesSender (x.setup r).system c) (out' c) (out c) (lo c) (i.names c);
+    named = i.named;
+    apart = i.apart;
+  }
+
+  -- the change counts at the end of an event
+  pub counted_part : (new : ℕ → ℕ)
+      → ((p : ℕ) → ((party_at v p ≡ party p) × (new p ≡ count p)) ⊎ ((party_at v p ≢ party p) × (new p ≡ suc (count p))))
+      → Fine x r v (party_at v) new out back whole sent collected forced mine taken
+  counted_part new h = record {
+    members = i.members;
+    heard = i.heard;
+    lanes = i.lanes;
+    stamps = λ s. stamps_counted (ends_of x r) (theirs_of x r s) party (party_at v) count new out (taken s) h (i.stamps s);
+    names = i.names;
+    apart = i.apart;
+    named = i.named;
+  }
+
+  pub forced_part : (g k : ℕ) → Fine x r v party count out back whole sent collected (at_two forced g k true) mine taken
+  forced_part g k = record {
+    members = i.members;
+    heard = i.heard;
+    stamps = i.stamps;
+    names = i.names;
+    apart = i.apart;
+    named = i.named;
+    lanes = lanes_forced i.lanes g k;
+  }
+
+-- while system s runs a call
+pub record Calling (x : NetworkSetup) (s : ℕ) (call : ModelCall) (stamp : ℕ) (party : ℕ → ℕ → Option Party) (w : Network) : Type 0 where
+  pub amid : Amid x call stamp s w.towards w.whole (w.forced s)
+  pub parties : replies_frame call ≡ true → (p : ℕ) → party_at (w.view s) p ≡ party s p
+  pub alike : SeenAlike x w.whole
+  pub each : (r : ℕ) → FineIn x party w r
+
+pub there : {X : Type 0} (f : ℕ → X) (s : ℕ) (y : X) → at_system f s y s ≡ y
+there f s y = cond_true (eqb s s) y (f s) (eq-eqb s s refl)
+
+pub elsewhere : {X : Type 0} (f : ℕ → X) (s : ℕ) (y : X) (t : ℕ) → (t ≡ s → ⊥) → at_system f s y t ≡ f t
+elsewhere f s y t ne = elim (cases_Bool (eqb t s)) [ inl e ↦ absurd (ne (eqb-true t s e)) | inr e ↦ cond_false (eqb t s) y (f t) e ]
+
+pub is_or_not : (P : Type 0) (r s : ℕ) → (r ≡ s → P) → ((r ≡ s → ⊥) → P) → P
+is_or_not P r s a b = elim (cases_Bool (eqb r s)) [ inl e ↦ a (eqb-true r s e) | inr e ↦ b (eqb-false r s e) ]
+
+-- one move
+module _ (x : NetworkSetup) (f : IsNetworkSetup x) (s : ℕ) (call : ModelCall) (stamp : ℕ) (party : ℕ → ℕ → Option Party) (m : Move × Bool)
+    (w : Network) (a : MoveAllowed (x.setup s) call (w.view s) m.0) (i : Calling x s call stamp party w) where
+  amid_after : Amid x call stamp s ((network_after x s stamp m w).towards) w.whole (w.forced s)
+  amid_after = record {
+    running = i.amid.running;
+    downed = i.amid.downed;
+    forcing = i.amid.forcing;
+    came = λ p pdu b e h. begins_after x s w.whole (w.count s) (w.sent s) m.1 (act (x.setup s) m.0 (w.view s)) w.towards
+        (Control pdu stamp) s p (i.amid.came p pdu b e h);
+  }
+
+  at_mover : FineIn x party (network_after x s stamp m w) s
+  at_mover =
+      let o = act (x.setup s) m.0 (w.view s) in
+      let own = own_part (i.each s) call stamp m.1 m.0 a (within_own x call stamp s w.towards w.whole (w.forced s) i.amid) i.parties in
+      let sent_out = fine_along x s (party s) (w.count s) (w.whole s) (w.collected s) (w.forced s)
+      _ _ _ _ _ _ _ _ _ _ w.taken refl (sym (own_after x f w.whole i.alike m.1 s (w.count s) (w.sent s) w.towards o)) refl refl refl own in
+      fine_along x s (party s) (w.count s) (w.whole s) (w.collected s) (w.forced s)
+      _ _ _ _ _ _ _ _ _ _ (at_system w.taken s (taken_after stamp o (w.taken s)))
+      (sym (there w.view s (view_after (x.setup s) m.0 (w.view s)))) refl
+      (sym (back_after x f w.whole i.alike m.1 s (w.count s) (w.sent s) w.towards o s))
+      (sym (there w.sent s (sent_after o (w.sent s)))) (sym (there w.taken s (taken_after stamp o (w.taken s))))
+      (far_part sent_out s (x.setup s) (w.view s) (w.count s) (w.sent s) (w.forced s) call stamp m.1 m.0 a
+      (within_far x f call stamp s ((network_after x s stamp m w).towards) w.whole (w.forced s) i.alike amid_after s))
+
+  at_other : (r : ℕ) → (r ≡ s → ⊥) → FineIn x party (network_after x s stamp m w) r
+  at_other r ne =
+      let o = act (x.setup s) m.0 (w.view s) in
+      fine_along x r (party r) (w.count r) (w.whole r) (w.collected r) (w.forced r)
+      _ _ _ _ _ _ _ _ _ _ (at_system w.taken s (taken_after stamp o (w.taken s)))
+      (sym (elsewhere w.view s (view_after (x.setup s) m.0 (w.view s)) r ne))
+      (sym (other_after x f w.whole i.alike m.1 s (w.count s) (w.sent s) w.towards o r ne))
+      (sym (back_after x f w.whole i.alike m.1 s (w.count s) (w.sent s) w.towards o r))
+      (sym (elsewhere w.sent s (sent_after o (w.sent s)) r ne)) (sym (elsewhere w.taken s (taken_after stamp o (w.taken s)) r ne))
+      (far_part (i.each r) s (x.setup s) (w.view s) (w.count s) (w.sent s) (w.forced s) call stamp m.1 m.0 a
+      (within_far x f call stamp s w.towards w.whole (w.forced s) i.alike i.amid r))
+
+  calling_moved : Calling x s call stamp party (network_after x s stamp m w)
+  calling_moved = record {
+    amid = amid_after;
+    alike = i.alike;
+    parties = λ h p. ap (λ (v : View). party_at v p) (there w.view s (view_after (x.setup s) m.0 (w.view s)))
+        ∙ parties_kept (x.setup s) call (w.view s) m.0 a i.amid.running h p ∙ i.parties h p;
+    each = λ r. is_or_not (FineIn x party (network_after x s stamp m w) r) r s
+        (λ e. subst (FineIn x party (network_after x s stamp m w)) (sym e) at_mover) (at_other r);
+  }
+
+calling_all : (x : NetworkSetup) → IsNetworkSetup x → (s : ℕ) (call : ModelCall) (stamp : ℕ) (party : ℕ → ℕ → Option Party)
+    (ms : List (Move × Bool)) (w : Network) → AllNetworkMoves x s call stamp ms w → Calling x s call stamp party w
+    → Calling x s call stamp party (network_after_all x s stamp ms w)
+calling_all x f s call stamp party [] w a i = i
+calling_all x f s call stamp party (m ∷ ms) w a i = calling_all x f s call stamp party ms (network_after x s stamp m w) a.1
+    (calling_moved x f s call stamp party m w a.0 i)
+
+-- a whole call, within an event that began in the network old; what began a list of messages still does
+pub call_kept : (x : NetworkSetup) → IsNetworkSetup x → (s : ℕ) (call : ModelCall) (stamp : ℕ) (old mid new : Network)
+    → mid.count ≡ old.count
+    → Calling x s call stamp (λ t. party_at (old.view t)) mid → NetworkCall x s call stamp old mid new → AllFine x new
+call_kept x f s call stamp old mid new same i z =
+    let end = calling_all x f s call stamp (λ t. party_at (old.view t)) z.0 mid z.1 i in
+    subst (AllFine x) (sym z.2.2) (record {
+      alike = end.alike;
+      each = λ r. counted_part (end.each r) (z.2.0 r) (λ p. rises r p (z.2.1 r p));
+    })
+  where
+    counts : (ms : List (Move × Bool)) (w : Network) → (network_after_all x s stamp ms w).count ≡ w.count
+    counts [] w = refl
+    counts (m ∷ ms) w = counts ms (network_after x s stamp m w)
+
+    rises : (r p : ℕ) → ((party_at ((network_after_all x s stamp z.0 mid).view r) p ≡ party_at (old.view r) p) × (z.2.0 r p ≡ old.count r p))
+        ⊎ ((party_at ((network_after_all x s stamp z.0 mid).view r) p ≢ party_at (old.view r) p) × (z.2.0 r p ≡ suc (old.count r p)))
+        → ((party_at ((network_after_all x s stamp z.0 mid).view r) p ≡ party_at (old.view r) p)
+        × (z.2.0 r p ≡ (network_after_all x s stamp z.0 mid).count r p))
+        ⊎ ((party_at ((network_after_all x s stamp z.0 mid).view r) p ≢ party_at (old.view r) p)
+        × (z.2.0 r p ≡ suc ((network_after_all x s stamp z.0 mid).count r p)))
+    rises r p h =
+        let e : old.count r p ≡ (network_after_all x s stamp z.0 mid).count r p =
+        ap (λ (n : ℕ → ℕ → ℕ). n r p) (sym same ∙ sym (counts z.0 mid)) in
+        elim h [ inl y ↦ inl (y.0, y.1 ∙ e) | inr y ↦ inr (y.0, y.1 ∙ ap suc e) ]
+
+begins_all : (x : NetworkSetup) (s stamp : ℕ) (ms : List (Move × Bool)) (w : Network) (m : Message) (t q : ℕ) → BeginsWith m (w.towards t q)
+    → BeginsWith m ((network_after_all x s stamp ms w).towards t q)
+begins_all x s stamp [] w m t q h = h
+begins_all x s stamp (n ∷ ms) w m t q h = begins_all x s stamp ms (network_after x s stamp n w) m t q
+    (begins_after x s w.whole (w.count s) (w.sent s) n.1 (act (x.setup s) n.0 (w.view s)) w.towards m t q h)
+
+pub begins_call : (x : NetworkSetup) (s : ℕ) (call : ModelCall) (stamp : ℕ) (old mid new : Network) (m : Message) (t q : ℕ)
+    → NetworkCall x s call stamp old mid new → BeginsWith m (mid.towards t q) → BeginsWith m (new.towards t q)
+begins_call x s call stamp old mid new m t q z h =
+    subst (λ (w : Network). BeginsWith m (w.towards t q)) (sym z.2.2) (begins_all x s stamp z.0 mid m t q h)

@@ -1,0 +1,128 @@
+-- What holds after each event of any number of systems, in every schedule.
+use Rattle.std.specs.Prelude.{◌≡◌, ◌≢◌, ◌⊎◌, ◌<◌, ℕ, true, false, Some, IsSome, List, [], ◌∷◌, ◌++◌, Contains, length, slice_index}
+use Rattle.lagtypes.specs.Group.{SamePair}
+use Rattle.std.specs.Prelude.{Bool, Option, option_to_list}
+use Rattle.lagmodel.specs.View.{ModelCall, View, PortFacts, Flushing, conversation_port, Marker, Response}
+use Rattle.lagmodel.specs.Move.{Act, LawfulMoves, pair_at}
+use Rattle.lagmodel.specs.World.{One, Message, Control, TakenLacpdu}
+use Rattle.lagmodel.specs.Law.{IsSubsequence, OnePartner, serials}
+use Rattle.lagnetwork.specs.Network.{Network, NetworkSetup, IsNetworkSetup, NetworkEvent, NetworkRun, first_network}
+use Rattle.lagnetwork.specs.Network.{NetworkCall, CountsNetworkChanges, network_after_call}
+
+-- Ports of each system that distribute in one aggregator have one partner system and key.
+abbrev pub EachOnePartner : Network → Type 0
+EachOnePartner w = (s : ℕ) → OnePartner (w.view s)
+
+-- Port p of system s, with the view a, distributes and does not have a defaulted partner, and port q of system t did not
+-- change since it sent the LACPDU that port p took last.
+pub record IsUpToDate (w : Network) (s p t q : ℕ) (a : PortFacts) : Type 0 where
+  pub is : (w.view s).port p ≡ Some a
+  pub distributes : a.distributes ≡ true
+  pub defaulted : a.defaulted ≡ false
+  pub taken : (m : TakenLacpdu) × (w.taken s p ≡ Some m) × (m.stamp ≡ w.count t q)
+
+-- The two ends of each cable have the same group, if both distribute, neither changed since it sent the LACPDU that its
+-- peer took last, and neither has a defaulted partner.
+abbrev pub CablesAgree : NetworkSetup → Network → Type 0
+CablesAgree x w =
+    (s p t q : ℕ) (a b : PortFacts) → x.far s p ≡ Some (record { system = t; port = q })
+    → IsUpToDate w s p t q a → IsUpToDate w t q s p b → SamePair (pair_at a) (pair_at b)
+
+-- What a port that is not on defaults names as its partner is the system and the port at the other end of its cable.
+abbrev pub NamesFarEnd : NetworkSetup → Network → Type 0
+NamesFarEnd x w =
+    (s p t q : ℕ) (a : PortFacts) → x.far s p ≡ Some (record { system = t; port = q }) → (w.view s).port p ≡ Some a → a.defaulted ≡ false
+    → (a.partner.system ≡ (x.setup t).system) × (a.partner.port.number ≡ q)
+
+-- Ports of a system that distribute in one aggregator, none of them on defaults, have cables to one system, if no other
+-- claims its identifier.
+abbrev pub OneDevice : NetworkSetup → Network → Type 0
+OneDevice x w =
+    (s g p q t r i j : ℕ) (a b : PortFacts) → ((x.setup t).system ≡ (x.setup r).system → t ≡ r)
+    → x.far s p ≡ Some (record { system = t; port = i }) → x.far s q ≡ Some (record { system = r; port = j })
+    → (w.view s).port p ≡ Some a → (w.view s).port q ≡ Some b → a.aggregator ≡ Some g → b.aggregator ≡ Some g
+    → a.distributes ≡ true → b.distributes ≡ true → a.defaulted ≡ false → b.defaulted ≡ false → t ≡ r
+
+-- What all systems together collected of a conversation, in the order of time, is a subsequence of what it sent, if it was
+-- never forced.
+abbrev pub NetworkInOrder : Network → Type 0
+NetworkInOrder w = (s g k : ℕ) → w.forced s g k ≡ false → IsSubsequence (w.collected s g k) (w.sent s g k)
+
+-- What one aggregator of one system collected of a conversation of an aggregator of a system is a subsequence of what that
+-- sent, if it was never forced.
+abbrev pub EachCollectorInOrder : Network → Type 0
+EachCollectorInOrder w =
+    (t h s g k : ℕ) → w.forced s g k ≡ false → IsSubsequence (w.arrived t h s g k) (w.sent s g k)
+
+-- A port that is in an aggregator, not on defaults, has a cable to a system of another identifier: not to its own, and not to
+-- one that claims its own.
+abbrev pub NotWithItself : NetworkSetup → Network → Type 0
+NotWithItself x w =
+    (s p t q : ℕ) (a : PortFacts) → x.far s p ≡ Some (record { system = t; port = q }) → (w.view s).port p ≡ Some a
+    → IsSome a.aggregator → a.defaulted ≡ false → (x.setup t).system ≢ (x.setup s).system
+
+-- All frames in flight of a conversation that was never forced are on the cable of its port.
+abbrev pub FlyOnItsCable : NetworkSetup → Network → Type 0
+FlyOnItsCable x w =
+    (s g k p t q : ℕ) → w.forced s g k ≡ false → x.far s p ≡ Some (record { system = t; port = q })
+    → (serials One g k (w.towards t q) ≡ []) ⊎ (conversation_port ((w.view s).flows.state g k) ≡ Some p)
+
+-- While a conversation that was never forced waits on a port for the response to a marker: none of its frames was sent after
+-- that marker on the port's cable, and none is in flight there while the response is.
+abbrev pub FlushedBehindMarker : NetworkSetup → Network → Type 0
+FlushedBehindMarker x w =
+    (s g k p n t q : ℕ) → w.forced s g k ≡ false → (w.view s).flows.state g k ≡ Flushing p n
+    → x.far s p ≡ Some (record { system = t; port = q })
+    → ((front back : List Message) (stamp : ℕ) → w.towards t q ≡ front ++ Control (Marker (x.setup s).system.mac p n) stamp ∷ back
+    → serials One g k back ≡ [])
+    × ((stamp : ℕ) → Contains (w.towards s p) (Control (Response (x.setup s).system.mac p n) stamp) → serials One g k (w.towards t q) ≡ [])
+
+-- Every marker identifier in flight on a cable is below its requester's next one.
+abbrev pub AllBelowNext : NetworkSetup → Network → Type 0
+AllBelowNext x w =
+    (s p t q r n stamp : ℕ) (mac : List ℕ) → x.far s p ≡ Some (record { system = t; port = q })
+    → (Contains (w.towards t q) (Control (Marker mac r n) stamp) → n < (w.view s).flows.next)
+    × (Contains (w.towards s p) (Control (Response mac r n) stamp) → n < (w.view s).flows.next)
+
+-- What a conversation collected, followed by its frames in flight on any one cable, is a subsequence of what it sent, if it
+-- was never forced.
+abbrev pub CollectedThenFlying : NetworkSetup → Network → Type 0
+CollectedThenFlying x w =
+    (s g k p t q : ℕ) → w.forced s g k ≡ false → x.far s p ≡ Some (record { system = t; port = q })
+    → IsSubsequence (w.collected s g k ++ serials One g k (w.towards t q)) (w.sent s g k)
+
+-- The serial numbers that a conversation sent are 0, 1, 2 and so on, so no two of its frames have the same one.
+abbrev pub AllCountFromZero : Network → Type 0
+AllCountFromZero w = (s g k i : ℕ) → i < length (w.sent s g k) → slice_index (w.sent s g k) i ≡ i
+
+-- The statement holds after each event of each schedule, from the start of any systems on any cables.
+abbrev pub IsNetworkInvariant : (NetworkSetup → Network → Type 0) → Type 0
+IsNetworkInvariant P = (x : NetworkSetup) (events : List NetworkEvent) (w : Network) → IsNetworkSetup x
+    → NetworkRun x events (first_network x) w → P x w
+
+-- What the contract of each call of a system promises, lawful moves with at most one visible act, is a call of the network.
+abbrev pub LawfulCallsAreCalls : Type 0
+LawfulCallsAreCalls =
+    (x : NetworkSetup) (s : ℕ) (call : ModelCall) (stamp : ℕ) (old mid new : Network) (v : View) (o : Option Act) (accepted : Bool)
+    (count : ℕ → ℕ → ℕ)
+    → LawfulMoves (x.setup s) call (mid.view s) (option_to_list o) v
+    → CountsNetworkChanges old (network_after_call x s stamp accepted o v mid) count
+    → new ≡ record (network_after_call x s stamp accepted o v mid) { count = count } → NetworkCall x s call stamp old mid new
+
+-- There is a run of three systems, of which systems 2 and 3 have one identifier: both ports of system 1 distribute in its
+-- aggregator 1, one towards each of them, not on defaults; and conversation 48, never forced, had its first frame handed up
+-- at system 2, moved, and had its second handed up at system 3.
+abbrev pub OneAggregatorReachesTwo : Type 0
+OneAggregatorReachesTwo =
+    (x : NetworkSetup) × (events : List NetworkEvent) × (w : Network) × (a b : PortFacts)
+    × IsNetworkSetup x
+    × NetworkRun x events (first_network x) w
+    × (x.far 1 1 ≡ Some (record { system = 2; port = 1 }))
+    × (x.far 1 2 ≡ Some (record { system = 3; port = 2 }))
+    × IsUpToDate w 1 1 2 1 a
+    × IsUpToDate w 1 2 3 2 b
+    × (a.aggregator ≡ Some 1)
+    × (b.aggregator ≡ Some 1)
+    × (w.forced 1 1 48 ≡ false)
+    × (w.sent 1 1 48 ≡ 0 ∷ 1 ∷ [])
+    × (w.collected 1 1 48 ≡ 0 ∷ 1 ∷ [])
