@@ -1,3 +1,4 @@
+mod beside;
 mod calls_of_hosts;
 mod configurations;
 mod conversations;

@@ -1,0 +1,14 @@
+mod Common
+mod Counting
+mod Selecting
+mod EachPort
+mod Timers
+mod OnePort
+mod Hearing
+mod Knowing
+mod Serving
+mod Others
+mod Beside
+mod Alone
+mod First
+mod Never

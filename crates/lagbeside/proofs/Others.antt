@@ -1,0 +1,294 @@
+-- The other ports of an aggregator wait no longer, if none begins to.
+use Rattle.lagbeside.proofs.Common.{Bool, List, Option, Some, [], ap, arith, cond, false, filter, if◌then◌else◌, inl, inr, length, nat_le, not, refl, slice_get, subst, suc, sym, true, zero, ℕ}
+use Rattle.lagbeside.proofs.Common.{◌&&◌, ◌-◌, ◌+◌, ◌==◌, ◌||◌, ◌∙◌, ◌∷◌, ◌≡◌, ◌≤◌, ◌⊎◌, nat_tests, none-some, cases_Bool, eqb-true, itself, AllByRecursion, list_all, list_any}
+use Rattle.lagbeside.proofs.Common.{AggId, Key, Choice, Selected, Standby, Unselected, is_unselected, same_party, party_of, Lacpdu}
+use Rattle.lagbeside.proofs.Common.{MuxState, Attached, CollectingDistributing, Detached, Waiting, Machines, mux_rows, same_mux_state, default_partner, lacpdu_rows, receive_rows}
+use Rattle.lagbeside.proofs.Common.{Starts, before_start, RunsToRest, count_down, PortView, is_aggregator, ports_that_chose, has_chosen, has_waited, is_detached_or_waiting, occupies}
+use Rattle.lagbeside.proofs.Common.{SystemPort, Call, Configure, ProcessesLacpdu, Receive, Restart, Set_link, Tick, Transmit, choice_with_link, MuxIsSettled, key_of}
+use Rattle.lagbeside.proofs.Common.{changed_party, occupied, ready_of, IsSound, SystemState, selection_view, stage_of, views, all-get, tick_count}
+use Rattle.selection.specs.Ready.{is_ready}
+use Rattle.lagsystem.specs.declared.drive.Reply.{Reply}
+use Rattle.lagbeside.specs.Serving.{NoneBegins, Runs, RunsOnceTicked, RunsWhile, Service, begins_in}
+use Rattle.lagbeside.proofs.EachPort.{KeptByCall, KeptBySettling, OfEach, Step-each, Tick-each}
+use Rattle.lagbeside.proofs.Hearing.{no}
+use Rattle.lagbeside.proofs.OnePort.{AtPort, periodic_leaves}
+use Rattle.lagbeside.proofs.Timers.{RowsKeep, runs_keep, takes_keep}
+use Rattle.lagbeside.proofs.Serving.{aside_each}
+
+-- an occupant in WAITING has so many ticks left at the most
+abbrev pub Hard : AggId → ℕ → Machines → Type 0
+Hard agg t p = occupies agg p.choice ≡ true → p.mux ≡ Waiting → p.wait_while ≤ t
+
+-- so it has, or it begins
+abbrev pub Soft : AggId → ℕ → Machines → Type 0
+Soft agg t p = occupies agg p.choice ≡ true → p.mux ≡ Waiting → (p.wait_while ≤ t) ⊎ (p.wait_while ≡ 20)
+
+abbrev pub Beside : ℕ → (Machines → Type 0) → ℕ → Machines → Type 0
+Beside n P m p = (m == n) ≡ false → P p
+
+detached_waits : {A : Type 0} → Detached ≡ Waiting → A
+detached_waits e = absurd cc
+
+attached_waits : {A : Type 0} → Attached ≡ Waiting → A
+attached_waits e = absurd cc
+
+distributing_waits : {A : Type 0} → CollectingDistributing ≡ Waiting → A
+distributing_waits e = absurd cc
+
+soft_rows : (agg : AggId) (t : ℕ) (ready : Bool) → RowsKeep (Soft agg t) (mux_rows ready)
+soft_rows agg t ready = (
+  λ p a o w. inr refl,
+  (
+    λ p a o w. detached_waits w,
+    (λ p a o w. attached_waits w, (λ p a o w. detached_waits w, (λ p a o w. distributing_waits w, (λ p a o w. attached_waits w, tt)))),
+  ),
+)
+
+promoted : (agg given : AggId) (c d : Choice) → c ≡ Standby given → d ≡ Selected given → occupies agg d ≡ true → occupies agg c ≡ true
+promoted agg given c d e f h = rw e (subst (λ x. occupies agg x ≡ true) f h)
+
+soft_settles : (n : ℕ) (agg : AggId) (t : ℕ) → KeptBySettling (Beside n (Soft agg t))
+soft_settles n agg t = record {
+  mux = λ m ready p q h a e. runs_keep (Soft agg t) (mux_rows ready) (soft_rows agg t ready) p q h (a e);
+  periodic = λ m p q h a. periodic_leaves (λ r. (m == n) ≡ false → Soft agg t r) p q h a;
+  select = λ m choice p none may a e o w. elim may.0 [
+    | inl x ↦ detached_waits (sym x.1 ∙ w)
+    | inr x ↦ a e (promoted agg x.0 p.choice choice x.1 x.2 o) w
+  ];
+}
+
+if_occupies : (agg : AggId) (b : Bool) (c : Choice) → occupies agg (if b then c else Unselected) ≡ true → occupies agg c ≡ true
+if_occupies agg true c h = h
+if_occupies agg false c h = absurd (no h)
+
+link_occupies : (agg : AggId) (o : Option ℕ) (up : Bool) (c : Choice) → occupies agg (choice_with_link o up c) ≡ true → occupies agg c ≡ true
+link_occupies agg o up c h = grind (arith, nat_tests)
+
+receive_soft : (agg : AggId) (t : ℕ) → RowsKeep (Soft agg t) receive_rows
+receive_soft agg t = (
+  λ p a. a,
+  (
+    λ p a. a,
+    (
+      λ p a. a,
+      (
+        λ p a o w. a (if_occupies agg (same_party (party_of default_partner) (party_of p.partner)) p.choice o) w,
+        (λ p a. a, tt),
+      ),
+    ),
+  ),
+)
+
+take_soft : (agg : AggId) (t : ℕ) (v : Lacpdu) → RowsKeep (Soft agg t) (lacpdu_rows v)
+take_soft agg t v = (λ p a o w. a (if_occupies agg (same_party (party_of v.actor) (party_of p.partner)) p.choice o) w, tt)
+
+soft_ticks : (agg : AggId) (t : ℕ) (p q : Machines) → RunsToRest receive_rows (count_down p) q → Hard agg t p → Soft agg (t - 1) q
+soft_ticks agg t p q h a = runs_keep (Soft agg (t - 1)) receive_rows (receive_soft agg (t - 1)) (count_down p) q h
+    (λ o w. let l = a o w in inl (omega (arith, l)))
+
+starts_soft : (agg : AggId) (t : ℕ) (p q : Machines) → Starts p q → Soft agg t q
+starts_soft agg t p q h o w = detached_waits (sym (ap (λ (r : Machines). r.mux) h.2) ∙ w)
+
+soft_calls : (n : ℕ) (agg : AggId) (t : ℕ) (call : Call) (answer : Reply) → (call ≡ Tick → ⊥) → KeptByCall (Beside n (Soft agg t)) call answer
+soft_calls n agg t Tick answer none = absurd (none refl)
+soft_calls n agg t (Set_link m up) answer none = λ max_links p q h a e. runs_keep (Soft agg t) receive_rows (receive_soft agg t)
+    (record p { enabled = up; choice = choice_with_link max_links up p.choice }) q h (λ o w. a e (link_occupies agg max_links up p.choice o) w)
+soft_calls n agg t (Receive m octets) answer none = λ v p q took f h a e. takes_keep (Soft agg t) v (take_soft agg t v) p q h (a e)
+soft_calls n agg t (Configure m change) answer none = λ p q h a e. starts_soft agg t (record p { party = changed_party change p.party }) q h.1
+soft_calls n agg t Restart answer none = λ m s q h e. starts_soft agg t (before_start s) q h
+soft_calls n agg t (Transmit m) answer none = λ p told a e. a e
+soft_calls n agg t call answer none = tt
+
+-- where none begins
+
+not_begun : (agg : AggId) (c : Choice) (m : MuxState) (w : ℕ) → occupies agg c ≡ true → m ≡ Waiting → w ≡ 20
+    → (occupies agg c && (same_mux_state Waiting m && (w == 20))) ≡ false → ⊥
+not_begun agg c m w o e f h = grind (arith, nat_tests)
+
+harden : (n : ℕ) (agg : AggId) (t : ℕ) (ports : List SystemPort)
+    → AllByRecursion (λ (y : SystemPort). (y.number == n) ≡ false → begins_in agg y ≡ false) ports
+    → OfEach (Beside n (Soft agg t)) ports → OfEach (Beside n (Hard agg t)) ports
+harden n agg t [] k a = tt
+harden n agg t (x ∷ xs) k a = (
+  λ e o w. elim (a.0 e o w) [
+    | inl l ↦ l
+    | inr f ↦ absurd (not_begun agg x.port.choice x.port.mux x.port.wait_while o w f (k.0 e))
+  ],
+  harden n agg t xs k.1 a.1,
+)
+
+soften : (n : ℕ) (agg : AggId) (t : ℕ) (ports : List SystemPort) → OfEach (Beside n (Hard agg t)) ports → OfEach (Beside n (Soft agg t)) ports
+soften n agg t [] a = tt
+soften n agg t (x ∷ xs) a = (λ e o w. inl (a.0 e o w), soften n agg t xs a.1)
+
+pub timed_soft : (n : ℕ) (agg : AggId) (ports : List SystemPort) → AllByRecursion (λ (y : SystemPort). y.port.wait_while ≤ 20) ports
+    → OfEach (Beside n (Soft agg 20)) ports
+timed_soft n agg [] a = tt
+timed_soft n agg (x ∷ xs) a = (λ e o w. inl a.0, timed_soft n agg xs a.1)
+
+all_hard : (n : ℕ) (agg : AggId) (ports : List SystemPort) → OfEach (Beside n (Soft agg 20)) ports → OfEach (Beside n (Hard agg 20)) ports
+all_hard n agg [] a = tt
+all_hard n agg (x ∷ xs) a = (λ e o w. elim (a.0 e o w) [ inl l ↦ l | inr f ↦ omega (arith, f) ], all_hard n agg xs a.1)
+
+-- wait_while has at most 20 ticks
+
+abbrev Bounded : Machines → Type 0
+Bounded p = p.wait_while ≤ 20
+
+pub bounded_settles : KeptBySettling (λ n p. Bounded p)
+bounded_settles = record {
+  mux = λ n ready p q h a. runs_keep Bounded (mux_rows ready)
+      (λ p a. omega arith, (λ p a. a, (λ p a. a, (λ p a. a, (λ p a. a, (λ p a. a, tt)))))) p q h a;
+  periodic = λ n p q h a. periodic_leaves Bounded p q h a;
+  select = λ n choice p none may a. a;
+}
+
+pub bounded_takes : (v : Lacpdu) (p q : Machines) → ProcessesLacpdu v p q → Bounded p → Bounded q
+bounded_takes v p q h a = takes_keep Bounded v (λ p a. a, tt) p q h a
+
+module _ (n : ℕ) (agg : AggId) (gives : ℕ → ℕ → ℕ → Type 0) where
+  more_gone : (t ticks : ℕ) (ports : List SystemPort) → OfEach (Beside n (Hard agg (t - 1 - ticks))) ports
+      → OfEach (Beside n (Hard agg (t - (ticks + 1)))) ports
+  more_gone t ticks ports a = subst (λ m. OfEach (Beside n (Hard agg m)) ports) (omega arith) a
+
+  pub others_run : (t : ℕ) (old new : SystemState) (calls : List Call) (replies : List Reply) → OfEach (Beside n (Soft agg t)) old.system_ports
+      → RunsWhile (NoneBegins agg n) gives old calls replies new → OfEach (Beside n (Hard agg (t - tick_count calls))) new.system_ports
+  others_run t old new [] [] a h = aside_each (Beside n (Hard agg (t - 0))) old new h.0.1
+      (subst (λ m. OfEach (Beside n (Hard agg m)) old.system_ports) (omega arith) (harden n agg t old.system_ports h.1 a))
+  others_run t old new (Tick ∷ calls) (answer ∷ answers) a h =
+      let mid = Tick-each (Beside n (Hard agg t)) (Beside n (Soft agg (t - 1))) (soft_settles n agg (t - 1))
+      (λ m p q r b e. soft_ticks agg t p q r (b e)) gives h.0 answer h.1 h.4
+      (aside_each (Beside n (Hard agg t)) old h.0 h.3.1 (harden n agg t old.system_ports h.2 a)) in
+      more_gone t (tick_count calls) new.system_ports (others_run (t - 1) h.1 new calls answers mid h.5)
+  others_run t old new (call ∷ calls) (answer ∷ answers) a h =
+      others_run t h.1 new calls answers
+      (Step-each (Beside n (Soft agg t)) (soft_settles n agg t) gives h.0 call answer h.1 (soft_calls n agg t call answer (λ e. cc)) h.4
+      (aside_each (Beside n (Soft agg t)) old h.0 h.3.1 a)) h.5
+  others_run t old new calls replies a h = absurd h
+
+  one_gone : (ticks : ℕ) (ports : List SystemPort) → OfEach (Beside n (Hard agg (19 - ticks))) ports
+      → OfEach (Beside n (Hard agg (20 - (ticks + 1)))) ports
+  one_gone ticks ports a = subst (λ m. OfEach (Beside n (Hard agg m)) ports) (omega arith) a
+
+  pub others_once : (old new : SystemState) (calls : List Call) (replies : List Reply) → OfEach (Beside n (Soft agg 20)) old.system_ports
+      → RunsOnceTicked (NoneBegins agg n) gives old calls replies new → 1 ≤ tick_count calls
+      → OfEach (Beside n (Hard agg (20 - tick_count calls))) new.system_ports
+  others_once old new [] [] a h l = absurd (omega (arith, l))
+  others_once old new (Tick ∷ calls) (answer ∷ answers) a h l =
+      let mid = Tick-each (Beside n (Hard agg 20)) (Beside n (Soft agg 19)) (soft_settles n agg 19)
+      (λ m p q r b e. soft_ticks agg 20 p q r (b e)) gives h.0 answer h.1 h.3
+      (aside_each (Beside n (Hard agg 20)) old h.0 h.2.1 (all_hard n agg old.system_ports a)) in
+      one_gone (tick_count calls) new.system_ports (others_run 19 h.1 new calls answers mid h.4)
+  others_once old new (call ∷ calls) (answer ∷ answers) a h l =
+      others_once h.1 new calls answers
+      (Step-each (Beside n (Soft agg 20)) (soft_settles n agg 20) gives h.0 call answer h.1 (soft_calls n agg 20 call answer (λ e. cc)) h.3
+      (aside_each (Beside n (Soft agg 20)) old h.0 h.2.1 a)) h.4 l
+  others_once old new calls replies a h l = absurd h
+
+  forget : (Is : SystemState → Type 0) (old new : SystemState) (calls : List Call) (replies : List Reply)
+      → RunsWhile Is gives old calls replies new → Runs gives old calls replies new
+  forget Is old new [] [] h = (h.0, tt)
+  forget Is old new (call ∷ calls) (answer ∷ answers) h = (h.0, h.1, tt, h.3, h.4, forget Is h.1 new calls answers h.5)
+  forget Is old new calls replies h = absurd h
+
+  pub once_runs : (Is : SystemState → Type 0) (old new : SystemState) (calls : List Call) (replies : List Reply)
+      → RunsOnceTicked Is gives old calls replies new → Runs gives old calls replies new
+  once_runs Is old new [] [] h = (h, tt)
+  once_runs Is old new (Tick ∷ calls) (answer ∷ answers) h = (h.0, h.1, tt, h.2, h.3, forget Is h.1 new calls answers h.4)
+  once_runs Is old new (call ∷ calls) (answer ∷ answers) h = (h.0, h.1, tt, h.2, h.3, once_runs Is h.1 new calls answers h.4)
+  once_runs Is old new calls replies h = absurd h
+
+-- Ready
+
+abbrev Lags : PortView → Bool
+Lags v = is_detached_or_waiting v.stage
+
+abbrev Waited : PortView → Bool
+Waited v = has_waited v.stage
+
+abbrev Fine : AggId → SystemPort → Type 0
+Fine agg y = has_chosen agg y.port.choice ≡ true → Lags (selection_view y) ≡ true → Waited (selection_view y) ≡ true
+
+member_waited : (c : Bool) (v : PortView) (xs : List PortView) → (c ≡ true → Lags v ≡ true → Waited v ≡ true)
+    → list_all Waited (filter Lags xs) ≡ true → list_all Waited (filter Lags (cond c (v ∷ xs) xs)) ≡ true
+member_waited c v xs k rest = grind (arith, nat_tests)
+
+all_waited : (agg : AggId) (ports : List SystemPort) → AllByRecursion (Fine agg) ports
+    → list_all Waited (filter Lags (ports_that_chose agg (views ports))) ≡ true
+all_waited agg [] a = refl
+all_waited agg (y ∷ ys) a = member_waited (has_chosen agg y.port.choice) (selection_view y) (ports_that_chose agg (views ys)) a.0
+    (all_waited agg ys a.1)
+
+either_true : (a b : Bool) → (a ≡ true) ⊎ (b ≡ true) → (a || b) ≡ true
+either_true a b h = grind (arith, nat_tests)
+
+both_true : (a b : Bool) → a ≡ true → b ≡ true → (a && b) ≡ true
+both_true a b e f = grind (arith, nat_tests)
+
+some_lags : (agg : AggId) (ports : List SystemPort) (i : ℕ) (x : SystemPort) → slice_get ports i ≡ Some x
+    → has_chosen agg x.port.choice ≡ true → Lags (selection_view x) ≡ true → list_any Lags (ports_that_chose agg (views ports)) ≡ true
+some_lags agg [] i x e c d = absurd (none-some x e)
+some_lags agg (y ∷ ys) zero x e c d = grind (arith, nat_tests, either_true)
+some_lags agg (y ∷ ys) (suc i) x e c d = grind (arith, nat_tests, either_true, some_lags agg ys i x e c d)
+
+all_ready : (keys : List Key) (ports : List SystemPort) (agg : AggId) → is_aggregator keys agg ≡ true
+    → list_any Lags (ports_that_chose agg (views ports)) ≡ true
+    → list_all Waited (filter Lags (ports_that_chose agg (views ports))) ≡ true → is_ready keys (views ports) agg ≡ true
+all_ready keys ports agg known some all = grind (arith, nat_tests, both_true)
+
+-- a member at rest that has not waited is synchronized
+
+chosen_occupies : (agg : AggId) (c : Choice) → has_chosen agg c ≡ true → (occupies agg c ≡ true) × (is_unselected c ≡ false)
+chosen_occupies agg c h = grind (arith, nat_tests)
+
+lag_waits : (m : MuxState) (n : ℕ) (un : Bool) → un ≡ false → (same_mux_state Detached m && not un) ≡ false → (m ≡ Waiting → n ≤ 0)
+    → is_detached_or_waiting (stage_of m n) ≡ true → has_waited (stage_of m n) ≡ true
+lag_waits Detached n un e h w l = absurd (no (sym h ∙ ap not e))
+lag_waits Waiting n un e h w l = is_zero n (w refl)
+  where
+    is_zero : (n : ℕ) → n ≤ 0 → (n == 0) ≡ true
+    is_zero n l = grind (arith, nat_tests)
+lag_waits Attached n un e h w l = absurd (no l)
+lag_waits CollectingDistributing n un e h w l = absurd (no l)
+
+waits_no_more : (b : Bool) (t : ℕ) (m : MuxState) (n : ℕ) → t ≡ 0 → m ≡ Waiting → ((m ≡ Waiting) × (n ≤ t)) → n ≤ 0
+waits_no_more b t m n e w h = omega (arith, e, h.1)
+
+fine_ports : (u : Service) (c : Choice) (n : ℕ) (agg : AggId) (keys : List Key) (all : List SystemPort) (t r : ℕ) → t ≡ 0 → r ≡ 0
+    → (ports : List SystemPort) → AllByRecursion (MuxIsSettled keys all) ports
+    → OfEach (AtPort n (λ p. p.mux ≡ Waiting → p.wait_while ≤ t)) ports → OfEach (Beside n (Hard agg r)) ports → AllByRecursion (Fine agg) ports
+fine_ports u c n agg keys all t r e f [] q a b = tt
+fine_ports u c n agg keys all t r e f (x ∷ xs) q a b = (
+  λ chosen lags. (let o = chosen_occupies agg x.port.choice chosen in
+      lag_waits x.port.mux x.port.wait_while (is_unselected x.port.choice) o.1 q.0.mux.0
+      (λ w. elim (cases_Bool (x.number == n)) [
+        | inl is ↦ (let l = a.0 (eqb-true x.number n is) w in omega (arith, e, l))
+        | inr other ↦ (let l = b.0 other o.0 w in omega (arith, f, l))
+      ]) lags),
+  fine_ports u c n agg keys all t r e f xs q.1 a.1 b.1,
+)
+
+within : (keys : List Key) (i : ℕ) (key : Key) → slice_get keys i ≡ Some key → (suc i) ≤ length keys
+within [] i key e = absurd (none-some key e)
+within (k ∷ ks) zero key e = omega arith
+within (k ∷ ks) (suc i) key e = omega (arith, within ks i key e)
+
+pub known_number : (keys : List Key) (n : ℕ) (key : Key) → key_of keys n ≡ Some key → (nat_le 1 n && nat_le n (length keys)) ≡ true
+known_number keys zero key e = absurd (none-some key e)
+known_number keys (suc n) key e = let l = within keys n key e in grind (arith, nat_tests)
+
+-- so a member does not wait
+pub never_waits : (u : Service) (c : Choice) (s : SystemState) (i : ℕ) (x : SystemPort) (agg : AggId) (t r : ℕ) → t ≡ 0 → r ≡ 0 → IsSound s
+    → slice_get s.system_ports i ≡ Some x → x.port.choice ≡ Selected agg
+    → OfEach (AtPort x.number (λ p. p.mux ≡ Waiting → p.wait_while ≤ t)) s.system_ports
+    → OfEach (Beside x.number (Hard agg r)) s.system_ports → x.port.mux ≡ Waiting → ⊥
+never_waits u c s i x agg t r e0 f0 h at e a b m =
+    let key = h.occupants.key i agg.0 x at (ap occupied e) in
+    let known : is_aggregator s.keys agg ≡ true = known_number s.keys agg.0 x.port.party.key key in
+    let settled = all-get (MuxIsSettled s.keys s.system_ports) s.system_ports i x at h.quiet.0 in
+    let unready : is_ready s.keys (views s.system_ports) agg ≡ false =
+    sym (ap (ready_of s.keys (views s.system_ports)) e) ∙ settled.unready in
+    let lags : Lags (selection_view x) ≡ true = ap (λ n. is_detached_or_waiting (stage_of n x.port.wait_while)) m in
+    no (sym unready ∙ all_ready s.keys s.system_ports agg known
+    (some_lags agg s.system_ports i x at (ap (has_chosen agg) e ∙ itself agg.0) lags)
+    (all_waited agg s.system_ports (fine_ports u c x.number agg s.keys s.system_ports t r e0 f0 s.system_ports h.quiet.0 a b)))

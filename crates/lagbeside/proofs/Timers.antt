@@ -1,0 +1,110 @@
+-- What happens to a port leaves no timer above the ticks that it can start with.
+use Rattle.lagbeside.proofs.Common.{Bool, List, [], arith, cond, false, if◌then◌else◌, inl, inr, nat_lt, refl, subst, suc, sym, true, zero, ℕ, ◌++◌}
+use Rattle.lagbeside.proofs.Common.{◌+◌, ◌<◌, ◌∷◌, ◌≡◌, ◌≤◌, nat_tests, AllByRecursion, Lacpdu, PeriodicState, Setup, ReceiveState, Current}
+use Rattle.lagbeside.proofs.Common.{Defaulted, Expired, Initialize, PortDisabled, Machines, mux_rows, periodic_rows, lacpdu_rows, receive_rows}
+use Rattle.lagbeside.proofs.Common.{start_receive, Fires, FiresTimes, Row, RunsToRest, Starts, before_start, aged, count_down, Call, Configure}
+use Rattle.lagbeside.proofs.Common.{ProcessesLacpdu, Receive, Restart, Set_link, Tick, Transmit, changed_party, choice_with_link, IsTimed}
+use Rattle.lagbeside.proofs.Common.{most_current_while, most_periodic_timer}
+use Rattle.lagsystem.specs.declared.drive.Reply.{Reply}
+use Rattle.lagbeside.proofs.EachPort.{KeptByCall, KeptBySettling}
+
+-- what each row keeps, its machine keeps
+
+abbrev pub RowsKeep : (Machines → Type 0) → List Row → Type 0
+RowsKeep P [] = Unit {0}
+RowsKeep P (row ∷ rows) = ((p : Machines) → P p → P (row.effect p)) × RowsKeep P rows
+
+pub fires_keep : (P : Machines → Type 0) (rows : List Row) → RowsKeep P rows → (p q : Machines) → Fires rows p q → P p → P q
+fires_keep P [] k p q h a = absurd h
+fires_keep P (row ∷ rows) k p q h a = elim h [ inl f ↦ subst P (sym f.1) (k.0 p a) | inr f ↦ fires_keep P rows k.1 p q f a ]
+
+times_keep : (P : Machines → Type 0) (rows : List Row) → RowsKeep P rows → (n : ℕ) (p q : Machines) → FiresTimes rows n p q
+    → P p → P q
+times_keep P rows k zero p q h a = subst P (sym h) a
+times_keep P rows k (suc n) p q h a = fires_keep P rows k h.0 q h.2 (times_keep P rows k n p h.0 h.1 a)
+
+pub runs_keep : (P : Machines → Type 0) (rows : List Row) → RowsKeep P rows → (p q : Machines) → RunsToRest rows p q → P p → P q
+runs_keep P rows k p q h a = times_keep P rows k h.0 p q h.1 a
+
+-- an LACPDU is processed only by its row
+pub takes_keep : (P : Machines → Type 0) (v : Lacpdu) → RowsKeep P (lacpdu_rows v) → (p q : Machines) → ProcessesLacpdu v p q → P p → P q
+takes_keep P v k p q h a = elim h [ inl f ↦ fires_keep P (lacpdu_rows v) k p q f a | inr r ↦ subst P (sym r.1) a ]
+
+-- current_while
+
+-- the bound is the least in EXPIRED
+least_expired : (short : Bool) → 30 ≤ most_current_while short Expired
+least_expired short = grind (arith, nat_tests)
+
+-- and the highest in these states
+rises : (short : Bool) (r : ReceiveState) (n : ℕ) → n ≤ most_current_while short r → (n ≤ most_current_while short Initialize)
+    × (n ≤ most_current_while short PortDisabled) × (n ≤ most_current_while short Defaulted)
+rises short r n h = grind (arith, nat_tests)
+
+starts_with : (short : Bool) → (if short then 30 else 900) ≤ most_current_while short Current
+starts_with true = omega arith
+starts_with false = omega arith
+
+receive_keeps : RowsKeep IsTimed receive_rows
+receive_keeps = grind (arith, nat_tests, rises, least_expired)
+
+take_keeps : (v : Lacpdu) → RowsKeep IsTimed (lacpdu_rows v)
+take_keeps v = (λ p a. (starts_with p.short, a.1, a.2, a.3), tt)
+
+-- periodic_timer
+
+pub most_fast : (s : PeriodicState) → most_periodic_timer s ≤ 300
+most_fast s = grind (arith, nat_tests)
+
+periodic_keeps : RowsKeep IsTimed periodic_rows
+periodic_keeps = grind (arith, nat_tests)
+
+-- wait_while
+
+mux_keeps : (ready : Bool) → RowsKeep IsTimed (mux_rows ready)
+mux_keeps ready = grind (arith, nat_tests)
+
+-- the ages
+
+kept_age : (b : Bool) (n : ℕ) (rest : List ℕ) → nat_lt n 11 ≡ b → AllByRecursion (λ a. a < 11) rest
+    → AllByRecursion (λ a. a < 11) (cond b (n ∷ rest) rest)
+kept_age b n rest e h = grind (arith, nat_tests)
+
+recent : (ages : List ℕ) → AllByRecursion (λ a. a < 11) (aged ages)
+recent [] = tt
+recent (a ∷ ages) = kept_age (nat_lt (a + 1) 11) (a + 1) (aged ages) refl (recent ages)
+
+sent : (ages : List ℕ) → AllByRecursion (λ a. a < 11) ages → AllByRecursion (λ a. a < 11) (ages ++ 0 ∷ [])
+sent [] h = (omega arith, tt)
+sent (a ∷ ages) h = (h.0, sent ages h.1)
+
+counts : (p : Machines) → IsTimed p → IsTimed (count_down p)
+counts p a = (omega (arith, a.0), omega (arith, a.1), omega (arith, a.2), recent p.ages)
+
+starts : (p q : Machines) → Starts p q → IsTimed p → IsTimed q
+starts p q h a =
+    subst IsTimed (sym h.2) (runs_keep IsTimed receive_rows receive_keeps (start_receive p) h.0 h.1
+    ((rises p.short p.receive p.current_while a.0).0, a.1, a.2, a.3))
+
+abbrev pub TimedAt : ℕ → Machines → Type 0
+TimedAt n p = IsTimed p
+
+pub timed_settles : KeptBySettling TimedAt
+timed_settles = record {
+  mux = λ n ready p q h a. runs_keep IsTimed (mux_rows ready) (mux_keeps ready) p q h a;
+  periodic = λ n p q h a. subst IsTimed (sym h.2) (runs_keep IsTimed periodic_rows periodic_keeps p h.0 h.1 a);
+  select = λ n choice p none may a. a;
+}
+
+pub timed_starts : (n : ℕ) (u : Setup) (q : Machines) → Starts (before_start u) q → TimedAt n q
+timed_starts n u q h = starts (before_start u) q h (omega arith, omega arith, omega arith, tt)
+
+pub timed_kept : (call : Call) (answer : Reply) → KeptByCall TimedAt call answer
+timed_kept Tick answer = λ n p q h a. runs_keep IsTimed receive_rows receive_keeps (count_down p) q h (counts p a)
+timed_kept (Set_link n up) answer = λ max_links p q h a. runs_keep IsTimed receive_rows receive_keeps
+    (record p { enabled = up; choice = choice_with_link max_links up p.choice }) q h a
+timed_kept (Receive n octets) answer = λ v p q t f h a. takes_keep IsTimed v (take_keeps v) p q h a
+timed_kept (Configure n change) answer = λ p q h a. starts (record p { party = changed_party change p.party }) q h.1 a
+timed_kept Restart answer = timed_starts
+timed_kept (Transmit n) answer = λ p e a. (a.0, a.1, a.2, sent p.ages a.3)
+timed_kept call answer = tt

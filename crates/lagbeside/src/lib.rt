@@ -1,0 +1,37 @@
+//! One system beside any peer: what the partner of one port has to say for the port to carry, whatever its other ports hear. The
+//! functions do nothing when they run: the contract of each is a proved theorem over the states and calls of `lagsystem`.
+//!
+//! In comments, numbers such as 6.4.12 are sections of IEEE 802.1AX-2014, and "profile" is docs/PROFILE.md.
+#![tactic(auto)]
+
+ghost use Rattle.lagbeside.specs.Serving.{CarriesBeside, ComesUp, ComesUpAlone, NeverAlone, StaysUp};
+
+/// A port that is served and SELECTED stays so, and in COLLECTING_DISTRIBUTING, whatever comes on other ports: its link stays up,
+/// it is not configured anew, each LACPDU that it processes is of one party and in sync with it, and at most 29 ticks go between
+/// two of them (899 with Long Timeout) (6.4.12 to 6.4.15).
+pub fn a_served_port_stays_up<F: Fn(u16, usize) -> usize>()
+    ensures { (algorithm : F) → StaysUp (F.post algorithm) }
+{}
+
+/// A port that is served and SELECTED is in COLLECTING_DISTRIBUTING after 20 ticks in which no other port began to wait in its
+/// aggregator (6.4.14, 6.4.15).
+pub fn a_served_port_comes_up<F: Fn(u16, usize) -> usize>()
+    ensures { (algorithm : F) → ComesUp (F.post algorithm) }
+{}
+
+/// From the first LACPDU of its service on, whatever was before: the port is SELECTED at once, if it has a place and room, and
+/// carries 20 ticks later.
+pub fn any_peer_brings_a_port_up<F: Fn(u16, usize) -> usize>()
+    ensures { (algorithm : F) → CarriesBeside (F.post algorithm) }
+{}
+
+/// The only port of its key waits for no other: it carries after 20 ticks of its service, whatever comes on other ports.
+pub fn the_only_port_of_a_key_comes_up<F: Fn(u16, usize) -> usize>()
+    ensures { (algorithm : F) → ComesUpAlone (F.post algorithm) }
+{}
+
+/// A port that no LACPDU was in sync with distributes on defaults alone: off defaults it is not in COLLECTING_DISTRIBUTING
+/// (6.4.9, recordPDU; 6.4.15).
+pub fn no_port_carries_unanswered<F: Fn(u16, usize) -> usize>()
+    ensures { (algorithm : F) → NeverAlone (F.post algorithm) }
+{}
