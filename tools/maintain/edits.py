@@ -1,4 +1,8 @@
-"""An edit of a crate: its texts, how they are put in and taken out, and copies of the repository on which that is done."""
+"""An edit of a crate: where it is written, how its texts are put in and taken out, and copies of the repository on which that is done.
+
+An edit of must-fail is a file crates/CRATE/must-fail/NAME.edit, as `rt` reads it. The others stand one behind the other in a file for each
+crate, wrong-bodies.d/CRATE.edits or wrong-definitions.d/CRATE.edits, each behind a line `edit: NAME`.
+"""
 
 from __future__ import annotations
 
@@ -8,9 +12,10 @@ from dataclasses import dataclass
 from itertools import takewhile
 from typing import Callable, Iterable
 
-from repository import CRATES, MAINTAIN, below, lines
+from repository import CRATES, MAINTAIN, Missing, below, crates, lines
 
-CASES = os.path.join(MAINTAIN, "wrong-definitions.d")
+BODIES = os.path.join(MAINTAIN, "wrong-bodies.d")
+DEFINITIONS = os.path.join(MAINTAIN, "wrong-definitions.d")
 # A replacement: the file, the old text and the new one.
 Pair = tuple[str, str, str]
 # What of a folder with these names is not copied.
@@ -68,41 +73,71 @@ class Trial:
         return "the edit names tests of two crates" if len({crate for crate, _ in self.tests}) > 1 else None
 
 
-def read_trial(crate: str, name: str) -> Trial:
-    """The wrong definition in wrong-definitions.d/CRATE/NAME.edit."""
-    path = os.path.join(CASES, crate, name + ".edit")
-    says, pairs = read_pairs(path)
-    rows = (line.split()[1:] for line in read(path).splitlines() if line.startswith("refused-by: "))
-    return Trial(crate, name, says, tuple(pairs), tuple((of, test) for of, test in rows))
-
-
 class Everywhere(str):
     """An old text that is replaced wherever it stands in its file."""
 
 
-def read_pairs(path: str) -> tuple[str, list[Pair]]:
-    """What the edit in this file says, if anything, and its replacements as (file, old, new)."""
+def read_trial(crate: str, name: str, rows: Iterable[str]) -> Trial:
+    """The edit that these lines are."""
     says = file = old = ""
     pairs: list[Pair] = []
-    for line in read(path).splitlines():
+    tests: list[tuple[str, str]] = []
+    for line in rows:
         word, _, text = line.partition(": ")
         if word == "says":
             says = text
         elif word == "refused-by":
-            continue
+            of, test = text.split()
+            tests.append((of, test))
         elif word == "file":
             file = text
         elif word == "old":
             old = text
         elif word == "everywhere":
             old = Everywhere(text)
-        elif word == "new":
+        elif word == "new" or line == "new:":
             pairs.append((file, old, text))
-        elif line == "new:":
-            pairs.append((file, old, ""))
         elif line:
-            raise ValueError(f"{path}: not a line of an edit: {line}")
-    return says, pairs
+            raise Missing(f"{crate}/{name}: not a line of an edit: {line}")
+    return Trial(crate, name, says, tuple(pairs), tuple(tests))
+
+
+def stored_in(top: str, crate: str) -> list[Trial]:
+    """The edits of a crate in a folder with a file for each crate; none where it has no file."""
+    path = os.path.join(top, f"{crate}.edits")
+    rows: dict[str, list[str]] = {}
+    here: list[str] | None = None
+    for line in read(path).splitlines() if os.path.exists(path) else []:
+        if line.startswith("edit: "):
+            name = line.removeprefix("edit: ")
+            if name in rows:
+                raise Missing(f"{path}: two edits have the name {name}")
+            here = rows[name] = []
+        elif here is not None:
+            here.append(line)
+        elif line:
+            raise Missing(f"{path}: the first line is to be `edit: NAME`, and is: {line}")
+    return [read_trial(crate, name, its) for name, its in rows.items()]
+
+
+def stored(top: str) -> dict[str, list[Trial]]:
+    """The edits of a folder with a file for each crate, by crate, each crate after those that it stands on."""
+    known = set(crates())
+    for file in os.listdir(top):
+        crate, dot, kind = file.partition(".")
+        if kind == "edits" and crate not in known:
+            raise Missing(f"{os.path.join(top, file)}: there is no crate {crate}")
+    return {crate: edits for crate in below(*crates()) if (edits := stored_in(top, crate))}
+
+
+def must_fail(crate: str) -> list[Trial]:
+    """The edits of a crate that the test command tries."""
+    folder = os.path.join(CRATES, crate, "must-fail")
+    files = sorted(os.listdir(folder)) if os.path.isdir(folder) else []
+    for file in files:
+        if not file.endswith(".edit"):
+            raise Missing(f"{os.path.join(folder, file)} is no edit: its name has to end in .edit")
+    return [read_trial(crate, file.removesuffix(".edit"), read(os.path.join(folder, file)).splitlines()) for file in files]
 
 
 def replaced(folder: str, pairs: Iterable[Pair]) -> tuple[dict[str, str], dict[str, str], str | None]:

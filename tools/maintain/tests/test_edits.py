@@ -8,6 +8,7 @@ import pytest
 
 import loading  # noqa: F401  (tools/ is looked up)
 import edits
+from repository import Missing
 
 EDIT = """says: the limit is one more
 refused-by: tests_system systems::limits::a_limit_holds
@@ -31,33 +32,51 @@ def crate(tmp_path: Path) -> Path:
     return tmp_path
 
 
-def test_an_edit_says_what_it_replaces(tmp_path: Path) -> None:
-    path = tmp_path / "x.edit"
-    path.write_text(EDIT)
-    says, pairs = edits.read_pairs(str(path))
-    assert says == "the limit is one more"
-    assert pairs == [
+def test_an_edit_says_what_it_replaces() -> None:
+    trial = edits.read_trial("lagsystem", "limit", EDIT.splitlines())
+    assert trial.says == "the limit is one more"
+    assert trial.pairs == (
         ("specs/Limits.antt", "most = 64", "most = 65"),
         ("src/limits.rt", "64", "65"),
         ("src/limits.rt", "return kept;", ""),
-    ]
-    assert [isinstance(old, edits.Everywhere) for _, old, _ in pairs] == [False, True, False]
-
-
-def test_another_line_is_refused_with_its_file(tmp_path: Path) -> None:
-    path = tmp_path / "y.edit"
-    path.write_text("file: src/x.rt\nolder: a\n")
-    with pytest.raises(ValueError, match=r"y\.edit: not a line of an edit: older: a"):
-        edits.read_pairs(str(path))
-
-
-def test_the_named_tests_are_pairs_of_crate_and_test(tmp_path: Path, monkeypatch: pytest.MonkeyPatch) -> None:
-    (tmp_path / "lagsystem").mkdir()
-    (tmp_path / "lagsystem" / "limit.edit").write_text(EDIT)
-    monkeypatch.setattr(edits, "CASES", str(tmp_path))
-    trial = edits.read_trial("lagsystem", "limit")
+    )
+    assert [isinstance(old, edits.Everywhere) for _, old, _ in trial.pairs] == [False, True, False]
     assert trial.tests == (("tests_system", "systems::limits::a_limit_holds"), ("tests_system", "systems::limits::none_is_none"))
-    assert (trial.says, len(trial.pairs), trial.fault()) == ("the limit is one more", 3, None)
+    assert trial.fault() is None
+
+
+def test_another_line_is_refused_with_its_edit() -> None:
+    with pytest.raises(Missing, match=r"lagsystem/limit: not a line of an edit: older: a"):
+        edits.read_trial("lagsystem", "limit", ["file: src/x.rt", "older: a"])
+
+
+def test_a_file_has_edits_one_behind_the_other(tmp_path: Path) -> None:
+    (tmp_path / "lagsystem.edits").write_text(f"edit: limit\n{EDIT}\nedit: other\nfile: src/a.rt\nold: 1\nnew: 2\n")
+    first, second = edits.stored_in(str(tmp_path), "lagsystem")
+    assert first == edits.read_trial("lagsystem", "limit", EDIT.splitlines())
+    assert (second.name, second.says, second.pairs) == ("other", "", (("src/a.rt", "1", "2"),))
+    assert edits.stored_in(str(tmp_path), "selection") == []
+
+
+@pytest.mark.parametrize(
+    ("text", "why"),
+    [
+        ("file: src/a.rt\nedit: one\n", "the first line is to be `edit: NAME`, and is: file: src/a.rt"),
+        ("edit: one\nedit: two\nedit: one\n", "two edits have the name one"),
+    ],
+)
+def test_a_file_without_names_is_refused(tmp_path: Path, text: str, why: str) -> None:
+    (tmp_path / "lagsystem.edits").write_text(text)
+    with pytest.raises(Missing, match=why):
+        edits.stored_in(str(tmp_path), "lagsystem")
+
+
+def test_a_file_of_no_crate_is_refused(tmp_path: Path) -> None:
+    (tmp_path / "lagsystem.edits").write_text("edit: one\nfile: src/a.rt\nold: 1\nnew: 2\n")
+    assert [it.name for it in edits.stored(str(tmp_path))["lagsystem"]] == ["one"]
+    (tmp_path / "nothing.edits").write_text("")
+    with pytest.raises(Missing, match="there is no crate nothing"):
+        edits.stored(str(tmp_path))
 
 
 @pytest.mark.parametrize(

@@ -9,41 +9,16 @@ import pytest
 
 import loading  # noqa: F401  (tools/ is looked up)
 import edits
-from repository import CRATES, MAINTAIN
+from repository import CRATES, crates
 
 
-def listed() -> list[tuple[str, str]]:
-    """Each edit, as a pair of its crate and its path."""
-    folders = [
-        (crate, os.path.join(top, crate, *rest))
-        for top, rest in (
-            (os.path.join(MAINTAIN, "wrong-bodies.d"), ()),
-            (os.path.join(MAINTAIN, "wrong-definitions.d"), ()),
-            (CRATES, ("must-fail",)),
-        )
-        for crate in sorted(os.listdir(top))
-    ]
-    return [
-        (crate, os.path.join(folder, name))
-        for crate, folder in folders
-        if os.path.isdir(folder)
-        for name in sorted(os.listdir(folder))
-        if name.endswith(".edit")
-    ]
-
-
-@pytest.mark.parametrize("crate", sorted({crate for crate, _ in listed()}))
+@pytest.mark.parametrize("crate", crates())
 def test_each_edit_of_a_crate_can_be_made(crate: str) -> None:
-    wrong = {}
-    for of, path in listed():
-        if of == crate:
-            why = edits.replaced(os.path.join(CRATES, crate), edits.read_pairs(path)[1])[2]
-            if why:
-                wrong[os.path.relpath(path, MAINTAIN)] = why
-    assert not wrong
+    every = [*edits.stored_in(edits.BODIES, crate), *edits.stored_in(edits.DEFINITIONS, crate), *edits.must_fail(crate)]
+    wrong = {it.name: edits.replaced(os.path.join(CRATES, crate), it.pairs)[2] for it in every}
+    assert not {name: why for name, why in wrong.items() if why}
 
 
-@pytest.mark.parametrize("crate", sorted({crate for crate, _ in listed()}))
+@pytest.mark.parametrize("crate", crates())
 def test_a_crate_has_at_most_ten_edits_in_must_fail(crate: str) -> None:
-    tried = [path for of, path in listed() if of == crate and os.path.basename(os.path.dirname(path)) == "must-fail"]
-    assert len(tried) <= 10
+    assert len(edits.must_fail(crate)) <= 10

@@ -24,7 +24,7 @@ FILES = {
         ("crates/low/src/a.rt", "code"),
         ("crates/tests_low/specs/A.antt", "tests"),
         ("crates/low/must-fail/a.edit", "edits"),
-        ("tools/maintain/wrong-bodies.d/low/a.edit", "edits"),
+        ("tools/maintain/wrong-bodies.d/low.edits", "edits"),
         ("tools/maintain/live.d/a.c", "tools"),
         ("tools/maintain/tests/test_a.py", "tests of the tools"),
         ("docs/USING.md", None),

@@ -163,7 +163,5 @@ def test_an_edit_is_read_and_refused(status: int, output: str, right: bool, said
         ("file: src/a.rt\nnew: 2\n", "a pair has no old text, or names no file of src, specs or proofs"),
     ],
 )
-def test_a_wrong_body_has_pairs_of_its_crate(tmp_path: Path, text: str, fault: str | None) -> None:
-    (tmp_path / "x.edit").write_text(text)
-    pairs, found = bodies.pairs_of(str(tmp_path / "x.edit"))
-    assert (found, pairs) == (fault, [] if fault else [("src/a.rt", "1", "2")])
+def test_a_wrong_body_has_pairs_of_its_crate(text: str, fault: str | None) -> None:
+    assert bodies.fault_of(edits.read_trial("low", "x", text.splitlines()).pairs) == fault

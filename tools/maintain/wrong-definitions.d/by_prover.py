@@ -12,7 +12,7 @@ import shutil
 import subprocess
 from typing import Iterator
 
-from edits import CASES, Trial, apply, copy_crates, read, restore, unbuilt, write
+from edits import DEFINITIONS, Trial, apply, copy_crates, read, restore, unbuilt, write
 from repository import RT
 
 CRATES = ("lagmodel", "lagprogress")
@@ -103,7 +103,7 @@ def try_all(folder: str, trials: list[Trial]) -> Iterator[tuple[Trial, tuple[boo
         proved, output = check(crate)
         for trial in (it for it in trials if it.crate == of):
             yield trial, try_edit(crate, trial) if proved else (False, "is not proved as it stands:\n" + output)
-            path = os.path.join(CASES, of, trial.name + ".counterexample")
+            path = os.path.join(DEFINITIONS, f"{of}.{trial.name}.counterexample")
             if proved and not trial.is_made and os.path.exists(path):
                 yield trial, try_counterexample(crate, trial, path)
         shutil.rmtree(os.path.join(folder, "law"))
