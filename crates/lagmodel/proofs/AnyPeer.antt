@@ -1,14 +1,10 @@
 -- Order, whatever is at the other ends.
-use Rattle.lagmodel.proofs.Common.{Bool, List, None, Option, Some, [], eqb, eqb-true, false, inl, inr, refl, subst, sym, ℕ, ◌∙◌, ◌∷◌, ◌≡◌}
-use Rattle.lagmodel.proofs.Common.{cases_Bool, none-some, true≢false, IsSystemSetup, Members, Move, Lacp, Marker, ModelCall}
-use Rattle.lagmodel.proofs.Common.{OnePartner, Response, SystemSetup}
-use Rattle.lagmodel.proofs.Common.{Control, Data, Message, One}
-use Rattle.lagmodel.specs.AnyPeer.{Scene, Happening, Calls, Gone, Says, Answers, HandsUp, Takes, Cuts, Joins, Restarts, Forces, Comes}
-use Rattle.lagmodel.specs.AnyPeer.{OvertakesOut, OvertakesBack}
-use Rattle.lagmodel.proofs.Common.{AllAllowed, view_after_all}
-use Rattle.lagmodel.specs.AnyPeer.{EachCallIsOne}
+use Rattle.lagmodel.proofs.Common.{Bool, List, None, Option, Some, [], eqb, eqb-true, false, inl, inr, refl, subst, sym, ℕ, ◌∙◌, ◌∷◌, ◌≡◌, cases_Bool}
+use Rattle.lagmodel.proofs.Common.{true≢false, none-some, Answers, Calls, Comes, ComesAll, Cuts, EachCallIsOne, Forces, Gone, HandsUp, Happening}
+use Rattle.lagmodel.proofs.Common.{HoldsWithAnyPeer, IsNoResponse, Joins, Moves, OrderHolds, OvertakesBack, OvertakesOut, Restarts, Says, Scene}
+use Rattle.lagmodel.proofs.Common.{Takes, TookInSync, first_scene, only, scene_after, Members, OnePartner, AllAllowed, Move, view_after_all}
+use Rattle.lagmodel.proofs.Common.{IsSystemSetup, Lacp, Marker, ModelCall, Response, SystemSetup, Control, Data, Message, One}
 use Rattle.lagmodel.proofs.Overtaken.{lanes_out_overtaken, lanes_back_overtaken}
-use Rattle.lagmodel.specs.AnyPeer.{ComesAll, HoldsWithAnyPeer, IsNoResponse, Moves, OrderHolds, TookInSync, first_scene, only, scene_after}
 use Rattle.lagmodel.proofs.Base.{cond_false}
 use Rattle.lagmodel.proofs.Lines.{answers, ResponseBelow}
 use Rattle.lagmodel.proofs.Orderly.{handed_front}

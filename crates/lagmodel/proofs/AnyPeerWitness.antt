@@ -1,10 +1,9 @@
 -- A run in which a port comes to distribute, and a frame arrives at a peer of any kind.
-use Rattle.lagmodel.proofs.Common.{Bool, List, None, Option, Some, [], ap, cond, eqb, eqb-true, false, inl, inr, refl, subst, sym, true, ℕ, ◌∙◌, ◌∷◌}
-use Rattle.lagmodel.proofs.Common.{◌++◌, ◌≡◌, none-some, Distribute, Flow, Join, Move, Port, Send, Take, port_after, ControlMessage, Force, Lacp}
-use Rattle.lagmodel.proofs.Common.{Offer, Receive, Set_link, SystemSetup, first_port, first_view, Control, Message, One}
-use Rattle.lagmodel.specs.AnyPeer.{ArrivesAtAnyPeer, Scene, Fits, Calls, Gone, Says, HandsUp, first_scene, scene_after, with_back}
+use Rattle.lagmodel.proofs.Common.{Bool, List, None, Option, Some, [], ap, cond, eqb, eqb-true, false, inl, inr, refl, subst, sym, true, ℕ, ◌++◌, ◌∙◌}
+use Rattle.lagmodel.proofs.Common.{◌∷◌, ◌≡◌, none-some, ArrivesAtAnyPeer, Calls, Fits, Gone, HandsUp, Says, Scene, first_scene, scene_after}
+use Rattle.lagmodel.proofs.Common.{with_back, Distribute, Flow, Join, Move, Port, Send, Take, port_after, ControlMessage, Force, Lacp, Offer, Receive}
+use Rattle.lagmodel.proofs.Common.{Set_link, SystemSetup, first_port, first_view, Control, Message, One, at_cable, at_two}
 use Rattle.lagmodel.proofs.Base.{chosen}
-use Rattle.lagmodel.proofs.Common.{at_cable, at_two}
 use Rattle.lagmodel.proofs.Witness.{fixed₀, ne₁, outside_first, outside_kept, party_of, pdu₃, setup_of}
 
 abbrev u₀ : SystemSetup

@@ -1,7 +1,7 @@
 -- What an LACPDU that overtakes leaves as it is: the order of data, and of markers among them.
-use Rattle.lagmodel.proofs.Common.{Bool, List, Option, Some, [], ap, cond, eqb, false, refl, subst, sym, true, ℕ, ◌&&◌, ◌++◌, ◌∙◌, ◌∷◌, ◌≡◌}
-use Rattle.lagmodel.proofs.Common.{◌⊎◌, false≢true, IsSubsequence, same_side, serials, Control, Data, Message, Side, at_cable}
-use Rattle.lagmodel.specs.View.{Conversation, DistributorFacts, Lacp, Marker, Response, conversation_port}
+use Rattle.lagmodel.proofs.Common.{Bool, List, Option, Some, [], ap, cond, eqb, false, refl, subst, sym, true, ℕ, ◌&&◌, ◌++◌, ◌∙◌, ◌∷◌, ◌≡◌, ◌⊎◌}
+use Rattle.lagmodel.proofs.Common.{false≢true, IsSubsequence, same_side, serials, Conversation, DistributorFacts, Lacp, Marker, Response}
+use Rattle.lagmodel.proofs.Common.{conversation_port, Control, Data, Message, Side, at_cable}
 use Rattle.lagmodel.specs.Overtaking.{IsLacpdu, Overtakes}
 use Rattle.lagmodel.proofs.LaneMoves.{at_cable_each}
 use Rattle.lagmodel.proofs.Lanes.{Lanes}

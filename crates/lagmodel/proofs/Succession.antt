@@ -1,7 +1,7 @@
 -- A system that takes the place of one keeps the facts of two systems.
-use Rattle.lagmodel.proofs.Common.{Bool, List, None, Option, Some, [], inl, inr, refl, subst, sym, ℕ, ◌∷◌, ◌≡◌, ◌≤◌}
-use Rattle.lagmodel.proofs.Common.{DistributorFacts, Event, Flushing, IsWorldSetup, Message, On, One, Party, Side}
-use Rattle.lagmodel.proofs.Common.{TakenLacpdu, Two, View, World, WorldSetup, conversation_port, first_world, party_at}
+use Rattle.lagmodel.proofs.Common.{Bool, List, None, Option, Some, [], inl, inr, refl, subst, sym, ℕ, ◌∷◌, ◌≡◌, ◌≤◌, Party, DistributorFacts}
+use Rattle.lagmodel.proofs.Common.{Flushing, On, View, conversation_port, Event, IsWorldSetup, Message, One, Side, TakenLacpdu, Two, World}
+use Rattle.lagmodel.proofs.Common.{WorldSetup, first_world, party_at}
 use Rattle.lagmodel.specs.Succession.{IsSuccessor, SuccessionRun, with_successor}
 use Rattle.lagmodel.proofs.Lines.{MarkerBelow, ResponseBelow, every_weaker, marker_higher, response_higher}
 use Rattle.lagmodel.proofs.Lanes.{Lanes}

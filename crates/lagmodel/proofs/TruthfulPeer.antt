@@ -1,15 +1,14 @@
 -- A truthful peer is named as it is.
-use Rattle.lagmodel.proofs.Common.{Bool, List, None, Option, Some, [], ap, arith, cond, false, inl, inr, subst, suc, sym, true, ℕ, ◌∙◌}
-use Rattle.lagmodel.proofs.Common.{◌∷◌, ◌≡◌, ◌≢◌, ◌⊎◌, cases_Bool, false≢true, none-some, same_Some, put_on_cable, IsSystemSetup, Lacp, Marker, Move, Party, Response}
-use Rattle.lagmodel.proofs.Common.{SystemSetup, Control, Data, Message, TakenLacpdu, at_cable, ModelCall}
-use Rattle.lagmodel.specs.AnyPeer.{Scene, Happening, Calls, Gone, Says, Answers, HandsUp, Takes, OvertakesOut, OvertakesBack, Cuts, Joins}
-use Rattle.lagmodel.specs.AnyPeer.{Restarts, Forces, Comes, Moves, first_scene, only, scene_after}
+use Rattle.lagmodel.proofs.Common.{Bool, List, None, Option, Some, [], ap, arith, cond, false, inl, inr, subst, suc, sym, true, ℕ, ◌∙◌, ◌∷◌, ◌≡◌, ◌≢◌}
+use Rattle.lagmodel.proofs.Common.{◌⊎◌, cases_Bool, false≢true, none-some, same_Some, Party, Answers, Calls, Comes, Cuts, Forces, Gone, HandsUp}
+use Rattle.lagmodel.proofs.Common.{Happening, Joins, Moves, OvertakesBack, OvertakesOut, Restarts, Says, Scene, Takes, first_scene, only, scene_after}
+use Rattle.lagmodel.proofs.Common.{Move, IsSystemSetup, Lacp, Marker, ModelCall, Response, SystemSetup, Control, Data, Message, TakenLacpdu, at_cable}
+use Rattle.lagmodel.proofs.Common.{put_on_cable}
 use Rattle.lagmodel.specs.TruthfulPeer.{FarEnds, NamesItself, IsTruthful, NamesTruthfulPeer, Telling, So, Changes, TellingRun, changed, first_ends}
 use Rattle.lagmodel.proofs.Base.{cond_true, same_value}
 use Rattle.lagmodel.proofs.Lines.{Every, every_push, put_each}
 use Rattle.lagmodel.proofs.LaneMoves.{Within, at_cable_each, cable_cases}
-use Rattle.lagmodel.proofs.Stamps.{Fresh, Stamps, stamps_counted, stamps_cut, stamps_emptied, stamps_first, stamps_out_taken}
-use Rattle.lagmodel.proofs.Stamps.{stamps_peer}
+use Rattle.lagmodel.proofs.Stamps.{Fresh, Stamps, stamps_counted, stamps_cut, stamps_emptied, stamps_first, stamps_out_taken, stamps_peer}
 use Rattle.lagmodel.proofs.Overtaken.{every_overtaken}
 use Rattle.lagmodel.proofs.AnyPeer.{Kept, comes_kept, first_kept, only_there}
 
