@@ -1,9 +1,8 @@
 -- A port that is the only one of its key waits for no other.
-use Rattle.lagbeside.proofs.Common.{Bool, List, Some, [], ap, false, refl, slice_get, suc, sym, true, zero, ℕ, ◌&&◌, ◌==◌, ◌∙◌, ◌∷◌, ◌≡◌, ◌≢◌, same_Some}
-use Rattle.lagbeside.proofs.Common.{AllByRecursion, AggId, Key, Waiting, same_mux_state, occupies, occupied, key_of, SystemPort, Call, Tick, IsSound, SystemState}
-use Rattle.lagbeside.proofs.Common.{Party, Step-frame, Step-sound, and_parts}
-use Rattle.lagsystem.specs.declared.drive.Reply.{Reply}
-use Rattle.lagbeside.specs.Serving.{ComesUpAlone, IsOnlyOfKey, NoneBegins, RunsOnceTicked, RunsWhile, begins_in}
+use Rattle.lagbeside.proofs.Common.{Bool, List, Some, [], ap, false, refl, slice_get, suc, sym, true, zero, ℕ, ◌&&◌, ◌==◌, ◌∙◌, ◌∷◌, ◌≡◌, ◌≢◌}
+use Rattle.lagbeside.proofs.Common.{and_parts, same_Some, AllByRecursion, AggId, Key, Party, Waiting, same_mux_state, occupies, Reply, SystemPort}
+use Rattle.lagbeside.proofs.Common.{Call, Tick, key_of, occupied, IsSound, SystemState, Step-frame, Step-sound, ComesUpAlone, IsOnlyOfKey, NoneBegins}
+use Rattle.lagbeside.proofs.Common.{RunsOnceTicked, RunsWhile, begins_in}
 use Rattle.lagbeside.proofs.Beside.{comes_up}
 use Rattle.lagbeside.proofs.Selecting.{occupies_is}
 

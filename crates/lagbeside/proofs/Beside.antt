@@ -1,10 +1,10 @@
 -- One port beside any peer.
-use Rattle.lagbeside.proofs.Common.{Bool, List, Some, [], ap, arith, false, inl, inr, not, refl, slice_get, subst, sym, true, ℕ}
-use Rattle.lagbeside.proofs.Common.{◌&&◌, ◌-◌, ◌∙◌, ◌∷◌, ◌≡◌, ◌≤◌, nat_tests, AggId, Choice, Selected, is_selected, is_unselected}
-use Rattle.lagbeside.proofs.Common.{MuxState, Attached, CollectingDistributing, Detached, Waiting, is_synchronized, mux_rows, partner_synchronized, same_mux_state, AtRest}
-use Rattle.lagbeside.proofs.Common.{SystemPort, Call, Step-frame, MuxIsSettled, IsSound, SystemState, port_numbers, configured_numbers, all-get, ports_rise, EachCall, tick_count}
-use Rattle.lagsystem.specs.declared.drive.Reply.{Reply}
-use Rattle.lagbeside.specs.Serving.{ComesUp, Fed, NoneBegins, RunsWhile, IsServed, LeavesServed, Service, StaysUp}
+use Rattle.lagbeside.proofs.Common.{Bool, List, Some, [], ap, arith, false, inl, inr, not, refl, slice_get, subst, sym, true, ℕ, ◌&&◌, ◌-◌, ◌∙◌, ◌∷◌}
+use Rattle.lagbeside.proofs.Common.{◌≡◌, ◌≤◌, nat_tests, AggId, Choice, Selected, is_selected, is_unselected, MuxState, Attached}
+use Rattle.lagbeside.proofs.Common.{CollectingDistributing, Detached, Waiting, is_synchronized, mux_rows, partner_synchronized, same_mux_state}
+use Rattle.lagbeside.proofs.Common.{AtRest, Reply, SystemPort, Call, configured_numbers, MuxIsSettled, IsSound, SystemState, port_numbers, Step-frame}
+use Rattle.lagbeside.proofs.Common.{all-get, ports_rise, EachCall, tick_count, ComesUp, Fed, IsServed, LeavesServed, NoneBegins, RunsWhile, Service}
+use Rattle.lagbeside.proofs.Common.{StaysUp}
 use Rattle.lagbeside.proofs.EachPort.{OfEach}
 use Rattle.lagbeside.proofs.Hearing.{no}
 use Rattle.lagbeside.proofs.OnePort.{AtPort, at_number, same_place}

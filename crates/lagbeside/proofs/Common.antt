@@ -1,121 +1,66 @@
 -- The names that proofs of this crate import, passed on from one place. Declares nothing; tools/maintain/proof-imports writes it.
-pub use Rattle.std.proofs.Common.{Bool, Err, IfErr, IfOk, IsSome, IsTrue, List, None, Ok, Option, Result, Some, [], ap, append_assoc, arith, bytes_eq}
-pub use Rattle.std.proofs.Common.{cond, drop, eqb, eqb-true, false, filter, find, get_or, if◌then◌else◌, inl, inr, is_some, length, ltb, map, nat_le}
-pub use Rattle.std.proofs.Common.{nat_lt, not, option_map, position, refl, slice_get, slice_set, subst, suc, sym, take, true, zero, ℕ, ◌&&◌, ◌++◌}
-pub use Rattle.std.proofs.Common.{◌+◌, ◌-◌, ◌<◌, ◌==◌, ◌^◌, ◌||◌, ◌∙◌, ◌∷◌, ◌≡◌, ◌≢◌, ◌≤◌, ◌⊎◌}
-pub use Rattle.std.proofs.lemmas.Bool.{and_parts, cases_Bool, cases_eq, false≢true, ltb-true, true≢false}
+pub use Rattle.std.proofs.Common.{Bool, Err, IsTrue, List, None, Ok, Option, Result, Some, [], ap, arith, cond, eqb-true, false, filter, find}
+pub use Rattle.std.proofs.Common.{if◌then◌else◌, inl, inr, length, nat_le, nat_lt, not, option_map, refl, slice_get, slice_set, subst, suc, sym, true}
+pub use Rattle.std.proofs.Common.{zero, ℕ, ◌&&◌, ◌++◌, ◌+◌, ◌-◌, ◌<◌, ◌==◌, ◌||◌, ◌∙◌, ◌∷◌, ◌≡◌, ◌≢◌, ◌≤◌, ◌⊎◌}
+pub use Rattle.std.proofs.lemmas.Bool.{and_parts, cases_Bool, false≢true}
 pub use Rattle.std.proofs.lemmas.Bool.Decides.{nat_tests}
-pub use Rattle.std.proofs.lemmas.List.Quantifiers.{position-Some}
-pub use Rattle.std.proofs.lemmas.Option.{none-some, same_Some, slice_get-get_or, slice_get-map, slice_get_cases, slice_get_within}
-pub use Rattle.std.specs.Global.{Vec}
-pub use Rattle.std.specs.List.{AllByRecursion, enumerate_from, list_all, list_any, position_or_len}
-pub use Rattle.std.specs.Prelude.{IsErrAnd, unwrap_or}
+pub use Rattle.std.proofs.lemmas.Option.{none-some, same_Some, slice_get-map}
+pub use Rattle.std.specs.List.{AllByRecursion, enumerate_from, list_all, list_any}
 pub use Rattle.lagtypes.specs.declared.identifiers.AggId.{AggId}
 pub use Rattle.lagtypes.specs.declared.identifiers.Key.{Key}
-pub use Rattle.lagtypes.specs.declared.identifiers.SystemId.{SystemId}
 pub use Rattle.lagtypes.specs.declared.party.Choice.{Choice}
 pub use Rattle.lagtypes.specs.declared.party.Choice.TheVariants.{Selected, Standby, Unselected}
 pub use Rattle.lagtypes.specs.declared.party.Party.{Party}
-pub use Rattle.lagtypes.specs.declared.state.State.{State}
 pub use Rattle.lagtypes.specs.declared.state.StateBits.{StateBits}
 pub use Rattle.lagtypes.specs.Choices.{is_selected, is_unselected}
-pub use Rattle.lagtypes.specs.Group.{Pair, SamePair, end_of as group_end, group_of, individual, pair_of}
-pub use Rattle.lagtypes.specs.Same.{same_group, same_party, same_system}
+pub use Rattle.lagtypes.specs.Same.{same_party, same_system}
 pub use Rattle.lagtypes.specs.States.{bits_of, with_synchronization, with_timeout}
-pub use Rattle.lagtypes.proofs.SameLemmas.{exact_party, exact_system, group-itself, itself, party_itself, system-itself}
+pub use Rattle.lagtypes.proofs.SameLemmas.{exact_system, itself, party_itself}
 pub use Rattle.lagtypes.proofs.StateLemmas.{encode_then_decode}
 pub use Rattle.slowpdu.specs.declared.pdu.Info.{Info}
 pub use Rattle.slowpdu.specs.declared.pdu.Lacpdu.{Lacpdu}
-pub use Rattle.slowpdu.specs.declared.pdu.Marker.{Marker}
-pub use Rattle.slowpdu.specs.declared.pdu.MarkerKind.TheVariants.{Information, Response}
-pub use Rattle.slowpdu.specs.declared.pdu.Pdu.{Pdu}
-pub use Rattle.slowpdu.specs.Frames.{frame_octets}
 pub use Rattle.slowpdu.specs.Parties.{party_of}
-pub use Rattle.slowpdu.specs.Readings.{pdu_in}
-pub use Rattle.slowpdu.proofs.LayoutLemmas.{all-append}
-pub use Rattle.slowpdu.proofs.PduLemmas.{no_fault, one_pdu, written_pdu}
-pub use Rattle.lagmodel.specs.Law.{IsSubsequence, Members, same_side, serials}
-pub use Rattle.lagmodel.specs.World.{Control, Data, Ends, Happens, IsCabling, IsWorldSetup, Message, One, Side, TakenLacpdu, Two, World, WorldSetup}
-pub use Rattle.lagmodel.specs.World.{at_cable, end_at, first_world, party_at, peer, with_messages}
-pub use Rattle.lagmodel.proofs.Base.{cond_false, cond_true, value_of}
-pub use Rattle.lagmodel.proofs.Uses.{find_at}
 pub use Rattle.portmachines.specs.declared.mux.MuxState.{MuxState}
 pub use Rattle.portmachines.specs.declared.mux.MuxState.TheVariants.{Attached, CollectingDistributing, Detached, Waiting}
-pub use Rattle.portmachines.specs.declared.periodic.PeriodicState.{PeriodicState}
-pub use Rattle.portmachines.specs.declared.periodic.PeriodicState.TheVariants.{Fast, NoPeriodic, PeriodicTx, Slow}
 pub use Rattle.portmachines.specs.declared.port.Setup.{Setup}
 pub use Rattle.portmachines.specs.declared.receive.ReceiveState.{ReceiveState}
 pub use Rattle.portmachines.specs.declared.receive.ReceiveState.TheVariants.{Current, Defaulted, Expired, Initialize, PortDisabled}
 pub use Rattle.portmachines.specs.Machines.{Machines}
-pub use Rattle.portmachines.specs.Mux.{is_synchronized, mux_rows, partner_synchronized, same_mux_state, selected}
-pub use Rattle.portmachines.specs.Periodic.{RunsPeriodic, is_silent, partner_short, periodic_rows, periodic_table, same_periodic_state, timer_expired}
-pub use Rattle.portmachines.specs.Receive.{default_partner, is_maintained, lacpdu_rows, receive_rows, recorded_synchronization, same_receive_state}
-pub use Rattle.portmachines.specs.Receive.{start_receive}
-pub use Rattle.portmachines.specs.Rows.{AtRest, Fires, FiresTimes, Row, RunsToRest, in_order}
+pub use Rattle.portmachines.specs.Mux.{is_synchronized, mux_rows, partner_synchronized, same_mux_state}
+pub use Rattle.portmachines.specs.Periodic.{RunsPeriodic, periodic_rows}
+pub use Rattle.portmachines.specs.Receive.{default_partner, lacpdu_rows, receive_rows, recorded_synchronization, same_receive_state, start_receive}
+pub use Rattle.portmachines.specs.Rows.{AtRest, Fires, FiresTimes, Row, RunsToRest}
 pub use Rattle.portmachines.specs.Start.{Starts, before_start}
-pub use Rattle.portmachines.specs.Transmit.{actor_of, after_sending, aged, count_down, is_due, pdu_of}
+pub use Rattle.portmachines.specs.Transmit.{after_sending, aged, count_down, is_due}
 pub use Rattle.selection.specs.declared.view.PortView.{PortView}
 pub use Rattle.selection.specs.Choice.{aggregator_of_entry, chosen_if_eligible, has_group_of, has_no_occupant, has_occupant, is_aggregator, lowest}
 pub use Rattle.selection.specs.Choice.{occupants, occupants_share_group, or_else, ports_that_chose}
 pub use Rattle.selection.specs.Limits.{AggregatorsValue, has_room, is_below}
 pub use Rattle.selection.specs.Views.{has_chosen, has_waited, is_detached, is_detached_or_waiting, is_eligible, occupies, stands_by}
-pub use Rattle.selection.proofs.Equal.{group-test}
-pub use Rattle.selection.proofs.LimitLemmas.{NoneStandsBy, is_next, none_is_next}
-pub use Rattle.distributor.specs.declared.assignment.Assignment.{Assignment}
-pub use Rattle.distributor.specs.declared.assignment.Assignment.TheVariants.{Flushing, Free, On, Wanted}
-pub use Rattle.distributor.specs.declared.fault.DistFault.{DistFault}
-pub use Rattle.distributor.specs.Calls.{Assigns, MaySend, force_result, is_among, leave_result, move_result}
-pub use Rattle.distributor.specs.Changes.{SetsAssignment, after_down, after_mark, after_release, after_tick, marker_due, wants_marker}
-pub use Rattle.distributor.specs.Conversations.{IsConversation, Table, assignment_of, count_conversations, next_identifier}
-pub use Rattle.distributor.proofs.TableLemmas.{first_free}
-pub use Rattle.lagsystem.specs.declared.config.Config.{Config}
-pub use Rattle.lagsystem.specs.declared.config.PortConfig.{PortConfig}
-pub use Rattle.lagsystem.specs.declared.drive.Reply.{Reply as Answer}
-pub use Rattle.lagsystem.specs.declared.fault.SystemFault.{SystemFault}
-pub use Rattle.lagsystem.specs.declared.received.Received.{Received}
-pub use Rattle.lagsystem.specs.declared.received.Received.TheVariants.{TookLacpdu, Up}
+pub use Rattle.lagsystem.specs.declared.drive.Reply.{Reply}
+pub use Rattle.lagsystem.specs.declared.received.Received.TheVariants.{TookLacpdu}
 pub use Rattle.lagsystem.specs.declared.system_ports.SystemPort.{SystemPort}
-pub use Rattle.lagsystem.specs.Calls.{Call, Carries, ChangesParty, Configure, Data_frame, Faulty, Force, FreesIfDown, GivesEffect, IsFrame}
+pub use Rattle.lagsystem.specs.Calls.{AnswersMarker, Call, Carries, ChangesParty, Configure, Data_frame, Faulty, Force, GivesEffect, IsFrame}
 pub use Rattle.lagsystem.specs.Calls.{Move_conversation, Offer, OnlyPortChangesBy, ParsesWhere, Performs, PortAtChangesBy, ProcessesLacpdu, Receive}
-pub use Rattle.lagsystem.specs.Calls.{ReceivedFrame, ReceivesAt, Releases, Restart, Runt, Set_link, SetsLink, SetsPortEnabled, Step, TableRun}
-pub use Rattle.lagsystem.specs.Calls.{ThenSettles, Tick, Ticks, Transmit, changed_party, choice_with_link, is_own_response}
-pub use Rattle.lagsystem.specs.Drives.{call_of}
-pub use Rattle.lagsystem.specs.First.{HasJustStarted, IsFirst, config_value, configured_numbers, or_first, setup_of}
-pub use Rattle.lagsystem.specs.ModelView.{IsSent, can_receive, can_receive_in, key_of, model_port_of, model_setup, model_view, none_enabled}
-pub use Rattle.lagsystem.specs.ModelView.{number_of_port}
+pub use Rattle.lagsystem.specs.Calls.{ReceivedFrame, ReceivesAt, Releases, Restart, Runt, Set_link, SetsPortEnabled, Step, TableRun, ThenSettles}
+pub use Rattle.lagsystem.specs.Calls.{Tick, Transmit, changed_party, choice_with_link, up_or_dropped}
+pub use Rattle.lagsystem.specs.First.{HasJustStarted, IsFirst, configured_numbers, setup_of}
+pub use Rattle.lagsystem.specs.ModelView.{can_receive, can_receive_in, key_of, none_enabled}
 pub use Rattle.lagsystem.specs.NothingToSettle.{MuxIsSettled, PeriodicIsSettled}
 pub use Rattle.lagsystem.specs.Occupants.{OccupantsAgree, WithinLimit, occupied}
-pub use Rattle.lagsystem.specs.Offers.{GivesOrRefuses, MayBeOffered, Offers, RefusesOffer, assignment_of_frame, in_system, system_force_result}
-pub use Rattle.lagsystem.specs.Offers.{system_move_result}
-pub use Rattle.lagsystem.specs.Readers.{aggregator_numbered, collecting, distributes_in, distributing, group_at, number_of_conversation}
-pub use Rattle.lagsystem.specs.Readers.{selected_aggregator}
-pub use Rattle.lagsystem.specs.Sending.{IsLacpduOf, SendsLacpdu, SendsMarkerOf, TransmitsAt, TransmitsIf, own_marker}
-pub use Rattle.lagsystem.specs.Settling.{ChoosesIn, PortsChangeBy, PromotesNext, Settling, aggregator_for, choice_for, choice_if, choice_in}
-pub use Rattle.lagsystem.specs.Settling.{held_unless_on, ready_of, with_choice}
-pub use Rattle.lagsystem.specs.Sound.{CallPromise, HasPorts, IsSound, NoneHeld, PortsAgree}
-pub use Rattle.lagsystem.specs.State.{SystemState, aggregators_value, machines_of, port_index, port_numbers, system_port_at, with_system_ports}
-pub use Rattle.lagsystem.specs.State.{with_table}
+pub use Rattle.lagsystem.specs.Settling.{ChoosesIn, PortsChangeBy, PromotesNext, Settling, choice_for, ready_of, with_choice}
+pub use Rattle.lagsystem.specs.Sound.{IsSound}
+pub use Rattle.lagsystem.specs.State.{SystemState, aggregators_value, port_index, port_numbers, with_system_ports, with_table}
 pub use Rattle.lagsystem.specs.Views.{may_choose, selection_view, stage_of, views}
-pub use Rattle.lagsystem.specs.Windows.{reply_has_lacpdu, subtype}
 pub use Rattle.lagsystem.proofs.Effects.{named}
-pub use Rattle.lagsystem.proofs.FirstView.{first_unselected}
-pub use Rattle.lagsystem.proofs.HostCallLemmas.{TableAlone, agrees_beside, host_alone}
-pub use Rattle.lagsystem.proofs.Keeps.{Keeps, Step-frame, given_number, keeps_link, keeps_place, keeps_settled, keeps_tick, numbers_set, ports_table}
-pub use Rattle.lagsystem.proofs.Keeps.{promoted_numbers, settling_in, settling_keeps, settling_parts, zip_numbers}
-pub use Rattle.lagsystem.proofs.Limiting.{next_stands}
-pub use Rattle.lagsystem.proofs.NoneLeft.{takes_is}
-pub use Rattle.lagsystem.proofs.OneFrame.{effect_one}
-pub use Rattle.lagsystem.proofs.Performed.{ProcessesOrStays, TableChanges, processes_or_stays, table_changes}
-pub use Rattle.lagsystem.proofs.Preserves.{Step-preserves_ports, lacpdu_subtype}
-pub use Rattle.lagsystem.proofs.PromotionLemmas.{choices_keep, promotions_keep}
-pub use Rattle.lagsystem.proofs.Rest.{becomes_slots, can_receive_at_rest, last_slots, marker_slots, offers_slots, rests, same_slots, zip_all}
-pub use Rattle.lagsystem.proofs.Rising.{Rises, all-get, all-set, are_numbered, found_place, ports_rise}
-pub use Rattle.lagsystem.proofs.SettlingLemmas.{RunsReady, set_same}
-pub use Rattle.lagsystem.proofs.Sound.{Step-sound, agrees, first_sound}
-pub use Rattle.lagsystem.proofs.Steps.{forced_to, moved_to}
+pub use Rattle.lagsystem.proofs.Keeps.{Step-frame, keeps_place, keeps_settled}
+pub use Rattle.lagsystem.proofs.Rest.{becomes_slots, can_receive_at_rest, last_slots, marker_slots, offers_slots, same_slots, zip_all}
+pub use Rattle.lagsystem.proofs.Rising.{Rises, all-get, all-set, found_place, ports_rise}
+pub use Rattle.lagsystem.proofs.Sound.{Step-sound}
 pub use Rattle.lagbeside.specs.Hearing.{IsNoticed, LeavesUnheard, processed_on, timeout_time}
-pub use Rattle.lagbeside.specs.Heartbeat.{EachCall, IsHeard, IsSilentShortly, LeavesUpAndSilent, takes_down, tick_count}
-pub use Rattle.lagbeside.specs.Knowing.{HasRecorded, IsKnown}
-pub use Rattle.lagbeside.specs.Silence.{IsLoud, SilentFor, Speaks}
-pub use Rattle.lagbeside.specs.Timers.{EachCallKeepsTimed, EachHostCallKeepsTimed, IsTimed, PortsAreTimed, most_current_while, most_periodic_timer}
-pub use Rattle.lagbeside.specs.Selecting.{HasPlace, IsFull, SharesGroup, StandsByFull, WantsAggregator, aggregators_with, ports_with}
+pub use Rattle.lagbeside.specs.Heartbeat.{EachCall, tick_count}
+pub use Rattle.lagbeside.specs.Selecting.{IsFull, SharesGroup, StandsByFull, WantsAggregator, aggregators_with, ports_with}
+pub use Rattle.lagbeside.specs.Serving.{Brings, CarriesBeside, ComesUp, ComesUpAlone, Fed, IsOnlyOfKey, IsServed, IsUnanswered, LeavesServed}
+pub use Rattle.lagbeside.specs.Serving.{LeavesUnanswered, NeverAlone, NoneBegins, Runs, RunsOnceTicked, RunsWhile, Serves, Service, StaysUp}
+pub use Rattle.lagbeside.specs.Serving.{WaitsAreBounded, begins_in, in_sync}
+pub use Rattle.lagbeside.specs.Timers.{IsTimed, most_current_while, most_periodic_timer}

@@ -1,24 +1,30 @@
 -- What the machines of a port keep, every call of a system keeps of each port.
 use Rattle.lagbeside.proofs.Common.{Bool, Err, List, None, Ok, Option, Result, Some, [], ap, arith, false, inl, inr, length, not, refl, slice_get}
 use Rattle.lagbeside.proofs.Common.{slice_set, subst, sym, true, ℕ, ◌&&◌, ◌==◌, ◌||◌, ◌∙◌, ◌∷◌, ◌≡◌, ◌⊎◌, cases_Bool, nat_tests, none-some}
-use Rattle.lagbeside.proofs.Common.{AllByRecursion, AggId, Choice, Selected, Standby, is_selected, Lacpdu, MuxState, Attached}
-use Rattle.lagbeside.proofs.Common.{CollectingDistributing, Setup, Machines, is_synchronized, mux_rows, partner_synchronized, same_mux_state}
-use Rattle.lagbeside.proofs.Common.{RunsPeriodic, receive_rows, RunsToRest, Starts, before_start, after_sending, count_down, is_due, PortView}
-use Rattle.lagbeside.proofs.Common.{AggregatorsValue, is_eligible, marker_due, SystemFault, Received, TookLacpdu, SystemPort, Call, ChangesParty}
-use Rattle.lagbeside.proofs.Common.{Configure, Force, Move_conversation, Offer, PortAtChangesBy, ProcessesLacpdu, Receive, Restart, Set_link}
-use Rattle.lagbeside.proofs.Common.{SetsPortEnabled, Step, Tick, Transmit, HasJustStarted, IsFirst, setup_of, system_force_result}
-use Rattle.lagbeside.proofs.Common.{system_move_result, TransmitsAt, TransmitsIf, ChoosesIn, PortsChangeBy, PromotesNext, Settling, choice_for}
-use Rattle.lagbeside.proofs.Common.{ready_of, with_choice, SystemState, aggregators_value, port_index, with_system_ports, views, reply_has_lacpdu}
-use Rattle.lagbeside.proofs.Common.{subtype, next_stands, lacpdu_subtype, choices_keep, promotions_keep}
-use Rattle.lagbeside.proofs.Common.{becomes_slots, last_slots, marker_slots, offers_slots, same_slots, zip_all, all-get, all-set, found_place}
-use Rattle.lagsystem.specs.declared.drive.Reply.{Reply}
+use Rattle.lagbeside.proofs.Common.{AllByRecursion, AggId, Choice, Selected, Standby, is_selected, is_unselected, Lacpdu, MuxState, Attached}
+use Rattle.lagbeside.proofs.Common.{CollectingDistributing, Detached, Waiting, Setup, Machines, is_synchronized, mux_rows, partner_synchronized}
+use Rattle.lagbeside.proofs.Common.{same_mux_state, RunsPeriodic, receive_rows, RunsToRest, Starts, before_start, after_sending, count_down, is_due}
+use Rattle.lagbeside.proofs.Common.{PortView, AggregatorsValue, is_eligible, Reply, TookLacpdu, SystemPort, AnswersMarker, Call, Carries}
+use Rattle.lagbeside.proofs.Common.{ChangesParty, Configure, Data_frame, Faulty, Force, GivesEffect, IsFrame, Move_conversation, Offer}
+use Rattle.lagbeside.proofs.Common.{OnlyPortChangesBy, ParsesWhere, Performs, PortAtChangesBy, ProcessesLacpdu, Receive, ReceivedFrame, ReceivesAt}
+use Rattle.lagbeside.proofs.Common.{Releases, Restart, Runt, Set_link, SetsPortEnabled, Step, ThenSettles, Tick, Transmit, up_or_dropped}
+use Rattle.lagbeside.proofs.Common.{HasJustStarted, IsFirst, setup_of, ChoosesIn, PortsChangeBy, PromotesNext, Settling, choice_for, ready_of}
+use Rattle.lagbeside.proofs.Common.{with_choice, SystemState, aggregators_value, port_index, with_system_ports, views, becomes_slots, last_slots}
+use Rattle.lagbeside.proofs.Common.{marker_slots, offers_slots, same_slots, zip_all, all-get, all-set, found_place}
+use Rattle.distributor.specs.Changes.{marker_due}
+use Rattle.lagsystem.specs.declared.fault.SystemFault.{SystemFault}
+use Rattle.lagsystem.specs.declared.received.Received.{Received}
+use Rattle.lagsystem.specs.Offers.{system_force_result, system_move_result}
+use Rattle.lagsystem.specs.Sending.{TransmitsAt, TransmitsIf}
+use Rattle.lagsystem.specs.Windows.{reply_has_lacpdu, subtype}
+use Rattle.lagsystem.proofs.Limiting.{next_stands}
+use Rattle.lagsystem.proofs.Preserves.{lacpdu_subtype}
+use Rattle.lagsystem.proofs.PromotionLemmas.{choices_keep, promotions_keep}
 use Rattle.lagsystem.specs.declared.drive.Reply.TheVariants as reply
-use Rattle.lagsystem.specs.Calls.{AnswersMarker, IsFrame, Carries, Runt, Data_frame, Faulty, GivesEffect, ParsesWhere, Performs, ReceivedFrame, ReceivesAt, Releases, ThenSettles, OnlyPortChangesBy, up_or_dropped}
 use Rattle.lagsystem.specs.Readers.{collecting}
 use Rattle.slowpdu.specs.declared.pdu.Pdu.TheVariants as pdu
 use Rattle.slowpdu.specs.declared.pdu.Marker.{Marker}
 use Rattle.slowpdu.specs.Markers.{response_to}
-use Rattle.lagbeside.proofs.Common.{Detached, Waiting, is_unselected}
 
 -- Selected of the port may get this value: it is UNSELECTED, up and DETACHED; or it is STANDBY, and gets SELECTED in its
 -- aggregator. And it is not synchronized.

@@ -1,10 +1,9 @@
 -- From the first LACPDU on.
-use Rattle.lagbeside.proofs.Common.{Bool, Ok, ap, arith, false, inl, inr, refl, subst, sym, true, ℕ, ◌∙◌, ◌≡◌, ◌≤◌, ◌⊎◌, EachCall}
-use Rattle.lagbeside.proofs.Common.{AggId, Choice, Selected, Standby, Unselected, is_selected, Machines, SystemPort, Receive, SystemState}
-use Rattle.lagbeside.proofs.Common.{TookLacpdu, port_index, Step-sound, all-get}
-use Rattle.lagbeside.proofs.Common.{Step-frame, StandsByFull, WantsAggregator, timeout_time, ports_rise, Party}
+use Rattle.lagbeside.proofs.Common.{Bool, Ok, ap, arith, false, inl, inr, refl, subst, sym, true, ℕ, ◌∙◌, ◌≡◌, ◌≤◌, ◌⊎◌, AggId, Choice, Selected}
+use Rattle.lagbeside.proofs.Common.{Standby, Unselected, Party, is_selected, Machines, TookLacpdu, SystemPort, Receive, SystemState, port_index}
+use Rattle.lagbeside.proofs.Common.{Step-frame, all-get, ports_rise, Step-sound, timeout_time, EachCall, StandsByFull, WantsAggregator, CarriesBeside}
+use Rattle.lagbeside.proofs.Common.{Fed, IsServed, LeavesServed, NoneBegins, RunsOnceTicked, Service, WaitsAreBounded}
 use Rattle.lagsystem.specs.declared.drive.Reply.TheVariants as reply
-use Rattle.lagbeside.specs.Serving.{CarriesBeside, Fed, LeavesServed, NoneBegins, RunsOnceTicked, WaitsAreBounded, IsServed, Service}
 use Rattle.lagbeside.proofs.Beside.{comes_up, same_number}
 use Rattle.lagbeside.proofs.EachPort.{Step-each, took}
 use Rattle.lagbeside.proofs.OnePort.{AtPort, at_number, settling_leaves}

@@ -2,10 +2,9 @@
 use Rattle.lagbeside.proofs.Common.{Bool, IsTrue, List, [], ap, arith, false, if◌then◌else◌, inl, inr, not, refl, subst, suc, sym, true, zero, ℕ}
 use Rattle.lagbeside.proofs.Common.{◌&&◌, ◌+◌, ◌-◌, ◌==◌, ◌∙◌, ◌∷◌, ◌≡◌, ◌≤◌, nat_tests, ReceiveState, Current, Defaulted, Expired, Initialize}
 use Rattle.lagbeside.proofs.Common.{PortDisabled, Machines, periodic_rows, receive_rows, same_receive_state, AtRest, Fires, FiresTimes, Row}
-use Rattle.lagbeside.proofs.Common.{RunsToRest, count_down, SystemPort, Call, Configure, Receive, Restart, Set_link, Tick, Transmit}
+use Rattle.lagbeside.proofs.Common.{RunsToRest, count_down, Reply, SystemPort, Call, Configure, Receive, Restart, Set_link, Tick, Transmit}
 use Rattle.lagbeside.proofs.Common.{choice_with_link, can_receive_in, none_enabled, can_receive_at_rest, all-get, IsNoticed, LeavesUnheard}
 use Rattle.lagbeside.proofs.Common.{processed_on, timeout_time, tick_count, IsTimed, most_current_while}
-use Rattle.lagsystem.specs.declared.drive.Reply.{Reply}
 use Rattle.lagbeside.proofs.EachPort.{KeptByCall, KeptBySettling}
 use Rattle.lagbeside.proofs.OnePort.{AtPort, GoesOn, goes_on, settling_leaves}
 

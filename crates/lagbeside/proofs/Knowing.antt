@@ -1,13 +1,13 @@
 -- A port keeps what it recorded of an LACPDU while current_while has ticks left.
 use Rattle.lagbeside.proofs.Common.{Bool, List, Some, [], ap, arith, false, if◌then◌else◌, inl, inr, refl, slice_get, slice_set, subst, suc, sym}
 use Rattle.lagbeside.proofs.Common.{true, zero, ℕ, ◌&&◌, ◌+◌, ◌-◌, ◌==◌, ◌∙◌, ◌∷◌, ◌≡◌, ◌≤◌, nat_tests, none-some, same_Some, StateBits, bits_of}
-use Rattle.lagbeside.proofs.Common.{with_synchronization, encode_then_decode, Info, Lacpdu, ReceiveState, Current, Expired, Initialize}
-use Rattle.lagbeside.proofs.Common.{PortDisabled, Machines, periodic_rows, receive_rows, recorded_synchronization, same_receive_state, AtRest}
-use Rattle.lagbeside.proofs.Common.{Fires, FiresTimes, Row, RunsToRest, count_down, SystemPort, Call, Configure, OnlyPortChangesBy, ProcessesLacpdu}
-use Rattle.lagbeside.proofs.Common.{Receive, Restart, Set_link, ThenSettles, Tick, Transmit, choice_with_link, can_receive, can_receive_in}
-use Rattle.lagbeside.proofs.Common.{none_enabled, IsSound, SystemState, port_numbers, named, keeps_place, keeps_settled, can_receive_at_rest, Rises}
-use Rattle.lagbeside.proofs.Common.{all-get, ports_rise, LeavesUnheard, processed_on, timeout_time, HasRecorded, IsKnown}
-use Rattle.lagsystem.specs.declared.drive.Reply.{Reply}
+use Rattle.lagbeside.proofs.Common.{with_synchronization, encode_then_decode, Info, Lacpdu, ReceiveState, Current, Expired, Initialize, PortDisabled}
+use Rattle.lagbeside.proofs.Common.{Machines, periodic_rows, receive_rows, recorded_synchronization, same_receive_state, AtRest, Fires, FiresTimes}
+use Rattle.lagbeside.proofs.Common.{Row, RunsToRest, count_down, Reply, SystemPort, Call, Configure, OnlyPortChangesBy, ProcessesLacpdu, Receive}
+use Rattle.lagbeside.proofs.Common.{Restart, Set_link, ThenSettles, Tick, Transmit, choice_with_link, can_receive, can_receive_in, none_enabled}
+use Rattle.lagbeside.proofs.Common.{IsSound, SystemState, port_numbers, named, keeps_place, keeps_settled, can_receive_at_rest, Rises, all-get}
+use Rattle.lagbeside.proofs.Common.{ports_rise, LeavesUnheard, processed_on, timeout_time}
+use Rattle.lagbeside.specs.Knowing.{HasRecorded, IsKnown}
 use Rattle.lagbeside.proofs.EachPort.{KeptByCall, KeptBySettling, settling_each}
 use Rattle.lagbeside.proofs.Hearing.{EnabledKeep, both, is_number, no, not_down, stays_up, times_keep}
 use Rattle.lagbeside.proofs.OnePort.{AtPort, GoesOn, at_number, goes_on, same_place, settling_leaves}

@@ -1,10 +1,10 @@
 -- A port that no LACPDU was in sync with.
-use Rattle.lagbeside.proofs.Common.{Bool, List, [], ap, arith, false, inl, inr, not, refl, subst, sym, true, ℕ}
-use Rattle.lagbeside.proofs.Common.{◌&&◌, ◌||◌, ◌∙◌, ◌≡◌, nat_tests, cases_Bool, StateBits, bits_of, with_synchronization, with_timeout, encode_then_decode, Info, Lacpdu}
-use Rattle.lagbeside.proofs.Common.{Party, MuxState, CollectingDistributing, Machines, is_selected, receive_rows, recorded_synchronization, partner_synchronized, same_mux_state, count_down}
-use Rattle.lagbeside.proofs.Common.{SystemPort, Call, Configure, ProcessesLacpdu, Receive, Restart, Set_link, Tick, Transmit, choice_with_link, MuxIsSettled, SystemState, all-get, ports_rise, EachCall, IsSound, ◌∷◌}
-use Rattle.lagsystem.specs.declared.drive.Reply.{Reply}
-use Rattle.lagbeside.specs.Serving.{Brings, IsUnanswered, LeavesUnanswered, NeverAlone, Runs, in_sync}
+use Rattle.lagbeside.proofs.Common.{Bool, List, [], ap, arith, false, inl, inr, not, refl, subst, sym, true, ℕ, ◌&&◌, ◌||◌, ◌∙◌, ◌∷◌, ◌≡◌, cases_Bool}
+use Rattle.lagbeside.proofs.Common.{nat_tests, Party, StateBits, is_selected, bits_of, with_synchronization, with_timeout, encode_then_decode, Info}
+use Rattle.lagbeside.proofs.Common.{Lacpdu, MuxState, CollectingDistributing, Machines, partner_synchronized, same_mux_state, receive_rows}
+use Rattle.lagbeside.proofs.Common.{recorded_synchronization, count_down, Reply, SystemPort, Call, Configure, ProcessesLacpdu, Receive, Restart}
+use Rattle.lagbeside.proofs.Common.{Set_link, Tick, Transmit, choice_with_link, MuxIsSettled, IsSound, SystemState, all-get, ports_rise, EachCall}
+use Rattle.lagbeside.proofs.Common.{Brings, IsUnanswered, LeavesUnanswered, NeverAlone, Runs, in_sync}
 use Rattle.lagbeside.proofs.EachPort.{KeptByCall, KeptBySettling, OfEach, Step-each, Tick-each}
 use Rattle.lagbeside.proofs.Serving.{aside_each}
 use Rattle.lagbeside.proofs.Beside.{runs_ports, same_number}

@@ -1,10 +1,10 @@
 -- Of one port, what each call keeps and each tick moves on, over a list of calls.
-use Rattle.lagbeside.proofs.Common.{Bool, List, Some, [], ap, arith, false, option_map, refl, slice_get, subst, suc, sym, zero, ℕ, ◌+◌, ◌-◌, ◌<◌}
-use Rattle.lagbeside.proofs.Common.{◌∙◌, ◌∷◌, ◌≡◌, ◌≤◌, nat_tests, none-some, same_Some, slice_get-map, AllByRecursion, Unselected, Detached}
-use Rattle.lagbeside.proofs.Common.{NoPeriodic, Machines, mux_rows, RunsPeriodic, periodic_rows, receive_rows, AtRest, RunsToRest, count_down}
-use Rattle.lagbeside.proofs.Common.{SystemPort, Call, Step, TableRun, Tick, configured_numbers, PeriodicIsSettled, IsSound, SystemState}
-use Rattle.lagbeside.proofs.Common.{port_numbers, Step-frame, Rises, all-get, ports_rise, Step-sound, EachCall, tick_count}
-use Rattle.lagsystem.specs.declared.drive.Reply.{Reply}
+use Rattle.lagbeside.proofs.Common.{Bool, List, Some, [], ap, arith, false, option_map, refl, slice_get, subst, suc, sym, zero, ℕ, ◌+◌, ◌-◌, ◌<◌, ◌∙◌}
+use Rattle.lagbeside.proofs.Common.{◌∷◌, ◌≡◌, ◌≤◌, nat_tests, none-some, same_Some, slice_get-map, AllByRecursion, Unselected, Detached, Machines}
+use Rattle.lagbeside.proofs.Common.{mux_rows, RunsPeriodic, periodic_rows, receive_rows, AtRest, RunsToRest, count_down, Reply, SystemPort, Call}
+use Rattle.lagbeside.proofs.Common.{Step, TableRun, Tick, configured_numbers, PeriodicIsSettled, IsSound, SystemState, port_numbers, Step-frame}
+use Rattle.lagbeside.proofs.Common.{Rises, all-get, ports_rise, Step-sound, EachCall, tick_count}
+use Rattle.portmachines.specs.declared.periodic.PeriodicState.TheVariants.{NoPeriodic}
 use Rattle.lagbeside.proofs.EachPort.{KeptByCall, KeptBySettling, OfEach, Step-each, Tick-each}
 use Rattle.lagbeside.proofs.Timers.{runs_keep}
 

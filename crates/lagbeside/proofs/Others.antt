@@ -1,14 +1,15 @@
 -- The other ports of an aggregator wait no longer, if none begins to.
-use Rattle.lagbeside.proofs.Common.{Bool, List, Option, Some, [], ap, arith, cond, false, filter, if◌then◌else◌, inl, inr, length, nat_le, not, refl, slice_get, subst, suc, sym, true, zero, ℕ}
-use Rattle.lagbeside.proofs.Common.{◌&&◌, ◌-◌, ◌+◌, ◌==◌, ◌||◌, ◌∙◌, ◌∷◌, ◌≡◌, ◌≤◌, ◌⊎◌, nat_tests, none-some, cases_Bool, eqb-true, itself, AllByRecursion, list_all, list_any}
-use Rattle.lagbeside.proofs.Common.{AggId, Key, Choice, Selected, Standby, Unselected, is_unselected, same_party, party_of, Lacpdu}
-use Rattle.lagbeside.proofs.Common.{MuxState, Attached, CollectingDistributing, Detached, Waiting, Machines, mux_rows, same_mux_state, default_partner, lacpdu_rows, receive_rows}
-use Rattle.lagbeside.proofs.Common.{Starts, before_start, RunsToRest, count_down, PortView, is_aggregator, ports_that_chose, has_chosen, has_waited, is_detached_or_waiting, occupies}
-use Rattle.lagbeside.proofs.Common.{SystemPort, Call, Configure, ProcessesLacpdu, Receive, Restart, Set_link, Tick, Transmit, choice_with_link, MuxIsSettled, key_of}
-use Rattle.lagbeside.proofs.Common.{changed_party, occupied, ready_of, IsSound, SystemState, selection_view, stage_of, views, all-get, tick_count}
+use Rattle.lagbeside.proofs.Common.{Bool, List, Option, Some, [], ap, arith, cond, eqb-true, false, filter, if◌then◌else◌, inl, inr, length, nat_le}
+use Rattle.lagbeside.proofs.Common.{not, refl, slice_get, subst, suc, sym, true, zero, ℕ, ◌&&◌, ◌+◌, ◌-◌, ◌==◌, ◌||◌, ◌∙◌, ◌∷◌, ◌≡◌, ◌≤◌, ◌⊎◌}
+use Rattle.lagbeside.proofs.Common.{cases_Bool, nat_tests, none-some, AllByRecursion, list_all, list_any, AggId, Key, Choice, Selected, Standby}
+use Rattle.lagbeside.proofs.Common.{Unselected, is_unselected, same_party, itself, Lacpdu, party_of, MuxState, Attached, CollectingDistributing}
+use Rattle.lagbeside.proofs.Common.{Detached, Waiting, Machines, mux_rows, same_mux_state, default_partner, lacpdu_rows, receive_rows, RunsToRest}
+use Rattle.lagbeside.proofs.Common.{Starts, before_start, count_down, PortView, is_aggregator, ports_that_chose, has_chosen, has_waited}
+use Rattle.lagbeside.proofs.Common.{is_detached_or_waiting, occupies, Reply, SystemPort, Call, Configure, ProcessesLacpdu, Receive, Restart, Set_link}
+use Rattle.lagbeside.proofs.Common.{Tick, Transmit, changed_party, choice_with_link, key_of, MuxIsSettled, occupied, ready_of, IsSound, SystemState}
+use Rattle.lagbeside.proofs.Common.{selection_view, stage_of, views, all-get, tick_count, NoneBegins, Runs, RunsOnceTicked, RunsWhile, Service}
+use Rattle.lagbeside.proofs.Common.{begins_in}
 use Rattle.selection.specs.Ready.{is_ready}
-use Rattle.lagsystem.specs.declared.drive.Reply.{Reply}
-use Rattle.lagbeside.specs.Serving.{NoneBegins, Runs, RunsOnceTicked, RunsWhile, Service, begins_in}
 use Rattle.lagbeside.proofs.EachPort.{KeptByCall, KeptBySettling, OfEach, Step-each, Tick-each}
 use Rattle.lagbeside.proofs.Hearing.{no}
 use Rattle.lagbeside.proofs.OnePort.{AtPort, periodic_leaves}

@@ -1,15 +1,17 @@
 -- Where each aggregator of a key has an occupant, there are fewer of them than ports of that key.
 use Rattle.lagbeside.proofs.Common.{Bool, List, None, Option, Some, [], ap, arith, cond, eqb-true, false, find, if◌then◌else◌, inl, inr, length}
 use Rattle.lagbeside.proofs.Common.{nat_le, not, option_map, refl, slice_get, subst, suc, sym, true, zero, ℕ, ◌&&◌, ◌+◌, ◌==◌, ◌||◌, ◌∙◌, ◌∷◌, ◌≡◌}
-use Rattle.lagbeside.proofs.Common.{◌≤◌, ◌⊎◌, and_parts, cases_Bool, nat_tests, none-some, same_Some, enumerate_from, list_all, list_any, AggId}
-use Rattle.lagbeside.proofs.Common.{Key, Choice, Selected, Standby, Unselected, is_selected, is_unselected, individual, same_system, exact_system}
-use Rattle.lagbeside.proofs.Common.{itself, MuxState, Attached, CollectingDistributing, Waiting, ReceiveState, Current, Defaulted, same_mux_state}
-use Rattle.lagbeside.proofs.Common.{same_receive_state, PortView, aggregator_of_entry, chosen_if_eligible, has_group_of, has_no_occupant}
-use Rattle.lagbeside.proofs.Common.{has_occupant, is_aggregator, lowest, occupants, occupants_share_group, or_else, ports_that_chose, has_room}
-use Rattle.lagbeside.proofs.Common.{is_below, is_detached, is_eligible, occupies, stands_by, NoneStandsBy, none_is_next, SystemPort, key_of}
-use Rattle.lagbeside.proofs.Common.{MuxIsSettled, OccupantsAgree, WithinLimit, occupied, IsSound, SystemState, aggregators_value, may_choose}
-use Rattle.lagbeside.proofs.Common.{selection_view, stage_of, views, takes_is, all-get, ports_rise, IsFull, StandsByFull, WantsAggregator}
-use Rattle.lagbeside.proofs.Common.{aggregators_with, ports_with, SharesGroup}
+use Rattle.lagbeside.proofs.Common.{◌≤◌, ◌⊎◌, and_parts, cases_Bool, nat_tests, none-some, same_Some, enumerate_from, list_all, list_any, AggId, Key}
+use Rattle.lagbeside.proofs.Common.{Choice, Selected, Standby, Unselected, is_selected, is_unselected, same_system, exact_system, itself, MuxState}
+use Rattle.lagbeside.proofs.Common.{Attached, CollectingDistributing, Waiting, ReceiveState, Current, Defaulted, same_mux_state, same_receive_state}
+use Rattle.lagbeside.proofs.Common.{PortView, aggregator_of_entry, chosen_if_eligible, has_group_of, has_no_occupant, has_occupant, is_aggregator}
+use Rattle.lagbeside.proofs.Common.{lowest, occupants, occupants_share_group, or_else, ports_that_chose, has_room, is_below, is_detached, is_eligible}
+use Rattle.lagbeside.proofs.Common.{occupies, stands_by, SystemPort, key_of, MuxIsSettled, OccupantsAgree, WithinLimit, occupied, IsSound}
+use Rattle.lagbeside.proofs.Common.{SystemState, aggregators_value, may_choose, selection_view, stage_of, views, all-get, ports_rise, IsFull}
+use Rattle.lagbeside.proofs.Common.{SharesGroup, StandsByFull, WantsAggregator, aggregators_with, ports_with}
+use Rattle.lagtypes.specs.Group.{individual}
+use Rattle.selection.proofs.LimitLemmas.{NoneStandsBy, none_is_next}
+use Rattle.lagsystem.proofs.NoneLeft.{takes_is}
 use Rattle.lagbeside.proofs.Counting.{count, counted, count_less_of, count_more_of}
 
 -- the number of the aggregator that a port occupies; aggregators are numbered from 1

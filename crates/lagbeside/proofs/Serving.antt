@@ -1,15 +1,13 @@
 -- A port that is served stays so, and climbs.
-use Rattle.lagbeside.proofs.Common.{Bool, List, Option, None, Some, Ok, [], ap, arith, false, if◌then◌else◌, inl, inr, refl, slice_get, subst, sym, true, ℕ}
-use Rattle.lagbeside.proofs.Common.{◌&&◌, ◌+◌, ◌-◌, ◌==◌, ◌∙◌, ◌∷◌, ◌≡◌, ◌≤◌, ◌⊎◌, nat_tests, same_Some, StateBits}
-use Rattle.lagbeside.proofs.Common.{same_party, party_itself, party_of, Lacpdu, Choice, Unselected, is_selected, is_unselected}
-use Rattle.lagbeside.proofs.Common.{MuxState, Detached, Waiting, Current, Machines, is_synchronized, mux_rows}
-use Rattle.lagbeside.proofs.Common.{same_mux_state, receive_rows, recorded_synchronization, AtRest, RunsToRest, count_down}
-use Rattle.lagbeside.proofs.Common.{SystemPort, Call, Configure, OnlyPortChangesBy, ProcessesLacpdu, Receive, Restart, Set_link, ThenSettles, Tick, Transmit}
-use Rattle.lagbeside.proofs.Common.{Step, choice_with_link, can_receive, can_receive_in, none_enabled, IsSound, SystemState, port_numbers, port_index}
-use Rattle.lagbeside.proofs.Common.{keeps_place, can_receive_at_rest, named, Rises, all-get, ports_rise, found_place, TookLacpdu}
-use Rattle.lagbeside.proofs.Common.{processed_on, timeout_time, EachCall, tick_count, cases_Bool, eqb-true, with_table}
-use Rattle.lagbeside.specs.Serving.{Fed, RunsWhile, IsServed, LeavesServed, Service, Serves, in_sync}
-use Rattle.lagsystem.specs.declared.drive.Reply.{Reply}
+use Rattle.lagbeside.proofs.Common.{Bool, List, None, Ok, Option, Some, [], ap, arith, eqb-true, false, if◌then◌else◌, inl, inr, refl, slice_get}
+use Rattle.lagbeside.proofs.Common.{subst, sym, true, ℕ, ◌&&◌, ◌+◌, ◌-◌, ◌==◌, ◌∙◌, ◌∷◌, ◌≡◌, ◌≤◌, ◌⊎◌, cases_Bool, nat_tests, same_Some, Choice}
+use Rattle.lagbeside.proofs.Common.{Unselected, StateBits, is_selected, is_unselected, same_party, party_itself, Lacpdu, party_of, MuxState, Detached}
+use Rattle.lagbeside.proofs.Common.{Waiting, Current, Machines, is_synchronized, mux_rows, same_mux_state, receive_rows, recorded_synchronization}
+use Rattle.lagbeside.proofs.Common.{AtRest, RunsToRest, count_down, Reply, TookLacpdu, SystemPort, Call, Configure, OnlyPortChangesBy}
+use Rattle.lagbeside.proofs.Common.{ProcessesLacpdu, Receive, Restart, Set_link, Step, ThenSettles, Tick, Transmit, choice_with_link, can_receive}
+use Rattle.lagbeside.proofs.Common.{can_receive_in, none_enabled, IsSound, SystemState, port_index, port_numbers, with_table, named, keeps_place}
+use Rattle.lagbeside.proofs.Common.{can_receive_at_rest, Rises, all-get, found_place, ports_rise, processed_on, timeout_time, EachCall, tick_count}
+use Rattle.lagbeside.proofs.Common.{Fed, IsServed, LeavesServed, RunsWhile, Serves, Service, in_sync}
 use Rattle.lagsystem.specs.declared.drive.Reply.TheVariants as reply
 use Rattle.lagbeside.proofs.EachPort.{KeptByCall, KeptBySettling, OfEach, Step-each, Tick-each, settling_each, took}
 use Rattle.lagbeside.proofs.Hearing.{EnabledKeep, both, is_number, no, not_down, stays_up, times_keep}

@@ -1,11 +1,11 @@
 -- What happens to a port leaves no timer above the ticks that it can start with.
 use Rattle.lagbeside.proofs.Common.{Bool, List, [], arith, cond, false, if◌then◌else◌, inl, inr, nat_lt, refl, subst, suc, sym, true, zero, ℕ, ◌++◌}
-use Rattle.lagbeside.proofs.Common.{◌+◌, ◌<◌, ◌∷◌, ◌≡◌, ◌≤◌, nat_tests, AllByRecursion, Lacpdu, PeriodicState, Setup, ReceiveState, Current}
-use Rattle.lagbeside.proofs.Common.{Defaulted, Expired, Initialize, PortDisabled, Machines, mux_rows, periodic_rows, lacpdu_rows, receive_rows}
-use Rattle.lagbeside.proofs.Common.{start_receive, Fires, FiresTimes, Row, RunsToRest, Starts, before_start, aged, count_down, Call, Configure}
-use Rattle.lagbeside.proofs.Common.{ProcessesLacpdu, Receive, Restart, Set_link, Tick, Transmit, changed_party, choice_with_link, IsTimed}
-use Rattle.lagbeside.proofs.Common.{most_current_while, most_periodic_timer}
-use Rattle.lagsystem.specs.declared.drive.Reply.{Reply}
+use Rattle.lagbeside.proofs.Common.{◌+◌, ◌<◌, ◌∷◌, ◌≡◌, ◌≤◌, nat_tests, AllByRecursion, Lacpdu, Setup, ReceiveState, Current, Defaulted, Expired}
+use Rattle.lagbeside.proofs.Common.{Initialize, PortDisabled, Machines, mux_rows, periodic_rows, lacpdu_rows, receive_rows, start_receive, Fires}
+use Rattle.lagbeside.proofs.Common.{FiresTimes, Row, RunsToRest, Starts, before_start, aged, count_down, Reply, Call, Configure, ProcessesLacpdu}
+use Rattle.lagbeside.proofs.Common.{Receive, Restart, Set_link, Tick, Transmit, changed_party, choice_with_link, IsTimed, most_current_while}
+use Rattle.lagbeside.proofs.Common.{most_periodic_timer}
+use Rattle.portmachines.specs.declared.periodic.PeriodicState.{PeriodicState}
 use Rattle.lagbeside.proofs.EachPort.{KeptByCall, KeptBySettling}
 
 -- what each row keeps, its machine keeps
