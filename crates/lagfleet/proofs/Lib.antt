@@ -1,1 +1,4 @@
+pub mod Doings
 pub mod Fleets
+pub mod Events
+pub mod Stages

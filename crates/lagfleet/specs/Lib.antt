@@ -1,1 +1,3 @@
+pub mod Doing
 pub mod Fleet
+pub mod BesideAnyPeer

@@ -1,27 +1,35 @@
 -- The names that proofs of this crate import, passed on from one place. Declares nothing; tools/maintain/proof-imports writes it.
-pub use Rattle.std.proofs.Common.{Bool, IsSome, IsSomeAnd, List, None, Option, Some, [], ap, append-nil, append_assoc, arith, cond, eq-eqb, eqb}
-pub use Rattle.std.proofs.Common.{eqb-true, false, get_or, inl, inr, is_some, length, length-append, map, not, option_map, refl, set, slice_get}
-pub use Rattle.std.proofs.Common.{subst, suc, sym, true, zero, ℕ, ◌&&◌, ◌++◌, ◌+◌, ◌<◌, ◌∙◌, ◌∷◌, ◌≡◌, ◌≢◌, ◌≤◌, ◌⊎◌}
-pub use Rattle.std.proofs.lemmas.Bool.{and_from, and_parts, cases_Bool, cases_eq, cases_lt, eqb-false, false≢true, true≢false}
+pub use Rattle.std.proofs.Common.{Bool, IsSome, IsSomeAnd, List, None, Option, Some, [], ap, append-nil, arith, cond, eq-eqb, eqb, eqb-true, false}
+pub use Rattle.std.proofs.Common.{get_or, inl, inr, length, length-append, map, option_map, refl, subst, suc, sym, true, ℕ, ◌&&◌, ◌++◌, ◌<◌, ◌∙◌, ◌∷◌}
+pub use Rattle.std.proofs.Common.{◌≡◌, ◌≢◌, ◌≤◌, ◌⊎◌}
+pub use Rattle.std.proofs.lemmas.Bool.{and_from, and_parts, cases_Bool, cases_lt, eqb-false, false≢true, true≢false}
 pub use Rattle.std.proofs.lemmas.Option.{none-some, same_Some}
-pub use Rattle.std.specs.Prelude.{Contains, option_to_list}
+pub use Rattle.std.specs.Prelude.{drop, option_to_list}
+pub use Rattle.lagtypes.specs.declared.identifiers.SystemId.{SystemId}
 pub use Rattle.lagtypes.specs.declared.party.Party.{Party}
-pub use Rattle.lagtypes.specs.Group.{Pair, SamePair, end_of, individual, pair_of}
-pub use Rattle.lagmodel.specs.Bridge.{AreNumbered, BecomeByMoves, find_number, ports_of, world_after_call}
-pub use Rattle.lagmodel.specs.Law.{BelowNext, CollectedThenInFlight, CountsFromZero, EndsAgree, FlushedByMarker, InOrder, IsSubsequence}
-pub use Rattle.lagmodel.specs.Law.{LastLacpduSaysInSync, LawfulRun, Members, OnItsCable, OnePartner, SomethingArrives, UpToDateLacpdusNameSender}
-pub use Rattle.lagmodel.specs.Law.{same_side, serials}
-pub use Rattle.lagmodel.specs.Move.{Act, AllAllowed, Announce, Answered, Become, ConversationMove, ConversationMoveAllowed, Default, Desynchronize}
-pub use Rattle.lagmodel.specs.Move.{Distribute, Distributes, DistributorMove, DistributorMoveAllowed, DistributorMoves, DistributorMovesAllowed, Down}
-pub use Rattle.lagmodel.specs.Move.{Flow, Forced, Join, LawfulMoves, Leave, Mark, Move, MoveAllowed, Port, PortAllowed, PortMove, Reconfigure}
-pub use Rattle.lagmodel.specs.Move.{Respond, Restart, Retry, Send, Sends, Sends_frame, Stop, Take, Took, Want, act, act_of_port, acts}
-pub use Rattle.lagmodel.specs.Move.{conversation_after, distributor_act, distributor_acts, distributor_after, distributor_after_all, flushed, pair_at}
-pub use Rattle.lagmodel.specs.Move.{port_act, port_after, view_after, view_after_all}
-pub use Rattle.lagmodel.specs.View.{Configure, ControlMessage, Conversation, DistributorFacts, Flushing, Force, Free, IsSystemSetup, Lacp}
-pub use Rattle.lagmodel.specs.View.{LacpMessage, Marker, ModelCall, Move_conversation, Offer, On, PortFacts, Receive, Response, Set_link, SystemSetup}
-pub use Rattle.lagmodel.specs.View.{Tick, Transmit, View, Wanted, at_conversation, at_port, conversation_port, first_port, first_view, is_restart}
-pub use Rattle.lagmodel.specs.View.{replies_frame, zero_party}
-pub use Rattle.lagmodel.specs.World.{AllMoves, CallHappens, Control, CountsChanges, Data, DeliversFirst, Ends, Event, Happens, IsCabling}
-pub use Rattle.lagmodel.specs.World.{IsWorldSetup, LosesFirst, Message, One, RepeatsFirst, Run, SensesCable, Side, TakenLacpdu, Two, World}
-pub use Rattle.lagmodel.specs.World.{WorldSetup, at_cable, at_side, at_two, end_at, first_world, handed_up, is_port, on_cable_after, party_at, peer}
-pub use Rattle.lagmodel.specs.World.{port_on, put_on_cable, sent_after, taken_after, with_messages, world_after, world_after_all}
+pub use Rattle.lagmodel.specs.Law.{IsSubsequence, Members, serials}
+pub use Rattle.lagmodel.specs.Move.{Act, AllAllowed, Announce, Answered, Become, Default, Distribute, DistributorMove, Flow, Join, LawfulMoves, Leave}
+pub use Rattle.lagmodel.specs.Move.{Mark, Move, MoveAllowed, Port, PortAllowed, PortMove, Reconfigure, Respond, Restart, Send, Sends, Sends_frame}
+pub use Rattle.lagmodel.specs.Move.{Take, Took, Want, act, act_of_port, acts, distributor_act, pair_at, port_after, view_after, view_after_all}
+pub use Rattle.lagmodel.specs.View.{Configure, ControlMessage, Conversation, DistributorFacts, Flushing, Force, Free, Lacp, LacpMessage, Marker}
+pub use Rattle.lagmodel.specs.View.{ModelCall, Move_conversation, Offer, On, PortFacts, Receive, Response, Set_link, SystemSetup, Tick, Transmit}
+pub use Rattle.lagmodel.specs.View.{View, at_port, conversation_port, first_port, first_view, is_restart, replies_frame, zero_party}
+pub use Rattle.lagmodel.specs.World.{Control, Data, Message, One, Side, TakenLacpdu, at_cable, at_two, is_port, on_cable_after, party_at}
+pub use Rattle.lagmodel.specs.World.{put_on_cable, sent_after, stamp_of, taken_after}
+pub use Rattle.lagmodel.proofs.Base.{chosen, cond_false, cond_true, mapped_some, none-is_some, same_value, value_of}
+pub use Rattle.lagmodel.proofs.LaneMoves.{Within, at_cable_each, cable_cases, lanes_first, lanes_forced, lanes_handed, lanes_own, lanes_peer}
+pub use Rattle.lagmodel.proofs.LaneMoves.{lanes_restarted}
+pub use Rattle.lagmodel.proofs.Lanes.{Lanes, two_cases}
+pub use Rattle.lagmodel.proofs.Lines.{Every, IsFrom, MarkerBelow, NoneBehind, ResponseBelow, answers, behind_split, every_contains, every_push}
+pub use Rattle.lagmodel.proofs.Lines.{every_weaker, marker_higher, put_each, response_higher}
+pub use Rattle.lagmodel.proofs.Orderly.{Orderly, answer_taken, handed_front, taken_away}
+pub use Rattle.lagmodel.proofs.Ports.{changed_port, members_first, one_partner}
+pub use Rattle.lagmodel.proofs.Stamps.{AllHeard, Fresh, FreshPdu, Stamps, heard_first, heard_own, parties_kept, party_moved, stamps_counted}
+pub use Rattle.lagmodel.proofs.Stamps.{stamps_emptied, stamps_first, stamps_own, stamps_peer}
+pub use Rattle.lagnetwork.specs.Network.{AllNetworkMoves, CountsNetworkChanges, DeliversFirstAt, IsNetworkSetup, IsNetworkSuccessor, Network}
+pub use Rattle.lagnetwork.specs.Network.{NetworkCall, NetworkEvent, NetworkHappens, NetworkRun, NetworkSetup, Place, RepeatsFirstAt, also_forced}
+pub use Rattle.lagnetwork.specs.Network.{at_place, at_system, ends_at, first_network, freed_view, handed_up_from, is_at, is_end, is_place}
+pub use Rattle.lagnetwork.specs.Network.{network_after, network_after_all, network_after_call, put_on_line, towards_after, without_first}
+pub use Rattle.lagnetwork.specs.NetworkLaw.{AllBelowNext, AllCountFromZero, CablesAgree, CollectedThenFlying, EachOnePartner, EachTookInSync}
+pub use Rattle.lagnetwork.specs.NetworkLaw.{FlushedBehindMarker, FlyOnItsCable, IsUpToDate, MaySucceedItself, NamesFarEnd, NetworkInOrder}
+pub use Rattle.lagnetwork.specs.NetworkLaw.{NotWithItself, OneAggregatorReachesTwo, OneDevice, scene_of}

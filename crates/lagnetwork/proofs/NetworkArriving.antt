@@ -1,10 +1,9 @@
 -- What one collector got is a part of what all got.
-use Rattle.lagnetwork.proofs.Common.{Bool, List, None, Option, Some, [], eqb, inl, inr, subst, sym, ℕ, ◌&&◌, ◌++◌, ◌∷◌, ◌≡◌, ◌∙◌, ◌⊎◌, ap, eqb-true, eqb-false, cases_Bool, and_parts}
-use Rattle.lagnetwork.proofs.Common.{Move, ModelCall, Control, Data, Message, IsSubsequence, at_two}
-use Rattle.lagnetwork.specs.Network.{Place, NetworkSetup, Network, NetworkCall, NetworkEvent, NetworkHappens, NetworkRun, network_after, network_after_all}
-use Rattle.lagnetwork.specs.Network.{first_network, without_first, handed_up_from, DeliversFirstAt, RepeatsFirstAt, at_system, at_place}
-use Rattle.lagmodel.proofs.Base.{cond_true, cond_false}
-use Rattle.lagmodel.proofs.Lanes.{two_cases}
+use Rattle.lagnetwork.proofs.Common.{Bool, List, None, Option, Some, [], ap, eqb, eqb-true, inl, inr, subst, sym, ℕ, ◌&&◌, ◌++◌, ◌∙◌, ◌∷◌, ◌≡◌, ◌⊎◌}
+use Rattle.lagnetwork.proofs.Common.{and_parts, cases_Bool, eqb-false, IsSubsequence, Move, ModelCall, Control, Data, Message, at_two, cond_false}
+use Rattle.lagnetwork.proofs.Common.{cond_true, two_cases, DeliversFirstAt, Network, NetworkCall, NetworkEvent, NetworkHappens, NetworkRun}
+use Rattle.lagnetwork.proofs.Common.{NetworkSetup, Place, RepeatsFirstAt, at_place, at_system, first_network, handed_up_from, network_after}
+use Rattle.lagnetwork.proofs.Common.{network_after_all, without_first}
 use Rattle.lagmodel.proofs.Subsequence.{both_grow, grows}
 
 -- subsequences
@@ -123,6 +122,9 @@ happens x (NetworkEvent.Force s g k) old new h z = elim z [
   | inl e ↦ subst Parts (sym e) h
   | inr y ↦ called x s (ModelCall.Force g k) 0 old _ new h y
 ]
+happens x (NetworkEvent.Frees s test) old new h z = subst Parts (sym z) h
+happens x (NetworkEvent.Overtake s p line) old new h z = subst Parts (sym z.1) h
+happens x (NetworkEvent.Succeed s after) old new h z = subst Parts (sym z.1) h
 happens x (NetworkEvent.Hear s p pdu stamp) old new h z = called x s (ModelCall.Receive p pdu) stamp old old new h z.1
 
 runs : (x : NetworkSetup) (es : List NetworkEvent) (old new : Network) → Parts old → NetworkRun x es old new → Parts new

@@ -1,11 +1,11 @@
 -- A call of one system, by lawful moves with at most one visible act, is a call of the network.
 use Rattle.lagnetwork.proofs.Common.{Bool, List, None, Option, Some, [], ap, cond, eqb, false, map, refl, subst, sym, true, ℕ, ◌++◌, ◌∙◌, ◌∷◌, ◌≡◌}
 use Rattle.lagnetwork.proofs.Common.{option_to_list, Act, AllAllowed, LawfulMoves, Move, act, acts, view_after, view_after_all, ModelCall, View}
-use Rattle.lagnetwork.specs.Network.{NetworkSetup, Network, NetworkCall, AllNetworkMoves, CountsNetworkChanges, at_system, network_after}
-use Rattle.lagnetwork.specs.Network.{network_after_all, network_after_call}
+use Rattle.lagnetwork.proofs.Common.{AllNetworkMoves, CountsNetworkChanges, Network, NetworkCall, NetworkSetup, at_system, network_after}
+use Rattle.lagnetwork.proofs.Common.{network_after_all, network_after_call}
 use Rattle.lagnetwork.proofs.Networks.{there, elsewhere, is_or_not}
 
-itself : {X : Type 0} (f : ℕ → X) (s t : ℕ) → f t ≡ at_system f s (f s) t
+pub itself : {X : Type 0} (f : ℕ → X) (s t : ℕ) → f t ≡ at_system f s (f s) t
 itself {X} f s t = is_or_not (f t ≡ at_system f s (f s) t) t s
     (λ e. ap f e ∙ sym (ap (at_system f s (f s)) e ∙ there f s (f s))) (λ ne. sym (elsewhere f s (f s) t ne))
 

@@ -1,11 +1,10 @@
 -- The serial numbers of each conversation of a network are 0, 1, 2 and so on.
-use Rattle.lagnetwork.proofs.Common.{Bool, List, None, Option, Some, [], arith, get_or, inl, inr, length, length-append, subst, sym, ℕ}
-use Rattle.lagnetwork.proofs.Common.{◌++◌, ◌<◌, ◌∙◌, ◌∷◌, ◌≡◌, cases_lt, Act, Move, Sends, Sends_frame, Took, act, ModelCall, Control, Data, Message, sent_after}
-use Rattle.lagnetwork.specs.Network.{Place, NetworkSetup, Network, NetworkCall, NetworkEvent, NetworkHappens, NetworkRun, network_after, network_after_all}
-use Rattle.lagnetwork.specs.Network.{first_network, without_first, handed_up_from, DeliversFirstAt, RepeatsFirstAt, at_system}
-use Rattle.lagnetwork.specs.NetworkLaw.{AllCountFromZero}
+use Rattle.lagnetwork.proofs.Common.{Bool, List, None, Option, Some, [], arith, get_or, inl, inr, length, length-append, subst, sym, ℕ, ◌++◌, ◌<◌}
+use Rattle.lagnetwork.proofs.Common.{◌∙◌, ◌∷◌, ◌≡◌, cases_lt, Act, Move, Sends, Sends_frame, Took, act, ModelCall, Control, Data, Message, sent_after}
+use Rattle.lagnetwork.proofs.Common.{two_cases, DeliversFirstAt, Network, NetworkCall, NetworkEvent, NetworkHappens, NetworkRun, NetworkSetup, Place}
+use Rattle.lagnetwork.proofs.Common.{RepeatsFirstAt, at_system, first_network, handed_up_from, network_after, network_after_all, without_first}
+use Rattle.lagnetwork.proofs.Common.{AllCountFromZero}
 use Rattle.std.proofs.lemmas.List.{get_or_append_left, get_or_push}
-use Rattle.lagmodel.proofs.Lanes.{two_cases}
 use Rattle.lagnetwork.proofs.Networks.{there, elsewhere, is_or_not}
 
 abbrev IsCount : List ℕ → Type 0
@@ -83,6 +82,9 @@ counted_happens x (NetworkEvent.Force s g k) old new h z = elim z [
   | inl e ↦ subst AllCountFromZero (sym e) h
   | inr y ↦ counted_call x s (ModelCall.Force g k) 0 old _ new h y
 ]
+counted_happens x (NetworkEvent.Frees s test) old new h z = subst AllCountFromZero (sym z) h
+counted_happens x (NetworkEvent.Overtake s p line) old new h z = subst AllCountFromZero (sym z.1) h
+counted_happens x (NetworkEvent.Succeed s after) old new h z = subst AllCountFromZero (sym z.1) h
 counted_happens x (NetworkEvent.Hear s p pdu stamp) old new h z = counted_call x s (ModelCall.Receive p pdu) stamp old old new h z.1
 
 counted_run : (x : NetworkSetup) (es : List NetworkEvent) (old new : Network) → AllCountFromZero old → NetworkRun x es old new

@@ -1,24 +1,19 @@
 -- Every event of a network preserves the facts, and so does every run.
 use Rattle.lagnetwork.proofs.Common.{Bool, List, None, Option, Some, [], ap, cond, eq-eqb, eqb, eqb-true, false, inl, inr, refl, subst, sym, true, ℕ}
-use Rattle.lagnetwork.proofs.Common.{◌&&◌, ◌++◌, ◌∙◌, ◌∷◌, ◌≡◌, ◌⊎◌, cases_Bool, false≢true, true≢false, none-some, and_from, and_parts}
-use Rattle.lagnetwork.proofs.Common.{ModelCall, Receive, Set_link, Force, Configure, Tick, Transmit, Offer, Move_conversation}
-use Rattle.lagnetwork.proofs.Common.{ControlMessage, first_view, is_restart, Control, Data, Message, One, Side, at_two, party_at, at_cable}
+use Rattle.lagnetwork.proofs.Common.{◌&&◌, ◌++◌, ◌∙◌, ◌∷◌, ◌≡◌, ◌⊎◌, and_from, and_parts, cases_Bool, false≢true, true≢false, none-some, drop, Party}
+use Rattle.lagnetwork.proofs.Common.{Configure, ControlMessage, Force, ModelCall, Move_conversation, Offer, Receive, Set_link, Tick, Transmit, View}
+use Rattle.lagnetwork.proofs.Common.{first_view, is_restart, Control, Data, Message, One, Side, at_cable, at_two, party_at, cond_false, cond_true}
+use Rattle.lagnetwork.proofs.Common.{cable_cases, lanes_first, lanes_handed, lanes_restarted, two_cases, Every, IsFrom, members_first, Stamps}
+use Rattle.lagnetwork.proofs.Common.{heard_first, stamps_emptied, stamps_first, CountsNetworkChanges, DeliversFirstAt, IsNetworkSetup}
+use Rattle.lagnetwork.proofs.Common.{IsNetworkSuccessor, Network, NetworkCall, NetworkEvent, NetworkHappens, NetworkRun, NetworkSetup, Place}
+use Rattle.lagnetwork.proofs.Common.{RepeatsFirstAt, also_forced, at_place, at_system, ends_at, first_network, freed_view, handed_up_from, is_at}
+use Rattle.lagnetwork.proofs.Common.{is_end, is_place, without_first}
 use Rattle.lagmodel.specs.View.{Restart}
-use Rattle.std.specs.Prelude.{drop}
-use Rattle.lagnetwork.specs.Network.{Place, NetworkSetup, IsNetworkSetup, Network, NetworkCall, CountsNetworkChanges, is_place}
-use Rattle.lagnetwork.specs.Network.{at_place, at_system, is_end, ends_at, is_at, first_network, NetworkEvent, NetworkHappens, NetworkRun}
-use Rattle.lagnetwork.specs.Network.{without_first, handed_up_from, DeliversFirstAt, RepeatsFirstAt}
-use Rattle.lagmodel.proofs.Base.{cond_true, cond_false}
-use Rattle.lagmodel.proofs.Lines.{IsFrom, Every}
-use Rattle.lagmodel.proofs.Ports.{members_first}
-use Rattle.lagmodel.proofs.Lanes.{two_cases}
-use Rattle.lagmodel.proofs.LaneMoves.{lanes_handed, lanes_restarted, lanes_first, cable_cases}
-use Rattle.lagmodel.proofs.Stamps.{heard_first, stamps_first, stamps_emptied}
+use Rattle.lagnetwork.proofs.Networks.{freed_part, apart_first, Fine, FineIn, AllFine, Calling, call_kept, begins_call, fine_along, less_part}
+use Rattle.lagnetwork.proofs.Networks.{counted_part, forced_part, there, elsewhere, is_or_not}
+use Rattle.lagnetwork.proofs.NetworkLines.{lanes_succeeded, ends_of, theirs_of, at_far, out_of, SeenAlike, BeginsWith, Amid, IsLess, lanes_less}
+use Rattle.lagnetwork.proofs.NetworkLines.{ends_once, same_near, is_place-some, some-is_place, same_bool}
 use Rattle.lagmodel.proofs.Events.{quiet}
-use Rattle.lagnetwork.proofs.NetworkLines.{ends_of, theirs_of, at_far, out_of, SeenAlike, BeginsWith, Amid, IsLess, lanes_less, ends_once}
-use Rattle.lagnetwork.proofs.NetworkLines.{same_near, is_place-some, some-is_place, same_bool}
-use Rattle.lagnetwork.proofs.Networks.{apart_first, Fine, FineIn, AllFine, Calling, call_kept, begins_call, fine_along, less_part, counted_part, forced_part, there}
-use Rattle.lagnetwork.proofs.Networks.{elsewhere, is_or_not}
 
 quiet_not : (call other : ModelCall) → quiet call ≡ true → quiet other ≡ false → call ≡ other → ⊥
 quiet_not call other h n e = true≢false (sym h ∙ ap quiet e ∙ n)
@@ -75,8 +70,15 @@ quiet_kept x f s call old new q i z =
     call_kept x f s call 0 old old new refl (started x s call 0 old i (amid_quiet x call 0 s old.towards old.whole (old.forced s) q)) z
 
 less_nothing : (new : List Message) → IsLess new [] → new ≡ []
-less_nothing new h = elim h [ inl x ↦ x | inr y ↦ elim y [ inl x ↦ x | inr x ↦ absurd (impossible x.0 x.1) ] ]
+less_nothing new h = elim h [
+  | inl x ↦ x
+  | inr y ↦ elim y [ inl x ↦ x | inr z ↦ elim z [ inl x ↦ absurd (impossible x.0 x.1) | inr o ↦ absurd (longer o.front o.other o.lacpdu o.back o.before) ] ]
+]
   where
+    longer : (front : List Message) (m n : Message) (back : List Message) → [] ≡ front ++ m ∷ n ∷ back → ⊥
+    longer [] m n back e = cc
+    longer (l ∷ front) m n back e = cc
+
     impossible : (m : Message) → [] ≡ m ∷ new → ⊥
     impossible m e = cc
 
@@ -107,23 +109,27 @@ less_kept x w i towards' whole' alike h cut = record {
 
 first_less : (l : List Message) → IsLess (drop 1 l) l
 first_less [] = inl refl
-first_less (m ∷ ms) = inr (inr (m, refl))
+first_less (m ∷ ms) = inr (inr (inl (m, refl)))
 
-place_less : (towards : ℕ → ℕ → List Message) (s p t q : ℕ)
-    → IsLess (at_place towards s p (drop 1 (towards s p)) t q) (towards t q)
-place_less towards s p t q = elim (cases_Bool (eqb t s && eqb q p)) [
+place_less : (towards : ℕ → ℕ → List Message) (s p : ℕ) (line : List Message) → IsLess line (towards s p) → (t q : ℕ)
+    → IsLess (at_place towards s p line t q) (towards t q)
+place_less towards s p line h t q = elim (cases_Bool (eqb t s && eqb q p)) [
   | inl e ↦ (let b = and_parts (eqb t s) (eqb q p) e in
-      subst (λ l. IsLess l (towards t q)) (sym (cond_true (eqb t s && eqb q p) (drop 1 (towards s p)) (towards t q) e))
-      (subst (λ t. IsLess (drop 1 (towards s p)) (towards t q)) (sym (eqb-true t s b.0))
-      (subst (λ q. IsLess (drop 1 (towards s p)) (towards s q)) (sym (eqb-true q p b.1)) (first_less (towards s p)))))
-  | inr e ↦ inl (cond_false (eqb t s && eqb q p) (drop 1 (towards s p)) (towards t q) e)
+      subst (λ l. IsLess l (towards t q)) (sym (cond_true (eqb t s && eqb q p) line (towards t q) e))
+      (subst (λ t. IsLess line (towards t q)) (sym (eqb-true t s b.0))
+      (subst (λ q. IsLess line (towards s q)) (sym (eqb-true q p b.1)) h)))
+  | inr e ↦ inl (cond_false (eqb t s && eqb q p) line (towards t q) e)
 ]
 
+-- one line has less on it
+line_kept : (x : NetworkSetup) (w : Network) (s p : ℕ) (line : List Message) → IsLess line (w.towards s p) → AllFine x w
+    → AllFine x (record w { towards = at_place w.towards s p line })
+line_kept x w s p line h i =
+    let less = place_less w.towards s p line h in
+    less_kept x w i (at_place w.towards s p line) w.whole i.alike less (still_nothing x w i (at_place w.towards s p line) less)
+
 popped_kept : (x : NetworkSetup) (w : Network) (s p : ℕ) → AllFine x w → AllFine x (without_first s p w)
-popped_kept x w s p i =
-    let less = place_less w.towards s p in
-    less_kept x w i (at_place w.towards s p (drop 1 (w.towards s p))) w.whole i.alike less
-    (still_nothing x w i (at_place w.towards s p (drop 1 (w.towards s p))) less)
+popped_kept x w s p i = line_kept x w s p (drop 1 (w.towards s p)) (first_less (w.towards s p)) i
 
 -- the ends of a cable
 end_other : (x : NetworkSetup) → IsNetworkSetup x → (s p t q r c : ℕ) → x.far t q ≡ Some (record { system = r; port = c })
@@ -319,7 +325,7 @@ handed_kept x f w s p up a g k n ms i e h = record {
           apart = (popped.each a.system).apart;
           named = (popped.each a.system).named;
           lanes = lanes_less (lanes_handed ((i.each a.system).lanes) a.port g k n ms (ends_once x a.system) first)
-              (out_of x towards' a.system) (towards' a.system) (w.whole a.system) (λ c. inl (same c)) (place_less w.towards s p a.system)
+              (out_of x towards' a.system) (towards' a.system) (w.whole a.system) (λ c. inl (same c)) (place_less w.towards s p (drop 1 (w.towards s p)) (first_less (w.towards s p)) a.system)
               ((popped.each a.system).lanes.cut);
         })
 
@@ -402,6 +408,67 @@ force_kept x f s g k old new i z = elim z [
       (started x s (Force g k) 0 mid (forced_kept x s g k old i) (amid_force x s old.forced g k old.towards old.whole)) y)
 ]
 
+-- conversations are forced
+freed_kept : (x : NetworkSetup) (s : ℕ) (test : ℕ → ℕ → Bool) (w : Network) → AllFine x w → AllFine x (record w {
+  view = at_system w.view s (freed_view test (w.view s));
+  forced = at_system w.forced s (also_forced test (w.forced s));
+})
+freed_kept x s test w i = record {
+  alike = i.alike;
+  each = λ r. is_or_not (After r) r s
+      (λ e. subst After (sym e) (along s (sym (there w.view s (freed_view test (w.view s))))
+      (sym (there w.forced s (also_forced test (w.forced s)))) (freed_part (i.each s) test)))
+      (λ ne. along r (sym (elsewhere w.view s (freed_view test (w.view s)) r ne))
+      (sym (elsewhere w.forced s (also_forced test (w.forced s)) r ne)) (i.each r));
+}
+  where
+    view' : ℕ → View
+    view' = at_system w.view s (freed_view test (w.view s))
+
+    forced' : ℕ → ℕ → ℕ → Bool
+    forced' = at_system w.forced s (also_forced test (w.forced s))
+
+    After : ℕ → Type 0
+    After r = Fine x r (view' r) (party_at (view' r)) (w.count r) (out_of x w.towards r) (w.towards r) (w.whole r) (w.sent r)
+        (w.collected r) (forced' r) (w.taken r) w.taken
+
+    along : (r : ℕ) {v v' : View} {forced forced' : ℕ → ℕ → Bool} → v ≡ v' → forced ≡ forced'
+        → Fine x r v (party_at v) (w.count r) (out_of x w.towards r) (w.towards r) (w.whole r) (w.sent r) (w.collected r) forced (w.taken r)
+        w.taken
+        → Fine x r v' (party_at v') (w.count r) (out_of x w.towards r) (w.towards r) (w.whole r) (w.sent r) (w.collected r) forced' (w.taken r)
+        w.taken
+    along r {v} {v'} {forced} {forced'} a b z =
+        subst (λ (v : View). Fine x r v (party_at v) (w.count r) (out_of x w.towards r) (w.towards r) (w.whole r) (w.sent r) (w.collected r)
+        forced' (w.taken r) w.taken) a
+        (subst (λ (c : ℕ → ℕ → Bool). Fine x r v (party_at v) (w.count r) (out_of x w.towards r) (w.towards r) (w.whole r) (w.sent r)
+        (w.collected r) c (w.taken r) w.taken) b z)
+
+-- another system takes the place of one
+succeeded_kept : (x : NetworkSetup) (s : ℕ) (after : View) (w : Network) → IsNetworkSuccessor x w s after → AllFine x w
+    → AllFine x (record w { view = at_system w.view s after })
+succeeded_kept x s after w y i = record {
+  alike = i.alike;
+  each = λ r. is_or_not (With (at_system w.view s after r) r) r s
+      (λ e. subst (λ r. With (at_system w.view s after r) r) (sym e) (subst (λ (v : View). With v s) (sym (there w.view s after)) here))
+      (λ ne. subst (λ (v : View). With v r) (sym (elsewhere w.view s after r ne)) (i.each r));
+}
+  where
+    With : View → ℕ → Type 0
+    With v r = Fine x r v (party_at v) (w.count r) (out_of x w.towards r) (w.towards r) (w.whole r) (w.sent r) (w.collected r) (w.forced r)
+        (w.taken r) w.taken
+
+    here : With after s
+    here = record {
+      members = y.members;
+      apart = y.apart;
+      heard = y.heard;
+      lanes = lanes_succeeded (i.each s).lanes after.flows y.on y.waits y.next;
+      stamps = λ t. subst (λ (party : ℕ → Option Party). Stamps (ends_of x s) (theirs_of x s t) party (w.count s) (out_of x w.towards s)
+          (w.taken t)) (λ j p. sym (y.parties p) j) ((i.each s).stamps t);
+      names = (i.each s).names;
+      named = (i.each s).named;
+    }
+
 -- a port without a cable hears anything
 hears_kept : (x : NetworkSetup) → IsNetworkSetup x → (s p : ℕ) (pdu : Option ControlMessage) (stamp : ℕ) (old new : Network) → AllFine x old
     → x.far s p ≡ None → NetworkCall x s (Receive p pdu) stamp old old new → AllFine x new
@@ -431,6 +498,10 @@ happens_kept x f (NetworkEvent.Configure s p change) old new i z = quiet_kept x 
 happens_kept x f (NetworkEvent.Offer s g frame) old new i z = quiet_kept x f s Offer old new refl i z
 happens_kept x f (NetworkEvent.Move_conversation s g k p) old new i z = quiet_kept x f s Move_conversation old new refl i z
 happens_kept x f (NetworkEvent.Force s g k) old new i z = force_kept x f s g k old new i z
+happens_kept x f (NetworkEvent.Frees s test) old new i z = subst (AllFine x) (sym z) (freed_kept x s test old i)
+happens_kept x f (NetworkEvent.Overtake s p line) old new i z =
+    subst (AllFine x) (sym z.1) (line_kept x old s p line (inr (inr (inr z.0))) i)
+happens_kept x f (NetworkEvent.Succeed s after) old new i z = subst (AllFine x) (sym z.1) (succeeded_kept x s after old z.0 i)
 happens_kept x f (NetworkEvent.Hear s p pdu stamp) old new i z = hears_kept x f s p pdu stamp old new i z.0 z.1
 
 -- every run
@@ -438,6 +509,11 @@ pub run_kept : (x : NetworkSetup) → IsNetworkSetup x → (es : List NetworkEve
     → NetworkRun x es old new → AllFine x new
 run_kept x f [] old new i z = subst (AllFine x) (sym z) i
 run_kept x f (e ∷ es) old new i z = run_kept x f es z.0 new (happens_kept x f e old z.0 i z.1) z.2
+
+pub runs_joined : (x : NetworkSetup) (es fs : List NetworkEvent) (old mid new : Network) → NetworkRun x es old mid → NetworkRun x fs mid new
+    → NetworkRun x (es ++ fs) old new
+runs_joined x [] fs old mid new a b = subst (λ (w : Network). NetworkRun x fs w new) a b
+runs_joined x (e ∷ es) fs old mid new a b = (a.0, a.1, runs_joined x es fs a.0 mid new a.2 b)
 
 pub first_fine : (x : NetworkSetup) → IsNetworkSetup x → AllFine x (first_network x)
 first_fine x f = record { alike = λ s p t q h. refl; each = start }

@@ -1,28 +1,18 @@
 -- What follows in a network in which the facts hold.
-use Rattle.lagnetwork.proofs.Common.{Some, ap, option_map, sym, ℕ, ◌∙◌, ◌≡◌, Party}
-use Rattle.lagnetwork.proofs.Common.{PortFacts, TakenLacpdu, party_at}
-use Rattle.lagnetwork.specs.Network.{Place, NetworkSetup, IsNetworkSetup, Network}
-use Rattle.lagnetwork.specs.NetworkLaw.{IsUpToDate, CablesAgree, NetworkInOrder, EachOnePartner, NamesFarEnd, OneDevice, NotWithItself, FlyOnItsCable}
-use Rattle.lagnetwork.specs.NetworkLaw.{FlushedBehindMarker, AllBelowNext, CollectedThenFlying}
-use Rattle.lagnetwork.proofs.Common.{SamePair, pair_of, same_Some, View, subst}
-use Rattle.lagnetwork.proofs.Common.{IsSubsequence, One, true, refl, inl, inr, serials, eq-eqb, ◌++◌, [], Control, Marker, Response}
-use Rattle.lagnetwork.proofs.NetworkLines.{at_far, ends-some}
-use Rattle.lagmodel.proofs.Lines.{Every, every_contains, MarkerBelow, ResponseBelow, answers, NoneBehind, behind_split}
-use Rattle.lagmodel.proofs.Base.{same_value}
-use Rattle.lagmodel.proofs.Ports.{one_partner}
-use Rattle.lagmodel.proofs.Orderly.{handed_front}
-use Rattle.lagmodel.proofs.Stamps.{FreshPdu, Stamps}
-use Rattle.lagmodel.proofs.Laws.{group_swapped}
-use Rattle.lagnetwork.proofs.NetworkLines.{ends_of, theirs_of, out_of, some-port_in}
+use Rattle.lagnetwork.proofs.Common.{Some, [], ap, arith, eq-eqb, inl, inr, option_map, refl, subst, sym, true, ℕ, ◌++◌, ◌∙◌, ◌≡◌, true≢false}
+use Rattle.lagnetwork.proofs.Common.{same_Some, Party, IsSubsequence, Members, serials, Flushing, Marker, On, PortFacts, Response, SystemSetup, View}
+use Rattle.lagnetwork.proofs.Common.{conversation_port, Control, One, TakenLacpdu, party_at, same_value, Every, MarkerBelow, NoneBehind}
+use Rattle.lagnetwork.proofs.Common.{ResponseBelow, answers, behind_split, every_contains, handed_front, one_partner, AllHeard, FreshPdu, Stamps}
+use Rattle.lagnetwork.proofs.Common.{IsNetworkSetup, Network, NetworkSetup, Place, AllBelowNext, CablesAgree, CollectedThenFlying, EachOnePartner}
+use Rattle.lagnetwork.proofs.Common.{EachTookInSync, FlushedBehindMarker, FlyOnItsCable, IsUpToDate, MaySucceedItself, NamesFarEnd, NetworkInOrder}
+use Rattle.lagnetwork.proofs.Common.{NotWithItself, OneDevice, scene_of}
+use Rattle.lagnetwork.proofs.NetworkLines.{at_far, ends-some, ends_of, theirs_of, out_of, some-port_in}
+use Rattle.lagmodel.proofs.Laws.{crossed}
+use Rattle.lagmodel.specs.AnyPeer.{Scene, TookInSync}
 use Rattle.lagnetwork.proofs.Networks.{AllFine}
 
 pub one_partner_each : (x : NetworkSetup) (w : Network) → AllFine x w → EachOnePartner w
 one_partner_each x w i s = one_partner (x.setup s) (w.view s) (i.each s).members
-
--- the group of parties that name each other
-crossed : (a b c d : Party) → a ≡ d → b ≡ c → SamePair (pair_of a b) (pair_of c d)
-crossed a b c d e h = subst (λ d. SamePair (pair_of a b) (pair_of c d)) e
-    (subst (λ c. SamePair (pair_of a b) (pair_of c a)) h (group_swapped a b))
 
 party_there : (v : View) (p : ℕ) (a : PortFacts) (y : Party) → v.port p ≡ Some a → party_at v p ≡ Some y → a.party ≡ y
 party_there v p a y h e = same_Some a.party y (sym (ap (option_map (λ (a : PortFacts). a.party)) h) ∙ e)
@@ -103,3 +93,36 @@ pub collected_then_flying : (x : NetworkSetup) (w : Network) → AllFine x w →
 collected_then_flying x w i s g k p t q u e =
     subst (λ l. IsSubsequence (w.collected s g k ++ serials One g k l) (w.sent s g k)) (there_out x w s p t q e)
     (((i.each s).lanes.orderly g k p u).in_order)
+
+-- what flushes is not On a port
+waits_not_on : (p q n : ℕ) → Flushing p n ≡ On q → ⊥
+waits_not_on p q n e = cc
+
+pub may_succeed_itself : (x : NetworkSetup) (w : Network) → AllFine x w → MaySucceedItself x w
+may_succeed_itself x w i s on = record {
+  members = (i.each s).members;
+  apart = (i.each s).apart;
+  parties = λ p. refl;
+  heard = (i.each s).heard;
+  on = on;
+  waits = λ g k p n e. waits_not_on p p n (sym e ∙ on g k p (ap conversation_port e));
+  next = omega arith;
+}
+
+-- what a system took last, by what holds of its ports
+pub took_in_sync : (u : SystemSetup) (w : Scene) → Members u w.view.port → AllHeard w.view.port w.taken → TookInSync w
+took_in_sync u w members heard p a h d n =
+    let r = heard p a h n in
+    let y = r.3 ((members.member p a h d).1) in (
+      r.0,
+      r.1,
+      r.2,
+      y.0,
+      λ g. elim y.1 [
+        | inl x ↦ crossed r.0.pdu.actor r.0.pdu.partner a.party a.partner (sym r.2) x
+        | inr x ↦ absurd (true≢false (sym g ∙ x))
+      ],
+    )
+
+pub each_took_in_sync : (x : NetworkSetup) (w : Network) → AllFine x w → EachTookInSync x w
+each_took_in_sync x w i s = took_in_sync (x.setup s) (scene_of x w s) (i.each s).members (i.each s).heard

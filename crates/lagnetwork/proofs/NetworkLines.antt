@@ -1,19 +1,15 @@
 -- What is on the cables of a network, as one system sees it: each of its ports is a cable with the number of the port.
-use Rattle.lagnetwork.proofs.Common.{Bool, List, None, Option, Some, [], ap, cond, eq-eqb, eqb, eqb-true, false, inl, inr, length, option_map}
-use Rattle.lagnetwork.proofs.Common.{refl, subst, sym, true, ℕ, ◌&&◌, ◌++◌, ◌∙◌, ◌∷◌, ◌≡◌, ◌⊎◌, and_from, and_parts, false≢true}
-use Rattle.lagnetwork.proofs.Common.{none-some, same_Some, Act, Sends, Sends_frame, Took, ModelCall, Receive, Set_link, Force}
-use Rattle.lagnetwork.proofs.Common.{ControlMessage, DistributorFacts, Control, Data, Message, One, Side, is_port, on_cable_after, put_on_cable}
-use Rattle.lagnetwork.proofs.Common.{TakenLacpdu, is_restart, Party, Conversation, IsSubsequence, append-nil}
-use Rattle.lagnetwork.proofs.Common.{Lacp, LacpMessage, Marker, Response}
-use Rattle.lagmodel.specs.World.{stamp_of}
-use Rattle.lagtypes.specs.declared.identifiers.SystemId.{SystemId}
-use Rattle.lagnetwork.specs.Network.{Place, NetworkSetup, IsNetworkSetup, is_place, put_on_line, towards_after}
-use Rattle.lagmodel.proofs.Base.{cond_true, cond_false, chosen, mapped_some}
-use Rattle.lagmodel.proofs.Lines.{Every, every_push, put_each, every_weaker, answers, MarkerBelow, ResponseBelow, IsFrom}
-use Rattle.lagmodel.proofs.Orderly.{Orderly, taken_away, answer_taken, handed_front}
-use Rattle.lagmodel.proofs.Lanes.{Lanes}
-use Rattle.lagmodel.proofs.LaneMoves.{Within}
-use Rattle.lagmodel.proofs.Stamps.{Stamps, Fresh}
+use Rattle.lagnetwork.proofs.Common.{Bool, List, None, Option, Some, [], ap, append-nil, cond, eq-eqb, eqb, eqb-true, false, inl, inr, length}
+use Rattle.lagnetwork.proofs.Common.{option_map, refl, subst, sym, true, ℕ, ◌&&◌, ◌++◌, ◌<◌, ◌∙◌, ◌∷◌, ◌≡◌, ◌≤◌, ◌⊎◌, and_from, and_parts, false≢true}
+use Rattle.lagnetwork.proofs.Common.{true≢false, none-some, same_Some, SystemId, Party, IsSubsequence, Act, Sends, Sends_frame, Took, ControlMessage}
+use Rattle.lagnetwork.proofs.Common.{Conversation, DistributorFacts, Flushing, Force, Free, Lacp, LacpMessage, Marker, ModelCall, On, Receive}
+use Rattle.lagnetwork.proofs.Common.{Response, Set_link, conversation_port, is_restart, Control, Data, Message, One, Side, TakenLacpdu, is_port}
+use Rattle.lagnetwork.proofs.Common.{on_cable_after, put_on_cable, stamp_of, chosen, cond_false, cond_true, mapped_some, Within, Lanes, Every, IsFrom}
+use Rattle.lagnetwork.proofs.Common.{MarkerBelow, ResponseBelow, answers, every_push, every_weaker, marker_higher, put_each, response_higher, Orderly}
+use Rattle.lagnetwork.proofs.Common.{answer_taken, handed_front, taken_away, Fresh, Stamps, IsNetworkSetup, NetworkSetup, Place, also_forced}
+use Rattle.lagnetwork.proofs.Common.{is_place, put_on_line, towards_after}
+use Rattle.lagmodel.proofs.Overtaken.{every_overtaken, lanes_out_overtaken, lanes_back_overtaken}
+use Rattle.lagmodel.specs.Overtaking.{Overtakes}
 
 -- the port of system s among places
 abbrev pub port_in : ℕ → Option Place → Option ℕ
@@ -245,14 +241,17 @@ pub names_put : (x : NetworkSetup) (r : ℕ) (system : SystemId) (whole : ℕ �
 names_put x r system whole kept p m out h i = put_each (λ c l. Every (NamesSender system c) l) (ends_of x r) whole kept p m out
     (λ c w e. every_push (NamesSender system c) (out c) m (i c) (subst (λ c. NamesSender system c m) (sym (ends-some x r c p e)) h)) i
 
--- a list that is the same, empty, or without its first message
+-- a list to which nothing came: it is the same, empty, without its first message, or an LACPDU went by what was before it
 abbrev pub IsLess : List Message → List Message → Type 0
-IsLess new old = (new ≡ old) ⊎ ((new ≡ []) ⊎ ((m : Message) × (old ≡ m ∷ new)))
+IsLess new old = (new ≡ old) ⊎ ((new ≡ []) ⊎ (((m : Message) × (old ≡ m ∷ new)) ⊎ Overtakes old new))
 
 pub every_less : (P : Message → Type 0) (new old : List Message) → IsLess new old → Every P old → Every P new
 every_less P new old h e = elim h [
   | inl x ↦ subst (Every P) (sym x) e
-  | inr y ↦ elim y [ inl x ↦ subst (Every P) (sym x) tt | inr x ↦ (subst (Every P) x.1 e).1 ]
+  | inr y ↦ elim y [
+    | inl x ↦ subst (Every P) (sym x) tt
+    | inr z ↦ elim z [ inl x ↦ (subst (Every P) x.1 e).1 | inr o ↦ every_overtaken o P e ]
+  ]
 ]
 
 out_blank : {me : Side} {g k : ℕ} {e : Option ℕ} {c : Conversation} {out back : List Message} {sent collected : List ℕ}
@@ -274,29 +273,89 @@ module _ {me : Side} {ends : ℕ → Option ℕ} {f : DistributorFacts} {out bac
   pub lanes_less : (out' back' : ℕ → List Message) (whole' : ℕ → Bool) → ((c : ℕ) → IsLess (out' c) (out c))
       → ((c : ℕ) → IsLess (back' c) (back c)) → ((c : ℕ) → whole' c ≡ false → out' c ≡ [])
       → Lanes me ends f out' back' whole' sent collected forced
-  lanes_less out' back' whole' lo lb cut = record {
-    waits = i.waits;
-    markers = λ c. every_less (MarkerBelow f.next) (out' c) (out c) (lo c) (i.markers c);
-    responses = λ c. every_less (ResponseBelow f.next) (back' c) (back c) (lb c) (i.responses c);
-    origin = λ c. every_less (IsFrom me) (out' c) (out c) (lo c) (i.origin c);
-    cut = cut;
-    orderly = λ g k c u.
-        let first : Orderly me g k (ends c) (f.state g k) (out' c) (back c) (sent g k) (collected g k) = elim (lo c) [
+  lanes_less out' back' whole' lo lb cut =
+      let first : Lanes me ends f out' back whole' sent collected forced = record {
+        waits = i.waits;
+        markers = λ c. every_less (MarkerBelow f.next) (out' c) (out c) (lo c) (i.markers c);
+        responses = i.responses;
+        origin = λ c. every_less (IsFrom me) (out' c) (out c) (lo c) (i.origin c);
+        cut = cut;
+        orderly = λ g k c u. elim (lo c) [
           | inl x ↦ subst (λ l. Orderly me g k (ends c) (f.state g k) l (back c) (sent g k) (collected g k)) (sym x) (i.orderly g k c u)
           | inr y ↦ elim y [
             | inl x ↦ subst (λ l. Orderly me g k (ends c) (f.state g k) l (back c) (sent g k) (collected g k)) (sym x)
                 (out_blank (i.orderly g k c u))
-            | inr x ↦ taken_away (subst (λ l. Orderly me g k (ends c) (f.state g k) l (back c) (sent g k) (collected g k)) x.1
-                (i.orderly g k c u))
-          ]
-        ] in
-        elim (lb c) [
-          | inl x ↦ subst (λ l. Orderly me g k (ends c) (f.state g k) (out' c) l (sent g k) (collected g k)) (sym x) first
-          | inr y ↦ elim y [
-            | inl x ↦ subst (λ l. Orderly me g k (ends c) (f.state g k) (out' c) l (sent g k) (collected g k)) (sym x) (back_blank first)
-            | inr x ↦ answer_taken (subst (λ l. Orderly me g k (ends c) (f.state g k) (out' c) l (sent g k) (collected g k)) x.1 first)
+            | inr z ↦ elim z [
+              | inl x ↦ taken_away (subst (λ l. Orderly me g k (ends c) (f.state g k) l (back c) (sent g k) (collected g k)) x.1
+                  (i.orderly g k c u))
+              | inr o ↦ subst (λ l. Orderly me g k (ends c) (f.state g k) l (back c) (sent g k) (collected g k))
+                  (cond_true (eqb c c) (out' c) (out c) (eq-eqb c c refl))
+                  ((lanes_out_overtaken me ends f whole sent collected forced out back c (out' c) o i).orderly g k c u)
+            ]
           ]
         ];
+      } in record {
+        waits = i.waits;
+        markers = first.markers;
+        responses = λ c. every_less (ResponseBelow f.next) (back' c) (back c) (lb c) (i.responses c);
+        origin = first.origin;
+        cut = cut;
+        orderly = λ g k c u. elim (lb c) [
+          | inl x ↦ subst (λ l. Orderly me g k (ends c) (f.state g k) (out' c) l (sent g k) (collected g k)) (sym x) (first.orderly g k c u)
+          | inr y ↦ elim y [
+            | inl x ↦ subst (λ l. Orderly me g k (ends c) (f.state g k) (out' c) l (sent g k) (collected g k)) (sym x)
+                (back_blank (first.orderly g k c u))
+            | inr z ↦ elim z [
+              | inl x ↦ answer_taken (subst (λ l. Orderly me g k (ends c) (f.state g k) (out' c) l (sent g k) (collected g k)) x.1
+                  (first.orderly g k c u))
+              | inr o ↦ subst (λ l. Orderly me g k (ends c) (f.state g k) (out' c) l (sent g k) (collected g k))
+                  (cond_true (eqb c c) (back' c) (back c) (eq-eqb c c refl))
+                  ((lanes_back_overtaken me ends f whole' sent collected forced out' back c (back' c) o first).orderly g k c u)
+            ]
+          ]
+        ];
+      }
+
+  -- the conversations that pass a test are free, and count as forced
+  pub lanes_freed : (test : ℕ → ℕ → Bool) → Lanes me ends (record f { state = λ g k. cond (test g k) Free (f.state g k) }) out back whole sent
+      collected (also_forced test forced)
+  lanes_freed test = record {
+    waits = λ g k p n. waits (test g k) (f.state g k) p n (i.waits g k p n);
+    markers = i.markers;
+    responses = i.responses;
+    origin = i.origin;
+    cut = i.cut;
+    orderly = λ g k c. still (test g k) (forced g k) (f.state g k) (λ d. Orderly me g k (ends c) d (out c) (back c) (sent g k) (collected g k))
+        (i.orderly g k c);
+  }
+    where
+      waits : (b : Bool) (d : Conversation) (p n : ℕ) → (d ≡ Flushing p n → n < f.next) → cond b Free d ≡ Flushing p n → n < f.next
+      waits true d p n h e = absurd (let none : Free ≡ Flushing p n = e in cc)
+      waits false d p n h e = h e
+
+      still : (b forced : Bool) (d : Conversation) (P : Conversation → Type 0) → (forced ≡ false → P d) → cond b true forced ≡ false
+          → P (cond b Free d)
+      still true forced d P h u = absurd (true≢false u)
+      still false forced d P h u = h u
+
+  -- another system goes on where this one was
+  pub lanes_succeeded : (g : DistributorFacts) → ((h k p : ℕ) → conversation_port (f.state h k) ≡ Some p → g.state h k ≡ On p)
+      → ((h k p n : ℕ) → g.state h k ≡ Flushing p n → ⊥) → f.next ≤ g.next → Lanes me ends g out back whole sent collected forced
+  lanes_succeeded g on waits next = record {
+    waits = λ h k p n e. absurd (waits h k p n e);
+    markers = λ c. every_weaker (MarkerBelow f.next) (MarkerBelow g.next) (marker_higher f.next g.next next) (out c) (i.markers c);
+    responses = λ c. every_weaker (ResponseBelow f.next) (ResponseBelow g.next) (response_higher f.next g.next next) (back c) (i.responses c);
+    origin = i.origin;
+    cut = i.cut;
+    orderly = λ h k c u. let o = i.orderly h k c u in record {
+      place = elim o.place [
+        | inl e ↦ inl e
+        | inr y ↦ inr (y.0, y.1, subst (λ d. conversation_port d ≡ Some y.0) (sym (on h k y.0 y.2)) refl)
+      ];
+      behind = λ p n e. absurd (waits h k p n e);
+      answered = λ p n e. absurd (waits h k p n e);
+      in_order = o.in_order;
+    };
   }
 
 pub stamps_less : {ends theirs : ℕ → Option ℕ} {party : ℕ → Option Party} {count : ℕ → ℕ} {out : ℕ → List Message} {taken : ℕ

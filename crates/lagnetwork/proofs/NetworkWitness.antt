@@ -1,16 +1,12 @@
 -- A run of three systems, of which two have one identifier: one aggregator of the first reaches both.
 use Rattle.lagnetwork.proofs.Common.{Bool, List, None, Option, Some, [], ap, arith, cond, eqb, eqb-true, false, inl, inr, refl, subst, sym, true, ℕ}
-use Rattle.lagnetwork.proofs.Common.{◌∙◌, ◌∷◌, ◌≡◌, ◌≢◌, false≢true, none-some, same_Some, Party, SamePair, Announce, Distribute, Flow, Join}
-use Rattle.lagnetwork.proofs.Common.{Move, Port, Send, Take, Mark, Become, Want, Answered, Respond, port_after, pair_at, Lacp, LacpMessage, Marker, Response}
-use Rattle.lagnetwork.proofs.Common.{ModelCall, PortFacts, Receive, SystemSetup, View, at_port, first_port, first_view, is_restart, zero_party, party_at}
-use Rattle.lagnetwork.proofs.Common.{Pair, view_after}
-use Rattle.lagtypes.specs.declared.identifiers.SystemId.{SystemId}
-use Rattle.lagnetwork.specs.Network.{Place, NetworkSetup, IsNetworkSetup, Network, NetworkCall, AllNetworkMoves, network_after, network_after_all, at_system}
-use Rattle.lagnetwork.specs.Network.{first_network, NetworkEvent, NetworkHappens, without_first, handed_up_from}
-use Rattle.lagnetwork.specs.NetworkLaw.{OneAggregatorReachesTwo}
-use Rattle.lagmodel.proofs.Base.{chosen, mapped_some}
-use Rattle.lagmodel.proofs.Ports.{changed_port}
-use Rattle.lagmodel.proofs.Stamps.{party_moved}
+use Rattle.lagnetwork.proofs.Common.{◌∙◌, ◌∷◌, ◌≡◌, ◌≢◌, false≢true, none-some, same_Some, SystemId, Party, Announce, Answered, Become, Distribute}
+use Rattle.lagnetwork.proofs.Common.{Flow, Join, Mark, Move, Port, Respond, Send, Take, Want, pair_at, port_after, view_after, Lacp, LacpMessage}
+use Rattle.lagnetwork.proofs.Common.{Marker, ModelCall, PortFacts, Receive, Response, SystemSetup, View, at_port, first_port, first_view, is_restart}
+use Rattle.lagnetwork.proofs.Common.{zero_party, party_at, chosen, mapped_some, changed_port, party_moved, AllNetworkMoves, IsNetworkSetup, Network}
+use Rattle.lagnetwork.proofs.Common.{NetworkCall, NetworkEvent, NetworkHappens, NetworkSetup, Place, at_system, first_network, handed_up_from}
+use Rattle.lagnetwork.proofs.Common.{network_after, network_after_all, without_first, OneAggregatorReachesTwo}
+use Rattle.lagtypes.specs.Group.{SamePair, Pair}
 use Rattle.lagnetwork.proofs.Networks.{there, elsewhere, is_or_not}
 
 same_parties : (x : NetworkSetup) (s : ℕ) (call : ModelCall) (stamp : ℕ) (ms : List (Move × Bool)) (w : Network)

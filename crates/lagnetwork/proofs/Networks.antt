@@ -1,24 +1,18 @@
 -- What every event of any number of systems preserves.
-use Rattle.lagnetwork.proofs.Common.{Bool, List, None, Option, Some, [], ap, eq-eqb, eqb, eqb-true, false, inl, inr, refl, subst, suc, sym, true, ℕ}
-use Rattle.lagnetwork.proofs.Common.{◌∙◌, ◌∷◌, ◌≡◌, ◌≢◌, ◌⊎◌, cases_Bool, eqb-false, Party, Members}
-use Rattle.lagnetwork.proofs.Common.{Move, MoveAllowed, act, view_after, ModelCall, SystemSetup, View}
-use Rattle.lagnetwork.proofs.Common.{replies_frame, Control, Data, Message, One, TakenLacpdu, at_two}
-use Rattle.lagnetwork.proofs.Common.{on_cable_after, party_at, sent_after, taken_after}
-use Rattle.lagnetwork.specs.Network.{NetworkSetup, IsNetworkSetup, Network, NetworkCall, AllNetworkMoves}
-use Rattle.lagnetwork.specs.Network.{at_system, network_after, network_after_all}
-use Rattle.lagmodel.proofs.Base.{cond_true, cond_false, none-is_some, value_of, mapped_some}
-use Rattle.lagmodel.proofs.Ports.{changed_port}
-use Rattle.lagnetwork.proofs.Common.{IsSome, true≢false, first_view, is_restart, at_port, port_after, Leave, Reconfigure, Default, Join, first_port}
-use Rattle.lagmodel.proofs.Lanes.{Lanes}
-use Rattle.lagmodel.proofs.LaneMoves.{Within, lanes_own, lanes_peer, lanes_forced, at_cable_each}
-use Rattle.lagmodel.proofs.Stamps.{Stamps, AllHeard, heard_own, stamps_own, stamps_peer, stamps_counted, parties_kept}
+use Rattle.lagnetwork.proofs.Common.{Bool, IsSome, IsSomeAnd, List, None, Option, Some, [], ap, eq-eqb, eqb, eqb-true, false, inl, inr, length, refl}
+use Rattle.lagnetwork.proofs.Common.{subst, suc, sym, true, ℕ, ◌∙◌, ◌∷◌, ◌≡◌, ◌≢◌, ◌⊎◌, cases_Bool, eqb-false, true≢false, same_Some, Party, Members}
+use Rattle.lagnetwork.proofs.Common.{Announce, Become, Default, DistributorMove, Flow, Join, Leave, Mark, Move, MoveAllowed, Port, PortAllowed}
+use Rattle.lagnetwork.proofs.Common.{PortMove, Reconfigure, Respond, Restart, Send, Take, act, act_of_port, distributor_act, port_after, view_after}
+use Rattle.lagnetwork.proofs.Common.{Lacp, Marker, ModelCall, PortFacts, Response, SystemSetup, View, at_port, first_port, first_view, is_restart}
+use Rattle.lagnetwork.proofs.Common.{replies_frame, Control, Data, Message, One, TakenLacpdu, at_two, on_cable_after, party_at, sent_after}
+use Rattle.lagnetwork.proofs.Common.{taken_after, cond_false, cond_true, mapped_some, none-is_some, value_of, Within, at_cable_each, lanes_forced}
+use Rattle.lagnetwork.proofs.Common.{lanes_own, lanes_peer, Lanes, Every, changed_port, AllHeard, Stamps, heard_own, parties_kept, stamps_counted}
+use Rattle.lagnetwork.proofs.Common.{stamps_own, stamps_peer, AllNetworkMoves, IsNetworkSetup, Network, NetworkCall, NetworkSetup, also_forced}
+use Rattle.lagnetwork.proofs.Common.{at_system, freed_view, network_after, network_after_all}
 use Rattle.lagmodel.proofs.Worlds.{members_own}
-use Rattle.lagnetwork.proofs.NetworkLines.{ends_of, theirs_of, out_of, SeenAlike, own_after, other_after, back_after, BeginsWith, begins_after}
-use Rattle.lagnetwork.proofs.NetworkLines.{Amid, within_own, within_far, IsLess, lanes_less, stamps_less, every_less, IsOwn, NamesSender, names_put}
-use Rattle.lagmodel.proofs.Lines.{Every}
-use Rattle.lagnetwork.proofs.Common.{IsSomeAnd, PortAllowed, PortMove, Port, Flow, Announce, Respond, Take, Send, Mark, Become, DistributorMove, act_of_port}
-use Rattle.lagnetwork.proofs.Common.{distributor_act, PortFacts, Lacp, Marker, Response, length, same_Some}
-use Rattle.lagmodel.specs.Move.{Restart}
+use Rattle.lagnetwork.proofs.NetworkLines.{ends_of, theirs_of, out_of, SeenAlike, own_after, other_after, back_after, BeginsWith, begins_after, Amid}
+use Rattle.lagnetwork.proofs.NetworkLines.{within_own, within_far, IsLess, lanes_less, lanes_freed, stamps_less, every_less, IsOwn, NamesSender}
+use Rattle.lagnetwork.proofs.NetworkLines.{names_put}
 
 -- a port in an aggregator has a partner that is not its own system
 abbrev pub Apart : (ℕ → Option PortFacts) → Type 0
@@ -217,6 +211,18 @@ module _ {x : NetworkSetup} {r : ℕ} {v : View} {party : ℕ → Option Party} 
     names = i.names;
     apart = i.apart;
     named = i.named;
+  }
+
+  pub freed_part : (test : ℕ → ℕ → Bool)
+      → Fine x r (freed_view test v) party count out back whole sent collected (also_forced test forced) mine taken
+  freed_part test = record {
+    members = i.members;
+    heard = i.heard;
+    stamps = i.stamps;
+    names = i.names;
+    apart = i.apart;
+    named = i.named;
+    lanes = lanes_freed i.lanes test;
   }
 
   pub forced_part : (g k : ℕ) → Fine x r v party count out back whole sent collected (at_two forced g k true) mine taken

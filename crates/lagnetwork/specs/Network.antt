@@ -1,7 +1,12 @@
 -- Any number of systems, cabled in any way, and what can happen to them (profile; links are point-to-point). Systems have
 -- numbers; a network of n systems is one in which the others have no cable and no event.
-use Rattle.std.specs.Prelude.{◌≡◌, ◌≢◌, ℕ, suc, Bool, true, false, ◌&&◌, cond, eqb, ◌⊎◌, Option, Some, None, List, [], ◌∷◌, ◌++◌, length, drop}
-use Rattle.lagmodel.specs.View.{PartyChange, View, SystemSetup, IsSystemSetup, first_view, ControlMessage, ModelCall}
+use Rattle.std.specs.Prelude.{◌≡◌, ◌≢◌, ℕ, suc, Bool, true, false, ◌&&◌, cond, eqb, ◌⊎◌, Option, Some, None, IsSome, List, [], ◌∷◌, ◌++◌, length, drop}
+use Rattle.std.specs.Prelude.{◌≤◌}
+use Rattle.lagmodel.specs.View.{PartyChange, PortFacts, View, SystemSetup, IsSystemSetup, first_view, ControlMessage, ModelCall}
+use Rattle.lagmodel.specs.View.{Free, Flushing, On, conversation_port}
+use Rattle.lagmodel.specs.Law.{Members}
+use Rattle.lagmodel.specs.Overtaking.{Overtakes}
+use Rattle.lagmodel.specs.Succession.{HasHeard}
 use Rattle.lagmodel.specs.Move.{Act, Sends, Sends_frame, Took, Move, MoveAllowed, view_after, act}
 use Rattle.lagmodel.specs.World.{One, Message, Control, Data, party_at, stamp_of, at_two, TakenLacpdu, sent_after, taken_after}
 
@@ -124,8 +129,10 @@ NetworkCall x s call stamp old mid new =
     × ((count : ℕ → ℕ → ℕ) × CountsNetworkChanges old (network_after_all x s stamp moves mid) count
     × (new ≡ record (network_after_all x s stamp moves mid) { count = count }))
 
--- An event: those of two systems, with a port in the place of a cable and its end; Cut and Join name either end. Hear: a port
--- without a cable of this network hears anything at all (None: what is no control PDU), as from a system that keeps no law.
+-- An event: those of two systems, with a port in the place of a cable and its end; Cut and Join name either end. Frees: each
+-- conversation of the system that passes the test is forced. Overtake: an LACPDU on its way to the port goes by what is before it.
+-- Succeed: another system takes the place of the system, as after a warm start. Hear: a port without a cable of this network hears
+-- anything at all (None: what is no control PDU), as from a system that keeps no law.
 pub data NetworkEvent : Type 0 where
   Tick : (s : ℕ) (ticks : ℕ) → NetworkEvent
   Emit : (s port : ℕ) → NetworkEvent
@@ -140,6 +147,9 @@ pub data NetworkEvent : Type 0 where
   Offer : (s aggregator : ℕ) (frame : List ℕ) → NetworkEvent
   Move_conversation : (s aggregator conversation port : ℕ) → NetworkEvent
   Force : (s aggregator conversation : ℕ) → NetworkEvent
+  Frees : (s : ℕ) (test : ℕ → ℕ → Bool) → NetworkEvent
+  Overtake : (s port : ℕ) (line : List Message) → NetworkEvent
+  Succeed : (s : ℕ) (after : View) → NetworkEvent
   Hear : (s port : ℕ) (pdu : Option ControlMessage) (stamp : ℕ) → NetworkEvent
 
 -- the first message on its way to port p of system s is taken away
@@ -171,6 +181,26 @@ abbrev pub RepeatsFirstAt : NetworkSetup → ℕ → ℕ → List Message → Ne
 RepeatsFirstAt x s p [] old new = new ≡ old
 RepeatsFirstAt x s p (Data origin g k serial ∷ ms) old new = new ≡ old
 RepeatsFirstAt x s p (Control pdu stamp ∷ ms) old new = NetworkCall x s (ModelCall.Receive p (Some pdu)) stamp old old new
+
+-- the conversations that pass the test are free, and count as forced
+abbrev pub freed_view : (ℕ → ℕ → Bool) → View → View
+freed_view test v = record v { flows = record (v.flows) { state = λ g k. cond (test g k) Free (v.flows.state g k) } }
+
+abbrev pub also_forced : (ℕ → ℕ → Bool) → (ℕ → ℕ → Bool) → ℕ → ℕ → Bool
+also_forced test forced g k = cond (test g k) true (forced g k)
+
+-- The system with this view may take the place of system s. What holds of the ports of any system holds of it (`one_system` of
+-- lagmodel), and none that is in an aggregator has its own system as its partner. Its ports have the own parameters that they had, and
+-- those that are not on defaults heard what the ports before them heard last. Each conversation that had a port is on it, none waits for
+-- a response, and no identifier of a marker comes again.
+pub record IsNetworkSuccessor (x : NetworkSetup) (w : Network) (s : ℕ) (after : View) : Type 0 where
+  pub members : Members (x.setup s) after.port
+  pub apart : (p : ℕ) (a : PortFacts) → after.port p ≡ Some a → IsSome a.aggregator → a.partner.system ≢ a.party.system
+  pub parties : (p : ℕ) → party_at after p ≡ party_at (w.view s) p
+  pub heard : (p : ℕ) (a : PortFacts) → after.port p ≡ Some a → HasHeard a (w.taken s p)
+  pub on : (g k p : ℕ) → conversation_port ((w.view s).flows.state g k) ≡ Some p → after.flows.state g k ≡ On p
+  pub waits : (g k p n : ℕ) → after.flows.state g k ≡ Flushing p n → ⊥
+  pub next : (w.view s).flows.next ≤ after.flows.next
 
 -- From old, the event may lead to new.
 abbrev pub NetworkHappens : NetworkSetup → NetworkEvent → Network → Network → Type 0
@@ -204,6 +234,13 @@ NetworkHappens x (Move_conversation s g k p) old new = NetworkCall x s ModelCall
 NetworkHappens x (Force s g k) old new =
     (new ≡ old)
     ⊎ NetworkCall x s (ModelCall.Force g k) 0 old (record old { forced = at_system old.forced s (at_two (old.forced s) g k true) }) new
+NetworkHappens x (Frees s test) old new = new ≡ record old {
+  view = at_system old.view s (freed_view test (old.view s));
+  forced = at_system old.forced s (also_forced test (old.forced s));
+}
+NetworkHappens x (Overtake s p line) old new =
+    Overtakes (old.towards s p) line × (new ≡ record old { towards = at_place old.towards s p line })
+NetworkHappens x (Succeed s after) old new = IsNetworkSuccessor x old s after × (new ≡ record old { view = at_system old.view s after })
 NetworkHappens x (Hear s p pdu stamp) old new = (x.far s p ≡ None) × NetworkCall x s (ModelCall.Receive p pdu) stamp old old new
 
 -- a run: events one after another

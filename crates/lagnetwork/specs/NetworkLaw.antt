@@ -1,13 +1,14 @@
 -- What holds after each event of any number of systems, in every schedule.
 use Rattle.std.specs.Prelude.{◌≡◌, ◌≢◌, ◌⊎◌, ◌<◌, ℕ, true, false, Some, IsSome, List, [], ◌∷◌, ◌++◌, Contains, length, slice_index}
 use Rattle.lagtypes.specs.Group.{SamePair}
-use Rattle.std.specs.Prelude.{Bool, Option, option_to_list}
-use Rattle.lagmodel.specs.View.{ModelCall, View, PortFacts, Flushing, conversation_port, Marker, Response}
+use Rattle.std.specs.Prelude.{Bool, None, Option, option_to_list}
+use Rattle.lagmodel.specs.View.{ModelCall, View, PortFacts, Flushing, On, conversation_port, Marker, Response}
 use Rattle.lagmodel.specs.Move.{Act, LawfulMoves, pair_at}
 use Rattle.lagmodel.specs.World.{One, Message, Control, TakenLacpdu}
 use Rattle.lagmodel.specs.Law.{IsSubsequence, OnePartner, serials}
 use Rattle.lagnetwork.specs.Network.{Network, NetworkSetup, IsNetworkSetup, NetworkEvent, NetworkRun, first_network}
-use Rattle.lagnetwork.specs.Network.{NetworkCall, CountsNetworkChanges, network_after_call}
+use Rattle.lagmodel.specs.AnyPeer.{Scene, TookInSync}
+use Rattle.lagnetwork.specs.Network.{Place, IsNetworkSuccessor, NetworkCall, CountsNetworkChanges, network_after_call}
 
 -- Ports of each system that distribute in one aggregator have one partner system and key.
 abbrev pub EachOnePartner : Network → Type 0
@@ -94,6 +95,35 @@ CollectedThenFlying x w =
 -- The serial numbers that a conversation sent are 0, 1, 2 and so on, so no two of its frames have the same one.
 abbrev pub AllCountFromZero : Network → Type 0
 AllCountFromZero w = (s g k i : ℕ) → i < length (w.sent s g k) → slice_index (w.sent s g k) i ≡ i
+
+-- what is on its way to this place
+abbrev pub on_line_to : Option Place → Network → List Message
+on_line_to None w = []
+on_line_to (Some a) w = w.towards a.system a.port
+
+-- system s of the network, seen alone: the rest is at the other ends of its cables
+abbrev pub scene_of : NetworkSetup → Network → ℕ → Scene
+scene_of x w s = record {
+  view = w.view s;
+  whole = w.whole s;
+  out = λ p. on_line_to (x.far s p) w;
+  back = w.towards s;
+  taken = w.taken s;
+  sent = w.sent s;
+  collected = w.collected s;
+  forced = w.forced s;
+}
+
+-- A port of any system that distributes, not on defaults, took an LACPDU, and the last one said IN_SYNC and has the group.
+abbrev pub EachTookInSync : NetworkSetup → Network → Type 0
+EachTookInSync x w = (s : ℕ) → TookInSync (scene_of x w s)
+
+-- A system of which no conversation waits may take its own place: so takeovers are possible.
+abbrev pub MaySucceedItself : NetworkSetup → Network → Type 0
+MaySucceedItself x w =
+    (s : ℕ)
+    → ((g k p : ℕ) → conversation_port ((w.view s).flows.state g k) ≡ Some p → (w.view s).flows.state g k ≡ On p)
+    → IsNetworkSuccessor x w s (w.view s)
 
 -- The statement holds after each event of each schedule, from the start of any systems on any cables.
 abbrev pub IsNetworkInvariant : (NetworkSetup → Network → Type 0) → Type 0

@@ -6,8 +6,26 @@
 #![tactic(auto)]
 
 ghost use Rattle.lagnetwork.specs.NetworkLaw.{IsNetworkInvariant, EachOnePartner, CablesAgree, NetworkInOrder, NamesFarEnd, OneDevice};
-ghost use Rattle.lagnetwork.specs.NetworkLaw.{EachCollectorInOrder, NotWithItself, FlyOnItsCable, FlushedBehindMarker, AllBelowNext, CollectedThenFlying, AllCountFromZero};
+ghost use Rattle.lagnetwork.specs.NetworkLaw.{EachTookInSync, MaySucceedItself, EachCollectorInOrder, NotWithItself, FlyOnItsCable, FlushedBehindMarker, AllBelowNext, CollectedThenFlying, AllCountFromZero};
 
+// promise: one partner, agreement and order hold after each event of any number of systems, cabled in any way, whose other ports hear
+//    anything; order of what all collectors together got of a conversation, and of what each got
+// contract: `network` (`one_partner`, `agree`, `in_order`, `each_in_order`)
+// not said: progress; that ends agree after a cable was moved
+// promise: an end of a cable that is not on defaults names the system and port at the other end
+// contract: `network` (`names_far_end`)
+// promise: a distributing port that is not on defaults took last an LACPDU that said IN_SYNC, whose Actor it names; if that is aggregatable,
+//    its two parties have the port's group
+// contract: `network` (`took_synchronized`)
+// promise: ports that distribute in one aggregator, not on defaults, lead to one system, if no other claims its identifier. Else one
+//    aggregator may reach two devices, as an MLAG pair, and a run does
+// contract: `network` (`one_device`), `one_aggregator_reaches_two`
+// not said: that one aggregator meets one aggregator: where the far system has two of the key, the far ports may lie in both
+// promise: a port in an aggregator, not on defaults, has no cable to its own system, nor to one that claims its identifier
+// contract: `network` (`not_with_itself`)
+// promise: what order rests on holds: the frames of a conversation fly on the cable of its port, none behind a marker whose response it
+//    waits for; identifiers in flight are below the next; what was collected, then what flies, is in order; serials count from 0
+// contract: `network` (`on_its_cable`, `flushed_by_marker`, `below_next`, `collected_then_in_flight`, `counts_from_zero`)
 /// The headline for any number of systems, cabled in any way, whose other ports may hear anything from anyone. No identifier
 /// has to differ from another: only `one_device` asks for that. After each event of every schedule: ports of a system that
 /// distribute in one aggregator name one partner system and key; the two distributing ends of each cable name the same group,
@@ -24,11 +42,13 @@ pub fn network()
     ensures names_far_end { IsNetworkInvariant (λ x w. NamesFarEnd x w) }
     ensures one_device { IsNetworkInvariant (λ x w. OneDevice x w) }
     ensures not_with_itself { IsNetworkInvariant (λ x w. NotWithItself x w) }
+    ensures took_synchronized { IsNetworkInvariant (λ x w. EachTookInSync x w) }
     ensures on_its_cable { IsNetworkInvariant (λ x w. FlyOnItsCable x w) }
     ensures flushed_by_marker { IsNetworkInvariant (λ x w. FlushedBehindMarker x w) }
     ensures below_next { IsNetworkInvariant (λ x w. AllBelowNext x w) }
     ensures collected_then_in_flight { IsNetworkInvariant (λ x w. CollectedThenFlying x w) }
     ensures counts_from_zero { IsNetworkInvariant (λ x w. AllCountFromZero w) }
+    ensures takeovers { IsNetworkInvariant (λ x w. MaySucceedItself x w) }
 {}
 
 ghost use Rattle.lagnetwork.specs.NetworkLaw.{OneAggregatorReachesTwo};
@@ -41,6 +61,10 @@ pub fn one_aggregator_reaches_two()
 
 ghost use Rattle.lagnetwork.specs.NetworkLaw.{LawfulCallsAreCalls};
 
+// promise: a takeover is possible: a system of which no conversation waits may take its own place
+// contract: `network` (`takeovers`)
+// promise: a call of one system, lawful moves with at most one visible act, is a call of the network
+// contract: `lawful_calls`
 /// A call of one system, as the contract of `lagsystem` has it (lawful moves, with what its reply shows), is a call of the network.
 pub fn lawful_calls()
     ensures { LawfulCallsAreCalls }

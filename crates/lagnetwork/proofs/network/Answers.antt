@@ -1,6 +1,6 @@
 use Rattle.lagnetwork.proofs.NetworkEvents.{all_fine}
-use Rattle.lagnetwork.proofs.NetworkLaws.{one_partner_each, cables_agree, in_order_each, names_far_end, one_device, not_with_itself}
-use Rattle.lagnetwork.proofs.NetworkLaws.{fly_on_its_cable, flushed_behind_marker, all_below_next, collected_then_flying}
+use Rattle.lagnetwork.proofs.NetworkLaws.{one_partner_each, cables_agree, in_order_each, names_far_end, one_device, not_with_itself, fly_on_its_cable}
+use Rattle.lagnetwork.proofs.NetworkLaws.{flushed_behind_marker, all_below_next, collected_then_flying, each_took_in_sync, may_succeed_itself}
 use Rattle.lagnetwork.proofs.NetworkCounting.{counts_from_zero}
 use Rattle.lagnetwork.proofs.NetworkArriving.{each_part, parts}
 use Rattle.lagnetwork.proofs.network.Goals as goal
@@ -42,3 +42,9 @@ pub returns-clause-each_in_order : goal.returns-clause-each_in_order
 returns-clause-each_in_order c = λ x events w f r t h s g k u.
     parts (w.arrived t h s g k) (w.collected s g k) (w.sent s g k) (each_part x events w r t h s g k)
     (in_order_each x w (all_fine x events w f r) s g k u)
+
+pub returns-clause-takeovers : goal.returns-clause-takeovers
+returns-clause-takeovers c = λ x events w f r. may_succeed_itself x w (all_fine x events w f r)
+
+pub returns-clause-took_synchronized : goal.returns-clause-took_synchronized
+returns-clause-took_synchronized c = λ x events w f r. each_took_in_sync x w (all_fine x events w f r)

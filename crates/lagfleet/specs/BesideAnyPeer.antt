@@ -1,0 +1,138 @@
+-- One system of lagsystem on its cables, and whatever is at their other ends: what each contract promises of its calls, octets received.
+use Rattle.std.specs.Prelude.{◌≡◌, ◌≤◌, ℕ, Bool, true, ◌⊎◌, Option, Some, option_to_list, List, [], ◌∷◌, Ok, Err}
+use Rattle.lagtypes.specs.declared.identifiers.AggId.{AggId}
+use Rattle.lagmodel.specs.View.{Flushing, ModelCall, On, PortFacts, SystemSetup, View, conversation_port}
+use Rattle.lagmodel.specs.Move.{Act}
+use Rattle.lagmodel.specs.Law.{Members}
+use Rattle.lagmodel.specs.World.{One, at_two, on_cable_after, sent_after, taken_after}
+use Rattle.lagmodel.specs.Succession.{HasHeard}
+use Rattle.lagmodel.specs.AnyPeer.{Calls, Comes, Fits, Forces, Happening}
+use Rattle.lagmodel.specs.AnyPeer.{Restarts, Scene, first_scene}
+use Rattle.lagsystem.specs.declared.drive.HostCall.TheVariants as host
+use Rattle.lagsystem.specs.declared.drive.HostReply.TheVariants as told
+use Rattle.lagsystem.specs.declared.drive.Reply.{Reply}
+use Rattle.lagsystem.specs.declared.drive.Reply.TheVariants as reply
+use Rattle.lagsystem.specs.declared.fault.SystemFault.{SystemFault}
+use Rattle.lagsystem.specs.Calls.{Call}
+use Rattle.lagsystem.specs.First.{IsFirst}
+use Rattle.lagsystem.specs.HostCalls.{HostPromise}
+use Rattle.lagsystem.specs.ModelView.{CallSeenAs, model_setup, model_view}
+use Rattle.lagsystem.specs.Settings.{Setting}
+use Rattle.lagsystem.specs.Sound.{CallPromise}
+use Rattle.lagsystem.specs.State.{SystemState}
+use Rattle.lagnetwork.specs.Network.{also_forced}
+use Rattle.lagfleet.specs.Doing.{Doing, Does, IsRefused}
+use Rattle.lagfleet.specs.Fleet.{is_held}
+
+-- the system, and what is on its cables, in which a message stands for the frame that carries it
+pub record Stage : Type 0 where
+  pub system : SystemState
+  pub scene : Scene
+
+-- The scene after a call that ended in the view v and had at most this one visible act. `accepted`: whether the cable accepts what is
+-- sent. `stamp`: the stamp of what came in this call.
+abbrev pub scene_after_call : (ℕ → Option ℕ) → ℕ → Bool → Option Act → View → Scene → Scene
+scene_after_call ends stamp accepted o v w = record w {
+  view = v;
+  out = on_cable_after One ends w.whole (λ p. 0) w.sent accepted o w.out;
+  sent = sent_after o w.sent;
+  taken = taken_after stamp o w.taken;
+}
+
+-- The system does this, and what it shows goes onto its cable, if that accepts it. before: the scene as it began. `fits`: of octets that
+-- are read as a control PDU, that PDU stands first on the cable of the port, if it has one; a link that is said to be down has its cable
+-- cut.
+pub record Acts (gives : ℕ → ℕ → ℕ → Type 0) (ends : ℕ → Option ℕ) (doing : Doing) (law : ModelCall) (stamp : ℕ) (old : Stage)
+    (before : Scene) (new : Stage) : Type 0 where
+  pub act : Option Act
+  pub does : Does gives doing law (option_to_list act) old.system new.system
+  pub fits : Fits law stamp ends before
+  pub accepted : Bool
+  pub leaves : new.scene ≡ scene_after_call ends stamp accepted act (model_view new.system) before
+
+-- a call of `drive` but a restart and a force; those two; a call of a host that is none of them; a setting; a takeover; or what happens
+-- on the cables and at their other ends
+pub data StageEvent : Type 0 where
+  Makes_call : (call : Call) (stamp : ℕ) → StageEvent
+  Starts_again : StageEvent
+  Forces_conversation : (agg : AggId) (conv : ℕ) → StageEvent
+  Offers_conversation : (agg : AggId) (conv : ℕ) → StageEvent
+  Leaves_conversation : (agg : AggId) (conv : ℕ) → StageEvent
+  Probes_port : (port : ℕ) → StageEvent
+  Rests_conversation : (agg : AggId) (conv : ℕ) → StageEvent
+  Forces_port : (port : ℕ) → StageEvent
+  Changes_setting : (setting : Setting) → StageEvent
+  Gives_way : StageEvent
+  Befalls : (e : Happening) → StageEvent
+
+-- it happens without the system
+abbrev pub IsOutside : Happening → Type 0
+IsOutside (Calls call stamp moves) = ⊥
+IsOutside Restarts = ⊥
+IsOutside (Forces g k) = ⊥
+IsOutside e = Unit {0}
+
+-- the system with this view may take the place of the one of the scene, as `IsSuccessor` of lagmodel says it
+pub record IsSceneSuccessor (u : SystemSetup) (w : Scene) (after : View) : Type 0 where
+  pub members : Members u after.port
+  pub heard : (p : ℕ) (a : PortFacts) → after.port p ≡ Some a → HasHeard a (w.taken p)
+  pub on : (g k p : ℕ) → conversation_port (w.view.flows.state g k) ≡ Some p → after.flows.state g k ≡ On p
+  pub waits : (g k p n : ℕ) → after.flows.state g k ≡ Flushing p n → ⊥
+  pub next : w.view.flows.next ≤ after.flows.next
+
+-- a conversation is forced, and counts as forced from then on; or that is refused, and nothing changes
+abbrev pub StageForces : (ℕ → ℕ → ℕ → Type 0) → (ℕ → Option ℕ) → AggId → ℕ → Doing → Stage → Stage → Type 0
+StageForces gives ends agg conv doing old new =
+    (IsRefused gives doing old.system × (new ≡ old))
+    ⊎ Acts gives ends doing (ModelCall.Force agg.0 conv) 0 old
+    (record old.scene { forced = at_two old.scene.forced agg.0 conv true }) new
+
+-- just what was held on the port is forced
+pub record StageForcesHeld (gives : ℕ → ℕ → ℕ → Type 0) (port : ℕ) (old new : Stage) : Type 0 where
+  pub count : ℕ
+  pub promise : HostPromise gives old.system (host.ForcePort port) (told.ForcePort (Ok count)) new.system
+  pub leaves : new.scene ≡ record old.scene {
+    view = model_view new.system;
+    forced = also_forced (is_held port old.system) old.scene.forced;
+  }
+
+-- From old, the event may lead to new.
+abbrev pub StageSteps : (ℕ → ℕ → ℕ → Type 0) → (ℕ → Option ℕ) → StageEvent → Stage → Stage → Type 0
+StageSteps gives ends (Makes_call call stamp) old new =
+    (law : ModelCall) × CallSeenAs call law × Acts gives ends (Doing.Makes call) law stamp old old.scene new
+StageSteps gives ends Starts_again old new = CallPromise gives old.system Call.Restart reply.Restart new.system
+    × (new.scene ≡ record old.scene { view = model_view new.system; out = λ c. []; back = λ c. [] })
+StageSteps gives ends (Forces_conversation agg conv) old new = StageForces gives ends agg conv (Doing.Forces agg conv) old new
+StageSteps gives ends (Offers_conversation agg conv) old new = Acts gives ends (Doing.Offers agg conv) ModelCall.Offer 0 old old.scene new
+StageSteps gives ends (Leaves_conversation agg conv) old new =
+    Acts gives ends (Doing.Leaves agg conv) ModelCall.Move_conversation 0 old old.scene new
+StageSteps gives ends (Probes_port port) old new = Acts gives ends (Doing.Probes port) ModelCall.Transmit 0 old old.scene new
+StageSteps gives ends (Rests_conversation agg conv) old new = StageForces gives ends agg conv (Doing.Rests agg conv) old new
+StageSteps gives ends (Forces_port port) old new =
+    StageForcesHeld gives port old new
+    ⊎ ((fault : SystemFault) × HostPromise gives old.system (host.ForcePort port) (told.ForcePort (Err fault)) old.system × (new ≡ old))
+StageSteps gives ends (Changes_setting setting) old new = Acts gives ends (Doing.Sets setting) ModelCall.Tick 0 old old.scene new
+StageSteps gives ends Gives_way old new =
+    IsSceneSuccessor (model_setup old.system) old.scene (model_view new.system)
+    × (model_setup new.system ≡ model_setup old.system)
+    × (new.scene ≡ record old.scene { view = model_view new.system })
+StageSteps gives ends (Befalls e) old new =
+    IsOutside e × (new.system ≡ old.system) × Comes (model_setup old.system) ends e old.scene new.scene
+
+abbrev pub StageRun : (ℕ → ℕ → ℕ → Type 0) → (ℕ → Option ℕ) → List StageEvent → Stage → Stage → Type 0
+StageRun gives ends [] old new = new ≡ old
+StageRun gives ends (e ∷ es) old new = (mid : Stage) × StageSteps gives ends e old mid × StageRun gives ends es mid new
+
+-- The statement holds of the scene after each event of each schedule, from the start of any system on any cables, of which no port has
+-- two; and the view in it is that of the system.
+abbrev pub HoldsBesideAnyPeer : (ℕ → ℕ → ℕ → Type 0) → (Scene → Type 0) → Type 0
+HoldsBesideAnyPeer gives P = (ends : ℕ → Option ℕ) (events : List StageEvent) (start end : Stage)
+    → ((c d p : ℕ) → ends c ≡ Some p → ends d ≡ Some p → c ≡ d) → IsFirst start.system
+    → start.scene ≡ first_scene (model_setup start.system) → StageRun gives ends events start end
+    → P end.scene × (end.scene.view ≡ model_view end.system)
+
+-- Each call that a contract allows is an event, if what the contract shows of it fits the cables.
+abbrev pub EachCallBesideAnyPeer : (ℕ → ℕ → ℕ → Type 0) → Type 0
+EachCallBesideAnyPeer gives = (ends : ℕ → Option ℕ) (old : Stage) (call : Call) (answer : Reply) (after : SystemState) (stamp : ℕ)
+    (promise : CallPromise gives old.system call answer after) → Fits promise.moves.0 stamp ends old.scene
+    → (new : Stage) × StageSteps gives ends (Makes_call call stamp) old new × (new.system ≡ after)
