@@ -115,7 +115,7 @@ static void arrive_here(uint16_t port) {
         if (runs) received = niw_receive(&here, port, it->octets, it->length, response, sizeof response);
         if (received.what == NIW_RECEIVED_RESPOND) put(there, port, response, received.number);
         if (!runs || received.what != NIW_RECEIVED_TOOK_LACPDU) continue;
-        saved.ports[port - 1] = (struct niw_saved){.port = port, .age = 0};
+        saved.ports[port - 1] = (struct niw_saved){.port = port};
         memcpy(saved.ports[port - 1].frame, it->octets, NIW_FRAME);
     }
 }
@@ -145,6 +145,7 @@ static void pass(void) {
     if (runs) {
         niw_tick(&here);
         send_due(&here, there);
+        for (uint16_t port = 1; port <= PORTS; port++) saved.ports[port - 1].aggregator = (uint16_t)niw_choice(&here, port).number;
         saved.next_marker = niw_next_marker(&here).id;
     }
     forward();

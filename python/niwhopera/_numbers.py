@@ -9,7 +9,7 @@ import ctypes
 from enum import IntEnum, IntFlag
 from typing import Any, Callable, Final
 
-VERSION: Final = 11
+VERSION: Final = 12
 VERSION_TEXT: Final = "0.2.0"
 FRAME: Final = 124
 PAYLOAD_LENGTH: Final = 110
@@ -258,10 +258,12 @@ class NiwSaved(ctypes.Structure):
     """struct niw_saved."""
 
     port: int
+    aggregator: int
     age: int
     frame: ctypes.Array[ctypes.c_uint8]
     _fields_ = [
         ("port", ctypes.c_uint16),
+        ("aggregator", ctypes.c_uint16),
         ("age", ctypes.c_uint32),
         ("frame", ctypes.c_uint8 * 124),
     ]

@@ -35,7 +35,7 @@ class NotResumed(LagError):
 
     def __init__(self, status: Status, port: int) -> None:
         self.port = port
-        why = STATUS_TEXTS[status] if status is Status.STALE else "a saved port does not come to distribute as its LACPDU says"
+        why = STATUS_TEXTS[status] if status is Status.STALE else "a saved port does not come to distribute as it was saved"
         super().__init__(status, f"{why} (port {port})")
 
 

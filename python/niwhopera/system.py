@@ -56,13 +56,14 @@ class System(Handle):
 
     @classmethod
     def resume(cls, config: Config, saved: Iterable[SavedPort]) -> System:
-        """A warm start: a system whose saved ports distribute, and tell their peers nothing new. The first marker of the configuration is
-        `next_marker` of the system before it, or higher. Raises `NotResumed` of the port whose LACPDU is as old as the port's timeout, STALE,
-        or that does not come to distribute as its LACPDU says, NOT_DISTRIBUTING; `BadConfig`, `NoMemory`."""
+        """A warm start: a system whose saved ports distribute in their aggregators, tell their peers nothing new, and have what is left of
+        their timeouts. The first marker of the configuration is `next_marker` of the system before it, or higher. Raises `NotResumed` of the
+        port whose LACPDU is as old as the port's timeout, STALE, or that does not come to distribute as it was saved, NOT_DISTRIBUTING;
+        `BadConfig`, `NoMemory`."""
         rows = list(saved)
         given = (c.NiwSaved * len(rows))()
         for at, it in zip(given, rows):
-            at.port, at.age, at.frame[:] = it.port, it.age, it.frame[: c.FRAME]
+            at.port, at.aggregator, at.age, at.frame[:] = it.port, it.aggregator, it.age, it.frame[: c.FRAME]
         system = cls.__new__(cls)
         Handle.__init__(system, c.NiwSystem())
         system._make(config, system._c.resume, given, len(rows))

@@ -225,14 +225,16 @@ class Assignment:
 @dataclass(frozen=True)
 class SavedPort:
     """What a host saves of a port that distributes, for `System.resume`: its number, the frame of the last LACPDU that came on it, of 124
-    octets or more, and how many ticks ago that came, 0 to 4294967295."""
+    octets or more, how many ticks ago that came, 0 to 4294967295, and the aggregator that the port was in; 0: it may come into any."""
 
     port: int
     age: int
     frame: bytes
+    aggregator: int = 0
 
     def __post_init__(self) -> None:
         within("the number of the port", self.port, 0xFFFF)
+        within("the number of the aggregator", self.aggregator, 0xFFFF)
         within("the age of an LACPDU", self.age, 0xFFFFFFFF)
         if len(self.frame) < FRAME:
             raise ValueError(f"the frame of an LACPDU has {len(self.frame)} octets, and not {FRAME} or more")

@@ -6,15 +6,16 @@ pub use Rattle.std.proofs.Common.{◌*◌, ◌++◌, ◌+◌, ◌-◌, ◌/◌, 
 pub use Rattle.std.proofs.Math.Seq.{drop-length, set_out, take-length}
 pub use Rattle.std.proofs.lemmas.Bool.{and_parts, cases_Bool, cases_lt, eqb-false, false≢true}
 pub use Rattle.std.proofs.lemmas.Bool.Decides.{eqb_tells, nat_tests}
-pub use Rattle.std.proofs.lemmas.Grind.{common_steps, get_or_default_zero}
-pub use Rattle.std.proofs.lemmas.List.{get_or-set_other, get_or-set_same, length-drop, length-map, length-take, map-append, map-set, take_all}
-pub use Rattle.std.proofs.lemmas.List.{take_more}
+pub use Rattle.std.proofs.lemmas.Grind.{common_steps, flat_map-append, get_or_default_zero}
+pub use Rattle.std.proofs.lemmas.List.{drop_all, drop_more, get_or-set_other, get_or-set_same, length-drop, length-map, length-take, map-append}
+pub use Rattle.std.proofs.lemmas.List.{map-set, take_all, take_more}
 pub use Rattle.std.proofs.lemmas.List.Sums.{sum-map, sum_by-cons, sum_by-le-sum_by, sum_by-set}
 pub use Rattle.std.proofs.lemmas.Option.{none-some, same_Some}
-pub use Rattle.std.specs.List.{AllByRecursion, position_or_len}
-pub use Rattle.std.specs.Prelude.{Contains, IfSome, MatchOption, is_none, ltb, option_to_list, sum, sum_by}
+pub use Rattle.std.specs.List.{AllByRecursion, flat_map, position_or_len}
+pub use Rattle.std.specs.Prelude.{Contains, IfErr, IfSome, MatchOption, is_none, ltb, option_to_list, sum, sum_by}
 pub use Rattle.circular_buffer.specs.Buffer.{Buffer, buffer}
 pub use Rattle.lagtypes.specs.declared.identifiers.AggId.{AggId}
+pub use Rattle.lagtypes.specs.declared.identifiers.Key.{Key}
 pub use Rattle.slowpdu.specs.Pdus.{ReadsPdu}
 pub use Rattle.slowpdu.proofs.LayoutLemmas.{all-append}
 pub use Rattle.lagmodel.specs.Law.{BelowNext, FlushedByMarker, IsSubsequence as IsSubsequenceOfSerials, OnItsCable, serials}
@@ -27,15 +28,15 @@ pub use Rattle.portmachines.specs.Machines.{Machines}
 pub use Rattle.distributor.specs.declared.assignment.Assignment.{Assignment}
 pub use Rattle.distributor.specs.declared.assignment.Assignment.TheVariants.{Wanted}
 pub use Rattle.distributor.specs.Calls.{Assigns, PicksIndexes, PicksPort, is_among, preferred_among}
-pub use Rattle.distributor.specs.Changes.{SetsAssignment, after_release, after_tick}
+pub use Rattle.distributor.specs.Changes.{SetsAssignment, after_down, after_release, after_tick}
 pub use Rattle.distributor.specs.Conversations.{Table, assignment_of, next_identifier}
-pub use Rattle.lagsystem.specs.declared.config.Config.{Config}
+pub use Rattle.lagsystem.specs.declared.config.PortConfig.{PortConfig}
 pub use Rattle.lagsystem.specs.declared.drive.Reply.{Reply}
 pub use Rattle.lagsystem.specs.declared.fault.SystemFault.{SystemFault}
 pub use Rattle.lagsystem.specs.declared.system_ports.SystemPort.{SystemPort}
 pub use Rattle.lagsystem.specs.Assigning.{OffersConversation, OffersIf, TakesPort, frame_of_conversation}
-pub use Rattle.lagsystem.specs.Calls.{Call, Configure, Force, Move_conversation, Offer, OnlyPortChangesBy, ProcessesLacpdu, Receive, Set_link}
-pub use Rattle.lagsystem.specs.Calls.{SetsLink, ThenSettles, Tick, Ticks, Transmit}
+pub use Rattle.lagsystem.specs.Calls.{Call, ChangesParty, Configure, Force, Move_conversation, Offer, OnlyPortChangesBy, ProcessesLacpdu, Receive}
+pub use Rattle.lagsystem.specs.Calls.{Set_link, SetsLink, ThenSettles, Tick, Ticks, Transmit}
 pub use Rattle.lagsystem.specs.Drives.{Drives, call_of}
 pub use Rattle.lagsystem.specs.First.{IsConfigured, IsFirst}
 pub use Rattle.lagsystem.specs.ModelView.{EffectsSeenAs, JoinedByLawfulMoves, model_setup, model_view, model_view_at}
@@ -50,6 +51,7 @@ pub use Rattle.dataplane.specs.declared.balance.moves.Carried.{Carried}
 pub use Rattle.dataplane.specs.declared.balance.moves.Move.{Move}
 pub use Rattle.dataplane.specs.declared.holding.refusal.Refusal.{Refusal}
 pub use Rattle.dataplane.specs.declared.resuming.SavedPort.{SavedPort}
+pub use Rattle.dataplane.specs.declared.warming.Moment.TheVariants.{Before, Leading}
 pub use Rattle.dataplane.specs.Arrivals.{at_places}
 pub use Rattle.dataplane.specs.Choice.{Carries, IsAggregator, better, group_cmp, is_before, is_other, lesser, rank_by, rank_cmp, rank_in}
 pub use Rattle.dataplane.specs.Ends.{Alike, HasMore, ShowTheSame}
@@ -61,5 +63,8 @@ pub use Rattle.dataplane.specs.OneAggregator.{FreeElsewhere, InOneAggregator, No
 pub use Rattle.dataplane.specs.QueueCalls.{Clear, DropOldest, Dropped, Gone, Next, Put, QueueCall, Sent, accepted, after, gone}
 pub use Rattle.dataplane.specs.QueueLaws.{IsSubsequence, IsWithin, after_all, all_accepted, all_dropped, all_gone, all_handed_back, all_sent}
 pub use Rattle.dataplane.specs.QueueLaws.{conversation_of, handed_back, handle_of, number_dropped}
-pub use Rattle.dataplane.specs.Resuming.{IsBack, IsFirstWithout, IsUnused, IsWarm, Runs, hearing, is_stale, link_up, tells_nothing_new, warm_calls}
+pub use Rattle.dataplane.specs.Resuming.{AreFresh, IsBack, IsFirstWithout, IsNotWarmed, IsResumed, IsUnused, IsWarmed, MayRefuse, Runs, calls_of}
+pub use Rattle.dataplane.specs.Resuming.{first_touched, is_as_saved, is_left_at, is_stale}
 pub use Rattle.dataplane.specs.RunsOfMoves.{AllDiffer, CountsOne, IsNew, IsRunOfMoves, moved, squares}
+pub use Rattle.dataplane.specs.Warming.{call_if, change_to, count_empty, duration, filled, filled_by, fills, heard, heard_of, individual_frame}
+pub use Rattle.dataplane.specs.Warming.{is_due, is_saved, link_up, occupied, other_starting, others_starting, passing, starting_again, warm_calls}

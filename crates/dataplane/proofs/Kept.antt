@@ -1,7 +1,7 @@
 -- A conversation number stays in one aggregator.
 use Rattle.dataplane.proofs.Common.{Bool, Err, IfOk, List, None, Ok, Option, Result, Some, [], ap, arith, eqb, eqb-true, false, if◌then◌else◌, inl}
 use Rattle.dataplane.proofs.Common.{inr, length, nat_le, nat_lt, refl, slice_get, subst, suc, sym, true, zero, ℕ, ◌-◌, ◌<◌, ◌^◌, ◌∷◌, ◌≡◌, ◌≢◌, ◌⊎◌}
-use Rattle.dataplane.proofs.Common.{and_parts, cases_Bool, eqb-false, nat_tests, none-some, AggId, OnItsCable, Act, LawfulMoves, Sends_frame}
+use Rattle.dataplane.proofs.Common.{and_parts, cases_Bool, eqb-false, nat_tests, none-some, AggId, Key, OnItsCable, Act, LawfulMoves, Sends_frame}
 use Rattle.dataplane.proofs.Common.{Conversation, Flushing, Free, ModelCall, On, SystemSetup, View, Side, World, WorldSetup, Assignment, Reply}
 use Rattle.dataplane.proofs.Common.{SystemFault, OffersConversation, OffersIf, frame_of_conversation, Call, Configure, Force, Move_conversation}
 use Rattle.dataplane.proofs.Common.{Offer, Receive, Set_link, Tick, Transmit, IsFirst, EffectsSeenAs, JoinedByLawfulMoves, model_setup, model_view}
@@ -11,7 +11,6 @@ use Rattle.dataplane.proofs.Common.{IsElsewhere, IsHeldElsewhere, IsInOneAggrega
 use Rattle.dataplane.proofs.Common.{NoneOnItsWayElsewhere, SendsNoFrame}
 use Rattle.lagmodel.specs.View.{Wanted}
 use Rattle.lagsystem.specs.Calls.{Restart}
-use Rattle.lagtypes.specs.declared.identifiers.Key.{Key}
 use Rattle.lagsystem.specs.declared.drive.Reply.TheVariants as reply
 use Rattle.lagsystem.specs.declared.received.Received.TheVariants.{Disabled, Dropped, Ignored, TookLacpdu, Respond, Released, Up}
 use Rattle.lagsystem.specs.Forcing.{ForcesFirst, ForcesIfHeld, ForcesIn, ForcesPort}

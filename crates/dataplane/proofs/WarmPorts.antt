@@ -1,7 +1,9 @@
 -- The saved ports one after another, and whether one is back.
-use Rattle.dataplane.proofs.Common.{List, Some, [], arith, drop, get_or, length, refl, subst, suc, sym, take, true, zero, ℕ, ◌+◌, ◌<◌, ◌∙◌, ◌∷◌, ◌≡◌}
-use Rattle.dataplane.proofs.Common.{◌≤◌, take_all, take_more, same_Some, AllByRecursion, ReadsPdu, all-append, Machines, SystemState, machines_of}
-use Rattle.dataplane.proofs.Common.{SavedPort, IsBack, IsFirstWithout, tells_nothing_new}
+use Rattle.dataplane.proofs.Common.{List, None, Some, [], ap, arith, drop, false, get_or, if◌then◌else◌, length, refl, subst, suc, sym, take, true}
+use Rattle.dataplane.proofs.Common.{zero, ℕ, ◌+◌, ◌<◌, ◌∙◌, ◌∷◌, ◌≡◌, ◌≤◌, drop_all, drop_more, take_all, take_more, same_Some, AllByRecursion}
+use Rattle.dataplane.proofs.Common.{ReadsPdu, all-append, Machines, PortConfig, SystemState, machines_of, SavedPort, IsBack, IsFirstWithout}
+use Rattle.dataplane.proofs.Common.{first_touched, is_as_saved, is_left_at}
+use Rattle.lagtypes.specs.declared.identifiers.SystemId.{SystemId}
 use Rattle.slowpdu.specs.declared.pdu.Lacpdu.{Lacpdu}
 use Rattle.slowpdu.specs.declared.pdu.Pdu.TheVariants as pdu
 
@@ -25,8 +27,37 @@ holds_of_all P saved i l h = subst (AllByRecursion P) (take_all i saved l) h
 
 -- a port that is back, by its machines and the LACPDU that was read
 pub told_same : (s : SystemState) (saved : SavedPort) (port : Machines) (heard : Lacpdu) → machines_of saved.port s ≡ Some port
-    → ((v : Lacpdu) → ReadsPdu (drop 14 saved.frame) (pdu.Lacpdu v) → Some heard ≡ Some v) → IsBack s saved → tells_nothing_new port heard ≡ true
+    → ((v : Lacpdu) → ReadsPdu (drop 14 saved.frame) (pdu.Lacpdu v) → Some heard ≡ Some v) → IsBack s saved
+    → is_as_saved saved heard port ≡ true
 told_same s saved port heard there only b =
     let same_port : b.port ≡ port = same_Some b.port port (sym b.there ∙ there) in
     let same_heard : b.heard ≡ heard = same_Some b.heard heard (sym (only b.heard b.reads)) in
-    subst (λ v. tells_nothing_new port v ≡ true) same_heard (subst (λ p. tells_nothing_new p b.heard ≡ true) same_port b.same)
+    subst (λ v. is_as_saved saved v port ≡ true) same_heard (subst (λ p. is_as_saved saved b.heard p ≡ true) same_port b.same)
+
+-- what a search gives where there is none
+abbrev pub no_port : PortConfig
+no_port = record { number = 0; priority = 0; mac = []; key = record { 0 = 0 }; aggregatable = false; active = false; short = false }
+
+module _ (s : SystemState) (system : SystemId) (saved : List SavedPort) (ports : List PortConfig) (i : ℕ) where
+  -- the search goes on from this port
+  at_place : i < length ports → first_touched s system saved ports ≡ first_touched s system saved (drop i ports)
+      → first_touched s system saved ports ≡ first_touched s system saved (get_or ports i no_port ∷ drop (i + 1) ports)
+  at_place l h = h ∙ ap (first_touched s system saved) (drop_more ports i no_port l)
+
+  pub touched_on : i < length ports → first_touched s system saved ports ≡ first_touched s system saved (drop i ports)
+      → is_left_at saved system (get_or ports i no_port) (machines_of (get_or ports i no_port).number s) ≡ true
+      → first_touched s system saved ports ≡ first_touched s system saved (drop (i + 1) ports)
+  touched_on l h left =
+      at_place l h
+      ∙ ap (λ b. if b then first_touched s system saved (drop (i + 1) ports) else Some (get_or ports i no_port).number) left
+
+  pub touched_next : i < length ports → first_touched s system saved ports ≡ first_touched s system saved (drop i ports)
+      → is_left_at saved system (get_or ports i no_port) (machines_of (get_or ports i no_port).number s) ≡ false
+      → first_touched s system saved ports ≡ Some (get_or ports i no_port).number
+  touched_next l h left =
+      at_place l h
+      ∙ ap (λ b. if b then first_touched s system saved (drop (i + 1) ports) else Some (get_or ports i no_port).number) left
+
+  pub touched_none : length ports ≤ i → first_touched s system saved ports ≡ first_touched s system saved (drop i ports)
+      → first_touched s system saved ports ≡ None
+  touched_none l h = h ∙ ap (first_touched s system saved) (drop_all i ports l)

@@ -1,9 +1,15 @@
 -- A warm start leaves every conversation free, and the next marker.
-use Rattle.dataplane.proofs.Common.{Bool, List, None, [], ap, false, length, map, replicate, subst, suc, sym, true, zero, ℕ, ◌∙◌, ◌∷◌, ◌≡◌}
-use Rattle.dataplane.proofs.Common.{AllByRecursion, all-append, after_release, after_tick, Table, assignment_of, Config, Reply, Call}
-use Rattle.dataplane.proofs.Common.{OnlyPortChangesBy, ProcessesLacpdu, Receive, Set_link, SetsLink, ThenSettles, Tick, Ticks, Drives, IsFirst}
-use Rattle.dataplane.proofs.Common.{aggregator_numbered, distributing, SystemState, port_index, SavedPort, IsUnused, IsWarm, hearing, link_up}
-use Rattle.dataplane.proofs.Common.{warm_calls}
+use Rattle.dataplane.proofs.Common.{Bool, Err, IfOk, List, None, Ok, Result, [], ap, false, get_or, if◌then◌else◌, length, map, refl, subst, suc, sym}
+use Rattle.dataplane.proofs.Common.{take, true, zero, ℕ, ◌+◌, ◌-◌, ◌∙◌, ◌∷◌, ◌≡◌, AllByRecursion, flat_map, IfErr, Key, all-append, after_down}
+use Rattle.dataplane.proofs.Common.{after_release, after_tick, Table, assignment_of, PortConfig, Reply, Call, ChangesParty, Configure}
+use Rattle.dataplane.proofs.Common.{OnlyPortChangesBy, ProcessesLacpdu, Receive, Set_link, SetsLink, ThenSettles, Tick, Ticks, Drives, IsConfigured}
+use Rattle.dataplane.proofs.Common.{IsFirst, aggregator_numbered, distributing, SystemState, port_index, SavedPort, Before, Leading, AreFresh}
+use Rattle.dataplane.proofs.Common.{IsNotWarmed, IsResumed, IsUnused, IsWarmed, MayRefuse, Runs, calls_of, call_if, duration, filled, filled_by}
+use Rattle.dataplane.proofs.Common.{fills, heard, heard_of, individual_frame, is_due, is_saved, link_up, occupied, other_starting, others_starting}
+use Rattle.dataplane.proofs.Common.{passing, starting_again, warm_calls}
+use Rattle.lagsystem.specs.declared.config.Config.{Config}
+use Rattle.dataplane.specs.declared.resuming.ResumeFault.{ResumeFault}
+use Rattle.dataplane.specs.declared.warming.Moment.{Moment}
 use Rattle.distributor.proofs.TableLemmas.{first_free}
 use Rattle.distributor.specs.declared.assignment.Assignment.TheVariants.{Free}
 use Rattle.lagsystem.proofs.Keeps.{ports_table, settling_parts}
@@ -17,8 +23,9 @@ pub record IsFree (marker : ℕ) (t : Table) : Type 0 where
 
 -- a call of a warm start
 abbrev IsWarmCall : Call → Type 0
-IsWarmCall (Set_link n true) = Unit {0}
+IsWarmCall (Set_link n up) = Unit {0}
 IsWarmCall (Receive n octets) = Unit {0}
+IsWarmCall (Configure n change) = Unit {0}
 IsWarmCall Tick = Unit {0}
 IsWarmCall call = ⊥
 
@@ -53,7 +60,8 @@ call_frees gives marker old = record {
     link = λ n up done new h w f. links n up new h w f;
     take = λ n octets v answer new told h w f. settled marker (OnlyPortChangesBy (port_index n old.system_ports) (ProcessesLacpdu v)) old new
         (λ mid t. subst (IsFree marker) (sym (ap (λ (s : SystemState). s.table) t.1)) f) h;
-    change = λ n change new h w f. absurd w;
+    change = λ n change new h w f. settled marker (OnlyPortChangesBy (port_index n old.system_ports) (ChangesParty change)) old new
+        (λ mid t. subst (IsFree marker) (sym (ap (λ (s : SystemState). s.table) t.1)) f) h;
     restart = λ new e first w f. absurd w;
     send = λ n i x answer octets new at e due is told set w f. absurd w;
   };
@@ -71,7 +79,10 @@ call_frees gives marker old = record {
     links : (n : ℕ) (up : Bool) (new : SystemState) → ThenSettles (SetsLink n up) old new → IsWarmCall (Set_link n up)
         → IsFree marker old.table → IsFree marker new.table
     links n true new h w f = settled marker (SetsLink n true) old new (λ mid t. subst (IsFree marker) (sym t.1) f) h
-    links n false new h w f = absurd w
+    links n false new h w f = settled marker (SetsLink n false) old new (λ mid t. record {
+      free = λ agg conv. t.1.states agg conv ∙ ap (after_down n) (f.free agg conv);
+      next = t.1.next ∙ f.next;
+    }) h
 
 drives_free : (gives : ℕ → ℕ → ℕ → Type 0) (marker : ℕ) (old new : SystemState) (calls : List Call) (answers : List Reply)
     → AllByRecursion IsWarmCall calls → Drives gives old calls answers new → IsFree marker old.table → IsFree marker new.table
@@ -82,27 +93,98 @@ drives_free gives marker old new (call ∷ calls) (answer ∷ answers) w h f =
     drives_free gives marker h.0 new calls answers w.1 h.2
     (Step-preserves gives old (StaysFree marker old) (call_frees gives marker old) call answer h.0 h.1.step w.0 f)
 
-links_warm : (saved : List SavedPort) → AllByRecursion IsWarmCall (map link_up saved)
+warm_of_each : {A : Type 0} (f : A → List Call) → ((x : A) → AllByRecursion IsWarmCall (f x)) → (xs : List A)
+    → AllByRecursion IsWarmCall (flat_map f xs)
+warm_of_each f each [] = tt
+warm_of_each f each (x ∷ xs) = all-append IsWarmCall (f x) (flat_map f xs) (each x) (warm_of_each f each xs)
+
+warm_if : (so : Bool) (call : Call) → IsWarmCall call → AllByRecursion IsWarmCall (call_if so call)
+warm_if true call w = (w, tt)
+warm_if false call w = tt
+
+links_warm : (ports : List PortConfig) → AllByRecursion IsWarmCall (map link_up ports)
 links_warm [] = tt
-links_warm (x ∷ xs) = (tt, links_warm xs)
+links_warm (c ∷ cs) = (tt, links_warm cs)
 
-hearing_warm : (saved : List SavedPort) → AllByRecursion IsWarmCall (map hearing saved)
-hearing_warm [] = tt
-hearing_warm (x ∷ xs) = (tt, hearing_warm xs)
+heard_warm : (moment : Moment) (saved : List SavedPort) → AllByRecursion IsWarmCall (heard moment saved)
+heard_warm moment saved =
+    warm_of_each (heard_of moment saved) (λ x. warm_if (is_due moment saved x) (Receive x.port x.frame) tt) saved
 
-ticks_warm : (n : ℕ) → AllByRecursion IsWarmCall (replicate n Tick)
-ticks_warm zero = tt
-ticks_warm (suc n) = (tt, ticks_warm n)
+filled_warm : (saved : List SavedPort) (below : List Key) (key : Key) (agg : ℕ) (ports : List PortConfig)
+    → AllByRecursion IsWarmCall (filled saved below key agg ports)
+filled_warm saved below key agg ports =
+    warm_of_each (filled_by saved below key agg ports)
+    (λ c. warm_if (fills saved below key agg ports c) (Receive c.number (individual_frame saved)) tt) ports
 
-all_warm : (saved : List SavedPort) → AllByRecursion IsWarmCall (warm_calls saved)
-all_warm saved =
-    let heard = hearing_warm saved in
-    all-append IsWarmCall (map link_up saved) _ (links_warm saved)
-    (all-append IsWarmCall (map hearing saved) _ heard
-    (all-append IsWarmCall (replicate 20 Tick) (map hearing saved) (ticks_warm 20) heard))
+occupied_warm : (saved : List SavedPort) (keys : List Key) (ports : List PortConfig) (n : ℕ)
+    → AllByRecursion IsWarmCall (occupied saved keys ports n)
+occupied_warm saved keys ports zero = tt
+occupied_warm saved keys ports (suc n) =
+    all-append IsWarmCall (occupied saved keys ports n) _ (occupied_warm saved keys ports n)
+    (all-append IsWarmCall (heard (Leading (n + 1)) saved) _ (heard_warm (Leading (n + 1)) saved)
+    (filled_warm saved (take n keys) (get_or keys n (record { 0 = 0 })) (n + 1) ports))
+
+start_unless : (so : Bool) (c : PortConfig) → AllByRecursion IsWarmCall (if so then [] else starting_again c)
+start_unless true c = tt
+start_unless false c = (tt, (tt, (tt, tt)))
+
+others_warm : (saved : List SavedPort) (ports : List PortConfig) → AllByRecursion IsWarmCall (others_starting saved ports)
+others_warm saved ports = warm_of_each (other_starting saved) (λ c. start_unless (is_saved saved c.number) c) ports
+
+passing_warm : (saved : List SavedPort) (ticks n : ℕ) → AllByRecursion IsWarmCall (passing saved ticks n)
+passing_warm saved ticks zero = heard_warm (Before ticks) saved
+passing_warm saved ticks (suc n) =
+    all-append IsWarmCall (passing saved ticks n) _ (passing_warm saved ticks n) (tt, heard_warm (Before (ticks - n - 1)) saved)
+
+all_warm : (keys : List Key) (ports : List PortConfig) (saved : List SavedPort) → AllByRecursion IsWarmCall (warm_calls keys ports saved)
+all_warm keys ports saved =
+    all-append IsWarmCall (map link_up ports) _ (links_warm ports)
+    (all-append IsWarmCall (occupied saved keys ports (length keys)) _ (occupied_warm saved keys ports (length keys))
+    (all-append IsWarmCall (others_starting saved ports) _ (others_warm saved ports)
+    (passing_warm saved (duration ports) (duration ports))))
 
 -- so it is after a warm start
-pub warm_unused : (gives : ℕ → ℕ → ℕ → Type 0) (config : Config) (saved : List SavedPort) (s : SystemState) → IsWarm gives config saved s → IsUnused config s
-warm_unused gives config saved s h =
-    let f = drives_free gives h.first.first_marker h.first s (warm_calls saved) h.run.0 (all_warm saved) h.run.1 (first_is_free h.first h.made) in
-    record { free = f.free; marker = f.next ∙ h.configured.first_marker }
+pub warm_unused : (gives : ℕ → ℕ → ℕ → Type 0) (config : Config) (saved : List SavedPort) (first s : SystemState) → IsFirst first
+    → IsConfigured config first → Runs gives first (calls_of config saved) s → IsUnused config s
+warm_unused gives config saved first s made configured run =
+    let warm = all_warm config.aggregators.items config.ports.items saved in
+    let f = drives_free gives first.first_marker first s (calls_of config saved) run.0 warm run.1 (first_is_free first made) in
+    record { free = f.free; marker = f.next ∙ configured.first_marker }
+
+same_lists : (gives : ℕ → ℕ → ℕ → Type 0) (config : Config) (saved : List SavedPort) (first : SystemState) (keys : List Key)
+    (ports : List PortConfig) (P : List Call → List PortConfig → Type 0) → keys ≡ config.aggregators.items → ports ≡ config.ports.items
+    → P (warm_calls keys ports saved) ports → P (calls_of config saved) config.ports.items
+same_lists gives config saved first keys ports P k p h =
+    subst (λ ps. P (warm_calls config.aggregators.items ps saved) ps) p (subst (λ ks. P (warm_calls ks ports saved) ports) k h)
+
+module _ (gives : ℕ → ℕ → ℕ → Type 0) (config : Config) (saved : List SavedPort) (first : SystemState) (keys : List Key)
+    (ports : List PortConfig) (k : keys ≡ config.aggregators.items) (p : ports ≡ config.ports.items) (fresh : AreFresh config saved)
+    (made : IsFirst first) (configured : IsConfigured config first) where
+  -- the system of a warm start
+  pub resumed_by : (s : SystemState) → IsWarmed gives first (warm_calls keys ports saved) config.system ports saved s
+      → IsResumed gives config saved s
+  resumed_by s h =
+      let warm = same_lists gives config saved first keys ports (λ calls ps. IsWarmed gives first calls config.system ps saved s) k p h in
+      record {
+        fresh = fresh;
+        first = first;
+        made = made;
+        configured = configured;
+        warmed = warm;
+        unused = warm_unused gives config saved first s made configured warm.run;
+      }
+
+  -- why there is none
+  pub refused_by : (fault : ResumeFault) → IsNotWarmed gives first (warm_calls keys ports saved) config.system ports saved fault
+      → MayRefuse gives config saved fault
+  refused_by fault h =
+      let not = same_lists gives config saved first keys ports (λ calls ps. IsNotWarmed gives first calls config.system ps saved fault) k p h in
+      subst (MayRefuse gives config saved) (sym not.1) (fresh, (first, made, configured, (not.0, refl, not.2)))
+
+pub if_ok : {A B : Type 0} (P Q : A → Type 0) (r : Result A B) → ((a : A) → P a → Q a) → IfOk r P → IfOk r Q
+if_ok P Q (Ok a) f h = f a h
+if_ok P Q (Err b) f h = h
+
+pub if_err : {A B : Type 0} (P Q : B → Type 0) (r : Result A B) → ((b : B) → P b → Q b) → IfErr r P → IfErr r Q
+if_err P Q (Ok a) f h = h
+if_err P Q (Err b) f h = f b h

@@ -14,3 +14,4 @@ pub mod QueueCalls
 pub mod QueueLaws
 pub mod Resuming
 pub mod RunsOfMoves
+pub mod Warming

@@ -1,8 +1,13 @@
 -- A warm start: a system that looks to its peers as the one before it did (profile).
-use Rattle.std.specs.Prelude.{◌≡◌, ℕ, ◌==◌, ◌&&◌, ◌||◌, not, Bool, true, false, List, ◌++◌, drop, map, replicate, nat_le, if◌then◌else◌, Some, None}
-use Rattle.std.specs.Prelude.{◌<◌, get_or, length, take}
+use Rattle.std.specs.Prelude.{◌≡◌, ◌⊎◌, ℕ, ◌==◌, ◌&&◌, ◌||◌, ◌+◌, not, Bool, true, false, List, [], ◌∷◌, drop, nat_le, if◌then◌else◌}
+use Rattle.std.specs.Prelude.{◌<◌, get_or, length, take, Option, Some, None}
 use Rattle.std.specs.Bool.{beq}
 use Rattle.std.specs.List.{AllByRecursion, list_any}
+use Rattle.lagtypes.specs.Choices.{is_unselected}
+use Rattle.lagtypes.specs.declared.identifiers.SystemId.{SystemId}
+use Rattle.lagtypes.specs.declared.party.Choice.{Choice}
+use Rattle.lagtypes.specs.declared.party.Choice.TheVariants.{Selected, Standby, Unselected}
+use Rattle.lagtypes.specs.declared.party.Party.{Party}
 use Rattle.lagtypes.specs.Same.{same_party}
 use Rattle.lagtypes.specs.States.{bits_of}
 use Rattle.lagtypes.specs.declared.state.StateBits.{StateBits}
@@ -13,19 +18,23 @@ use Rattle.slowpdu.specs.Pdus.{ReadsPdu}
 use Rattle.portmachines.specs.Machines.{Machines}
 use Rattle.portmachines.specs.Mux.{same_mux_state}
 use Rattle.portmachines.specs.Transmit.{actor_state}
-use Rattle.portmachines.specs.declared.mux.MuxState.TheVariants.{CollectingDistributing}
+use Rattle.portmachines.specs.Receive.{same_receive_state}
+use Rattle.portmachines.specs.declared.mux.MuxState.TheVariants.{CollectingDistributing, Detached}
+use Rattle.portmachines.specs.declared.receive.ReceiveState.TheVariants.{PortDisabled}
 use Rattle.distributor.specs.declared.assignment.Assignment.TheVariants.{Free}
 use Rattle.distributor.specs.Conversations.{assignment_of}
 use Rattle.lagsystem.specs.declared.config.Config.{Config}
 use Rattle.lagsystem.specs.declared.config.PortConfig.{PortConfig}
 use Rattle.lagsystem.specs.declared.drive.Reply.{Reply}
-use Rattle.lagsystem.specs.Calls.{Call, Receive, Set_link, Tick}
+use Rattle.lagsystem.specs.Calls.{Call}
 use Rattle.lagsystem.specs.Drives.{Drives}
 use Rattle.lagsystem.specs.First.{IsConfigured, IsFirst, config_refusal, fault_or_no_memory}
+use Rattle.lagsystem.specs.ModelView.{configured_party}
 use Rattle.lagsystem.specs.State.{SystemState, machines_of}
 use Rattle.dataplane.specs.declared.resuming.ResumeFault.{ResumeFault}
 use Rattle.dataplane.specs.declared.resuming.ResumeFault.TheVariants.{Stale, New, NotDistributing}
 use Rattle.dataplane.specs.declared.resuming.SavedPort.{SavedPort}
+use Rattle.dataplane.specs.Warming.{is_saved, warm_calls}
 
 -- the ticks of current_while after an LACPDU: Short Timeout or Long Timeout (6.4.4)
 abbrev pub timeout : Bool → ℕ
@@ -35,28 +44,9 @@ timeout short = if short then 30 else 900
 abbrev pub is_stale : List PortConfig → SavedPort → Bool
 is_stale ports saved = list_any (λ c. (c.number == saved.port) && nat_le (timeout c.short) saved.age) ports
 
--- the link of the port comes up
-abbrev pub link_up : SavedPort → Call
-link_up saved = Set_link saved.port true
-
--- the LACPDU that was saved of the port comes
-abbrev pub hearing : SavedPort → Call
-hearing saved = Receive saved.port saved.frame
-
--- the calls of a warm start: the links come up, each LACPDU comes, wait_while runs out (6.4.4), and each LACPDU comes again
-abbrev pub warm_calls : List SavedPort → List Call
-warm_calls saved = map link_up saved ++ (map hearing saved ++ (replicate 20 Tick ++ map hearing saved))
-
 -- these calls, made one after another, lead from the first state to the last
 abbrev pub Runs : (ℕ → ℕ → ℕ → Type 0) → SystemState → List Call → SystemState → Type 0
 Runs gives old calls new = (replies : List Reply) × Drives gives old calls replies new
-
--- the state is one that these calls lead to from the first state of the configuration, and nothing was sent meanwhile
-pub record IsWarm (gives : ℕ → ℕ → ℕ → Type 0) (config : Config) (saved : List SavedPort) (s : SystemState) : Type 0 where
-  pub first : SystemState
-  pub made : IsFirst first
-  pub configured : IsConfigured config first
-  pub run : Runs gives first (warm_calls saved) s
 
 -- Synchronization, Collecting and Distributing, neither Defaulted nor Expired (6.4.2.3)
 abbrev pub is_in_service : StateBits → Bool
@@ -75,29 +65,54 @@ tells_nothing_new p heard =
     && ((same_party (party_of heard.partner) p.party && same_modes (bits_of heard.partner.state) (bits_of (actor_state p)))
     && (same_party (party_of p.partner) (party_of heard.actor) && (p.partner.state.0 == heard.actor.state.0)))
 
--- so it is of the port and the LACPDU that was saved of it
+-- Selected is SELECTED, with the aggregator of this number
+abbrev pub is_given : ℕ → Choice → Bool
+is_given agg (Selected given) = given.0 == agg
+is_given agg Unselected = false
+is_given agg (Standby given) = false
+
+-- the port has the aggregator with this number; 0 is any
+abbrev pub is_in : ℕ → Machines → Bool
+is_in agg p = (agg == 0) || is_given agg p.choice
+
+-- current_while has what is left of the timeout so many ticks after an LACPDU came (6.4.4)
+abbrev pub has_rest : ℕ → Machines → Bool
+has_rest age p = p.current_while + age == timeout p.short
+
+-- So it is with the LACPDU that was saved; the port is in the aggregator that it was in, and its timeout ends when it would have ended.
+abbrev pub is_as_saved : SavedPort → Lacpdu → Machines → Bool
+is_as_saved saved heard p = tells_nothing_new p heard && (is_in saved.aggregator p && has_rest saved.age p)
+
+-- so is the port
 pub record IsBack (s : SystemState) (saved : SavedPort) : Type 0 where
   pub port : Machines
   pub heard : Lacpdu
   pub there : machines_of saved.port s ≡ Some port
   pub reads : ReadsPdu (drop 14 saved.frame) (pdu.Lacpdu heard)
-  pub same : tells_nothing_new port heard ≡ true
+  pub same : is_as_saved saved heard port ≡ true
 
--- every conversation is free and prefers no port, and the next marker is the first of the configuration
-pub record IsUnused (config : Config) (s : SystemState) : Type 0 where
-  pub free : (agg conv : ℕ) → assignment_of s.table agg conv ≡ Free None
-  pub marker : s.table.next ≡ config.first_marker
+-- The port is as its start leaves it: its link is down, it knows no partner and has no aggregator, no timer runs, and it has nothing to
+-- send.
+abbrev pub is_at_start : Machines → Bool
+is_at_start p =
+    (not p.enabled && (same_receive_state PortDisabled p.receive && p.defaulted))
+    && ((same_mux_state Detached p.mux && is_unselected p.choice)
+    && ((p.current_while == 0) && ((p.wait_while == 0) && not p.ntt)))
 
--- none of the LACPDUs is stale
-abbrev pub AreFresh : Config → List SavedPort → Type 0
-AreFresh config saved = AllByRecursion (λ x. is_stale config.ports.items x ≡ false) saved
+-- the port has the configured parameters; it was saved, or is as its start leaves it
+abbrev pub is_left_with : Bool → Party → Machines → Bool
+is_left_with saved own p = same_party p.party own && (saved || is_at_start p)
 
--- a warm start: no LACPDU is stale, and each port is back
-pub record IsResumed (gives : ℕ → ℕ → ℕ → Type 0) (config : Config) (saved : List SavedPort) (s : SystemState) : Type 0 where
-  pub fresh : AreFresh config saved
-  pub warm : IsWarm gives config saved s
-  pub back : AllByRecursion (IsBack s) saved
-  pub unused : IsUnused config s
+-- so is the configured port, if there is one
+abbrev pub is_left_at : List SavedPort → SystemId → PortConfig → Option Machines → Bool
+is_left_at saved system c None = false
+is_left_at saved system c (Some p) = is_left_with (is_saved saved c.number) (configured_party system c) p
+
+-- the number of the first configured port that is not so
+abbrev pub first_touched : SystemState → SystemId → List SavedPort → List PortConfig → Option ℕ
+first_touched s system saved [] = None
+first_touched s system saved (c ∷ cs) =
+    if is_left_at saved system c (machines_of c.number s) then first_touched s system saved cs else Some c.number
 
 -- this is the first of the saved ports of which the property does not hold
 pub record IsFirstWithout (P : SavedPort → Type 0) (saved : List SavedPort) (port : ℕ) : Type 0 where
@@ -108,9 +123,49 @@ pub record IsFirstWithout (P : SavedPort → Type 0) (saved : List SavedPort) (p
   pub before : AllByRecursion P (take place saved)
   pub without : P one → ⊥
 
--- why there is no warm start: the first LACPDU that is stale; and where none is, the reason of `new`; the first port that is not back
+-- these calls lead to the state; each saved port is back, and each configured port is left
+pub record IsWarmed (gives : ℕ → ℕ → ℕ → Type 0) (old : SystemState) (calls : List Call) (system : SystemId) (ports : List PortConfig)
+    (saved : List SavedPort) (s : SystemState) : Type 0 where
+  pub run : Runs gives old calls s
+  pub back : AllByRecursion (IsBack s) saved
+  pub left : first_touched s system saved ports ≡ None
+
+-- These calls lead to a state in which this is the first of the saved ports that is not back; or each is, and it is the first configured
+-- port that is not left.
+abbrev pub IsNotWarmed : (ℕ → ℕ → ℕ → Type 0) → SystemState → List Call → SystemId → List PortConfig → List SavedPort → ResumeFault → Type 0
+IsNotWarmed gives old calls system ports saved fault =
+    (port : ℕ) × (fault ≡ NotDistributing port) × ((s : SystemState) × Runs gives old calls s
+    × (IsFirstWithout (IsBack s) saved port
+    ⊎ (AllByRecursion (IsBack s) saved × (first_touched s system saved ports ≡ Some port))))
+
+-- every conversation is free and prefers no port, and the next marker is the first of the configuration
+pub record IsUnused (config : Config) (s : SystemState) : Type 0 where
+  pub free : (agg conv : ℕ) → assignment_of s.table agg conv ≡ Free None
+  pub marker : s.table.next ≡ config.first_marker
+
+-- none of the LACPDUs is stale
+abbrev pub AreFresh : Config → List SavedPort → Type 0
+AreFresh config saved = AllByRecursion (λ x. is_stale config.ports.items x ≡ false) saved
+
+-- the calls of a warm start of this configuration
+abbrev pub calls_of : Config → List SavedPort → List Call
+calls_of config saved = warm_calls config.aggregators.items config.ports.items saved
+
+-- A warm start: no LACPDU is stale; the state is one that the calls of a warm start lead to from the first of the configuration, and nothing
+-- was sent meanwhile; each port is back, or as its start leaves it.
+pub record IsResumed (gives : ℕ → ℕ → ℕ → Type 0) (config : Config) (saved : List SavedPort) (s : SystemState) : Type 0 where
+  pub fresh : AreFresh config saved
+  pub first : SystemState
+  pub made : IsFirst first
+  pub configured : IsConfigured config first
+  pub warmed : IsWarmed gives first (calls_of config saved) config.system config.ports.items saved s
+  pub unused : IsUnused config s
+
+-- Why there is no warm start: the first LACPDU that is stale; and where none is, the reason of `new`; or the first port that is not back or
+-- not left.
 abbrev pub MayRefuse : (ℕ → ℕ → ℕ → Type 0) → Config → List SavedPort → ResumeFault → Type 0
 MayRefuse gives config saved (Stale port) = IsFirstWithout (λ x. is_stale config.ports.items x ≡ false) saved port
 MayRefuse gives config saved (New fault) = AreFresh config saved × (fault ≡ fault_or_no_memory (config_refusal config))
 MayRefuse gives config saved (NotDistributing port) = AreFresh config saved
-    × ((s : SystemState) × IsWarm gives config saved s × IsFirstWithout (IsBack s) saved port)
+    × ((first : SystemState) × IsFirst first × IsConfigured config first
+    × IsNotWarmed gives first (calls_of config saved) config.system config.ports.items saved (NotDistributing port))

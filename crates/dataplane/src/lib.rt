@@ -13,6 +13,7 @@ mod client_order;
 mod counting;
 mod holding;
 mod resuming;
+mod warming;
 
 pub use active::{
     active_aggregator, aggregator_or_none, both_ends_choose_alike, each_call_keeps_one_aggregator,

@@ -49,7 +49,7 @@ struct niw_queue {
 #define NIW_EMPTY {false, NULL}
 
 /* The version of this header: it goes up by one with each change of the interface. */
-#define NIW_VERSION 11
+#define NIW_VERSION 12
 /* The version of the release that the header is of. */
 #define NIW_VERSION_TEXT "0.2.0"
 /* The octets of a frame that the library answers. */
@@ -93,7 +93,7 @@ enum {
                                    niw_adopt: the same, or it is on another port */
     NIW_NONE_DISTRIBUTING = 6,  /* the conversation is free, and no port distributes in the aggregator */
     NIW_NOT_DISTRIBUTING = 7,   /* the port to move to does not distribute in the aggregator, nor that of niw_adopt; niw_resume: a
-                                   saved port does not come to distribute as its LACPDU says */
+                                   saved port does not come to distribute as it was saved */
     NIW_SAME_PORT = 8,          /* the port to move to is the one that the conversation is on */
     NIW_NOT_ASSIGNED = 9,       /* the conversation is free, or there is no such conversation or aggregator, or a list of
                                    conversations has more than 65536 */
@@ -178,8 +178,9 @@ struct niw_port {
 /* What a host saves of a port that distributes, for niw_resume. */
 struct niw_saved {
     uint16_t port;
-    uint32_t age;       /* the ticks since the LACPDU came */
-    uint8_t frame[124]; /* NIW_FRAME: the first octets of the frame of the last LACPDU that came on the port */
+    uint16_t aggregator; /* the number of the aggregator that the port was in; 0: the port may come into any */
+    uint32_t age;        /* the ticks since the LACPDU came */
+    uint8_t frame[124];  /* NIW_FRAME: the first octets of the frame of the last LACPDU that came on the port */
 };
 
 /* What niw_configure gives a port. */
@@ -806,9 +807,10 @@ static inline struct niw_number niw_distributing(struct niw_system *handle, uint
     return (handle && numbers) ? lagffi_distributing(handle, agg, numbers, room) : niw_null_number();
 }
 
-/* A warm start: puts a system into an empty handle whose saved ports distribute, and tell their peers nothing new. `saved` has the last
- * LACPDU of each port that distributed in the system before it. `first_marker` is niw_next_marker of that one, or higher. The ports send
- * nothing between the two systems; every conversation is free. `place` of the answer has the port that is refused. */
+/* A warm start: puts a system into an empty handle whose saved ports distribute in their aggregators, tell their peers nothing new, and
+ * have what is left of their timeouts. `saved` has the aggregator and the last LACPDU of each port that distributed in the system before
+ * it. `first_marker` is niw_next_marker of that one, or higher. The ports send nothing between the two systems; every conversation is
+ * free. `place` of the answer has the port that is refused. */
 static inline struct niw_made niw_resume(struct niw_system *handle, const struct niw_config *config, const uint16_t *keys,
     size_t key_count, const struct niw_port *ports, size_t port_count, const struct niw_saved *saved, size_t saved_count) {
     struct niw_made refused = NIW_ZEROS;

@@ -6,7 +6,7 @@
 
 use std::ffi::c_void;
 
-pub const NIW_VERSION: u32 = 11;
+pub const NIW_VERSION: u32 = 12;
 pub const NIW_FRAME: u32 = 124;
 pub const NIW_PAYLOAD_LENGTH: u32 = 110;
 pub const NIW_SHORTEST_FRAME: u32 = 14;
@@ -155,6 +155,7 @@ pub struct Port {
 #[derive(Clone, Copy, Debug)]
 pub struct Saved {
     pub port: u16,
+    pub aggregator: u16,
     pub age: u32,
     pub frame: [u8; 124],
 }

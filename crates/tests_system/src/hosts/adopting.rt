@@ -8,6 +8,7 @@ use std::test::Fail;
 fn saved(port: u16) -> SavedPort {
     SavedPort {
         port,
+        aggregator: 1,
         age: 300,
         frame: heard(port),
     }

@@ -2,13 +2,18 @@ ghost use Rattle.std.specs.Prelude.{◌<◌};
 
 use crate::comparing::{same, same_in_row};
 use crate::hosts::playing::{Row, config, heard, modulo, play};
-use dataplane::{ResumeFault, SavedPort, resume};
-use lagsystem::{Assignment, BadConfig, SystemFault};
+use dataplane::{ResumeFault, SavedPort, adopt, resume};
+use lagsystem::{
+    AggId, Assignment, BadConfig, Choice, Config, NoMemory, System, SystemFault,
+};
 use std::alloc::Global;
 use std::process::Abort;
 use std::test::Fail;
 
-/// The places of Actor_State, of the lower octet of Partner_Key and of Partner_State in the frame of an LACPDU (6.4.2.3).
+/// The places in the frame of an LACPDU of the last octet of Actor_System, of Actor_State, of the lower octet of Partner_Key, and of
+/// Partner_State (6.4.2.3).
+const ACTOR_SYSTEM_END: usize = 25;
+
 const ACTOR_STATE: usize = 32;
 
 const PARTNER_KEY: usize = 47;
@@ -19,6 +24,7 @@ const PARTNER_STATE: usize = 52;
 fn saved(port: u16, age: u32) -> SavedPort {
     SavedPort {
         port,
+        aggregator: 1,
         age,
         frame: heard(port),
     }
@@ -30,6 +36,14 @@ fn altered(port: u16, place: usize, octet: u8) -> SavedPort
 {
     let mut changed = saved(port, 0);
     changed.frame[place] = octet;
+    changed
+}
+
+/// The same of a port that was in this aggregator; the Actor is in the system with this last octet of its MAC address.
+fn of_system(port: u16, aggregator: u16, age: u32, system: u8) -> SavedPort {
+    let mut changed = saved(port, age);
+    changed.aggregator = aggregator;
+    changed.frame[ACTOR_SYSTEM_END] = system;
     changed
 }
 
@@ -121,5 +135,99 @@ fn a_configuration_is_refused_as_by_new(rt: HostRuntime) -> Result<(), Fail> {
     let made = resume(alloc, config, modulo, &[saved(3, 0)]);
     let why = ResumeFault::New(SystemFault::BadConfig(BadConfig::Conversations));
     same(&rt, "the reason", &made.err(), &Some(why));
+    Ok(())
+}
+
+/// Fails unless each saved port is in its aggregator, distributes there, and has what is left of 900 ticks.
+fn are_back<F: Fn(u16, usize) -> usize + Drop>(
+    rt: &impl Abort,
+    system: &System<F>,
+    ports: &[SavedPort],
+) {
+    for one in ports {
+        let chosen = Choice::Selected(AggId(one.aggregator));
+        same(rt, "aggregator", &system.choice(one.port), &Some(chosen));
+        same(rt, "distributes", &system.distributes(one.port), &Some(true));
+        let left = system.current_while(one.port).map(u32::from);
+        same(rt, "current_while", &left, &Some(900 - one.age));
+    }
+}
+
+/// Fails unless the port is as it is in a system that has just started.
+fn is_new<F: Fn(u16, usize) -> usize + Drop>(
+    rt: &impl Abort,
+    system: &System<F>,
+    fresh: &System<F>,
+    port: u16,
+) {
+    same(rt, "is_up", &system.is_up(port), &Some(false));
+    same(rt, "state", &system.state(port), &fresh.state(port));
+    same(rt, "receive", &system.receive_state(port), &fresh.receive_state(port));
+    same(rt, "party", &system.party(port), &fresh.party(port));
+    same(rt, "partner", &system.partner(port), &fresh.partner(port));
+    same(rt, "choice", &system.choice(port), &fresh.choice(port));
+    same(rt, "mux", &system.mux_state(port), &fresh.mux_state(port));
+    same(rt, "ntt", &system.ntt(port), &fresh.ntt(port));
+    same(rt, "current_while", &system.current_while(port), &Some(0));
+    same(rt, "wait_while", &system.wait_while(port), &Some(0));
+}
+
+#[test]
+fn ports_come_back_into_their_aggregators(rt: HostRuntime) -> Result<(), Fail> {
+    let alloc = rt.alloc();
+    // two groups the other way round; both ports in 2, where port 9 has to take 1; one port of three in 2
+    let rows = [
+        [of_system(3, 2, 250, 0x99), of_system(7, 1, 899, 0x98)],
+        [of_system(3, 2, 17, 0x99), of_system(7, 2, 0, 0x99)],
+        [of_system(7, 2, 400, 0x99), of_system(9, 1, 21, 0x42)],
+    ];
+    let fresh = System::new(alloc, config(alloc, 70)?, modulo)?;
+    for (row, ports) in rows.iter().enumerate() {
+        let Ok(system) = resume(alloc, config(alloc, 70)?, modulo, ports) else {
+            same_in_row(&rt, row, &false, &true);
+            return Ok(());
+        };
+        are_back(&rt, &system, ports);
+        let other = if row == 2 { 3 } else { 9 };
+        is_new(&rt, &system, &fresh, other);
+    }
+    Ok(())
+}
+
+/// The same configuration without its last port.
+fn of_two_ports(alloc: Global) -> Result<Config, NoMemory> {
+    let mut config = config(alloc, 70)?;
+    let _last = config.ports.pop();
+    Ok(config)
+}
+
+#[test]
+fn the_second_port_of_a_group_takes_the_empty_aggregator(rt: HostRuntime) -> Result<(), Fail> {
+    let alloc = rt.alloc();
+    let ports = [of_system(3, 2, 0, 0x99), of_system(7, 2, 600, 0x99)];
+    let Ok(mut system) = resume(alloc, of_two_ports(alloc)?, modulo, &ports) else {
+        same(&rt, "there is a system", &false, &true);
+        return Ok(());
+    };
+    are_back(&rt, &system, &ports);
+    same(&rt, "adopted in 2", &adopt(&mut system, AggId(2), 14, 3), &Ok(()));
+    Ok(())
+}
+
+#[test]
+fn a_port_that_was_in_no_such_aggregator_is_refused(rt: HostRuntime) -> Result<(), Fail> {
+    let alloc = rt.alloc();
+    let rows = [
+        // there are two; one group is in one aggregator
+        ([of_system(3, 1, 0, 0x42), of_system(7, 3, 0, 0x99)], 7),
+        ([of_system(3, 2, 0, 0x42), of_system(7, 1, 0, 0x42)], 3),
+        ([of_system(3, 0, 0, 0x42), of_system(7, 3, 0, 0x42)], 7),
+    ];
+    for (row, (ports, port)) in rows.iter().enumerate() {
+        refused(&rt, alloc, row, ports, ResumeFault::NotDistributing(*port))?;
+    }
+    let ports = [of_system(3, 0, 0, 0x42), of_system(7, 0, 0, 0x42)];
+    let made = resume(alloc, config(alloc, 70)?, modulo, &ports);
+    same(&rt, "any aggregator", &made.is_ok(), &true);
     Ok(())
 }

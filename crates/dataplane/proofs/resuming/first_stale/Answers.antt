@@ -7,12 +7,12 @@ loop-one-init c = tt
 
 pub returns-then-is_stale : goal.returns-then-is_stale
 returns-then-is_stale c =
-    found (λ x. is_stale c.args.ports.now x ≡ false) c.args.saved.now c.loop-one.one-index (record { port = 0; age = 0; frame = [] })
+    found (λ x. is_stale c.args.ports.now x ≡ false) c.args.saved.now c.loop-one.one-index (record { port = 0; aggregator = 0; age = 0; frame = [] })
     c.loop-one-test.true c.loop-one.invariant (λ fresh. false≢true (sym fresh ∙ sym c.is_stale.ensures ∙ c.if-is_stale.true))
 
 pub loop-one-preserved : goal.loop-one-preserved
 loop-one-preserved c =
-    holds_on (λ x. is_stale c.args.ports.now x ≡ false) c.args.saved.now c.loop-one.one-index (record { port = 0; age = 0; frame = [] })
+    holds_on (λ x. is_stale c.args.ports.now x ≡ false) c.args.saved.now c.loop-one.one-index (record { port = 0; aggregator = 0; age = 0; frame = [] })
     c.loop-one-test.true c.loop-one.invariant (sym c.is_stale.ensures ∙ c.if-is_stale.false)
 
 pub returns : goal.returns

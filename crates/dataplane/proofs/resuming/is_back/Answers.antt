@@ -10,9 +10,9 @@ returns-in-Some-Some g c = (
     heard = c.in-Some-Some.heard;
     there = c.in-Some-Some.ensures;
     reads = subst (λ o. IfSome o (λ v. ReadsPdu (drop 14 c.args.saved.now.frame) (pdu.Lacpdu v))) c.in-Some-Some.is-1 c.lacpdu_of.ensures.found;
-    same = sym c.tells_nothing_new.ensures ∙ t;
+    same = sym c.is_as_saved.ensures ∙ t;
   },
-  λ back. c.tells_nothing_new.ensures
+  λ back. c.is_as_saved.ensures
       ∙ told_same c.args.system.now.state c.args.saved.now c.in-Some-Some.port.now c.in-Some-Some.heard c.in-Some-Some.ensures
       (λ v h. sym c.in-Some-Some.is-1 ∙ c.lacpdu_of.ensures.only v h) back,
 )
