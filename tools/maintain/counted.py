@@ -144,8 +144,7 @@ def later_speaker(pages: Read) -> list[str]:
 
 
 def hostile(pages: Read) -> list[str]:
-    few, many = found(pages, "tools/maintain/long-tests", r"const FRAMES: u32 = ([\d_]+);\", \"const FRAMES: u32 = ([\d_]+);")
-    return [few.replace("_", ","), many.replace("_", ",")]
+    return [found(pages, "crates/tests_system/src/systems/hostile.rt", r"const FRAMES: u32 = ([\d_]+);")[0].replace("_", ",")]
 
 
 def line_of(path: str, text: str) -> Callable[[Read], list[str]]:
@@ -199,7 +198,7 @@ QUOTES: tuple[Quote, ...] = (
     Quote(ASSURANCE, f"each end is asked in them until nothing is due{PROMISED}", rounds_and_seconds("freed")),
     Quote(ASSURANCE, f"a full aggregator whose links all agree{PROMISED}", rounds_and_seconds("up")),
     Quote(ASSURANCE, f"each link distributes and agrees{PROMISED}", beside_cut_offs),
-    Quote(ASSURANCE, "cut at every length; {} frames of up to 200 octets ({} by `tools/maintain/long-tests`)", hostile),
+    Quote(ASSURANCE, "cut at every length; {} frames of up to 200 octets among ticks", hostile),
     Quote(THEOREMS, "- *{} | {}* means: after", lambda pages: list(map(str, bounds(pages, "up")))),
     Quote(THEOREMS, "means: after {} rounds or more if both ends of each healthy cable are active (clause `both`), after {} if one is",
           lambda pages: list(map(str, bounds(pages, "up")))),

@@ -251,9 +251,8 @@ fn aggregators_have_a_limit(rt: HostRuntime) -> Result<(), AllocError> {
     Ok(())
 }
 
-/// How many events are read to their end. tools/maintain/long-tests reads ten times as many, the most that a script may have,
-/// which takes too long beside other proofs.
-const EVENTS: usize = 10_000;
+/// How many events are read to their end: the most that a script may have.
+const EVENTS: usize = 100_000;
 
 /// The outcome of reading this many events with this text.
 fn events_come_to(
@@ -274,8 +273,8 @@ fn events_have_a_limit(rt: HostRuntime) -> Result<(), AllocError> {
     let tick = "\"tick 1 1\",";
     let empty = "\"\",";
     events_come_to(&rt, alloc, tick, EVENTS, "read")?;
-    events_come_to(&rt, alloc, empty, 100_000, "event 1: word")?;
-    events_come_to(&rt, alloc, empty, 100_001, "events")
+    events_come_to(&rt, alloc, empty, EVENTS, "event 1: word")?;
+    events_come_to(&rt, alloc, empty, EVENTS + 1, "events")
 }
 
 #[test]

@@ -6,8 +6,8 @@ use lagsystem::{AggId, Info, Key, Received, System, SystemFault, SystemId};
 use slowpdu::{MarkerKind, frame};
 use std::process::Abort;
 
-/// How many frames come. tools/maintain/long-tests plays ten times as many, which takes too long beside other proofs.
-const FRAMES: u32 = 1_000;
+/// How many frames come.
+const FRAMES: u32 = 10_000;
 
 /// A linear congruential generator: it gives the same octets in each run.
 #[derive(Drop)]
