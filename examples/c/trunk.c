@@ -151,24 +151,24 @@ static void show(const char *what) {
 /* The control plane ends, and the chip goes on. Saved is each port that distributes with a partner: a port on defaults has no LACPDU. */
 static size_t stop(struct niw_saved *kept, uint32_t *next_marker) {
     size_t count = 0;
-    for (uint16_t port = 1; port <= PORTS; port++)
-        if (niw_distributes(&here, port).is && !niw_defaulted(&here, port).is) kept[count++] = saved[port];
+    for (uint16_t port = 1; port <= PORTS; port++) {
+        if (!niw_distributes(&here, port).is || niw_defaulted(&here, port).is) continue;
+        kept[count] = saved[port];
+        kept[count++].aggregator = (uint16_t)niw_choice(&here, port).number;
+    }
     *next_marker = niw_next_marker(&here).id;
     niw_free(&here);
     return count;
 }
 
-/* The next one: ports that were saved go on, and may be in an aggregator of another number than before; each row is adopted there. */
+/* The next one: ports that were saved go on in the aggregators that they were in, and each row is adopted there. */
 static void start_again(const struct niw_saved *kept, size_t count, uint32_t next_marker) {
     static struct niw_view seen[NIW_MOST_PORTS];
     unsigned adopted = 0;
     niw_views(&peer, seen, NIW_MOST_PORTS);
     make(&here, 1, next_marker, kept, count);
-    active = 0;
-    suspended = false;
-    choose_trunk();
     for (uint16_t i = 0; i < ROWS; i++)
-        if (row[i] != 0 && niw_adopt(&here, (uint16_t)niw_choice(&here, row[i]).number, i, row[i]) == NIW_OK) adopted++;
+        if (row[i] != 0 && niw_adopt(&here, active, i, row[i]) == NIW_OK) adopted++;
     niw_set_link(&here, 1, true);
     pass(50);
     printf("taken over: %u rows adopted; the peer noticed %s\n", adopted, niw_views(&peer, seen, NIW_MOST_PORTS).number == 0 ? "nothing" : "a change");
