@@ -1,8 +1,9 @@
-"""tools/maintain/healthy-rounds: of which kind a case is, and what its bounds mean."""
+"""tools/maintain/healthy-rounds: of which kind a case is, what a round does, and what its bounds mean."""
 
 from __future__ import annotations
 
 import random
+from types import SimpleNamespace
 from typing import Any
 
 import pytest
@@ -10,15 +11,43 @@ import pytest
 import loading
 
 rounds = loading.program("healthy-rounds")
+LAG = SimpleNamespace(State=SimpleNamespace(ACTIVITY=1), LagError=ValueError)
 
 
-def case(ours: list[bool], theirs: list[bool], joined: list[int]) -> Any:
-    """A case with these active ends; cable n leads from our port n to their port joined[n]."""
-    made = rounds.Case.__new__(rounds.Case)
-    made.count, made.joined, made.before = len(joined), joined, ["cut 2"]
-    made.ports = [[{"key": 5, "active": it, "short": False, "aggregatable": True} for it in ends] for ends in (ours, theirs)]
-    made.conversations, made.limits = [256, 4096], [None, 3]
-    return made
+class Fake:
+    """A system that sends one frame on each port after each tick, and takes what comes."""
+
+    def __init__(self, count: int, active: list[bool]) -> None:
+        self.count, self.active = count, active
+        self.told: list[str] = []
+        self.due: set[int] = set()
+
+    def tick(self) -> None:
+        self.told.append("tick")
+        self.due = set(range(1, self.count + 1))
+
+    def transmit(self, port: int) -> Any:
+        self.told.append(f"asked {port}")
+        if port not in self.due:
+            return None
+        self.due.remove(port)
+        return SimpleNamespace(frame=b"%d" % port)
+
+    def receive(self, port: int, frame: bytes) -> Any:
+        self.told.append(f"came {port}")
+        return SimpleNamespace(response=None)
+
+    def state(self, port: int) -> int:
+        return int(self.active[port - 1])
+
+
+def case(kind: str, joined: list[int], active: list[list[bool]] | None = None) -> tuple[Any, Any]:
+    """A case with rounds of this kind, and its world; cable n leads from our port n to their port joined[n]."""
+    made = rounds.Case(random.Random(7))
+    made.count, made.joined, made.rounds, made.has_calls = len(joined), joined, kind, False
+    made.between = lambda world: None
+    systems = [Fake(len(joined), it) for it in active or [[True] * len(joined)] * 2]
+    return made, rounds.World(LAG, systems, [rounds.Cable((number, other)) for number, other in enumerate(joined, 1)])
 
 
 @pytest.mark.parametrize(
@@ -33,93 +62,85 @@ def case(ours: list[bool], theirs: list[bool], joined: list[int]) -> Any:
 def test_the_ends_of_its_cables_say_of_which_kind_a_case_is(
     ours: list[bool], theirs: list[bool], joined: list[int], kind: int, heard: list[int]
 ) -> None:
-    made = case(ours, theirs, joined)
-    assert (made.kind(), made.heard()) == (rounds.KINDS[kind], heard)
+    made, world = case("healthy", joined, [ours, theirs])
+    assert (made.kind(world), [it.ends[0] for it in made.heard(world)]) == (kind, heard)
 
 
 @pytest.mark.parametrize(("keys", "most"), [([1], 1), ([1, 2, 2], 2), ([2, 1, 1, 2, 1], 3)])
 def test_the_most_ports_of_a_key(keys: list[int], most: int) -> None:
-    assert rounds.Case.most_of_a_key([{"key": key} for key in keys]) == most
+    assert rounds.Case.most_of_a_key([rounds.Port(key, True, True, True) for key in keys]) == most
 
 
-@pytest.mark.parametrize("count", [0, 1, 4])
-def test_a_script_has_so_many_rounds(count: int) -> None:
-    text = case([True], [True], [1]).script(count, ["sense 1 2"])
-    assert text.count('"tick 1 1"') == text.count('"tick 2 1"') == count
-    assert text.startswith('events = [\n"cut 2",\n"join 1",\n"sense 1 1",\n"sense 1 2",\n')
-    assert text.count("max_links = 3") == text.count("max_links") == 1
-    assert "conversations = 256\n" in text and "ends = [1, 1]\n" in text
+@pytest.mark.parametrize("kind", ["healthy", "hosts", "late"])
+def test_in_a_round_each_system_ticks_once_and_its_ports_are_asked_behind_that(kind: str) -> None:
+    made, world = case(kind, [2, 1])
+    for _ in range(20):
+        made.round(world)
+    for system in world.systems:
+        assert system.told.count("tick") == 20
+        behind = " ".join(it for it in system.told if not it.startswith("came")).split("tick")[1:]
+        assert all("asked 1" in it and "asked 2" in it for it in behind)
 
 
-@pytest.mark.parametrize(("agrees", "most", "found"), [(37, 650, 37), (0, 650, 0), (650, 650, 650), (1, 2, 1), (651, 650, None)])
-def test_the_fewest_rounds_are_found_by_halves(monkeypatch: pytest.MonkeyPatch, agrees: int, most: int, found: int | None) -> None:
-    made = case([True], [True], [1])
-    monkeypatch.setattr(rounds.Case, "agreements", lambda _, played, words: played >= agrees)
-    assert made.rounds_of(most) == found
+@pytest.mark.parametrize(("kind", "left"), [("healthy", 0), ("hosts", 0), ("late", 2)])
+def test_what_is_sent_in_a_late_round_may_stay_for_one_more(kind: str, left: int) -> None:
+    made, world = case(kind, [1])
+    most, came = 0, 0
+    for played in range(1, 31):
+        made.round(world)
+        flies = sum(len(line) for cable in world.cables for line in cable.towards)
+        came = sum(it.startswith("came") for system in world.systems for it in system.told)
+        assert came + flies == 2 * played
+        most = max(most, flies)
+    assert most == left
 
 
-@pytest.mark.parametrize("kind", range(3))
-@pytest.mark.parametrize(
-    ("known", "took", "held", "wrong"),
-    [
-        (True, 12, 0, None),
-        (False, 12, 0, "an end runs on defaults after {known} rounds"),
-        (True, None, 0, "cables [4] do not all agree after {agreed} rounds"),
-        (True, 12, 6, "6 offers are refused as held after {freed} rounds"),
-    ],
-)
-def test_each_bound_is_that_of_the_kind(
-    monkeypatch: pytest.MonkeyPatch, kind: int, known: bool, took: int | None, held: int, wrong: str | None
-) -> None:
-    name, asked = rounds.KINDS[kind], []
-
-    class Fake:
-        def __init__(self, chance: random.Random) -> None: ...
-
-        def fits(self) -> bool:
-            return True
-
-        def kind(self) -> str:
-            return str(name)
-
-        def heard(self) -> list[int]:
-            return [4]
-
-        def agreements(self, played: int, words: list[str]) -> bool:
-            asked.append(played)
-            return known
-
-        def rounds_of(self, most: int) -> int | None:
-            asked.append(most)
-            return took
-
-        def held(self, played: int) -> int:
-            asked.append(played)
-            return held
-
-    monkeypatch.setattr(rounds, "Case", Fake)
-    bounds = {"known": rounds.KNOWN[name], "agreed": rounds.AGREED[name], "freed": rounds.FREED[name]}
-    found = rounds.tried(8, 2)
-    assert found == (name, 12 if known and took else 0, wrong and wrong.format(**bounds))
-    assert asked == list(bounds.values())[: len(asked)]
+def test_a_frame_goes_to_the_other_end_of_its_cable_and_a_cut_cable_takes_none() -> None:
+    _, world = case("healthy", [2, 1])
+    world.put(0, 1, b"one")
+    assert [list(it.towards[1]) for it in world.cables] == [[b"one"], []]
+    world.cut(world.cables[0])
+    world.put(0, 1, b"more")
+    assert not any(line for it in world.cables for line in it.towards)
 
 
-@pytest.mark.parametrize("seed", range(20))
-def test_in_a_round_of_hosts_each_end_is_asked_after_its_tick_and_all_arrives(seed: int) -> None:
-    made = rounds.Case(random.Random(seed))
-    played = made.round_of_hosts()
-    asked = [f"emit {system} {port}" for system in (1, 2) for port in made.numbers()]
-    passes = [f"deliver {cable} {system}" for cable in made.numbers() for system in (1, 2)]
-    kinds = {"tick": 2, "offer": 2, "move": 1}
-    assert {word: sum(it.startswith(word) for it in played) for word in kinds} == kinds
-    assert all(asking in played[played.index(f"tick {asking.split()[1]} 1") :] for asking in asked)
-    assert played[-5 * len(passes) :] == passes * 5
+def test_control_frames_alone_are_repeated() -> None:
+    _, world = case("healthy", [1])
+    cable = world.cables[0]
+    for frame, times in (rounds.SLOW + b"1", 2), (b"\2\0\0\0\0\1data", 1):
+        cable.towards[0].clear()
+        cable.towards[0].append(frame)
+        world.repeat(cable, 0)
+        assert list(cable.towards[0]) == [frame] * times
+
+
+@pytest.mark.parametrize("kind", ["healthy", "hosts", "late"])
+@pytest.mark.parametrize("place", range(3))
+@pytest.mark.parametrize("late_by", [-1, 0])
+def test_each_bound_is_that_of_its_rounds_and_cables(monkeypatch: pytest.MonkeyPatch, kind: str, place: int, late_by: int) -> None:
+    bounds = {rounds.is_known: rounds.KNOWN[kind][place], rounds.is_agreed: rounds.AGREED[kind][place], rounds.is_free: rounds.FREED[place]}
+    last = {it: bound + late_by for it, bound in bounds.items()}
+    played: list[int] = []
+    monkeypatch.setattr(rounds.Case, "world", lambda self, lag: None)
+    monkeypatch.setattr(rounds.Case, "event", lambda self, world: None)
+    monkeypatch.setattr(rounds.Case, "heal", lambda self, world: setattr(self, "rounds", kind))
+    monkeypatch.setattr(rounds.Case, "kind", lambda self, world: place)
+    monkeypatch.setattr(rounds, "last_rounds", lambda made, world, most: [played.append(most), last.items()][1])
+    found = rounds.tried(None, 8, 2)
+    assert found[:3] == (kind, place, bounds[rounds.is_agreed] + late_by + 1)
+    wrong = ["an end runs on defaults", "cables do not agree", *(["conversations are held"] if kind == "healthy" else [])]
+    assert (found[3] or "").count(";") == (len(wrong) - 1 if late_by == 0 else 0)
+    assert (found[3] is None) == (late_by < 0) and all(it in (found[3] or "") for it in wrong if late_by == 0)
+    looked = bounds.values() if kind == "healthy" else [bounds[rounds.is_known], bounds[rounds.is_agreed]]
+    assert played == [max(looked) + rounds.BEYOND]
 
 
 @pytest.mark.parametrize("seed", range(20))
 def test_ports_that_share_an_aggregator_are_aggregatable_and_have_one_key(seed: int) -> None:
     made = rounds.Case(random.Random(seed))
-    alike = all(port["key"] == 1 and port["aggregatable"] for ports in made.ports for port in ports)
-    changes = [event for event in made.before if event.startswith("configure")]
-    assert not made.shared or (alike and all(event.endswith("aggregatable") for event in changes))
-    assert made.script(1).count("aggregators = [1]\n") == 2 or not made.shared
+    assert not made.shared or all(port.key == 1 and port.aggregatable for ports in made.ports for port in ports)
+    configure: list[dict[str, Any]] = []
+    system = SimpleNamespace(configure=lambda port, **values: configure.append(values))
+    for _ in range(5):
+        made.configure(system, 0, 1)
+    assert all(it["key"] == made.ports[0][0].key and (it["aggregatable"] or not made.shared) for it in configure)
