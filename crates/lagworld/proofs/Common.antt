@@ -27,14 +27,12 @@ pub use Rattle.slowpdu.proofs.PduInLemmas.{pdu_read}
 pub use Rattle.slowpdu.proofs.PduLemmas.{written_pdu}
 pub use Rattle.lagmodel.specs.Bridge.{find_number, world_after_call}
 pub use Rattle.lagmodel.specs.Law.{EndsAgree, InOrder, LastLacpduIsUpToDate, OnePartner}
-pub use Rattle.lagmodel.specs.Move.{Act, Become, Forced, LawfulMoves, Move, Sends, Sends_frame, Took}
-pub use Rattle.lagmodel.specs.View.{Conversation, Free, ControlMessage as Message_pdu, ModelCall as ModelEvent, PortFacts, View, at_conversation}
-pub use Rattle.lagmodel.specs.View.{first_port, first_view, is_restart}
-pub use Rattle.lagmodel.specs.World.{CallHappens, Control, CountsChanges, Data, DeliversFirst, Ends, Event as Happening, Happens, IsCabling}
-pub use Rattle.lagmodel.specs.World.{IsWorldSetup, LosesFirst, Message, One, Receives, RepeatsFirst, Run, Side, TakenLacpdu}
-pub use Rattle.lagmodel.specs.World.{SensesCable as Told_senses, Two, World, WorldSetup, at_cable, at_side, at_two, end_at, first_world, handed_up}
-pub use Rattle.lagmodel.specs.World.{on_cable_after, party_at, peer, port_on, put_on_cable as put_in, sent_after, stamp_of, taken_after}
-pub use Rattle.lagmodel.specs.World.{with_messages, world_after, world_after_all}
+pub use Rattle.lagmodel.specs.Move.{Act, LawfulMoves, Sends, Sends_frame, Took}
+pub use Rattle.lagmodel.specs.View.{ControlMessage as Message_pdu, ModelCall as ModelEvent, PortFacts, View, first_port, first_view, is_restart}
+pub use Rattle.lagmodel.specs.World.{CallHappens, Control, CountsChanges, Data, DeliversFirst, Ends, Happens, IsCabling, IsWorldSetup, LosesFirst}
+pub use Rattle.lagmodel.specs.World.{Message, One, Receives, RepeatsFirst, Run, Side, TakenLacpdu, SensesCable as Told_senses, Two, World, WorldSetup}
+pub use Rattle.lagmodel.specs.World.{at_cable, at_side, at_two, end_at, first_world, handed_up, on_cable_after, party_at, peer, port_on}
+pub use Rattle.lagmodel.specs.World.{put_on_cable as put_in, sent_after, stamp_of, taken_after, with_messages}
 pub use Rattle.lagmodel.proofs.Base.{cond_false, cond_true, mapped_some, none-is_some, value_of}
 pub use Rattle.lagmodel.proofs.Calls.{parties_same}
 pub use Rattle.lagmodel.proofs.Runs.{calls_from, put_on, runs_joined, same_world}
@@ -43,21 +41,19 @@ pub use Rattle.cables.specs.declared.item.Stamp.{Stamp}
 pub use Rattle.portmachines.specs.Machines.{Machines}
 pub use Rattle.distributor.specs.declared.assignment.Assignment.{Assignment}
 pub use Rattle.distributor.specs.Calls.{PicksIndexes, force_result}
-pub use Rattle.distributor.specs.Conversations.{IsConversation, assignment_of, is_conversation_count}
+pub use Rattle.distributor.specs.Conversations.{assignment_of, is_conversation_count}
 pub use Rattle.lagsystem.specs.declared.config.PortChange.{PortChange}
 pub use Rattle.lagsystem.specs.declared.drive.Reply.{Reply as Answer}
 pub use Rattle.lagsystem.specs.declared.fault.SystemFault.{SystemFault}
 pub use Rattle.lagsystem.specs.declared.received.Received.{Received}
-pub use Rattle.lagsystem.specs.Assigning.{OffersIf, frame_of_conversation}
 pub use Rattle.lagsystem.specs.Calls.{Call, Configure, Force, Move_conversation, Offer, Receive, Restart, Set_link, Tick, Transmit}
 pub use Rattle.lagsystem.specs.ModelView.{CallSeenAs, EffectsSeenAs, FrameSeenAs, IsSent, JoinedByLawfulMoves, configured_party, control_message}
 pub use Rattle.lagsystem.specs.ModelView.{marker_message, lacp_message as model_lacpdu, model_port, model_setup, model_view}
 pub use Rattle.lagsystem.specs.Offers.{GivesOrRefuses, has_aggregator, in_system, or_not_assigned, system_force_result}
-pub use Rattle.lagsystem.specs.Readers.{aggregator_numbered, conversation_count, group_at, number_of_conversation, two_octets}
+pub use Rattle.lagsystem.specs.Readers.{conversation_count, group_at, number_of_conversation, two_octets}
 pub use Rattle.lagsystem.specs.Sound.{CallPromise, PortsAgree}
-pub use Rattle.lagsystem.specs.State.{SystemState, machines_of, port_index, system_port_at, with_table}
+pub use Rattle.lagsystem.specs.State.{SystemState, machines_of, port_index, system_port_at}
 pub use Rattle.lagsystem.proofs.FirstView.{configured_setup, first_shows}
-pub use Rattle.lagsystem.proofs.HostCallLemmas.{TableAlone, agrees_beside, host_alone}
 pub use Rattle.lagsystem.proofs.Rising.{accepted_count, all-get}
 pub use Rattle.lagsystem.proofs.Seen.{party_seen, port_seen}
 pub use Rattle.lagsystem.proofs.Sent.{sent_payload}
@@ -82,9 +78,6 @@ pub use Rattle.lagworld.specs.Events.{with_collected_in, with_frame_counted, wit
 pub use Rattle.lagworld.specs.HalfCalls.{HalfAnswers, HalfConfigures, HalfForces, HalfMoves, HalfRestarts, HalfSenses, HalfTicks, change_counted}
 pub use Rattle.lagworld.specs.HalfCalls.{forced_if_accepted, is_party, or_refused, party_of_port, party_or, set_taken, with_changes_counted}
 pub use Rattle.lagworld.specs.HalfCalls.{with_party_recorded, with_state}
-pub use Rattle.lagworld.specs.HostEvents.{AfterNumberedOffer, AfterProbe, CountsHeld, CountsHeldIfOk, ForcedByForce, ForcesPort, HalfTells, HostEvent}
-pub use Rattle.lagworld.specs.HostEvents.{HostRuns, HostSteps, HostsKeepHeadline, KeepsHeadline, Leaves, MayForce, Offers, Plays, Probes, Rests}
-pub use Rattle.lagworld.specs.HostEvents.{forced_if, is_held, numbered_item}
 pub use Rattle.lagworld.specs.Inner.{flow_value, half_state, link_state, link_states}
 pub use Rattle.lagworld.specs.Making.{IsFirstHalf, are_empty_lines, empty_flow, first_aggregator_flows, first_flows, first_histories, first_history}
 pub use Rattle.lagworld.specs.Making.{first_link, first_links, has_empty_directions}

@@ -37,7 +37,7 @@ pub use lagscript::{
 };
 pub use laws::{
     a_start_is_sound, each_event_happens, each_event_has_one_reply, each_event_keeps,
-    each_world_keeps_the_headline, events_have_limits, host_calls_keep_the_headline,
+    each_world_keeps_the_headline, events_have_limits,
 };
 pub use reply::Reply;
 pub use world::World;

@@ -1,19 +1,19 @@
 -- What was held on a port is free and counts as forced, as the law has it.
-use Rattle.lagworld.proofs.Common.{Bool, IsSome, List, None, Option, Some, ap, arith, cond, false, inl, inr, length, nat_le, nat_lt, option_map, refl}
-use Rattle.lagworld.proofs.Common.{subst, sym, true, ℕ, ◌&&◌, ◌<◌, ◌==◌, ◌||◌, ◌∙◌, ◌≡◌, ◌≤◌, and_parts, cases_Bool, true≢false, nat_tests}
-use Rattle.lagworld.proofs.Common.{Conversation, Free, View, Run, Side, World, at_side, same_world, Assignment, IsConversation, assignment_of}
-use Rattle.lagworld.proofs.Common.{model_view, has_aggregator, aggregator_numbered, conversation_count, SystemState, with_table, with_state}
-use Rattle.lagworld.proofs.Common.{CountsHeld, forced_if, is_held, model_taken, model_world, world_setup, IsHalfSound, FlowValue, HalfState}
-use Rattle.lagworld.proofs.Common.{WorldState, change_count_in, collected_in, flow_at, forced_in, half, history_at, sent_in, taken_in, with_half}
-use Rattle.lagmodel.specs.World.{Event}
+use Rattle.laghosts.proofs.Common.{Bool, IsSome, List, None, Option, Some, ap, arith, cond, false, inl, inr, length, nat_le, nat_lt, option_map, refl}
+use Rattle.laghosts.proofs.Common.{subst, sym, true, ℕ, ◌&&◌, ◌<◌, ◌==◌, ◌||◌, ◌∙◌, ◌≡◌, ◌≤◌, and_parts, cases_Bool, true≢false, nat_tests}
+use Rattle.laghosts.proofs.Common.{Conversation, Free, View, Event, Run, Side, World, at_side, same_world, model_view, has_aggregator}
+use Rattle.laghosts.proofs.Common.{aggregator_numbered, conversation_count, SystemState, with_table, with_state, model_taken, model_world}
+use Rattle.laghosts.proofs.Common.{world_setup, IsHalfSound, FlowValue, HalfState, WorldState, change_count_in, collected_in, flow_at, forced_in}
+use Rattle.laghosts.proofs.Common.{half, history_at, sent_in, taken_in, with_half, half_after, kept_at, CountsHeld, forced_if, is_held}
+use Rattle.distributor.specs.declared.assignment.Assignment.{Assignment}
+use Rattle.distributor.specs.Conversations.{IsConversation, assignment_of}
 use Rattle.distributor.specs.declared.assignment.Assignment.TheVariants as state
 use Rattle.distributor.specs.Chains.{is_held_on}
 use Rattle.distributor.specs.Moves.{model_conversation}
 use Rattle.lagsystem.specs.Forcing.{FreesHeld, after_forcing}
 use Rattle.lagsystem.specs.HostCalls.{HasConversations}
-use Rattle.lagworld.proofs.HeldForced.{all_forced, among, are_passing, forcing, freed, freed_view, passing}
-use Rattle.lagworld.proofs.HostHalves.{flow_there}
-use Rattle.lagworld.proofs.Sides.{half_after, kept_at}
+use Rattle.laghosts.proofs.HeldForced.{all_forced, among, are_passing, forcing, freed, freed_view, passing}
+use Rattle.laghosts.proofs.HostHalves.{flow_there}
 
 -- the conversations that are held on the port
 abbrev pub held_in : ℕ → SystemState → List (ℕ × ℕ)

@@ -1,15 +1,14 @@
 -- Every list of events and calls of hosts keeps a world sound, so the headline holds after it.
-use Rattle.lagworld.proofs.Common.{Err, List, None, Ok, Option, Result, Some, [], ap, arith, refl, subst, sym, ℕ, ◌++◌, ◌+◌, ◌∙◌, ◌∷◌, ◌≡◌, ◌≤◌}
-use Rattle.lagworld.proofs.Common.{AggId, IsCabling, One, Run, Side, Two, WorldSetup, first_world, runs_joined, SystemFault, Event, Reply, Algorithms}
-use Rattle.lagworld.proofs.Common.{WorldSteps, most_events, AfterNumberedOffer, AfterProbe, ForcesPort, HostEvent, HostRuns, HostSteps}
-use Rattle.lagworld.proofs.Common.{HostsKeepHeadline, KeepsHeadline, Leaves, Offers, Plays, Probes, Rests, model_world, world_setup, IsReached}
-use Rattle.lagworld.proofs.Common.{IsSound, HalfState, WorldState, half, with_half}
+use Rattle.laghosts.proofs.Common.{Err, List, None, Ok, Option, Result, Some, [], ap, arith, refl, subst, sym, ℕ, ◌++◌, ◌+◌, ◌∙◌, ◌∷◌, ◌≡◌, ◌≤◌}
+use Rattle.laghosts.proofs.Common.{AggId, IsCabling, One, Run, Side, Two, WorldSetup, first_world, runs_joined, SystemFault, Reply, Algorithms}
+use Rattle.laghosts.proofs.Common.{WorldSteps, most_events, model_world, world_setup, IsReached, IsSound, HalfState, WorldState, half, with_half}
+use Rattle.laghosts.proofs.Common.{shaped_of, steps_fixed, steps_sound, below_more, AfterNumberedOffer, AfterProbe, ForcesPort, HostEvent, HostRuns}
+use Rattle.laghosts.proofs.Common.{HostSteps, HostsKeepHeadline, KeepsHeadline, Leaves, Offers, Plays, Probes, Rests, Sets}
 use Rattle.lagmodel.specs.World.{Event as ModelEvent}
+use Rattle.lagscript.specs.declared.event.Event.{Event}
 use Rattle.lagworld.proofs.Headline.{accepted, headline_of}
-use Rattle.lagworld.proofs.HostHappens.{IsFollowed, force_port_followed, leave_followed, offer_followed, probe_followed, rest_followed}
-use Rattle.lagworld.proofs.Keeping.{shaped_of, steps_fixed, steps_sound}
+use Rattle.laghosts.proofs.HostHappens.{IsFollowed, force_port_followed, leave_followed, offer_followed, probe_followed, rest_followed, set_followed}
 use Rattle.lagworld.proofs.Running.{carries_of}
-use Rattle.lagworld.proofs.Soundness.{below_more}
 
 -- no call of a host counts as an event that acted
 offer_acted : (s : Side) (agg : AggId) (conv : ℕ) (octets : List ℕ) (a : Result ℕ SystemFault) (j new : WorldState)
@@ -69,6 +68,8 @@ step_kept gives (Rests s agg conv) old new i few x = followed_kept old new i
     (rest_followed (gives s) s agg conv x.0 x.1 old new (shaped_of old i) x.2 x.3) (ap (λ (j : WorldState). j.acted) x.3)
 step_kept gives (ForcesPort s port) old new i few x = followed_kept old new i
     (force_port_followed (gives s) s port x.0 x.1 x.2 old new (shaped_of old i) x.3 x.4 x.5) (ap (λ (j : WorldState). j.acted) x.5)
+step_kept gives (Sets s setting) old new i few x = followed_kept old new i
+    (set_followed s setting x.0 x.1 old new (shaped_of old i) x.2 x.3) (ap (λ (j : WorldState). j.acted) x.3)
 
 -- the count of events that acted does not fall
 same_count : (a b : ℕ) → b ≡ a → a ≤ b
@@ -81,6 +82,7 @@ step_rises gives (Leaves s agg conv) old new x = same_count old.acted new.acted 
 step_rises gives (Probes s port) old new x = same_count old.acted new.acted (probe_acted s port x.0 (with_half s x.1 old) new x.3)
 step_rises gives (Rests s agg conv) old new x = same_count old.acted new.acted (ap (λ (j : WorldState). j.acted) x.3)
 step_rises gives (ForcesPort s port) old new x = same_count old.acted new.acted (ap (λ (j : WorldState). j.acted) x.5)
+step_rises gives (Sets s setting) old new x = same_count old.acted new.acted (ap (λ (j : WorldState). j.acted) x.3)
 
 run_rises : (gives : Algorithms) (es : List HostEvent) (old new : WorldState) → HostRuns gives old es new → old.acted ≤ new.acted
 run_rises gives [] old new h = same_count old.acted new.acted (ap (λ (j : WorldState). j.acted) h)

@@ -1,31 +1,31 @@
 -- Each of the five calls of hosts is events of the law, and nothing that is kept of a world goes.
-use Rattle.lagworld.proofs.Common.{Bool, Err, IsSome, List, None, Ok, Option, Result, Some, [], ap, arith, length, nat_lt, option_map, refl, subst}
-use Rattle.lagworld.proofs.Common.{sym, true, ℕ, ◌++◌, ◌<◌, ◌∙◌, ◌∷◌, ◌≡◌, nat_tests, AggId, Pdu, IsSlowProtocolsFrame, pdu_in, Sends, Sends_frame}
-use Rattle.lagworld.proofs.Common.{ModelEvent, CallHappens, Data, Happens, IsCabling, One, Run, Side, Two, end_at, peer, put_in, SystemFault}
-use Rattle.lagworld.proofs.Common.{OffersIf, frame_of_conversation, Force, Offer, Transmit, control_message, has_aggregator, system_force_result}
-use Rattle.lagworld.proofs.Common.{conversation_count, number_of_conversation, SystemState, host_alone, with_sent_in, stamp_for, transmitted_item}
-use Rattle.lagworld.proofs.Common.{with_item_sent, HalfAnswers, forced_if_accepted, with_state, AfterNumberedOffer, AfterProbe, CountsHeldIfOk}
-use Rattle.lagworld.proofs.Common.{HalfTells, forced_if, is_held, numbered_item, item_message, payload_in, model_taken, model_world, world_setup}
-use Rattle.lagworld.proofs.Common.{IsHalfSound, HalfState, ItemValue, WorldState, change_count_in, change_flow, collected_in, flow_at, forced_in}
-use Rattle.lagworld.proofs.Common.{half, history_at, is_accepted, put_on_port, sent_in, taken_in, with_half, with_sent}
-use Rattle.lagmodel.specs.World.{Event}
+use Rattle.laghosts.proofs.Common.{Bool, Err, IsSome, List, None, Ok, Option, Result, Some, [], ap, arith, length, nat_lt, option_map, refl, subst}
+use Rattle.laghosts.proofs.Common.{sym, true, ℕ, ◌++◌, ◌<◌, ◌∙◌, ◌∷◌, ◌≡◌, nat_tests, AggId, Sends, Sends_frame, ModelEvent, CallHappens, Data, Event}
+use Rattle.laghosts.proofs.Common.{Happens, IsCabling, One, Run, Side, Two, end_at, peer, put_in, SystemFault, OffersIf, frame_of_conversation}
+use Rattle.laghosts.proofs.Common.{control_message, has_aggregator, system_force_result, conversation_count, number_of_conversation, Setting}
+use Rattle.laghosts.proofs.Common.{SystemState, host_alone, with_sent_in, stamp_for, transmitted_item, with_item_sent, HalfAnswers}
+use Rattle.laghosts.proofs.Common.{forced_if_accepted, with_state, item_message, payload_in, model_taken, model_world, world_setup, IsHalfSound}
+use Rattle.laghosts.proofs.Common.{HalfState, ItemValue, WorldState, change_count_in, change_flow, collected_in, flow_at, forced_in, half, history_at}
+use Rattle.laghosts.proofs.Common.{is_accepted, put_on_port, sent_in, taken_in, with_half, with_sent, read_changed, read_same, control_item, forces}
+use Rattle.laghosts.proofs.Common.{peer_twice, half_there, numbered_side, Follows, IsShaped, flow_on, follows_half, follows_put, follows_same}
+use Rattle.laghosts.proofs.Common.{follows_then, forced_there, AfterNumberedOffer, AfterProbe, CountsHeldIfOk, HalfSets, HalfTells, forced_if}
+use Rattle.laghosts.proofs.Common.{is_held, numbered_item}
+use Rattle.slowpdu.specs.declared.pdu.Pdu.{Pdu}
+use Rattle.slowpdu.specs.Frames.{IsSlowProtocolsFrame}
+use Rattle.slowpdu.specs.Readings.{pdu_in}
+use Rattle.lagsystem.specs.Calls.{Force, Offer, Transmit}
 use Rattle.lagsystem.specs.Leaving.{system_rest_result}
 use Rattle.lagsystem.specs.declared.drive.HostCall.TheVariants as host
 use Rattle.lagsystem.specs.declared.drive.HostReply.TheVariants as told
 use Rattle.lagsystem.specs.declared.drive.Reply.TheVariants as answer
 use Rattle.lagsystem.proofs.AssigningLemmas.{framed}
 use Rattle.lagworld.proofs.Cables.{put_away, put_towards, put_whole}
-use Rattle.lagworld.proofs.Flows.{read_changed, read_same}
 use Rattle.lagworld.proofs.Forced.{forced_by, refused_same, with_itself}
-use Rattle.lagworld.proofs.HeldForced.{forcing}
-use Rattle.lagworld.proofs.HostCounts.{held_happen, held_in, still_there}
-use Rattle.lagworld.proofs.HostHalves.{beside_on, flow_there, offer_refused, offered_there, table_on}
-use Rattle.lagworld.proofs.Keeping.{control_item, forces, peer_twice}
+use Rattle.laghosts.proofs.HeldForced.{forcing}
+use Rattle.laghosts.proofs.HostCounts.{held_happen, held_in, still_there}
+use Rattle.laghosts.proofs.HostHalves.{beside_on, flow_there, offer_refused, offered_there, table_on, setting_on}
 use Rattle.lagworld.proofs.OneSystem.{after_call, flows_kept, history_kept, keeping_call, quietly, told_moves}
 use Rattle.lagworld.proofs.Sends.{sends_beside, sent_read, stamped}
-use Rattle.lagworld.proofs.Sides.{half_there, numbered_side}
-use Rattle.lagworld.proofs.Soundness.{Follows, IsShaped, flow_on, follows_half, follows_put, follows_same, follows_then}
-use Rattle.lagworld.proofs.Whole.{forced_there}
 
 -- nothing that is kept of the world goes, and some events of the law lead there
 pub record IsFollowed (old new : WorldState) : Type 0 where
@@ -221,3 +221,13 @@ force_port_followed gives s port (Ok count) mid last old new i x c y =
     }
 force_port_followed gives s port (Err fault) mid last old new i x c y =
     no_event s last old new i (c ∙ half_same (half s old) mid x.same x.answers.1.same) y
+
+-- ---- a setting
+
+pub set_followed : (s : Side) (setting : Setting) (a : Result Unit SystemFault) (mid : HalfState) (old new : WorldState) → IsShaped old
+    → HalfSets setting a (half s old) mid → new ≡ with_half s mid old → IsFollowed old new
+set_followed s setting a mid old new i x y = one_event (Event.Tick s 1) old new
+    (subst (Follows 0 old) (sym y) (follows_half 0 s mid old i (setting_on setting a (half s old) mid x (i.kept s))))
+    (keeping_call s ModelEvent.Tick 0 true None mid old.links old new y (λ e. cc) refl
+    (quietly s 0 mid old (ap (λ (h : HalfState). h.flows) x.same) (λ p. ap (λ (h : HalfState). taken_in (history_at h.histories p)) x.same))
+    x.answers.moves (λ p. ap (λ (h : HalfState). change_count_in (history_at h.histories p)) x.same))

@@ -1,10 +1,8 @@
 -- What is held on a port is forced: to the law it is one force after another.
-use Rattle.lagworld.proofs.Common.{Bool, List, [], ap, arith, cond, eq-eqb, eqb, eqb-true, false, inl, inr, refl, subst, suc, sym, true, zero, ℕ}
-use Rattle.lagworld.proofs.Common.{◌&&◌, ◌++◌, ◌<◌, ◌||◌, ◌∙◌, ◌∷◌, ◌≡◌, ◌≤◌, ◌⊎◌, and_parts, cases_Bool, true≢false, nat_tests, Become, Forced, Free}
-use Rattle.lagworld.proofs.Common.{View, at_conversation, CountsChanges, Happens, One, Run, Side, Two, World, WorldSetup, at_side, at_two}
-use Rattle.lagworld.proofs.Common.{world_after_all, runs_joined, same_world}
-use Rattle.lagmodel.specs.World.{Event}
-use Rattle.lagmodel.specs.Move.{Flow}
+use Rattle.laghosts.proofs.Common.{Bool, List, [], ap, arith, cond, eq-eqb, eqb, eqb-true, false, inl, inr, refl, subst, suc, sym, true, zero, ℕ}
+use Rattle.laghosts.proofs.Common.{◌&&◌, ◌++◌, ◌<◌, ◌||◌, ◌∙◌, ◌∷◌, ◌≡◌, ◌≤◌, ◌⊎◌, and_parts, cases_Bool, true≢false, nat_tests, Become, Flow, Forced}
+use Rattle.laghosts.proofs.Common.{Free, View, at_conversation, CountsChanges, Event, Happens, One, Run, Side, Two, World, WorldSetup, at_side}
+use Rattle.laghosts.proofs.Common.{at_two, world_after_all, runs_joined, same_world}
 
 -- the conversations that the list names
 abbrev pub among : List (ℕ × ℕ) → ℕ → ℕ → Bool

@@ -1,7 +1,7 @@
-use Rattle.lagworld.proofs.Sides.{algorithms_of}
-use Rattle.lagworld.proofs.HostForced.{forced_by_force}
-use Rattle.lagworld.proofs.HostHeadline.{hosts_keep_headline}
-use Rattle.lagworld.proofs.laws.host_calls_keep_the_headline.Goals as goal
+use Rattle.laghosts.proofs.Common.{algorithms_of}
+use Rattle.laghosts.proofs.HostForced.{forced_by_force}
+use Rattle.laghosts.proofs.HostHeadline.{hosts_keep_headline}
+use Rattle.laghosts.proofs.host_calls_keep_the_headline.Goals as goal
 
 pub returns-clause-headline : goal.returns-clause-headline
 returns-clause-headline g c = λ one two. hosts_keep_headline (algorithms_of g.F.Fn.post one two)

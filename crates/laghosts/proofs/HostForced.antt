@@ -1,20 +1,18 @@
 -- A conversation counts as forced only after an event that forces it.
-use Rattle.lagworld.proofs.Common.{Bool, Err, IsSomeAnd, List, None, Ok, Option, Result, Some, [], ap, arith, cond, eq-eqb, eqb, eqb-true, false, inl}
-use Rattle.lagworld.proofs.Common.{inr, is_some, option_map, refl, subst, sym, true, ℕ, ◌&&◌, ◌||◌, ◌∙◌, ◌∷◌, ◌≡◌, ◌⊎◌, and_parts, cases_Bool}
-use Rattle.lagworld.proofs.Common.{true≢false, AggId, Move, ModelEvent, CallHappens, Control, Data, DeliversFirst, Happening, Happens, LosesFirst}
-use Rattle.lagworld.proofs.Common.{Message, One, Receives, RepeatsFirst, Side, Told_senses, Two, World, WorldSetup, at_side, at_two, end_at}
-use Rattle.lagworld.proofs.Common.{handed_up, world_after, world_after_all, SystemFault, Event, Reply, with_sent_in, Algorithms, WorldSteps}
-use Rattle.lagworld.proofs.Common.{model_event, side_of, forced_if_accepted, AfterNumberedOffer, AfterProbe, CountsHeldIfOk, ForcedByForce}
-use Rattle.lagworld.proofs.Common.{ForcesPort, HostEvent, HostSteps, Leaves, MayForce, Offers, Plays, Probes, Rests, forced_if, is_held}
-use Rattle.lagworld.proofs.Common.{numbered_item, side_numbered, model_world, world_setup, IsSound, FlowValue, HalfState, WorldState, change_flow}
-use Rattle.lagworld.proofs.Common.{flow_at, forced_in, half, with_forced, with_half, with_sent}
+use Rattle.laghosts.proofs.Common.{Bool, Err, IsSomeAnd, List, None, Ok, Option, Result, Some, [], ap, arith, cond, eq-eqb, eqb, eqb-true, false, inl}
+use Rattle.laghosts.proofs.Common.{inr, is_some, option_map, refl, subst, sym, true, ℕ, ◌&&◌, ◌||◌, ◌∙◌, ◌∷◌, ◌≡◌, ◌⊎◌, and_parts, cases_Bool}
+use Rattle.laghosts.proofs.Common.{true≢false, AggId, Move, ModelEvent, CallHappens, Control, Data, DeliversFirst, Happening, Happens, LosesFirst}
+use Rattle.laghosts.proofs.Common.{Message, One, Receives, RepeatsFirst, Side, Told_senses, Two, World, WorldSetup, at_side, at_two, end_at}
+use Rattle.laghosts.proofs.Common.{handed_up, world_after, world_after_all, SystemFault, Reply, with_sent_in, Algorithms, WorldSteps, model_event}
+use Rattle.laghosts.proofs.Common.{side_of, forced_if_accepted, side_numbered, model_world, world_setup, IsSound, FlowValue, HalfState, WorldState}
+use Rattle.laghosts.proofs.Common.{change_flow, flow_at, forced_in, half, with_forced, with_half, with_sent, flow_other, flow_other_row, read_same}
+use Rattle.laghosts.proofs.Common.{kept_at, does_happen, AfterNumberedOffer, AfterProbe, CountsHeldIfOk, ForcedByForce, ForcesPort, HostEvent}
+use Rattle.laghosts.proofs.Common.{HostSteps, Leaves, MayForce, Offers, Plays, Probes, Rests, Sets, forced_if, is_held, numbered_item}
+use Rattle.lagscript.specs.declared.event.Event.{Event}
 use Rattle.lagscript.specs.declared.event.Event.TheVariants as event
 use Rattle.lagworld.proofs.Acts.{side_there}
 use Rattle.lagworld.proofs.Effects.{some_there}
-use Rattle.lagworld.proofs.Flows.{flow_other, flow_other_row, read_same}
-use Rattle.lagworld.proofs.HostHappens.{offered_joint}
-use Rattle.lagworld.proofs.Sides.{kept_at}
-use Rattle.lagworld.proofs.Whole.{does_happen}
+use Rattle.laghosts.proofs.HostHappens.{offered_joint}
 
 -- ---- the events of the law
 
@@ -223,3 +221,5 @@ forced_by_force gives (Rests t agg conv) old new s g k x i f =
     rest_forced t agg conv x.0 x.1 old new s g k (ap (λ (h : HalfState). h.flows) x.2.same) x.3 f
 forced_by_force gives (ForcesPort t port) old new s g k x i f =
     held_forced t port x.0 x.1 x.2 old new s g k (ap (λ (h : HalfState). h.flows) x.3.same) x.4 x.5 f
+forced_by_force gives (Sets t setting) old new s g k x i f =
+    inl (beside_forced t x.1 old s g k (ap (is_forced g k) x.2.same) (sym (ap (λ j. is_forced g k (half s j)) x.3) ∙ f))

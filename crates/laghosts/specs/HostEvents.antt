@@ -1,4 +1,4 @@
--- Two systems and hosts with a data plane: the events, and the five calls of `HostCall` that are no events (profile).
+-- Two systems and their hosts: the events, the five calls of `HostCall` that are no events, and the settings (profile).
 use Rattle.std.specs.Prelude.{◌≡◌, ◌≤◌, ◌⊎◌, ℕ, Bool, ◌&&◌, ◌||◌, true, nat_lt, List, [], ◌∷◌, length, Option, Some, None, option_map, Result, Ok, Err}
 use Rattle.lagtypes.specs.declared.identifiers.AggId.{AggId}
 use Rattle.cables.specs.declared.item.Stamp.TheVariants as stamp
@@ -14,6 +14,7 @@ use Rattle.lagsystem.specs.declared.fault.SystemFault.{SystemFault}
 use Rattle.lagsystem.specs.HostCalls.{HostPromise}
 use Rattle.lagsystem.specs.Offers.{has_aggregator}
 use Rattle.lagsystem.specs.Readers.{aggregator_numbered, conversation_count}
+use Rattle.lagsystem.specs.Settings.{Setting, SettingPromise}
 use Rattle.lagsystem.specs.State.{SystemState}
 use Rattle.lagscript.specs.declared.event.Event.{Event}
 use Rattle.lagscript.specs.declared.event.Event.TheVariants as event
@@ -27,8 +28,8 @@ use Rattle.lagworld.specs.Messages.{side_number}
 use Rattle.lagworld.specs.ModelWorld.{world_setup}
 use Rattle.lagworld.specs.Sound.{HeadlineFacts, IsSound}
 
--- an event, or one of the five calls of a system: a frame is offered by the number of its conversation, a conversation leaves its
--- port, a port is probed, a conversation rests, and what is held on a port is forced
+-- An event; or one of the five calls of a system: a frame is offered by the number of its conversation, a conversation leaves its
+-- port, a port is probed, a conversation rests, and what is held on a port is forced; or a setting of a system.
 pub data HostEvent : Type 0 where
   Plays : (e : Event) → HostEvent
   Offers : (s : Side) (agg : AggId) (conv : ℕ) (octets : List ℕ) → HostEvent
@@ -36,10 +37,16 @@ pub data HostEvent : Type 0 where
   Probes : (s : Side) (port : ℕ) → HostEvent
   Rests : (s : Side) (agg : AggId) (conv : ℕ) → HostEvent
   ForcesPort : (s : Side) (port : ℕ) → HostEvent
+  Sets : (s : Side) (setting : Setting) → HostEvent
 
 -- The system of this half answers a call of a host as its contract says. Nothing else changes.
 pub record HalfTells (gives : ℕ → ℕ → ℕ → Type 0) (call : HostCall) (a : HostReply) (old new : HalfState) : Type 0 where
   pub answers : HostPromise gives old.state call a new.state
+  pub same : new ≡ with_state new.state old
+
+-- The system of this half answers a setting as its contract says. Nothing else changes.
+pub record HalfSets (setting : Setting) (a : Result Unit SystemFault) (old new : HalfState) : Type 0 where
+  pub answers : SettingPromise old.state setting a new.state
   pub same : new ≡ with_state new.state old
 
 -- the frame as an item with its stamp: its system, aggregator and conversation, and the conversation's next serial number
@@ -79,7 +86,7 @@ abbrev pub CountsHeldIfOk : Result ℕ SystemFault → ℕ → SystemState → H
 CountsHeldIfOk (Ok count) port s old new = CountsHeld port s old new
 CountsHeldIfOk (Err fault) port s old new = new ≡ old
 
--- From old, the event or call of a host may lead to new. A host offers no slow protocols frame.
+-- From old, the event, call or setting of a host may lead to new. A host offers no slow protocols frame.
 abbrev pub HostSteps : Algorithms → WorldState → HostEvent → WorldState → Type 0
 HostSteps gives old (Plays e) new = (r : Reply) × WorldSteps gives old e r new
 HostSteps gives old (Offers s agg conv octets) new =
@@ -99,6 +106,8 @@ HostSteps gives old (ForcesPort s port) new =
     (a : Result ℕ SystemFault) × (mid : HalfState) × (last : HalfState)
     × HalfTells (gives s) (host.ForcePort port) (told.ForcePort a) (half s old) mid
     × CountsHeldIfOk a port (half s old).state mid last × (new ≡ with_half s last old)
+HostSteps gives old (Sets s setting) new =
+    (a : Result Unit SystemFault) × (mid : HalfState) × HalfSets setting a (half s old) mid × (new ≡ with_half s mid old)
 
 -- so one after another
 abbrev pub HostRuns : Algorithms → WorldState → List HostEvent → WorldState → Type 0
@@ -113,7 +122,7 @@ pub record KeepsHeadline (old new : WorldState) : Type 0 where
   pub headline : Headline new
   pub carries : HeadlineFacts new
 
--- every list of events and calls of hosts keeps the headline
+-- every list of events, calls and settings of hosts keeps the headline
 abbrev pub HostsKeepHeadline : Algorithms → Type 0
 HostsKeepHeadline gives = (es : List HostEvent) (old new : WorldState) → HostRuns gives old es new → IsSound old
     → new.acted ≤ most_events → KeepsHeadline old new

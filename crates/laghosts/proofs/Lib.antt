@@ -1,0 +1,7 @@
+mod Common
+pub mod HeldForced
+pub mod HostHalves
+pub mod HostCounts
+pub mod HostHappens
+pub mod HostHeadline
+pub mod HostForced
