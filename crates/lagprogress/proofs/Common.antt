@@ -34,9 +34,8 @@ pub use Rattle.slowpdu.specs.Parties.{party_of}
 pub use Rattle.slowpdu.specs.Readings.{pdu_in}
 pub use Rattle.slowpdu.proofs.LayoutLemmas.{all-append}
 pub use Rattle.slowpdu.proofs.PduLemmas.{no_fault, one_pdu, written_pdu}
-pub use Rattle.lagmodel.specs.Law.{IsSubsequence, Members, same_side, serials}
-pub use Rattle.lagmodel.specs.World.{Control, Data, Ends, Happens, IsCabling, IsWorldSetup, Message, One, Side, TakenLacpdu, Two, World, WorldSetup}
-pub use Rattle.lagmodel.specs.World.{at_cable, end_at, first_world, party_at, peer, with_messages}
+pub use Rattle.lagmodel.specs.World.{Ends, Happens, IsCabling, IsWorldSetup, Message, One, Side, TakenLacpdu, Two, World, WorldSetup, at_cable}
+pub use Rattle.lagmodel.specs.World.{end_at, first_world, party_at, peer, with_messages}
 pub use Rattle.lagmodel.proofs.Base.{cond_false, cond_true, value_of}
 pub use Rattle.lagmodel.proofs.Uses.{find_at}
 pub use Rattle.cables.specs.declared.item.Stamp.{Stamp}
@@ -71,6 +70,8 @@ pub use Rattle.distributor.specs.Conversations.{IsConversation, Table, assignmen
 pub use Rattle.distributor.proofs.TableLemmas.{first_free}
 pub use Rattle.lagsystem.specs.declared.config.Config.{Config}
 pub use Rattle.lagsystem.specs.declared.config.PortConfig.{PortConfig}
+pub use Rattle.lagsystem.specs.declared.drive.HostCall.{HostCall}
+pub use Rattle.lagsystem.specs.declared.drive.HostReply.{HostReply}
 pub use Rattle.lagsystem.specs.declared.drive.Reply.{Reply as Answer}
 pub use Rattle.lagsystem.specs.declared.fault.SystemFault.{SystemFault}
 pub use Rattle.lagsystem.specs.declared.received.Received.{Received}
@@ -82,12 +83,14 @@ pub use Rattle.lagsystem.specs.Calls.{ReceivedFrame, ReceivesAt, Releases, Resta
 pub use Rattle.lagsystem.specs.Calls.{ThenSettles, Tick, Ticks, Transmit, changed_party, choice_with_link, is_own_response}
 pub use Rattle.lagsystem.specs.Drives.{call_of}
 pub use Rattle.lagsystem.specs.First.{HasJustStarted, IsFirst, config_value, configured_numbers, or_first, setup_of}
+pub use Rattle.lagsystem.specs.HostCalls.{HostPromise, HostRun}
 pub use Rattle.lagsystem.specs.ModelView.{IsSent, can_receive, can_receive_in, key_of, model_port_of, model_setup, model_view, none_enabled}
 pub use Rattle.lagsystem.specs.ModelView.{number_of_port}
 pub use Rattle.lagsystem.specs.NothingToSettle.{MuxIsSettled, PeriodicIsSettled}
 pub use Rattle.lagsystem.specs.Occupants.{OccupantsAgree, WithinLimit, occupied}
 pub use Rattle.lagsystem.specs.Offers.{GivesOrRefuses, MayBeOffered, Offers, RefusesOffer, assignment_of_frame, in_system, system_force_result}
 pub use Rattle.lagsystem.specs.Offers.{system_move_result}
+pub use Rattle.lagsystem.specs.Probing.{Probes, ProbesAt, ProbesIf}
 pub use Rattle.lagsystem.specs.Readers.{aggregator_numbered, collecting, distributes_in, distributing, group_at, number_of_conversation}
 pub use Rattle.lagsystem.specs.Readers.{selected_aggregator}
 pub use Rattle.lagsystem.specs.Sending.{IsLacpduOf, SendsLacpdu, SendsMarkerOf, TransmitsAt, TransmitsIf, own_marker}
@@ -100,7 +103,7 @@ pub use Rattle.lagsystem.specs.Views.{may_choose, selection_view, stage_of, view
 pub use Rattle.lagsystem.specs.Windows.{reply_has_lacpdu, subtype}
 pub use Rattle.lagsystem.proofs.Effects.{named}
 pub use Rattle.lagsystem.proofs.FirstView.{first_unselected}
-pub use Rattle.lagsystem.proofs.HostCallLemmas.{TableAlone, agrees_beside, host_alone}
+pub use Rattle.lagsystem.proofs.HostCallLemmas.{IsOther, TableAlone, agrees_beside, host_alone}
 pub use Rattle.lagsystem.proofs.Keeps.{Keeps, Step-frame, given_number, keeps_link, keeps_place, keeps_settled, keeps_tick, numbers_set, ports_table}
 pub use Rattle.lagsystem.proofs.Keeps.{promoted_numbers, settling_in, settling_keeps, settling_parts, zip_numbers}
 pub use Rattle.lagsystem.proofs.Limiting.{next_stands}
@@ -123,30 +126,32 @@ pub use Rattle.lagworld.specs.Agreement.{agreement_at, agreement_of, end_facts, 
 pub use Rattle.lagworld.specs.Events.{AfterOffer, AfterReceive, AfterTransmit, Algorithms, DeliversFrom, InHalf, OnLink, WorldEmits, WorldOffers}
 pub use Rattle.lagworld.specs.Events.{WorldReceives, WorldRuns, WorldSteps, cause, cause_or_no_memory, first_event_cause, has_cable, has_system}
 pub use Rattle.lagworld.specs.Events.{may_take_memory, most_events, offered_item, sent_reply, set_last_lacpdu, side_of, stamp_for, stamped_in}
-pub use Rattle.lagworld.specs.Events.{with_frame_counted, with_link_at, with_stamp_collected}
-pub use Rattle.lagworld.specs.HalfCalls.{HalfAnswers, HalfMoves, HalfTicks, forced_if_accepted, set_taken}
+pub use Rattle.lagworld.specs.Events.{transmitted_item, with_frame_counted, with_item_sent, with_link_at, with_stamp_collected}
+pub use Rattle.lagworld.specs.HalfCalls.{HalfAnswers, HalfMoves, HalfTicks, forced_if_accepted, set_taken, with_state}
 pub use Rattle.lagworld.specs.Making.{AreFirst}
 pub use Rattle.lagworld.specs.Messages.{payload_in, stamp_count}
 pub use Rattle.lagworld.specs.ModelWorld.{link_ends, world_setup}
 pub use Rattle.lagworld.specs.Readers.{ends_of_cable, ports_joined}
-pub use Rattle.lagworld.specs.Sound.{IsStart, IsSound as IsWorldSound, RefusesNext, both_algorithms, next_of}
+pub use Rattle.lagworld.specs.Sound.{IsSound as IsSoundWorld, IsStart, IsSound as IsWorldSound, RefusesNext, both_algorithms, next_of}
 pub use Rattle.lagworld.specs.State.{HalfState, ItemValue, LinkState, WorldState, accepts, accepts_at, change_count_in, change_link, element_numbered}
 pub use Rattle.lagworld.specs.State.{emptied, half, history_at, is_accepted, limit_towards, link_at, link_index, port_at, put_on_port, sent_on}
 pub use Rattle.lagworld.specs.State.{taken_in, towards, with_half, with_links, with_towards}
 pub use Rattle.lagworld.proofs.Arrives.{count_heard, read_log}
 pub use Rattle.lagworld.proofs.Cables.{end_is, mapped_set, put_ends, set_elsewhere, set_here}
 pub use Rattle.lagworld.proofs.Sides.{half_there, position_there}
+pub use Rattle.lagworld.proofs.Starts.{start_sound}
+pub use Rattle.laghosts.proofs.HostHeadline.{hosts_keep_headline}
 pub use Rattle.lagprogress.specs.Arriving.{Arrives, DeliverHandsUp, DisabledAreUnsynchronized, EachFrameArrives, EachFrameArrivesByHosts}
 pub use Rattle.lagprogress.specs.Arriving.{EachReachedHasUnsynchronized, GetsPort, HandsUp, IsHandedUp, OfferGetsPort, Sometime, TakesFrame}
 pub use Rattle.lagprogress.specs.Bundle.{AllHeard, BothAreActive, EachLinkAgrees, EachLinkComesUp, EndsHealthyCable, EndsOfEachKnow}
-pub use Rattle.lagprogress.specs.Bundle.{EnoughAggregators, EnoughLinks, IsBundle, OneIsActive, ReachedIsApart, ReachedIsBundle, SelectedPairsAgree}
-pub use Rattle.lagprogress.specs.Bundle.{SelectedPairsComeUp, SystemsDiffer}
+pub use Rattle.lagprogress.specs.Bundle.{EnoughAggregators, EnoughLinks, HostReachedIsBundle, IsBundle, OneIsActive, ReachedIsApart, ReachedIsBundle}
+pub use Rattle.lagprogress.specs.Bundle.{SelectedPairsAgree, SelectedPairsComeUp, SystemsDiffer}
 pub use Rattle.lagprogress.specs.ComingUp.{ActiveLinkComesUp, AreApart, Distributes, HasRoom, LinkComesUp}
 pub use Rattle.lagprogress.specs.CutOff.{CutOffIsDefaulted, EachLinkAgreesBesideCutOffs, EachLinkComesUpBesideCutOffs, IsBundleBesideCutOffs}
 pub use Rattle.lagprogress.specs.CutOff.{IsCutOff, NoneIsHeldBesideCutOffs}
 pub use Rattle.lagprogress.specs.Freed.{CarriersAreUp, EachReachedHasCarriersUp, HasIdentifierLeft, HasPortUp, IsNotHeld, IsNotHeldOn, NoneIsHeld}
 pub use Rattle.lagprogress.specs.Freed.{NoneIsHeldOn, NoneIsHeldOnEnds, NothingIsHeld, carrier_of, held_on}
-pub use Rattle.lagprogress.specs.Hearing.{IsNoticed, LeavesUnheard, processed_on, timeout_time}
+pub use Rattle.lagprogress.specs.Hearing.{IsNoticed, LeavesUnheard, processed_on}
 pub use Rattle.lagprogress.specs.Heartbeat.{EachCall, IsHeard, IsSilentShortly, LeavesUpAndSilent, takes_down, tick_count}
 pub use Rattle.lagprogress.specs.HostFreed.{AskingInVainIsDraining, AsksInVain, AsksInVainAfterTick, DrainingRounds, IsDrainingRound, IsNoMoveOf}
 pub use Rattle.lagprogress.specs.HostFreed.{NoneIsHeldBesideCutOffsByHosts, NoneIsHeldOnEndsByHosts, NothingIsDue, NothingIsHeldByHosts}
@@ -171,8 +176,9 @@ pub use Rattle.lagprogress.specs.Rounds.{up_if_both_active, up_if_one_is}
 pub use Rattle.lagprogress.specs.Selecting.{IsFull, StandsByFull, WantsAggregator, aggregators_with, ports_with}
 pub use Rattle.lagprogress.specs.Shared.{AreOneGroup, DownWereLinkedTo, HasAggregators, LeadToKey, SharesGroup}
 pub use Rattle.lagprogress.specs.Silence.{IsLoud, SilentFor, Speaks}
-pub use Rattle.lagprogress.specs.Steady.{GoesByCalls, IsSteady, IsSteadySystem}
-pub use Rattle.lagprogress.specs.Timers.{EachCallKeepsTimed, EachHostCallKeepsTimed, IsTimed, PortsAreTimed, most_current_while, most_periodic_timer}
+pub use Rattle.lagprogress.specs.Steady.{EachHostReachedIsSteady, EachHostRunKeepsSteady, GoesByCalls, IsSteady, IsSteadySystem}
+pub use Rattle.lagprogress.specs.Timers.{EachCallKeepsTimed, EachHostCallKeepsTimed, EachSettingKeepsTimed, IsTimed, KeepsTimeout, PortsAreTimed}
+pub use Rattle.lagprogress.specs.Timers.{most_current_while, most_periodic_timer, timeout_time}
 pub use Rattle.lagprogress.specs.Together.{AreInOneAggregator, CallsKeepGroupsWhole, EachKeyIsInOneAggregator, FirstGroupsAreWhole, GroupsAreWhole}
 pub use Rattle.lagprogress.specs.Together.{ReachedGroupsAreWhole}
 pub use Rattle.lagprogress.specs.Waits.{EachHostCallKeepsWaits, IsAwaited, WaitsAreShort}

@@ -7,10 +7,11 @@ use Rattle.lagprogress.proofs.Common.{Carries, IsFrame, ParsesWhere, Performs, R
 use Rattle.lagprogress.proofs.Common.{TransmitsAt, TransmitsIf, CallPromise, SystemState, port_index, can_receive_at_rest, all-get, found_place}
 use Rattle.lagprogress.proofs.Common.{Event, Reply, AfterTransmit, Algorithms, WorldSteps, side_of, HalfState, ItemValue, LinkState, WorldState}
 use Rattle.lagprogress.proofs.Common.{accepts, change_link, half, link_at, link_index, port_at, put_on_port, sent_on, towards, with_half}
-use Rattle.lagprogress.proofs.Common.{with_towards, set_elsewhere, set_here, position_there, CutOffIsDefaulted, IsCutOff, timeout_time, HostRounds}
-use Rattle.lagprogress.proofs.Common.{IsHostRound, IsSteady, IsTimed}
+use Rattle.lagprogress.proofs.Common.{with_towards, set_elsewhere, set_here, position_there, CutOffIsDefaulted, IsCutOff, HostRounds, IsHostRound}
+use Rattle.lagprogress.proofs.Common.{IsSteady, IsTimed, most_current_while, timeout_time}
 use Rattle.lagprogress.proofs.OneRound.{one_of_both}
 use Rattle.lagprogress.proofs.RoundEvents.{asked_half, came_half}
+use Rattle.lagprogress.proofs.Told.{current_within}
 use Rattle.lagprogress.proofs.Hearing.{no, Unheard, Within, begins, counts, is_defaulted, receives, rested, unheard_settles, when_up}
 use Rattle.lagprogress.proofs.EachRound.{EachAt, RoundKeeps, asks_each, delivers_each, own_keeps, own_ticks, hosts_on, hosts_split, hosts_steady}
 use Rattle.lagprogress.proofs.EachRound.{tick_keeps, tick_leaves, tick_makes}
@@ -373,11 +374,8 @@ deaf_ticks most x y h a =
 
 -- where it begins
 
-longer : (a b n : ℕ) (r : ReceiveState) → a ≤ b → Within 1 a r n → Within 1 b r n
-longer a b n r l w = grind (arith, nat_tests)
-
-short_or_long : (short : Bool) → timeout_time short + 30 ≤ 930
-short_or_long short = grind (arith, nat_tests)
+long_most : (r : ReceiveState) (n : ℕ) → n ≤ most_current_while r → n ≤ timeout_time false
+long_most r n l = let m = current_within r in omega (arith, l, m)
 
 deaf_first : (s : Side) (j : WorldState) (k : ℕ) (z : SystemPort) → IsSteady j → slice_get (half s j).state.system_ports k ≡ Some z
     → z.port.enabled ≡ true → Unheard 1 930 z.port
@@ -387,9 +385,8 @@ deaf_first s j k z steady there up =
     (all-get (λ (y : SystemPort). none_enabled receive_rows y.port ≡ true) st.system_ports k z there (steady s).0.rested.0) in
     let timed = all-get (λ (y : SystemPort). IsTimed y.port) st.system_ports k z there (steady s).1 in (
       up,
-      longer (timeout_time z.port.short + 30) 930 z.port.current_while z.port.receive (short_or_long z.port.short)
-          (begins z.port.receive z.port.short z.port.current_while
-          (when_up z.port.enabled (can_receive_in z.port.receive) up awake) timed.0),
+      begins z.port.receive false z.port.current_while (when_up z.port.enabled (can_receive_in z.port.receive) up awake) timed.0
+          (long_most z.port.receive z.port.current_while timed.0),
     )
 
 -- the ports of a system whose links were down

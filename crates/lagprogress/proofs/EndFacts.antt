@@ -5,8 +5,8 @@ use Rattle.lagprogress.proofs.Common.{bits_of, party_itself, Lacpdu, party_of, M
 use Rattle.lagprogress.proofs.Common.{mux_rows, partner_synchronized, same_mux_state, RunsPeriodic, periodic_rows, is_maintained, lacpdu_rows}
 use Rattle.lagprogress.proofs.Common.{receive_rows, recorded_synchronization, same_receive_state, AtRest, RunsToRest, count_down, SystemPort}
 use Rattle.lagprogress.proofs.Common.{OnlyPortChangesBy, ProcessesLacpdu, ThenSettles, can_receive, can_receive_in, none_enabled, IsSound}
-use Rattle.lagprogress.proofs.Common.{SystemState, port_numbers, keeps_place, can_receive_at_rest, Rises, all-get, ports_rise, timeout_time}
-use Rattle.lagprogress.proofs.Common.{HasRecorded}
+use Rattle.lagprogress.proofs.Common.{SystemState, port_numbers, keeps_place, can_receive_at_rest, Rises, all-get, ports_rise, HasRecorded}
+use Rattle.lagprogress.proofs.Common.{timeout_time}
 use Rattle.lagprogress.proofs.EachPort.{KeptBySettling, OfEach, settling_each}
 use Rattle.lagprogress.proofs.Heartbeat.{raised}
 use Rattle.lagprogress.proofs.Hearing.{EnabledKeep, no, not_down, times_keep}

@@ -4,7 +4,7 @@ use Rattle.lagprogress.proofs.Common.{◌&&◌, ◌+◌, ◌-◌, ◌==◌, ◌�
 use Rattle.lagprogress.proofs.Common.{PortDisabled, Machines, periodic_rows, receive_rows, same_receive_state, AtRest, Fires, FiresTimes, Row}
 use Rattle.lagprogress.proofs.Common.{RunsToRest, count_down, SystemPort, Call, Configure, Receive, Restart, Set_link, Tick, Transmit}
 use Rattle.lagprogress.proofs.Common.{choice_with_link, can_receive_in, none_enabled, can_receive_at_rest, all-get, IsNoticed, LeavesUnheard}
-use Rattle.lagprogress.proofs.Common.{processed_on, timeout_time, tick_count, IsTimed, most_current_while}
+use Rattle.lagprogress.proofs.Common.{processed_on, tick_count, IsTimed, most_current_while, timeout_time}
 use Rattle.lagsystem.specs.declared.drive.Reply.{Reply}
 use Rattle.lagprogress.proofs.EachPort.{KeptByCall, KeptBySettling}
 use Rattle.lagprogress.proofs.OnePort.{AtPort, GoesOn, goes_on, settling_leaves}
@@ -116,14 +116,15 @@ unheard_goes_on n = record { settles = unheard_settles n; ticks = tick_unheard; 
 
 -- where it begins and ends
 
-pub begins : (r : ReceiveState) (short : Bool) (n : ℕ) → can_receive_in r ≡ true → n ≤ most_current_while short r
+pub begins : (r : ReceiveState) (short : Bool) (n : ℕ) → can_receive_in r ≡ true → n ≤ most_current_while r → n ≤ timeout_time short
     → Within 1 (timeout_time short + 30) r n
-begins Initialize short n c l = absurd (no c)
-begins PortDisabled short n c l = absurd (no c)
-begins Defaulted short n c l = tt
-begins Expired true n c l = (omega (arith, l), omega arith)
-begins Current true n c l = (omega (arith, l), omega arith)
-begins r short n c l = (omega (arith, l), omega arith)
+begins Initialize short n c l t = absurd (no c)
+begins PortDisabled short n c l t = absurd (no c)
+begins Defaulted short n c l t = tt
+begins Expired true n c l t = (omega (arith, l), omega arith)
+begins Expired false n c l t = (omega (arith, l), omega arith)
+begins Current true n c l t = (omega (arith, t), omega arith)
+begins Current false n c l t = (omega (arith, t), omega arith)
 
 pub when_up : (up : Bool) (b : Bool) → up ≡ true → (if up then b else true) ≡ true → b ≡ true
 when_up true b e h = h
@@ -136,7 +137,7 @@ pub is_defaulted : (most n : ℕ) (r : ReceiveState) → most ≡ 0 → Within 1
 is_defaulted most n r l w = grind (arith, nat_tests)
 
 pub is_noticed : (gives : ℕ → ℕ → ℕ → Type 0) → IsNoticed gives
-is_noticed gives old new calls replies i x y s t at up h u there =
+is_noticed gives old new calls replies i x y s t at within up h u there =
     let awake = can_receive_at_rest x.port
     (all-get (λ (z : SystemPort). none_enabled receive_rows z.port ≡ true) old.system_ports i x at s.rested.0) in
     let timed = all-get (λ (z : SystemPort). IsTimed z.port) old.system_ports i x at t in
@@ -144,7 +145,7 @@ is_noticed gives old new calls replies i x y s t at up h u there =
     let first : UnheardFor most 0 x.port = (
       up,
       begins x.port.receive x.port.short x.port.current_while
-          (when_up x.port.enabled (can_receive_in x.port.receive) up awake) timed.0,
+          (when_up x.port.enabled (can_receive_in x.port.receive) up awake) timed.0 within,
     ) in
     let end = goes_on (LeavesUnheard x.number) UnheardFor gives most old new calls replies i x y (unheard_goes_on x.number) s at
     first h u there in

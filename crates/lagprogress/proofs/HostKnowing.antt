@@ -1,8 +1,8 @@
 -- How the ends of a cable come to know each other in healthy rounds of hosts.
 use Rattle.lagprogress.proofs.Common.{Bool, arith, false, inl, inr, refl, subst, suc, sym, true, zero, ℕ, ◌+◌, ◌-◌, ◌∙◌, ◌≡◌, ◌≤◌, ◌⊎◌, cases_Bool}
 use Rattle.lagprogress.proofs.Common.{nat_tests, Lacpdu, One, Side, Two, peer, Machines, periodic_rows, AtRest, Algorithms, LinkState, WorldState}
-use Rattle.lagprogress.proofs.Common.{half, port_at, BothAreActive, EndsOfEachKnow, OneIsActive, timeout_time, HostRounds, IsHostRound, EndKnows}
-use Rattle.lagprogress.proofs.Common.{Knows, AtEnd, NothingInFlight, OfPort, known_if_both_active, known_if_one_is, IsTimed}
+use Rattle.lagprogress.proofs.Common.{half, port_at, BothAreActive, EndsOfEachKnow, OneIsActive, HostRounds, IsHostRound, EndKnows, Knows, AtEnd}
+use Rattle.lagprogress.proofs.Common.{NothingInFlight, OfPort, known_if_both_active, known_if_one_is, IsTimed, timeout_time}
 use Rattle.lagprogress.proofs.Claims.{IsNamed, Wakeful, can_wake}
 use Rattle.lagprogress.proofs.EachPort.{OfEach}
 use Rattle.lagprogress.proofs.EndFacts.{Along, CanSound, IsEnd, Learnt, Synced, activity, calm, less_known, short_timeout, wait_of}

@@ -2,8 +2,8 @@
 use Rattle.lagprogress.proofs.Common.{Bool, List, None, Some, [], ap, arith, false, inl, inr, refl, subst, sym, true, ℕ, ◌-◌, ◌∙◌, ◌∷◌, ◌≡◌, ◌≤◌, ◌⊎◌}
 use Rattle.lagprogress.proofs.Common.{nat_tests, same_Some, AllByRecursion, Lacpdu, One, Side, Two, peer, Machines, periodic_rows, receive_rows}
 use Rattle.lagprogress.proofs.Common.{AtRest, RunsToRest, after_sending, count_down, is_due, SystemState, machines_of, Event, Reply, Algorithms}
-use Rattle.lagprogress.proofs.Common.{WorldRuns, WorldSteps, side_of, ItemValue, WorldState, half, limit_towards, timeout_time, AfterTick}
-use Rattle.lagprogress.proofs.Common.{AtSomeWorld, Clearing, IsBetweenTicks, IsHostRound, IsPlayed, IsTickOf, TickOnce, IsHealthyAt, OfPort}
+use Rattle.lagprogress.proofs.Common.{WorldRuns, WorldSteps, side_of, ItemValue, WorldState, half, limit_towards, AfterTick, AtSomeWorld, Clearing}
+use Rattle.lagprogress.proofs.Common.{IsBetweenTicks, IsHostRound, IsPlayed, IsTickOf, TickOnce, IsHealthyAt, OfPort, timeout_time}
 use Rattle.lagsystem.specs.declared.drive.Reply.TheVariants as answer
 use Rattle.lagscript.specs.declared.event.Event.TheVariants as event
 use Rattle.lagprogress.proofs.Climbing.{known_still}

@@ -3,8 +3,8 @@ use Rattle.lagprogress.proofs.Common.{Bool, List, Some, [], ap, arith, false, in
 use Rattle.lagprogress.proofs.Common.{◌⊎◌, cases_Bool, same_Some, AllByRecursion, Lacpdu, Side, peer, Machines, partner_synchronized, periodic_rows}
 use Rattle.lagprogress.proofs.Common.{receive_rows, AtRest, RunsToRest, after_sending, count_down, is_due, SystemPort, Carries, IsFrame}
 use Rattle.lagprogress.proofs.Common.{OnlyPortChangesBy, ProcessesLacpdu, ThenSettles, SystemState, machines_of, found_place, Event, Reply}
-use Rattle.lagprogress.proofs.Common.{Algorithms, WorldSteps, side_of, ItemValue, WorldState, half, towards, timeout_time, AfterTick, Clearing}
-use Rattle.lagprogress.proofs.Common.{IsBetweenTicks, IsHostRound, IsPlayed, NothingInFlight, OfPort}
+use Rattle.lagprogress.proofs.Common.{Algorithms, WorldSteps, side_of, ItemValue, WorldState, half, towards, AfterTick, Clearing, IsBetweenTicks}
+use Rattle.lagprogress.proofs.Common.{IsHostRound, IsPlayed, NothingInFlight, OfPort, timeout_time}
 use Rattle.slowpdu.specs.declared.pdu.Pdu.TheVariants as pdu
 use Rattle.lagsystem.specs.declared.drive.Reply.TheVariants as answer
 use Rattle.lagscript.specs.declared.event.Event.TheVariants as event

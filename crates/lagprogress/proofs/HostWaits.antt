@@ -1,8 +1,9 @@
 -- No call of a host leaves a conversation waiting for a response for 30 ticks, or a timer above its bound.
 use Rattle.lagprogress.proofs.Common.{Bool, Err, List, None, Ok, Option, Result, Some, arith, false, if◌then◌else◌, subst, suc, sym, true, zero, ℕ}
-use Rattle.lagprogress.proofs.Common.{◌≡◌, nat_tests, AggId, Assignment, On, DistFault, leave_result, after_mark, assignment_of, next_identifier}
-use Rattle.lagprogress.proofs.Common.{SystemFault, SystemPort, Force, call_of, GivesOrRefuses, in_system, aggregator_numbered, SendsMarkerOf}
-use Rattle.lagprogress.proofs.Common.{SystemState, port_index, TableAlone, host_alone, EachCallKeepsTimed, EachHostCallKeepsTimed, PortsAreTimed}
+use Rattle.lagprogress.proofs.Common.{◌≡◌, nat_tests, AggId, Machines, Assignment, On, DistFault, leave_result, after_mark, assignment_of}
+use Rattle.lagprogress.proofs.Common.{next_identifier, HostCall, HostReply, Answer, SystemFault, SystemPort, Call, Force, Step, call_of, HostPromise}
+use Rattle.lagprogress.proofs.Common.{GivesOrRefuses, in_system, Probes, ProbesAt, ProbesIf, aggregator_numbered, SendsMarkerOf, SystemState}
+use Rattle.lagprogress.proofs.Common.{port_index, TableAlone, host_alone, EachCallKeepsTimed, EachHostCallKeepsTimed, IsTimed, KeepsTimeout}
 use Rattle.lagprogress.proofs.Common.{EachHostCallKeepsWaits, IsAwaited, WaitsAreShort}
 use Rattle.distributor.specs.declared.fault.DistFault.TheVariants as dist
 use Rattle.lagsystem.specs.declared.drive.HostCall.TheVariants as host
@@ -12,7 +13,7 @@ use Rattle.lagsystem.specs.declared.fault.SystemFault.TheVariants.{NoAggregator}
 use Rattle.lagsystem.specs.Assigning.{OffersIf}
 use Rattle.lagsystem.specs.Forcing.{ForcesFirst, ForcesIfHeld, ForcesIn, ForcesPort}
 use Rattle.lagsystem.specs.Leaving.{system_leave_result, system_rest_result}
-use Rattle.lagsystem.specs.Probing.{Probes, ProbesAt, ProbesIf}
+use Rattle.lagprogress.proofs.EachPort.{OfEach}
 use Rattle.lagprogress.proofs.TableSteps.{Turns, gives_turn, sets_turn, turns_by}
 use Rattle.lagprogress.proofs.Waits.{Stays, Step-waits, marked, stays}
 
@@ -58,27 +59,28 @@ probes : (port : ℕ) (old : SystemState) (answer : Result (Option (List ℕ)) S
 probes port old (Ok answer) new h w = probes_at (port_index port old.system_ports) old answer new h w
 probes port old (Err fault) new h w = stay_same old new h.same w
 
-forces_one : (gives : ℕ → ℕ → ℕ → Type 0) (port : ℕ) (agg : AggId) (conv : ℕ) (old : SystemState) (forced : Bool) (new : SystemState)
-    → ForcesIfHeld gives port agg conv old forced new → WaitsAreShort old → WaitsAreShort new
-forces_one gives port agg conv old true new h w = Step-waits gives old new (Force agg conv) (reply.Force (Ok tt)) h.1.step w
-forces_one gives port agg conv old false new h w = stay_same old new h.1 w
+-- what each call of a system keeps, a `force_port` keeps
+module _ (gives : ℕ → ℕ → ℕ → Type 0) (P : SystemState → Type 0)
+    (k : (old new : SystemState) (call : Call) (a : Answer) → Step gives old call a new → P old → P new) where
+  forces_one : (port : ℕ) (agg : AggId) (conv : ℕ) (old : SystemState) (forced : Bool) (new : SystemState)
+      → ForcesIfHeld gives port agg conv old forced new → P old → P new
+  forces_one port agg conv old true new h w = k old new (Force agg conv) (reply.Force (Ok tt)) h.1.step w
+  forces_one port agg conv old false new h w = subst P (sym h.1) w
 
-forces_in : (gives : ℕ → ℕ → ℕ → Type 0) (port : ℕ) (agg : AggId) (k : ℕ) (old : SystemState) (n : ℕ) (new : SystemState)
-    → ForcesIn gives port agg k old n new → WaitsAreShort old → WaitsAreShort new
-forces_in gives port agg zero old n new h w = stay_same old new h.0 w
-forces_in gives port agg (suc k) old n new h w =
-    forces_one gives port agg k h.0 h.2 new h.4 (forces_in gives port agg k old h.1 h.0 h.3 w)
+  forces_in : (port : ℕ) (agg : AggId) (c : ℕ) (old : SystemState) (n : ℕ) (new : SystemState) → ForcesIn gives port agg c old n new
+      → P old → P new
+  forces_in port agg zero old n new h w = subst P (sym h.0) w
+  forces_in port agg (suc c) old n new h w = forces_one port agg c h.0 h.2 new h.4 (forces_in port agg c old h.1 h.0 h.3 w)
 
-forces_first : (gives : ℕ → ℕ → ℕ → Type 0) (port g : ℕ) (old : SystemState) (n : ℕ) (new : SystemState)
-    → ForcesFirst gives port g old n new → WaitsAreShort old → WaitsAreShort new
-forces_first gives port zero old n new h w = stay_same old new h.0 w
-forces_first gives port (suc g) old n new h w = forces_in gives port (aggregator_numbered (suc g)) h.0.conversations h.0 h.2 new h.4
-    (forces_first gives port g old h.1 h.0 h.3 w)
+  forces_first : (port g : ℕ) (old : SystemState) (n : ℕ) (new : SystemState) → ForcesFirst gives port g old n new → P old → P new
+  forces_first port zero old n new h w = subst P (sym h.0) w
+  forces_first port (suc g) old n new h w =
+      forces_in port (aggregator_numbered (suc g)) h.0.conversations h.0 h.2 new h.4 (forces_first port g old h.1 h.0 h.3 w)
 
-forces_port : (gives : ℕ → ℕ → ℕ → Type 0) (port : ℕ) (old : SystemState) (answer : Result ℕ SystemFault) (new : SystemState)
-    → ForcesPort gives port old answer new → WaitsAreShort old → WaitsAreShort new
-forces_port gives port old (Ok n) new h w = forces_first gives port _ old n new h.1 w
-forces_port gives port old (Err fault) new h w = stay_same old new h.same w
+  pub forces_port : (port : ℕ) (old : SystemState) (answer : Result ℕ SystemFault) (new : SystemState) → ForcesPort gives port old answer new
+      → P old → P new
+  forces_port port old (Ok n) new h w = forces_first port _ old n new h.1 w
+  forces_port port old (Err fault) new h w = subst P (sym h.same) w
 
 pub Host-waits : (gives : ℕ → ℕ → ℕ → Type 0) → EachHostCallKeepsWaits gives
 Host-waits gives old new (host.Call call) (told.Call answer) h w = Step-waits gives old new (call_of call) answer h.step w
@@ -94,21 +96,34 @@ Host-waits gives old new (host.Rest agg conv) (told.Rest (Err fault)) h w = refu
     refused : (what : Result Assignment SystemFault) → GivesOrRefuses agg conv what old (Err fault) new → WaitsAreShort old → WaitsAreShort new
     refused (Ok state) h w = absurd (let e = h.0 in cc)
     refused (Err other) h w = stay_same old new h.1 w
-Host-waits gives old new (host.ForcePort port) (told.ForcePort answer) h w = forces_port gives port old answer new h.1 w
+Host-waits gives old new (host.ForcePort port) (told.ForcePort answer) h w =
+    forces_port gives WaitsAreShort (λ i j call a step x. Step-waits gives i j call a step x) port old answer new h.1 w
 Host-waits gives old new call answer h w = absurd h
 
--- no timer is another, but in a call of `drive`
-timed_beside : (old new : SystemState) → TableAlone old new → PortsAreTimed old → PortsAreTimed new
-timed_beside old new e t = subst PortsAreTimed (sym e) t
+-- no port is another, but in a call of `drive`
+beside_each : (P : Machines → Type 0) (old new : SystemState) → TableAlone old new → OfEach (λ n p. P p) old.system_ports
+    → OfEach (λ n p. P p) new.system_ports
+beside_each P old new e t = subst (λ (s : SystemState). OfEach (λ n p. P p) s.system_ports) (sym e) t
+
+pub host_keeps : (gives : ℕ → ℕ → ℕ → Type 0) (P : Machines → Type 0) → ((old new : SystemState) (call : Call) (a : Answer)
+    → Step gives old call a new → OfEach (λ n p. P p) old.system_ports → OfEach (λ n p. P p) new.system_ports)
+    → (old new : SystemState) (call : HostCall) (answer : HostReply) → HostPromise gives old call answer new
+    → OfEach (λ n p. P p) old.system_ports → OfEach (λ n p. P p) new.system_ports
+host_keeps gives P k old new (host.Call call) (told.Call answer) h t = k old new (call_of call) answer h.step t
+host_keeps gives P k old new (host.Call call) answer h t = absurd h
+host_keeps gives P k old new (host.OfferConversation agg conv) answer h t =
+    beside_each P old new (host_alone gives old (host.OfferConversation agg conv) answer new h tt) t
+host_keeps gives P k old new (host.LeaveConversation agg conv) answer h t =
+    beside_each P old new (host_alone gives old (host.LeaveConversation agg conv) answer new h tt) t
+host_keeps gives P k old new (host.Probe port) answer h t =
+    beside_each P old new (host_alone gives old (host.Probe port) answer new h tt) t
+host_keeps gives P k old new (host.Rest agg conv) answer h t =
+    beside_each P old new (host_alone gives old (host.Rest agg conv) answer new h tt) t
+host_keeps gives P k old new (host.ForcePort port) answer h t =
+    beside_each P old new (host_alone gives old (host.ForcePort port) answer new h tt) t
 
 pub Host-timed : (gives : ℕ → ℕ → ℕ → Type 0) → EachCallKeepsTimed gives → EachHostCallKeepsTimed gives
-Host-timed gives kept old new (host.Call call) (told.Call answer) h t = kept old new (call_of call) answer h.step t
-Host-timed gives kept old new (host.Call call) answer h t = absurd h
-Host-timed gives kept old new (host.OfferConversation agg conv) answer h t =
-    timed_beside old new (host_alone gives old (host.OfferConversation agg conv) answer new h tt) t
-Host-timed gives kept old new (host.LeaveConversation agg conv) answer h t =
-    timed_beside old new (host_alone gives old (host.LeaveConversation agg conv) answer new h tt) t
-Host-timed gives kept old new (host.Probe port) answer h t = timed_beside old new (host_alone gives old (host.Probe port) answer new h tt) t
-Host-timed gives kept old new (host.Rest agg conv) answer h t = timed_beside old new (host_alone gives old (host.Rest agg conv) answer new h tt) t
-Host-timed gives kept old new (host.ForcePort port) answer h t =
-    timed_beside old new (host_alone gives old (host.ForcePort port) answer new h tt) t
+Host-timed gives kept old new call answer h = (
+  host_keeps gives IsTimed (λ i j c a s. (kept i j c a s).0) old new call answer h,
+  host_keeps gives KeepsTimeout (λ i j c a s. (kept i j c a s).1) old new call answer h,
+)

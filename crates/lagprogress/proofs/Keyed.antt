@@ -1,15 +1,12 @@
 -- The ports of a key that are one group are in one aggregator.
 use Rattle.lagprogress.proofs.Common.{List, Some, ap, arith, refl, slice_get, subst, sym, true, ℕ, ◌∙◌, ◌≡◌, ◌≢◌, ◌≤◌, false≢true, none-some, AggId}
-use Rattle.lagprogress.proofs.Common.{Key, Choice, Selected, Unselected, is_selected, Side, Machines, group-test, Answer, SystemPort, Call, Step}
-use Rattle.lagprogress.proofs.Common.{call_of, OccupantsAgree, occupied, IsSound, PortsAgree, SystemState, with_table, selection_view}
-use Rattle.lagprogress.proofs.Common.{first_unselected, TableAlone, agrees_beside, host_alone, all-get, found_place, ports_rise, Step-sound, agrees}
-use Rattle.lagprogress.proofs.Common.{Algorithms, LinkState, WorldState, half, port_at, BothAreActive, EachLinkComesUp, EndsOfEachKnow, IsBundle}
-use Rattle.lagprogress.proofs.Common.{OneIsActive, Distributes, HostRounds, IsHealthyAt, known_if_both_active, known_if_one_is, up_if_both_active}
-use Rattle.lagprogress.proofs.Common.{up_if_one_is, AreOneGroup, AreInOneAggregator, CallsKeepGroupsWhole, EachKeyIsInOneAggregator}
-use Rattle.lagprogress.proofs.Common.{FirstGroupsAreWhole, GroupsAreWhole, ReachedGroupsAreWhole}
-use Rattle.lagsystem.specs.declared.drive.HostCall.{HostCall}
-use Rattle.lagsystem.specs.declared.drive.HostReply.{HostReply}
-use Rattle.lagsystem.specs.HostCalls.{HostPromise, HostRun}
+use Rattle.lagprogress.proofs.Common.{Key, Choice, Selected, Unselected, is_selected, Side, Machines, group-test, HostCall, HostReply, Answer}
+use Rattle.lagprogress.proofs.Common.{SystemPort, Call, Step, call_of, HostPromise, HostRun, OccupantsAgree, occupied, IsSound, PortsAgree}
+use Rattle.lagprogress.proofs.Common.{SystemState, with_table, selection_view, first_unselected, TableAlone, agrees_beside, host_alone, all-get}
+use Rattle.lagprogress.proofs.Common.{found_place, ports_rise, Step-sound, agrees, Algorithms, LinkState, WorldState, half, port_at, BothAreActive}
+use Rattle.lagprogress.proofs.Common.{EachLinkComesUp, EndsOfEachKnow, IsBundle, OneIsActive, Distributes, HostRounds, IsHealthyAt}
+use Rattle.lagprogress.proofs.Common.{known_if_both_active, known_if_one_is, up_if_both_active, up_if_one_is, AreOneGroup, AreInOneAggregator}
+use Rattle.lagprogress.proofs.Common.{CallsKeepGroupsWhole, EachKeyIsInOneAggregator, FirstGroupsAreWhole, GroupsAreWhole, ReachedGroupsAreWhole}
 use Rattle.lagprogress.proofs.OnePort.{AtPort, at_number}
 use Rattle.lagsystem.specs.declared.drive.HostCall.TheVariants as host
 use Rattle.lagsystem.specs.declared.drive.HostReply.TheVariants as told

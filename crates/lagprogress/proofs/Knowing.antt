@@ -6,7 +6,7 @@ use Rattle.lagprogress.proofs.Common.{PortDisabled, Machines, periodic_rows, rec
 use Rattle.lagprogress.proofs.Common.{Fires, FiresTimes, Row, RunsToRest, count_down, SystemPort, Call, Configure, OnlyPortChangesBy, ProcessesLacpdu}
 use Rattle.lagprogress.proofs.Common.{Receive, Restart, Set_link, ThenSettles, Tick, Transmit, choice_with_link, can_receive, can_receive_in}
 use Rattle.lagprogress.proofs.Common.{none_enabled, IsSound, SystemState, port_numbers, named, keeps_place, keeps_settled, can_receive_at_rest, Rises}
-use Rattle.lagprogress.proofs.Common.{all-get, ports_rise, LeavesUnheard, processed_on, timeout_time, HasRecorded, IsKnown}
+use Rattle.lagprogress.proofs.Common.{all-get, ports_rise, LeavesUnheard, processed_on, HasRecorded, IsKnown, timeout_time}
 use Rattle.lagsystem.specs.declared.drive.Reply.{Reply}
 use Rattle.lagprogress.proofs.EachPort.{KeptByCall, KeptBySettling, settling_each}
 use Rattle.lagprogress.proofs.Hearing.{EnabledKeep, both, is_number, no, not_down, stays_up, times_keep}

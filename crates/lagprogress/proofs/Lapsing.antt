@@ -3,7 +3,7 @@ use Rattle.lagprogress.proofs.Common.{Bool, ap, arith, false, inl, inr, not, ref
 use Rattle.lagprogress.proofs.Common.{nat_tests, Choice, State, StateBits, is_selected, bits_of, with_synchronization, with_timeout}
 use Rattle.lagprogress.proofs.Common.{encode_then_decode, Lacpdu, ReceiveState, Current, Expired, Initialize, PortDisabled, Machines, mux_rows}
 use Rattle.lagprogress.proofs.Common.{RunsPeriodic, periodic_rows, receive_rows, same_receive_state, AtRest, RunsToRest, count_down, is_due}
-use Rattle.lagprogress.proofs.Common.{timeout_time, HasRecorded, IsTimed}
+use Rattle.lagprogress.proofs.Common.{HasRecorded, IsTimed, timeout_time}
 use Rattle.lagprogress.proofs.OnePort.{mux_leaves, periodic_leaves}
 use Rattle.lagprogress.proofs.EndFacts.{Along, activity, both_along, constant_along, short_timeout, sounds_takes, takes_known}
 use Rattle.lagprogress.proofs.Hearing.{EnabledKeep, no, not_down, times_keep}

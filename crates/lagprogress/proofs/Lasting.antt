@@ -1,11 +1,12 @@
 -- What healthy rounds leave of the ports and aggregators of a system.
 use Rattle.lagprogress.proofs.Common.{List, Option, Some, [], ap, arith, filter, inl, inr, length, option_map, refl, slice_get, subst, suc, sym, true}
 use Rattle.lagprogress.proofs.Common.{zero, ℕ, ◌==◌, ◌∙◌, ◌∷◌, ◌≡◌, ◌≤◌, nat_tests, slice_get_cases, slice_get_within, AllByRecursion, Key, Party}
-use Rattle.lagprogress.proofs.Common.{Members, Side, find_at, Machines, receive_rows, RunsToRest, count_down, PortConfig, SystemPort}
-use Rattle.lagprogress.proofs.Common.{configured_numbers, model_port_of, model_setup, model_view, number_of_port, HasPorts, IsSound, SystemState}
-use Rattle.lagprogress.proofs.Common.{port_numbers, all-get, are_numbered, ports_rise, Algorithms, LinkState, WorldState, half, port_at, AllHeard}
-use Rattle.lagprogress.proofs.Common.{EndsHealthyCable, EnoughAggregators, EnoughLinks, Clearing, HostRounds, NoneIsLeft, PlayedRounds, IsHealthyAt}
-use Rattle.lagprogress.proofs.Common.{aggregators_with, ports_with, IsSteady}
+use Rattle.lagprogress.proofs.Common.{Side, find_at, Machines, receive_rows, RunsToRest, count_down, PortConfig, SystemPort, configured_numbers}
+use Rattle.lagprogress.proofs.Common.{model_port_of, model_setup, model_view, number_of_port, HasPorts, IsSound, SystemState, port_numbers, all-get}
+use Rattle.lagprogress.proofs.Common.{are_numbered, ports_rise, Algorithms, LinkState, WorldState, half, port_at, AllHeard, EndsHealthyCable}
+use Rattle.lagprogress.proofs.Common.{EnoughAggregators, EnoughLinks, Clearing, HostRounds, NoneIsLeft, PlayedRounds, IsHealthyAt, aggregators_with}
+use Rattle.lagprogress.proofs.Common.{ports_with, IsSteady}
+use Rattle.lagmodel.specs.Law.{Members}
 use Rattle.lagprogress.proofs.Counting.{count_same, counted}
 use Rattle.lagprogress.proofs.EachRound.{EachAt, RoundKeeps, own_keeps, own_ticks, host_each, played_keep, played_on, played_steady}
 use Rattle.lagprogress.proofs.Linked.{many}

@@ -1,8 +1,8 @@
 -- How the ends of a cable come to know each other in late rounds.
 use Rattle.lagprogress.proofs.Common.{Bool, arith, false, inl, inr, refl, subst, suc, sym, true, zero, ℕ, ◌+◌, ◌-◌, ◌∙◌, ◌≡◌, ◌≤◌, ◌⊎◌, cases_Bool}
 use Rattle.lagprogress.proofs.Common.{Lacpdu, One, Side, Two, peer, Algorithms, LinkState, WorldState, half, port_at, BothAreActive, EndsOfEachKnow}
-use Rattle.lagprogress.proofs.Common.{OneIsActive, timeout_time, IsLateRound, LateRounds, late_known_if_both_active, late_known_if_one_is, EndKnows}
-use Rattle.lagprogress.proofs.Common.{Knows, AtEnd, OfPort}
+use Rattle.lagprogress.proofs.Common.{OneIsActive, IsLateRound, LateRounds, late_known_if_both_active, late_known_if_one_is, EndKnows, Knows, AtEnd}
+use Rattle.lagprogress.proofs.Common.{OfPort, timeout_time}
 use Rattle.lagprogress.proofs.Claims.{IsNamed, Wakeful}
 use Rattle.lagprogress.proofs.Climbing.{PartnerInSync}
 use Rattle.lagprogress.proofs.EndFacts.{Along, CanSound, IsEnd, Learnt, activity, short_timeout}

@@ -30,6 +30,7 @@ mod Lapsing
 mod HostKnowing
 mod Climbing
 mod Quieting
+mod HostSteady
 mod HostRound
 mod HostStamps
 mod HostTelling

@@ -1,10 +1,10 @@
 -- A world that events lead to from one that was made is a bundle, if its links are up as it wants them.
 use Rattle.lagprogress.proofs.Common.{Bool, List, None, Option, Some, [], ap, arith, false, if◌then◌else◌, map, refl, subst, suc, sym, true, zero, ℕ}
-use Rattle.lagprogress.proofs.Common.{◌++◌, ◌+◌, ◌-◌, ◌∙◌, ◌∷◌, ◌≡◌, none-some, SystemId, same_system, system-itself, One, Side, Two, Config}
-use Rattle.lagprogress.proofs.Common.{config_value, Event, Reply, Algorithms, WorldRuns, AreFirst, LinkState, WorldState, half, EachLinkAgrees}
-use Rattle.lagprogress.proofs.Common.{EachLinkComesUp, IsBundle, ReachedIsApart, ReachedIsBundle, SystemsDiffer, CarriersAreUp, NothingIsHeld}
-use Rattle.lagprogress.proofs.Common.{DrainingRounds, NothingIsHeldByHosts, HostRounds, EachAgrees, EachDistributes, IsReached, IsReady, LeadsTo}
-use Rattle.lagprogress.proofs.Common.{NothingStaysHeld, Rounds, IsSteady}
+use Rattle.lagprogress.proofs.Common.{◌++◌, ◌+◌, ◌-◌, ◌∙◌, ◌∷◌, ◌≡◌, none-some, SystemId, same_system, system-itself, One, Side, Two, WorldSetup}
+use Rattle.lagprogress.proofs.Common.{Config, config_value, Event, Reply, Algorithms, WorldRuns, AreFirst, LinkState, WorldState, half, start_sound}
+use Rattle.lagprogress.proofs.Common.{hosts_keep_headline, EachLinkAgrees, EachLinkComesUp, HostReachedIsBundle, IsBundle, ReachedIsApart}
+use Rattle.lagprogress.proofs.Common.{ReachedIsBundle, SystemsDiffer, CarriersAreUp, NothingIsHeld, DrainingRounds, NothingIsHeldByHosts, HostRounds}
+use Rattle.lagprogress.proofs.Common.{EachAgrees, EachDistributes, IsReached, IsReady, LeadsTo, NothingStaysHeld, Rounds, IsSteady}
 use Rattle.lagscript.specs.declared.config.BadWorld.TheVariants.{SameSystem}
 use Rattle.cables.specs.declared.item.Item.{Item}
 use Rattle.lagscript.specs.Configs.{refusal_of_all}
@@ -14,6 +14,7 @@ use Rattle.lagprogress.proofs.Carrying.{each_reached_has_carriers_up}
 use Rattle.lagprogress.proofs.Unchanged.{events_keep}
 use Rattle.lagprogress.proofs.Hearing.{no}
 use Rattle.lagprogress.proofs.Reaching.{reached_steady}
+use Rattle.lagprogress.proofs.HostSteady.{host_reached_steady}
 use Rattle.lagprogress.proofs.HostRound.{left}
 use Rattle.lagprogress.proofs.HostLoops.{draining_are_host}
 use Rattle.lagprogress.proofs.Played.{runs_append}
@@ -45,6 +46,23 @@ reached_is_bundle Holds gives config es rs start new accepted i first runs few h
         steady = both.1;
         cabling = both.0.cabling;
         differ = reached_apart gives config es rs start new accepted first runs;
+        heard = heard;
+        aggregators = aggregators;
+        links = links;
+      },
+    )
+
+-- and where hosts make any calls and settings
+pub host_reached_is_bundle : (Holds : LinkState → WorldState → Type 0) (gives : Algorithms) → HostReachedIsBundle Holds gives
+host_reached_is_bundle Holds gives config es start new accepted i first runs few free heard aggregators links =
+    let both = host_reached_steady gives config.systems es start new i first runs few free in
+    let fixed = (hosts_keep_headline gives es start new runs (start_sound start i) few).fixed in
+    let same : (s : Side) → (half s new).state.system ≡ (half s start).state.system = λ s. ap (λ (x : WorldSetup). (x.setup s).system) fixed in (
+      both.0,
+      record {
+        steady = both.1;
+        cabling = both.0.cabling;
+        differ = λ e. start_differs config.systems config.cables.items start accepted first (sym (same One) ∙ (e ∙ same Two));
         heard = heard;
         aggregators = aggregators;
         links = links;

@@ -1,11 +1,10 @@
 -- What holds of each world that events lead to.
 use Rattle.lagprogress.proofs.Common.{List, [], arith, subst, sym, ◌∷◌, ◌≤◌, Config, Event, Reply, Algorithms, WorldRuns, most_events, AreFirst}
-use Rattle.lagprogress.proofs.Common.{IsStart, WorldState, IsSteady, IsSteadySystem}
+use Rattle.lagprogress.proofs.Common.{IsStart, WorldState, start_sound, IsSteady, IsSteadySystem}
 use Rattle.lagworld.specs.Sound.{IsSound}
 use Rattle.lagprogress.proofs.Linked.{events_each}
 use Rattle.lagworld.proofs.Headline.{accepted, rises}
 use Rattle.lagworld.proofs.Keeping.{steps_sound}
-use Rattle.lagworld.proofs.Starts.{start_sound}
 use Rattle.lagprogress.proofs.Halves.{call_steady, start_steady}
 
 pub runs_steady : (gives : Algorithms) (es : List Event) (rs : List Reply) (old new : WorldState) → WorldRuns gives old es rs new

@@ -8,8 +8,8 @@ use Rattle.lagsystem.proofs.Soonest.{tells_the_first}
 use Rattle.lagprogress.specs.Told.{SomeFrameIsDue, TellsAtMost900}
 use Rattle.lagprogress.proofs.Timers.{most_fast}
 
-current_within : (short : Bool) (r : ReceiveState) → most_current_while short r ≤ 900
-current_within short r = grind (arith, nat_tests)
+pub current_within : (r : ReceiveState) → most_current_while r ≤ 900
+current_within r = grind (arith, nat_tests)
 
 age_within : (P : ℕ → Type 0) (ages : List ℕ) (i a : ℕ) → slice_get ages i ≡ Some a → AllByRecursion P ages → P a
 age_within P [] i a e h = absurd (none-some a e)

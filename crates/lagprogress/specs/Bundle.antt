@@ -15,6 +15,8 @@ use Rattle.lagworld.specs.Making.{AreFirst}
 use Rattle.lagworld.specs.ModelWorld.{world_setup}
 use Rattle.lagworld.specs.Sound.{IsSound, IsStart}
 use Rattle.lagworld.specs.State.{LinkState, WorldState, half, port_at}
+use Rattle.lagsystem.specs.Sound.{NoneHeld}
+use Rattle.laghosts.specs.HostEvents.{HostEvent, HostRuns}
 use Rattle.lagprogress.specs.ComingUp.{Distributes}
 use Rattle.lagprogress.specs.Progress.{EndKnows}
 use Rattle.lagprogress.specs.Rounds.{AtEnd, IsHealthyAt, Playing}
@@ -95,6 +97,13 @@ abbrev pub ReachedIsBundle : (LinkState → WorldState → Type 0) → Algorithm
 ReachedIsBundle Holds gives = (config : WorldConfig) (es : List Event) (rs : List Reply) (start new : WorldState)
     → world_refusal config ≡ None → IsStart start → AreFirst config.systems start → WorldRuns gives start es rs new
     → new.acted ≤ most_events → AllHeard Holds new → ((s : Side) → HasAggregators s new)
+    → ((s : Side) → EnoughLinks (half s new).state) → IsSound new × IsBundle Holds new
+
+-- So is each world that events, calls and settings of hosts lead to, if the hosts hold no port in the end.
+abbrev pub HostReachedIsBundle : (LinkState → WorldState → Type 0) → Algorithms → Type 0
+HostReachedIsBundle Holds gives = (config : WorldConfig) (es : List HostEvent) (start new : WorldState) → world_refusal config ≡ None
+    → IsStart start → AreFirst config.systems start → HostRuns gives start es new → new.acted ≤ most_events
+    → ((s : Side) → NoneHeld (half s new).state) → AllHeard Holds new → ((s : Side) → HasAggregators s new)
     → ((s : Side) → EnoughLinks (half s new).state) → IsSound new × IsBundle Holds new
 
 -- However few aggregators and links there are: if each port whose link is up ends a healthy cable, of which this holds, and both ends

@@ -1,25 +1,7 @@
 -- Runs of two systems in which LACPDUs overtake data, as where a sender or a link has a queue of its own for them (profile).
-use Rattle.std.specs.Prelude.{◌≡◌, ℕ, List, [], ◌∷◌, ◌++◌, Option, Some, None}
-use Rattle.lagmodel.specs.View.{Lacp, Marker, Response}
-use Rattle.lagmodel.specs.World.{Control, Data, Event, Happens, IsWorldSetup, Message, Side, World, WorldSetup, first_world, with_messages}
-
--- the message is an LACPDU
-abbrev pub IsLacpdu : Message → Type 0
-IsLacpdu (Control (Lacp pdu) stamp) = Unit {0}
-IsLacpdu (Control (Marker mac port identifier) stamp) = ⊥
-IsLacpdu (Control (Response mac port identifier) stamp) = ⊥
-IsLacpdu (Data origin aggregator conversation serial) = ⊥
-
--- an LACPDU goes by what is right before it on the cable, which is none: both keep their order among their like
-pub record Overtakes (old new : List Message) : Type 0 where
-  pub front : List Message
-  pub other : Message
-  pub lacpdu : Message
-  pub back : List Message
-  pub one_is : IsLacpdu lacpdu
-  pub one_is_none : IsLacpdu other → ⊥
-  pub before : old ≡ front ++ other ∷ lacpdu ∷ back
-  pub after : new ≡ front ++ lacpdu ∷ other ∷ back
+use Rattle.std.specs.Prelude.{◌≡◌, ℕ, List, [], ◌∷◌, Option, Some, None}
+use Rattle.lagmodel.specs.Overtaking.{Overtakes}
+use Rattle.lagmodel.specs.World.{Event, Happens, IsWorldSetup, Message, Side, World, WorldSetup, first_world, with_messages}
 
 -- that happens on some cable
 pub record OvertakesOnCable (old new : World) : Type 0 where

@@ -12,6 +12,7 @@ use Rattle.lagworld.specs.Events.{Algorithms, WorldRuns, WorldSteps, most_events
 use Rattle.lagworld.specs.Making.{AreFirst}
 use Rattle.lagworld.specs.Sound.{IsSound as IsSoundWorld, IsStart}
 use Rattle.lagworld.specs.State.{WorldState, half}
+use Rattle.laghosts.specs.HostEvents.{HostEvent, HostRuns}
 use Rattle.lagprogress.specs.Timers.{PortsAreTimed}
 
 -- the system is sound, no timer of its ports is above its bound, and the host holds no port
@@ -40,6 +41,17 @@ EachRunKeepsSteady gives = (es : List Event) (rs : List Reply) (old new : WorldS
 abbrev pub EachReachedIsSteady : Algorithms → Type 0
 EachReachedIsSteady gives = (configs : List Config) (es : List Event) (rs : List Reply) (start new : WorldState) → IsStart start
     → AreFirst configs start → WorldRuns gives start es rs new → new.acted ≤ most_events → IsSoundWorld new × IsSteady new
+
+-- So does each list of events, calls and settings of hosts, if the host holds no port in the end.
+abbrev pub EachHostRunKeepsSteady : Algorithms → Type 0
+EachHostRunKeepsSteady gives = (es : List HostEvent) (old new : WorldState) → HostRuns gives old es new → IsSteady old
+    → ((s : Side) → NoneHeld (half s new).state) → IsSteady new
+
+-- and each world that they lead to from a start is so then, and sound
+abbrev pub EachHostReachedIsSteady : Algorithms → Type 0
+EachHostReachedIsSteady gives = (configs : List Config) (es : List HostEvent) (start new : WorldState) → IsStart start
+    → AreFirst configs start → HostRuns gives start es new → new.acted ≤ most_events → ((s : Side) → NoneHeld (half s new).state)
+    → IsSoundWorld new × IsSteady new
 
 -- some calls lead from one state of a system to another
 abbrev pub GoesByCalls : (ℕ → ℕ → ℕ → Type 0) → SystemState → SystemState → Type 0

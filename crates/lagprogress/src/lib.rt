@@ -71,21 +71,22 @@ pub fn standby_ports_wait_for_room()
     ensures { WaitsForRoom }
 {}
 
-ghost use Rattle.lagprogress.specs.Timers.{EachCallKeepsTimed, EachHostCallKeepsTimed, FirstIsTimed};
+ghost use Rattle.lagprogress.specs.Timers.{EachCallKeepsTimed, EachHostCallKeepsTimed, EachSettingKeepsTimed, FirstIsTimed};
 
 // promise: at first and after each call no timer has more ticks than it can start with, no window an age above 10, and a wait for a response
-//    is below 30 ticks
-// contract: `timers_are_bounded`, `waits_are_short` (`first`, `kept`, `hosts`)
-/// No timer of a port has more ticks than it can start with: current_while at most Short_Timeout_Time (30 ticks) if the
-/// port has Short Timeout or is in EXPIRED, else Long_Timeout_Time (900); periodic_timer at most Fast_Periodic_Time (10)
-/// in FAST, else Slow_Periodic_Time (300); wait_while at most Aggregate_Wait_Time (20); and no age of the transmit window
-/// is above 10 (6.4.4, 6.4.16). So it is in each first state, and each call keeps it, whatever the distribution algorithm
-/// returns. `set_mode` is none of these calls: after it current_while goes on until it expires or an LACPDU starts it anew
-/// (profile).
+//    is below 30 ticks; settings keep the bounds of timers and windows, and after `set_mode` current_while may exceed the new time-out
+// contract: `timers_are_bounded`, `waits_are_short` (`first`, `kept`, `hosts`, `settings`)
+/// No timer of a port has more ticks than it can start with: current_while at most Short_Timeout_Time (30 ticks) in EXPIRED, and
+/// Long_Timeout_Time (900) in any other state; periodic_timer at most Fast_Periodic_Time (10) in FAST, else Slow_Periodic_Time (300);
+/// wait_while at most Aggregate_Wait_Time (20); and no age of the transmit window is above 10 (6.4.4, 6.4.16). And current_while is
+/// at most the time-out of the port: 30 with Short Timeout. So it is in each first state, and each call keeps it, whatever the
+/// distribution algorithm returns. Settings keep it, too, but for the last: after `set_mode` current_while goes on until it expires or
+/// an LACPDU starts it anew (profile).
 pub fn timers_are_bounded<F: Fn(u16, usize) -> usize>()
     ensures first { FirstIsTimed }
     ensures kept { (algorithm : F) → EachCallKeepsTimed (F.post algorithm) }
     ensures hosts { (algorithm : F) → EachHostCallKeepsTimed (F.post algorithm) }
+    ensures settings { EachSettingKeepsTimed }
 {}
 
 ghost use Rattle.lagprogress.specs.Waits.{EachCallKeepsWaits, EachHostCallKeepsWaits, FirstWaitsAreShort};
@@ -128,10 +129,11 @@ ghost use Rattle.lagprogress.specs.Hearing.{IsNoticed};
 // promise: a port is not CURRENT after calls with 900 ticks (30 with Short Timeout) in which it processed no LACPDU, and DEFAULTED after 30
 //    more
 // contract: `silence_is_noticed` (`Hearing`)
-// premises: sound, timers within bounds; the link stays up; no `configure` names it
+// premises: sound, timers within bounds, and current_while within the port's time-out; the link stays up; no `configure` names it
 /// Silence is noticed: a port whose link stays up, that no `configure` names, and that processes no LACPDU is not
 /// CURRENT after 900 ticks (90 s), or 30 (3 s) if it has Short Timeout, and it is DEFAULTED after 30 more (6.4.12). The
-/// system is sound, its timers are within their bounds, and its distribution algorithm may return anything.
+/// system is sound, its timers are within their bounds, current_while of the port is within its time-out, and its distribution
+/// algorithm may return anything.
 pub fn silence_is_noticed<F: Fn(u16, usize) -> usize>()
     ensures { (algorithm : F) → IsNoticed (F.post algorithm) }
 {}
@@ -151,7 +153,7 @@ pub fn what_was_heard_is_known<F: Fn(u16, usize) -> usize>()
 
 ghost use Rattle.lagworld.specs.Sound.{both_algorithms};
 ghost use Rattle.lagprogress.specs.Steady.{EachEventIsCalls, EachEventKeepsSteady, StartIsSteady};
-ghost use Rattle.lagprogress.specs.Steady.{EachReachedIsSteady, EachRunKeepsSteady};
+ghost use Rattle.lagprogress.specs.Steady.{EachHostReachedIsSteady, EachHostRunKeepsSteady, EachReachedIsSteady, EachRunKeepsSteady};
 
 // promise: each event of a world is a list of calls of each system, perhaps empty
 // contract: `each_event_is_calls`
@@ -161,18 +163,21 @@ pub fn each_event_is_calls<F: Fn(u16, usize) -> usize>()
     ensures { (one two : F) → EachEventIsCalls (both_algorithms (F.post one) (F.post two)) }
 {}
 
-// promise: a world is steady at first, and after any events, and then it is sound, too
-// contract: `each_world_is_steady` (`start`, `kept`, `run`, `reached`)
-// premises: `World::new` made the first; for `reached` at most 2^63 events
+// promise: a world is steady at first, and after any events, and then it is sound, too; and after any events, calls and settings of hosts
+// contract: `each_world_is_steady` (`start`, `kept`, `run`, `reached`, `hosts`, `hosts_reached`)
+// premises: `World::new` made the first; for `reached` at most 2^63 events; after settings no port is held in the end
 /// Both systems of a world are sound, their timers within their bounds, and no port held: at the start, after each event and
 /// after any events, whatever the distribution algorithms return. So each world that at most 2^63 events lead to from a start
 /// is sound, and both its systems are sound, with their timers within their bounds and no port held, as `links_come_up` and
-/// `links_agree` want it (6.4.4; profile).
+/// `links_agree` want it (6.4.4; profile). So it is after any list of events, of calls of hosts and of settings, as `HostEvent` of
+/// `laghosts` has them, `set_mode` to Short Timeout among them, if the hosts hold no port in the end.
 pub fn each_world_is_steady<F: Fn(u16, usize) -> usize>()
     ensures start { StartIsSteady }
     ensures kept { (one two : F) → EachEventKeepsSteady (both_algorithms (F.post one) (F.post two)) }
     ensures run { (one two : F) → EachRunKeepsSteady (both_algorithms (F.post one) (F.post two)) }
     ensures reached { (one two : F) → EachReachedIsSteady (both_algorithms (F.post one) (F.post two)) }
+    ensures hosts { (one two : F) → EachHostRunKeepsSteady (both_algorithms (F.post one) (F.post two)) }
+    ensures hosts_reached { (one two : F) → EachHostReachedIsSteady (both_algorithms (F.post one) (F.post two)) }
 {}
 
 ghost use Rattle.lagprogress.specs.Passing.{DeliverProcessesLacpdu, EmitSendsLacpdu};
@@ -249,19 +254,22 @@ pub fn ends_of_each_cable_come_to_know<F: Fn(u16, usize) -> usize>()
     ensures one { (one two : F) → EndsOfEachKnow Rounds OneIsActive known_if_one_is (both_algorithms (F.post one) (F.post two)) }
 {}
 
-ghost use Rattle.lagprogress.specs.Bundle.{BothAreActive, OneIsActive, ReachedIsApart, ReachedIsBundle};
+ghost use Rattle.lagprogress.specs.Bundle.{BothAreActive, HostReachedIsBundle, OneIsActive, ReachedIsApart, ReachedIsBundle};
 
-// promise: a world that events lead to from a new one is sound and meets `IsBundle`; its systems differ
-// contract: `reached_worlds_are_bundles` (`apart`, `both`, `one`)
-// premises: the configuration is accepted; at most 2^63 events; `AllHeard`, `HasAggregators`, `EnoughLinks`
+// promise: a world that events, calls and settings of hosts lead to from a new one is sound and meets `IsBundle`; its systems differ
+// contract: `reached_worlds_are_bundles` (`apart`, `both`, `one`, `hosts_both`, `hosts_one`)
+// premises: the configuration is accepted; at most 2^63 events; `AllHeard`, `HasAggregators`, `EnoughLinks`; after settings no port is held
 /// A world that at most 2^63 events lead to from a start of two systems whose configurations are accepted is sound, and a
 /// bundle as `each_link_comes_up`, `each_link_agrees` and `held_conversations_are_freed` want it, if each port whose link is up
 /// ends a healthy cable with both ends active, or one, and each system has aggregators and enough links as they say. Its two
-/// systems differ in any case (profile).
+/// systems differ in any case. So is a world that events, calls of hosts and settings lead to, as `HostEvent` of `laghosts` has them, if
+/// the hosts hold no port in the end (profile).
 pub fn reached_worlds_are_bundles<F: Fn(u16, usize) -> usize>()
     ensures apart { (one two : F) → ReachedIsApart (both_algorithms (F.post one) (F.post two)) }
     ensures both { (one two : F) → ReachedIsBundle BothAreActive (both_algorithms (F.post one) (F.post two)) }
     ensures one { (one two : F) → ReachedIsBundle OneIsActive (both_algorithms (F.post one) (F.post two)) }
+    ensures hosts_both { (one two : F) → HostReachedIsBundle BothAreActive (both_algorithms (F.post one) (F.post two)) }
+    ensures hosts_one { (one two : F) → HostReachedIsBundle OneIsActive (both_algorithms (F.post one) (F.post two)) }
 {}
 
 ghost use Rattle.lagprogress.specs.Bundle.{EachLinkComesUp};

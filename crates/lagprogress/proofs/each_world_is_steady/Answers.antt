@@ -1,4 +1,5 @@
 use Rattle.lagprogress.proofs.Halves.{keeps_steady, start_steady}
+use Rattle.lagprogress.proofs.HostSteady.{host_reached_steady, hosts_keep_steady}
 use Rattle.lagprogress.proofs.Reaching.{reached_steady, runs_steady}
 use Rattle.lagprogress.proofs.each_world_is_steady.Goals as goal
 
@@ -13,3 +14,9 @@ returns-clause-run g c = λ one two. runs_steady _
 
 pub returns-clause-reached : goal.returns-clause-reached
 returns-clause-reached g c = λ one two. reached_steady _
+
+pub returns-clause-hosts : goal.returns-clause-hosts
+returns-clause-hosts g c = λ one two. hosts_keep_steady _
+
+pub returns-clause-hosts_reached : goal.returns-clause-hosts_reached
+returns-clause-hosts_reached g c = λ one two. host_reached_steady _

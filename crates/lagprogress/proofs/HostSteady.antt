@@ -1,0 +1,249 @@
+-- What calls and settings of hosts leave of both systems.
+use Rattle.lagprogress.proofs.Common.{Bool, Err, List, None, Ok, Option, Result, Some, [], ap, arith, false, inl, inr, refl, subst, suc, sym, true}
+use Rattle.lagprogress.proofs.Common.{zero, ℕ, ◌∙◌, ◌∷◌, ◌≡◌, ◌⊎◌, none-some, same_Some, AggId, Lacpdu, One, Side, Two, WorldSetup, peer}
+use Rattle.lagprogress.proofs.Common.{next_identifier, Config, HostCall, HostReply, Answer, SystemFault, Call, Carries, IsFrame, Step, call_of}
+use Rattle.lagprogress.proofs.Common.{HostPromise, ProbesAt, ProbesIf, SendsMarkerOf, IsSound, NoneHeld, SystemState, port_index, IsOther, TableAlone}
+use Rattle.lagprogress.proofs.Common.{host_alone, Step-sound, Event, Reply, Algorithms, WorldSteps, most_events, transmitted_item, with_item_sent}
+use Rattle.lagprogress.proofs.Common.{forced_if_accepted, with_state, AreFirst, IsSoundWorld, IsStart, HalfState, ItemValue, LinkState, WorldState}
+use Rattle.lagprogress.proofs.Common.{half, put_on_port, with_half, start_sound, hosts_keep_headline, EachHostReachedIsSteady, EachHostRunKeepsSteady}
+use Rattle.lagprogress.proofs.Common.{IsSteady, PortsAreTimed}
+use Rattle.slowpdu.specs.declared.pdu.Pdu.TheVariants as pdu
+use Rattle.lagsystem.specs.declared.drive.HostCall.TheVariants as host
+use Rattle.lagsystem.specs.declared.drive.HostReply.TheVariants as told
+use Rattle.lagsystem.proofs.AssigningLemmas.{offers_sound}
+use Rattle.lagsystem.proofs.LeavingLemmas.{leaves_sound, rests_sound}
+use Rattle.lagsystem.proofs.ProbingLemmas.{probes_sound}
+use Rattle.lagsystem.proofs.SettingsKeep.{setting_sound}
+use Rattle.lagworld.specs.Asking.{with_sent_in}
+use Rattle.lagworld.proofs.OneSystem.{after_call}
+use Rattle.laghosts.specs.HostEvents.{AfterNumberedOffer, AfterProbe, CountsHeldIfOk, ForcesPort, HalfSets, HalfTells, HostEvent, HostRuns, HostSteps}
+use Rattle.laghosts.specs.HostEvents.{Leaves, Offers, Plays, Probes, Rests, Sets, numbered_item}
+use Rattle.laghosts.proofs.HostHappens.{offered_joint}
+use Rattle.lagprogress.proofs.EachPort.{Step-each}
+use Rattle.lagprogress.proofs.Halves.{each_is_calls, start_steady}
+use Rattle.lagprogress.proofs.HostWaits.{forces_port}
+use Rattle.lagprogress.proofs.Linked.{each_side}
+use Rattle.lagprogress.proofs.OnePort.{calls_each}
+use Rattle.lagprogress.proofs.Passing.{marker_carries_none}
+use Rattle.lagprogress.proofs.Quieting.{Quietly, SendsPlain}
+use Rattle.lagprogress.proofs.Timers.{TimedAt, setting_timed, timed_kept, timed_settles}
+
+-- ---- one system
+
+host_sound : (gives : ℕ → ℕ → ℕ → Type 0) (old : SystemState) (call : HostCall) (answer : HostReply) (new : SystemState)
+    → HostPromise gives old call answer new → IsSound old → IsSound new
+host_sound gives old (host.Call call) (told.Call answer) new h s = Step-sound gives old (call_of call) answer new h.step s
+host_sound gives old (host.OfferConversation agg conv) (told.OfferConversation answer) new h s = offers_sound gives agg conv old answer new h.0 s
+host_sound gives old (host.LeaveConversation agg conv) (told.LeaveConversation answer) new h s = leaves_sound agg conv old answer new h.0 s
+host_sound gives old (host.Probe port) (told.Probe answer) new h s = probes_sound port old answer new h.0 s
+host_sound gives old (host.Rest agg conv) (told.Rest answer) new h s = rests_sound gives agg conv old answer new h.0 s
+host_sound gives old (host.ForcePort port) (told.ForcePort answer) new h s =
+    forces_port gives IsSound (λ i j call a step x. Step-sound gives i call a j step x) port old answer new h.1 s
+host_sound gives old call answer new h s = absurd h
+
+-- sound, with timers within their bounds
+abbrev pub IsTimely : SystemState → Type 0
+IsTimely s = IsSound s × PortsAreTimed s
+
+call_timely : (gives : ℕ → ℕ → ℕ → Type 0) (old new : SystemState) (call : Call) (a : Answer) → Step gives old call a new → IsTimely old
+    → IsTimely new
+call_timely gives old new call a h k =
+    (Step-sound gives old call a new h k.0, Step-each TimedAt timed_settles gives old call a new (timed_kept call a) h k.1)
+
+-- ---- the five calls
+
+-- A call of system s leaves its ports and histories, and the peer; it keeps it sound, and sends nothing that bears an LACPDU.
+pub record IsBeside (s : Side) (old new : WorldState) : Type 0 where
+  pub alone : TableAlone (half s old).state (half s new).state
+  pub sound : IsSound (half s old).state → IsSound (half s new).state
+  pub peers : (half (peer s) new).state ≡ (half (peer s) old).state
+  pub links : (new.links ≡ old.links) ⊎ SendsPlain s old new
+  pub logs : (t : Side) → (half t new).histories ≡ (half t old).histories
+
+-- these cables are those of the world, or have one more such item
+abbrev Puts : Side → List LinkState → WorldState → Type 0
+Puts s ls j = (ls ≡ j.links) ⊎ ((port : ℕ) × (item : ItemValue) × ((x : Lacpdu) → IsFrame item.octets (Carries (pdu.Lacpdu x)) → ⊥)
+    × (ls ≡ put_on_port s port item j.links))
+
+state_there : (s : Side) (h : HalfState) (ls : List LinkState) (j : WorldState) → (half s (after_call s h ls j)).state ≡ h.state
+state_there One h ls j = refl
+state_there Two h ls j = refl
+
+peer_there : (s : Side) (h : HalfState) (ls : List LinkState) (j : WorldState)
+    → (half (peer s) (after_call s h ls j)).state ≡ (half (peer s) j).state
+peer_there One h ls j = refl
+peer_there Two h ls j = refl
+
+logs_there : (s : Side) (h : HalfState) (ls : List LinkState) (j : WorldState) → h.histories ≡ (half s j).histories → (t : Side)
+    → (half t (after_call s h ls j)).histories ≡ (half t j).histories
+logs_there One h ls j e One = e
+logs_there One h ls j e Two = refl
+logs_there Two h ls j e One = refl
+logs_there Two h ls j e Two = e
+
+links_there : (s : Side) (h : HalfState) (ls : List LinkState) (j : WorldState) → (after_call s h ls j).links ≡ ls
+links_there s h ls j = refl
+
+same_links : (s : Side) (h : HalfState) (j : WorldState) → with_half s h j ≡ after_call s h j.links j
+same_links One h j = refl
+same_links Two h j = refl
+
+sent_joint : (s : Side) (port : ℕ) (item : ItemValue) (h : HalfState) (j : WorldState)
+    → with_item_sent s port item (with_half s h j) ≡ after_call s h (put_on_port s port item j.links) j
+sent_joint One port item h j = refl
+sent_joint Two port item h j = refl
+
+built : (gives : ℕ → ℕ → ℕ → Type 0) (s : Side) (call : HostCall) (a : HostReply) (mid h : HalfState) (ls : List LinkState)
+    (old new : WorldState) → HalfTells gives call a (half s old) mid → IsOther call → h.state ≡ mid.state → h.histories ≡ mid.histories
+    → Puts s ls old → new ≡ after_call s h ls old → IsBeside s old new
+built gives s call a mid h ls old new x is state logs puts y =
+    let own : (half s new).state ≡ mid.state = ap (λ (j : WorldState). (half s j).state) y ∙ (state_there s h ls old ∙ state) in
+    let links : new.links ≡ ls = ap (λ (j : WorldState). j.links) y in
+    record {
+      alone = subst (TableAlone (half s old).state) (sym own) (host_alone gives (half s old).state call a mid.state x.answers is);
+      sound = λ k. subst IsSound (sym own) (host_sound gives (half s old).state call a mid.state x.answers k);
+      peers = ap (λ (j : WorldState). (half (peer s) j).state) y ∙ peer_there s h ls old;
+      links = elim puts [
+        | inl e ↦ inl (links ∙ e)
+        | inr p ↦ inr (record { port = p.0; item = p.1; plain = p.2; sent = links ∙ p.3 })
+      ];
+      logs = λ t. ap (λ (j : WorldState). (half t j).histories) y
+          ∙ logs_there s h ls old (logs ∙ ap (λ (k : HalfState). k.histories) x.same) t;
+    }
+
+offer_beside : (gives : ℕ → ℕ → ℕ → Type 0) (s : Side) (agg : AggId) (conv : ℕ) (octets : List ℕ) (a : Result ℕ SystemFault) (mid : HalfState)
+    (old new : WorldState) → ((x : Lacpdu) → IsFrame octets (Carries (pdu.Lacpdu x)) → ⊥)
+    → HalfTells gives (host.OfferConversation agg conv) (told.OfferConversation a) (half s old) mid
+    → AfterNumberedOffer s agg conv octets a (with_half s mid old) new → IsBeside s old new
+offer_beside gives s agg conv octets (Ok port) mid old new plain x y =
+    built gives s (host.OfferConversation agg conv) (told.OfferConversation (Ok port)) mid (with_sent_in agg.0 conv mid)
+    (put_on_port s port (numbered_item s agg conv octets mid) old.links) old new x tt refl refl
+    (inr (port, numbered_item s agg conv octets mid, plain, refl)) (y ∙ offered_joint s agg conv octets port mid old)
+offer_beside gives s agg conv octets (Err fault) mid old new plain x y =
+    built gives s (host.OfferConversation agg conv) (told.OfferConversation (Err fault)) mid mid old.links old new x tt refl refl (inl refl)
+    (y ∙ same_links s mid old)
+
+-- what is probed for is a marker
+probed_plain : (o : Option ℕ) (old : SystemState) (frame : List ℕ) (new : SystemState) → ProbesAt o old (Some frame) new → (v : Lacpdu)
+    → IsFrame frame (Carries (pdu.Lacpdu v)) → ⊥
+probed_plain None old frame new h v k = h
+probed_plain (Some i) old frame new h v k = by_up h.0.port.enabled h.2
+  where
+    by_marker : (o : Option ℕ) → SendsMarkerOf o h.0.number h.0.mac old (Some frame) new → ⊥
+    by_marker None m = none-some frame (sym m.0)
+    by_marker (Some id) m = marker_carries_none frame v _ k (h.0.mac, m.0, m.1, m.2, same_Some frame _ m.3)
+
+    by_up : (up : Bool) → ProbesIf up h.0 old (Some frame) new → ⊥
+    by_up false m = none-some frame (sym m.0)
+    by_up true m = by_marker (next_identifier old.table) m
+
+probe_beside : (gives : ℕ → ℕ → ℕ → Type 0) (s : Side) (port : ℕ) (a : Result (Option (List ℕ)) SystemFault) (mid : HalfState)
+    (old new : WorldState) → HalfTells gives (host.Probe port) (told.Probe a) (half s old) mid
+    → AfterProbe s port a (with_half s mid old) new → IsBeside s old new
+probe_beside gives s port (Ok (Some frame)) mid old new x y =
+    let item = transmitted_item s port frame (half s (with_half s mid old)) in
+    built gives s (host.Probe port) (told.Probe (Ok (Some frame))) mid mid (put_on_port s port item old.links) old new x tt refl refl
+    (inr (port, item, probed_plain (port_index port (half s old).state.system_ports) (half s old).state frame mid.state x.answers.0, refl))
+    (y ∙ sent_joint s port item mid old)
+probe_beside gives s port (Ok None) mid old new x y =
+    built gives s (host.Probe port) (told.Probe (Ok None)) mid mid old.links old new x tt refl refl (inl refl) (y ∙ same_links s mid old)
+probe_beside gives s port (Err fault) mid old new x y =
+    built gives s (host.Probe port) (told.Probe (Err fault)) mid mid old.links old new x tt refl refl (inl refl) (y ∙ same_links s mid old)
+
+rest_beside : (gives : ℕ → ℕ → ℕ → Type 0) (s : Side) (agg : AggId) (conv : ℕ) (a : Result Unit SystemFault) (mid : HalfState)
+    (old new : WorldState) → HalfTells gives (host.Rest agg conv) (told.Rest a) (half s old) mid
+    → new ≡ with_half s (forced_if_accepted a agg conv mid) old → IsBeside s old new
+rest_beside gives s agg conv (Ok done) mid old new x y =
+    let h = forced_if_accepted (Ok done) agg conv mid in
+    built gives s (host.Rest agg conv) (told.Rest (Ok done)) mid h old.links old new x tt refl refl (inl refl) (y ∙ same_links s h old)
+rest_beside gives s agg conv (Err fault) mid old new x y =
+    built gives s (host.Rest agg conv) (told.Rest (Err fault)) mid mid old.links old new x tt refl refl (inl refl) (y ∙ same_links s mid old)
+
+force_beside : (gives : ℕ → ℕ → ℕ → Type 0) (s : Side) (port : ℕ) (a : Result ℕ SystemFault) (mid last : HalfState) (old new : WorldState)
+    → HalfTells gives (host.ForcePort port) (told.ForcePort a) (half s old) mid → CountsHeldIfOk a port (half s old).state mid last
+    → new ≡ with_half s last old → IsBeside s old new
+force_beside gives s port (Ok count) mid last old new x c y =
+    built gives s (host.ForcePort port) (told.ForcePort (Ok count)) mid last old.links old new x tt c.state c.histories (inl refl)
+    (y ∙ same_links s last old)
+force_beside gives s port (Err fault) mid last old new x c y =
+    built gives s (host.ForcePort port) (told.ForcePort (Err fault)) mid last old.links old new x tt
+    (ap (λ (h : HalfState). h.state) c) (ap (λ (h : HalfState). h.histories) c) (inl refl) (y ∙ same_links s last old)
+
+-- the event is one of the five calls that hosts with a data plane make
+abbrev pub IsAside : HostEvent → Type 0
+IsAside (Offers s agg conv octets) = Unit {0}
+IsAside (Leaves s agg conv) = Unit {0}
+IsAside (Probes s port) = Unit {0}
+IsAside (Rests s agg conv) = Unit {0}
+IsAside (ForcesPort s port) = Unit {0}
+IsAside _ = ⊥
+
+pub aside : (gives : Algorithms) (e : HostEvent) (old new : WorldState) → IsAside e → HostSteps gives old e new → (s : Side) × IsBeside s old new
+aside gives (Offers s agg conv octets) old new is x =
+    (s, offer_beside (gives s) s agg conv octets x.0 x.1 old new (λ v c. x.2 c.0.1) x.3 x.4)
+aside gives (Leaves s agg conv) old new is x = (
+  s,
+  built (gives s) s (host.LeaveConversation agg conv) (told.LeaveConversation x.0) x.1 x.1
+      old.links old new x.2 tt refl refl (inl refl) (x.3 ∙ same_links s x.1 old),
+)
+aside gives (Probes s port) old new is x = (s, probe_beside (gives s) s port x.0 x.1 old new x.2 x.3)
+aside gives (Rests s agg conv) old new is x = (s, rest_beside (gives s) s agg conv x.0 x.1 old new x.2 x.3)
+aside gives (ForcesPort s port) old new is x = (s, force_beside (gives s) s port x.0 x.1 x.2 old new x.3 x.4 x.5)
+aside gives e old new is x = absurd is
+
+-- it leaves the cables quietly
+pub beside_quietly : (s : Side) (old new : WorldState) → IsBeside s old new → Quietly s old new
+beside_quietly s old new b = record {
+  same = each_side (λ t. (half t new).state.system_ports ≡ (half t old).state.system_ports) s
+      (ap (λ (y : SystemState). y.system_ports) b.alone) (ap (λ (y : SystemState). y.system_ports) b.peers);
+  links = b.links;
+  logs = b.logs;
+}
+
+-- ---- both systems
+
+abbrev AreTimely : WorldState → Type 0
+AreTimely j = (s : Side) → IsTimely (half s j).state
+
+beside_timely : (s : Side) (old new : WorldState) → IsBeside s old new → AreTimely old → AreTimely new
+beside_timely s old new b k = each_side (λ t. IsTimely (half t new).state) s
+    (b.sound (k s).0, subst PortsAreTimed (sym b.alone) (k s).1) (subst IsTimely (sym b.peers) (k (peer s)))
+
+setting_timely : (s : Side) (mid : HalfState) (old new : WorldState) → (IsTimely (half s old).state → IsTimely mid.state)
+    → new ≡ with_half s mid old → AreTimely old → AreTimely new
+setting_timely s mid old new f y k =
+    let e = y ∙ same_links s mid old in
+    each_side (λ t. IsTimely (half t new).state) s
+    (subst IsTimely (sym (ap (λ (j : WorldState). (half s j).state) e ∙ state_there s mid old.links old)) (f (k s)))
+    (subst IsTimely (sym (ap (λ (j : WorldState). (half (peer s) j).state) e ∙ peer_there s mid old.links old)) (k (peer s)))
+
+step_timely : (gives : Algorithms) (e : HostEvent) (old new : WorldState) → HostSteps gives old e new → AreTimely old → AreTimely new
+step_timely gives (Plays e) old new x k = λ s.
+    (let g = each_is_calls gives e x.0 old new x.1 s in
+    calls_each (gives s) IsTimely (call_timely (gives s)) (half s old).state (half s new).state g.0 g.1 g.2 (k s))
+step_timely gives (Sets s setting) old new x k = setting_timely s x.1 old new (λ t. (
+  setting_sound (half s old).state setting x.0 x.1.state x.2.answers.step t.0,
+  setting_timed (half s old).state x.1.state setting x.0 x.2.answers.step t.1,
+)) x.3 k
+step_timely gives (Offers s agg conv octets) old new x k =
+    let b = aside gives (Offers s agg conv octets) old new tt x in beside_timely b.0 old new b.1 k
+step_timely gives (Leaves s agg conv) old new x k =
+    let b = aside gives (Leaves s agg conv) old new tt x in beside_timely b.0 old new b.1 k
+step_timely gives (Probes s port) old new x k = let b = aside gives (Probes s port) old new tt x in beside_timely b.0 old new b.1 k
+step_timely gives (Rests s agg conv) old new x k = let b = aside gives (Rests s agg conv) old new tt x in beside_timely b.0 old new b.1 k
+step_timely gives (ForcesPort s port) old new x k =
+    let b = aside gives (ForcesPort s port) old new tt x in beside_timely b.0 old new b.1 k
+
+run_timely : (gives : Algorithms) (es : List HostEvent) (old new : WorldState) → HostRuns gives old es new → AreTimely old → AreTimely new
+run_timely gives [] old new h k = subst AreTimely (sym h) k
+run_timely gives (e ∷ es) old new h k = run_timely gives es h.0 new h.2 (step_timely gives e old h.0 h.1 k)
+
+pub hosts_keep_steady : (gives : Algorithms) → EachHostRunKeepsSteady gives
+hosts_keep_steady gives es old new h k free = λ s.
+    (let t = run_timely gives es old new h (λ u. ((k u).0, (k u).1)) s in (t.0, t.1, free s))
+
+pub host_reached_steady : (gives : Algorithms) → EachHostReachedIsSteady gives
+host_reached_steady gives configs es start new i first h few free = (
+  (hosts_keep_headline gives es start new h (start_sound start i) few).sound,
+  hosts_keep_steady gives es start new h (start_steady configs start i first) free,
+)
