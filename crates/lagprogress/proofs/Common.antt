@@ -127,7 +127,7 @@ pub use Rattle.lagworld.specs.Events.{AfterOffer, AfterReceive, AfterTransmit, A
 pub use Rattle.lagworld.specs.Events.{WorldReceives, WorldRuns, WorldSteps, cause, cause_or_no_memory, first_event_cause, has_cable, has_system}
 pub use Rattle.lagworld.specs.Events.{may_take_memory, most_events, offered_item, sent_reply, set_last_lacpdu, side_of, stamp_for, stamped_in}
 pub use Rattle.lagworld.specs.Events.{transmitted_item, with_frame_counted, with_item_sent, with_link_at, with_stamp_collected}
-pub use Rattle.lagworld.specs.HalfCalls.{HalfAnswers, HalfMoves, HalfTicks, forced_if_accepted, set_taken, with_state}
+pub use Rattle.lagworld.specs.HalfCalls.{HalfAnswers, HalfForces, HalfMoves, HalfTicks, forced_if_accepted, set_taken, with_state}
 pub use Rattle.lagworld.specs.Making.{AreFirst}
 pub use Rattle.lagworld.specs.Messages.{payload_in, stamp_count}
 pub use Rattle.lagworld.specs.ModelWorld.{link_ends, world_setup}

@@ -262,6 +262,7 @@ severed_between gives b s p M (event.Emit n q) r i j x h a = emit_severed gives 
 severed_between gives b s p M (event.Deliver cn n) r i j x h a = deliver_severed gives b s p M cn n r i j h a
 severed_between gives b s p M (event.Offer n agg octets) r i j x h a = quiet_severed gives b s p M (event.Offer n agg octets) r i j tt h a
 severed_between gives b s p M (event.Move n agg conv q) r i j x h a = quiet_severed gives b s p M (event.Move n agg conv q) r i j tt h a
+severed_between gives b s p M (event.Force n agg conv) r i j x h a = quiet_severed gives b s p M (event.Force n agg conv) r i j tt h a
 severed_between gives b s p M e r i j x h a = absurd x
 
 severed_tick : (gives : Algorithms) (b : ℕ) (s : Side) (p : ℕ) (M : ℕ → Type 0) (t : Side)
@@ -326,6 +327,7 @@ module _ (p : ℕ) (M : ℕ → Type 0) (Q : Machines → Type 0) (keeps : KeptU
   silent_between (event.Deliver cn n) r i j x h a = delivered cn n r i j h a
   silent_between (event.Offer n agg octets) r i j x h a = quiet (event.Offer n agg octets) r i j tt h a
   silent_between (event.Move n agg conv q) r i j x h a = quiet (event.Move n agg conv q) r i j tt h a
+  silent_between (event.Force n agg conv) r i j x h a = quiet (event.Force n agg conv) r i j tt h a
   silent_between e r i j x h a = absurd x
 
 -- P before the tick of the system, Q after it

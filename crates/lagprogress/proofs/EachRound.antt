@@ -78,6 +78,8 @@ each_between P k s gives (event.Offer n agg octets) r i j b h a =
     subst (OfEach P) (sym (quiet_ports gives (event.Offer n agg octets) r i j tt h s)) a
 each_between P k s gives (event.Move n agg conv p) r i j b h a =
     subst (OfEach P) (sym (quiet_ports gives (event.Move n agg conv p) r i j tt h s)) a
+each_between P k s gives (event.Force n agg conv) r i j b h a =
+    subst (OfEach P) (sym (quiet_ports gives (event.Force n agg conv) r i j tt h s)) a
 each_between P k s gives e r i j b h a = absurd b
 
 -- a tick of system t makes Q of P at that system, and leaves the other's ports
@@ -125,6 +127,7 @@ joins_kept gives links (event.Emit n p) r i j b h m = (emits gives n p r i j h).
 joins_kept gives links (event.Deliver c n) r i j b h m = deliver_ends gives c n r i j h ∙ m
 joins_kept gives links (event.Offer n agg octets) r i j b h m = quiet_ends gives (event.Offer n agg octets) r i j tt h ∙ m
 joins_kept gives links (event.Move n agg conv p) r i j b h m = quiet_ends gives (event.Move n agg conv p) r i j tt h ∙ m
+joins_kept gives links (event.Force n agg conv) r i j b h m = quiet_ends gives (event.Force n agg conv) r i j tt h ∙ m
 joins_kept gives links e r i j b h m = absurd b
 
 pub joins_tick : (gives : Algorithms) (links : List LinkState) (s : Side) → MadeByTick gives s (λ j. map link_ends j.links ≡ map link_ends links)

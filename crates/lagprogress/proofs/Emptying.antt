@@ -3,10 +3,11 @@ use Rattle.lagprogress.proofs.Common.{Bool, Err, IsSome, List, None, Ok, Option,
 use Rattle.lagprogress.proofs.Common.{refl, subst, suc, sym, true, zero, ℕ, ◌&&◌, ◌+◌, ◌<◌, ◌^◌, ◌∙◌, ◌∷◌, ◌≡◌, ◌≤◌, ◌⊎◌, nat_tests, none-some, Vec}
 use Rattle.lagprogress.proofs.Common.{AggId, Choice, is_selected, Lacpdu, One, Side, peer, Machines, is_due, Assignment, after_tick, marker_due}
 use Rattle.lagprogress.proofs.Common.{IsConversation, Table, assignment_of, next_identifier, SystemFault, Move_conversation, Offer, Receive, Step}
-use Rattle.lagprogress.proofs.Common.{Tick, Transmit, GivesOrRefuses, system_move_result, number_of_conversation, TransmitsAt, Settling, CallPromise}
-use Rattle.lagprogress.proofs.Common.{SystemState, machines_of, ports_table, settling_parts, found_place, Event, Reply, Algorithms, WorldRuns}
-use Rattle.lagprogress.proofs.Common.{WorldSteps, side_of, ItemValue, WorldState, half, port_at, DrainingRounds, IsDrainingRound, IsNoMoveOf}
-use Rattle.lagprogress.proofs.Common.{AfterTick, AtSomeWorld, IsBetweenTicks, IsHostRound, TickOnce, NothingInFlight, OfPort, IsSteady}
+use Rattle.lagprogress.proofs.Common.{Tick, Transmit, GivesOrRefuses, system_force_result, system_move_result, number_of_conversation, TransmitsAt}
+use Rattle.lagprogress.proofs.Common.{Settling, CallPromise, SystemState, machines_of, ports_table, settling_parts, found_place, Event, Reply}
+use Rattle.lagprogress.proofs.Common.{Algorithms, WorldRuns, WorldSteps, side_of, ItemValue, WorldState, half, port_at, DrainingRounds}
+use Rattle.lagprogress.proofs.Common.{IsDrainingRound, IsNoMoveOf, AfterTick, AtSomeWorld, IsBetweenTicks, IsHostRound, TickOnce, NothingInFlight}
+use Rattle.lagprogress.proofs.Common.{OfPort, IsSteady}
 use Rattle.lagprogress.proofs.Answering.{IsFine, Steady, fine_in_map, turned_by, sends_fine, settles_all, stays_on, went_flights, none_wanted}
 use Rattle.lagprogress.proofs.Answering.{not_wanted, none_due}
 use Rattle.lagprogress.proofs.Climbing.{PartnerInSync, choice_along, partner_along, ticks_choice, ticks_partner}
@@ -25,7 +26,7 @@ use Rattle.lagprogress.proofs.Claims.{IsNamed}
 use Rattle.lagprogress.proofs.HostRound.{left, fits_in, known_in, peer_holds, own_holds, none_ticked, Stages, of_side, MadeByTick, first_on}
 use Rattle.lagprogress.proofs.HostRound.{healthy_link, KeptWhere}
 use Rattle.lagsystem.specs.declared.drive.Reply.TheVariants as answer
-use Rattle.lagprogress.proofs.Quieting.{quiet_cable, quiet_link, offered_half, moved_half, Grown}
+use Rattle.lagprogress.proofs.Quieting.{quiet_cable, quiet_link, offered_half, moved_half, forced_half, Grown}
 use Rattle.lagscript.specs.declared.event.Event.TheVariants as event
 
 -- identifiers
@@ -100,19 +101,23 @@ tick_next s t gives n r old new named h =
     same_number : (a b : ℕ) → b ≡ a → a ≤ b
     same_number a b e = omega (arith, e)
 
-moves_next : (gives : ℕ → ℕ → ℕ → Type 0) (agg : AggId) (conv p : ℕ) (a : Result Unit SystemFault) (old new : SystemState)
-    → Step gives old (Move_conversation agg conv p) (answer.MoveConversation a) new → old.table.next ≤ new.table.next
-moves_next gives agg conv p a old new h = gives_next (system_move_result old agg conv p) h
-  where
-    gives_next : (what : Result Assignment SystemFault) → GivesOrRefuses agg conv what old a new → old.table.next ≤ new.table.next
-    gives_next (Ok state) k = let same = k.1.0.next in omega (arith, same)
-    gives_next (Err fault) k = subst (λ (t : SystemState). old.table.next ≤ t.table.next) (sym k.1) (omega arith)
+gives_next : (agg : AggId) (conv : ℕ) (what : Result Assignment SystemFault) (old : SystemState) (a : Result Unit SystemFault)
+    (new : SystemState) → GivesOrRefuses agg conv what old a new → old.table.next ≤ new.table.next
+gives_next agg conv (Ok state) old a new k = let same = k.1.0.next in omega (arith, same)
+gives_next agg conv (Err fault) old a new k = subst (λ (t : SystemState). old.table.next ≤ t.table.next) (sym k.1) (omega arith)
 
 move_next : (s : Side) (gives : Algorithms) (n : ℕ) (agg : AggId) (conv p : ℕ) (r : Reply) (old new : WorldState)
     → WorldSteps gives old (event.Move n agg conv p) r new → Rising s old new
 move_next s gives n agg conv p r old new h = elim (moved_half gives n agg conv p r old new h s) [
   | inl same ↦ same_next s old new same
-  | inr (named, a, step) ↦ moves_next (gives s) agg conv p a (half s old).state (half s new).state step
+  | inr (named, a, step) ↦ gives_next agg conv (system_move_result (half s old).state agg conv p) (half s old).state a (half s new).state step
+]
+
+force_next : (s : Side) (gives : Algorithms) (n : ℕ) (agg : AggId) (conv : ℕ) (r : Reply) (old new : WorldState)
+    → WorldSteps gives old (event.Force n agg conv) r new → Rising s old new
+force_next s gives n agg conv r old new h = elim (forced_half gives n agg conv r old new h s) [
+  | inl same ↦ same_next s old new same
+  | inr (named, a, step) ↦ gives_next agg conv (system_force_result (half s old).state agg conv) (half s old).state a (half s new).state step
 ]
 
 -- the events of a round
@@ -122,6 +127,7 @@ between_next s gives (event.Emit n p) r old new b h = emit_next s gives n p r ol
 between_next s gives (event.Deliver c n) r old new b h = deliver_next s gives c n r old new h
 between_next s gives (event.Offer n agg octets) r old new b h = offer_next s gives n agg octets r old new h
 between_next s gives (event.Move n agg conv p) r old new b h = move_next s gives n agg conv p r old new h
+between_next s gives (event.Force n agg conv) r old new b h = force_next s gives n agg conv r old new h
 between_next s gives e r old new b h = absurd b
 
 one_next : (s t : Side) (gives : Algorithms) (a b : Bool) (e : Event) (es : List Event) (r : Reply) (old new : WorldState)
@@ -370,11 +376,26 @@ module _ (at : Side → ℕ) (w : Side → Lacpdu) (named : (t : Side) → IsNam
               (other told) step)) (grown m W old new d g)
         ])
 
+    mid_forced : (m : ℕ) (W : Type 0) (n : ℕ) (group : AggId) (moved : ℕ) (r : Reply) (old new : WorldState)
+        → IsNoMoveOf s agg conv (event.Force n group moved) → WorldSteps gives old (event.Force n group moved) r new → Mid m W kn old
+        → Mid m W kn new
+    mid_forced m W n group moved r old new other h d =
+        let e = event.Force n group moved in
+        let g = quiet_cable gives e d.index at d.flying r old new tt h d.links in
+        made W e r h d (quiet_link gives e 2 at w kn s Y r old new tt h d.link).link g.flying d.index g.on
+        (elim (forced_half gives n group moved r old new h s) [
+          | inl same ↦ subst (λ (y : SystemState). FineIn m W (Flights s (at s) mac g.flying) y.table) (sym same) (grown m W old new d g)
+          | inr (told, a, step) ↦ subst (Fine (at s) m W (Flights s (at s) mac g.flying))
+              (sym (moved_elsewhere group moved agg conv (system_force_result (half s old).state group moved) a (half s old).state (half s new).state
+              (other told) step)) (grown m W old new d g)
+        ])
+
     mid_between : (m : ℕ) (W : Type 0) → KeptWhere gives (IsNoMoveOf s agg conv) (Mid m W kn)
     mid_between m W (event.Emit n p) r i j still b h d = mid_asked m W n p r i j h d
     mid_between m W (event.Deliver cn n) r i j still b h d = mid_delivers m W cn n r i j h d
     mid_between m W (event.Offer n group octets) r i j still b h d = mid_offered m W n group octets r i j h d
     mid_between m W (event.Move n group moved p) r i j still b h d = mid_moved m W n group moved p r i j still h d
+    mid_between m W (event.Force n group moved) r i j still b h d = mid_forced m W n group moved r i j still h d
     mid_between m W e r i j still b h d = absurd b
 
     -- where no marker is due and an identifier is left, it is not Wanted

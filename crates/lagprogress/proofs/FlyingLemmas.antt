@@ -266,6 +266,8 @@ module _ (gives : Algorithms) (s : Side) (i : ℕ) (l : LinkState) (w : Side →
       inr (ends_on a b (event.Offer n agg octets) r old new tt h m.0, quiet_on (event.Offer n agg octets) r old new tt h m.1)
   between_on a b (event.Move n agg conv p) r old new is h m =
       inr (ends_on a b (event.Move n agg conv p) r old new tt h m.0, quiet_on (event.Move n agg conv p) r old new tt h m.1)
+  between_on a b (event.Force n agg conv) r old new is h m =
+      inr (ends_on a b (event.Force n agg conv) r old new tt h m.0, quiet_on (event.Force n agg conv) r old new tt h m.1)
   between_on a b e r old new is h m = absurd is
 
   -- a run in which each system ticks once and that leaves nothing on the cables hands it up

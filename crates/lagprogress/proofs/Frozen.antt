@@ -203,6 +203,7 @@ module _ (Holds : LinkState → WorldState → Type 0) (gives : Algorithms) (old
     between kn from fits (event.Deliver cn n) r i j b h d = delivered kn from cn n r i j fits h d
     between kn from fits (event.Offer n agg octets) r i j b h d = offered kn from (event.Offer n agg octets) r i j tt h d
     between kn from fits (event.Move n agg conv p) r i j b h d = offered kn from (event.Move n agg conv p) r i j tt h d
+    between kn from fits (event.Force n agg conv) r i j b h d = offered kn from (event.Force n agg conv) r i j tt h d
     between kn from fits e r i j b h d = absurd b
 
     -- a tick of system t

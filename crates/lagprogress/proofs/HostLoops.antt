@@ -121,6 +121,8 @@ module _ (gives : Algorithms) (s : Side) (p : ℕ) where
       (subst (OfEach (AtPort p Up)) (sym (quiet_ports gives (event.Offer n agg octets) r i j tt h s)) x.up) x
   between (event.Move n agg conv q) r i j b h x = kept (event.Move n agg conv q) r i j h
       (subst (OfEach (AtPort p Up)) (sym (quiet_ports gives (event.Move n agg conv q) r i j tt h s)) x.up) x
+  between (event.Force n agg conv) r i j b h x = kept (event.Force n agg conv) r i j h
+      (subst (OfEach (AtPort p Up)) (sym (quiet_ports gives (event.Force n agg conv) r i j tt h s)) x.up) x
   between e r i j b h x = absurd b
 
   ticked : (t : Side) (e : Event) (r : Reply) (i j : WorldState) → IsTickOf t e → WorldSteps gives i e r j → Stays i → Stays j

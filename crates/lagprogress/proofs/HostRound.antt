@@ -224,6 +224,8 @@ between gives d at w c x Y fits along sends (event.Offer n agg octets) r i j b h
     (quiet_link gives (event.Offer n agg octets) d at w c x Y r i j tt h l).link
 between gives d at w c x Y fits along sends (event.Move n agg conv p) r i j b h l =
     (quiet_link gives (event.Move n agg conv p) d at w c x Y r i j tt h l).link
+between gives d at w c x Y fits along sends (event.Force n agg conv) r i j b h l =
+    (quiet_link gives (event.Force n agg conv) d at w c x Y r i j tt h l).link
 between gives d at w c x Y fits along sends e r i j b h l = absurd b
 
 module _ (gives : Algorithms) (s : Side) (d : ℕ) (at : Side → ℕ) (w : Side → Lacpdu) where
@@ -284,6 +286,7 @@ module _ (gives : Algorithms) (s : Side) (d : ℕ) (at : Side → ℕ) (w : Side
       each (event.Deliver cn n) r i j b h m = came cn n r i j h m
       each (event.Offer n agg octets) r i j b h m = quiet (event.Offer n agg octets) r i j tt h m
       each (event.Move n agg conv p) r i j b h m = quiet (event.Move n agg conv p) r i j tt h m
+      each (event.Force n agg conv) r i j b h m = quiet (event.Force n agg conv) r i j tt h m
       each e r i j b h m = absurd b
 
   -- the tick of s

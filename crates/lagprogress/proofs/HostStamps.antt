@@ -50,6 +50,7 @@ module _ (gives : Algorithms) (b : ℕ) (at k : Side → ℕ) (kept : Side → B
   stamped_between (event.Deliver cn n) r i j x h l = (stamps_deliver gives cn n b at k kept r i j l h).world
   stamped_between (event.Offer n agg octets) r i j x h l = quiet_stamped (event.Offer n agg octets) r i j tt h l
   stamped_between (event.Move n agg conv p) r i j x h l = quiet_stamped (event.Move n agg conv p) r i j tt h l
+  stamped_between (event.Force n agg conv) r i j x h l = quiet_stamped (event.Force n agg conv) r i j tt h l
   stamped_between e r i j x h l = absurd x
 
   pub stamped_tick : (s : Side) → MadeByTick gives s St St
@@ -80,6 +81,10 @@ module _ (gives : Algorithms) (b : ℕ) (at k : Side → ℕ) (kept : Side → B
   took_between some t (event.Move n agg conv p) r i j x h (l, y) = (
     quiet_stamped (event.Move n agg conv p) r i j tt h l,
     took_same at k kept t i j (quiet_logs gives (event.Move n agg conv p) r i j tt h t) y,
+  )
+  took_between some t (event.Force n agg conv) r i j x h (l, y) = (
+    quiet_stamped (event.Force n agg conv) r i j tt h l,
+    took_same at k kept t i j (quiet_logs gives (event.Force n agg conv) r i j tt h t) y,
   )
   took_between some t e r i j x h m = absurd x
 

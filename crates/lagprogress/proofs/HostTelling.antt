@@ -104,6 +104,7 @@ module _ (gives : Algorithms) (d : ℕ) (at : Side → ℕ) (w : Side → Lacpdu
     on_between c fits (event.Deliver cn n) r i j b h m = deliver_on gives d at w c s X there fits keeps sends takes cn n r i j h m
     on_between c fits (event.Offer n agg octets) r i j b h m = quiet_on c (event.Offer n agg octets) r i j tt h m
     on_between c fits (event.Move n agg conv p) r i j b h m = quiet_on c (event.Move n agg conv p) r i j tt h m
+    on_between c fits (event.Force n agg conv) r i j b h m = quiet_on c (event.Force n agg conv) r i j tt h m
     on_between c fits e r i j b h m = absurd b
 
     -- the tick of s
@@ -342,6 +343,7 @@ module _ (gives : Algorithms) (d : ℕ) (at : Side → ℕ) (w : Side → Lacpdu
         each (event.Deliver cn n) r i j b h m = came cn n r i j h m
         each (event.Offer n agg octets) r i j b h m = quiet (event.Offer n agg octets) r i j tt tt h m
         each (event.Move n agg conv p) r i j b h m = quiet (event.Move n agg conv p) r i j tt tt h m
+        each (event.Force n agg conv) r i j b h m = quiet (event.Force n agg conv) r i j tt tt h m
         each e r i j b h m = absurd b
 
     bare : (c : Side → ℕ) (i : WorldState) (o : OnWay c Any i) → Flying (o.0.flying (peer s)) → Flying ((forget d at w c s s Wakes i o.0).flying (peer s))

@@ -209,6 +209,7 @@ module _ (gives : Algorithms) (t : Side) (x : ℕ) (at : Side → ℕ) (fl : Sid
   flows (event.Deliver cn n) b h = came_flows cn n h
   flows (event.Offer n agg octets) b h = quiet_flows (event.Offer n agg octets) tt h
   flows (event.Move n agg conv p) b h = quiet_flows (event.Move n agg conv p) tt h
+  flows (event.Force n agg conv) b h = quiet_flows (event.Force n agg conv) tt h
   flows e b h = absurd b
 
 -- one of the first k items is an LACPDU still, or the first of them came

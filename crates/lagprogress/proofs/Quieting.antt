@@ -1,10 +1,10 @@
--- A frame that is offered, or a conversation that is moved, leaves the ports, and what their LACPDUs say.
+-- A frame that is offered, or a conversation that is moved or forced, leaves the ports, and what their LACPDUs say.
 use Rattle.lagprogress.proofs.Common.{Err, List, Ok, Result, Some, [], ap, arith, inl, inr, map, refl, subst, sym, ℕ, ◌++◌, ◌==◌, ◌∙◌, ◌∷◌, ◌≡◌, ◌⊎◌}
 use Rattle.lagprogress.proofs.Common.{cases_Bool, nat_tests, Vec, AggId, Lacpdu, One, Side, Two, peer, value_of, Machines, SystemFault, Carries}
-use Rattle.lagprogress.proofs.Common.{IsFrame, Move_conversation, Offer, Step, system_move_result, SystemState, port_index, becomes_slots}
-use Rattle.lagprogress.proofs.Common.{offers_slots, Event, Reply, AfterOffer, Algorithms, InHalf, WorldSteps, offered_item, side_of}
-use Rattle.lagprogress.proofs.Common.{with_frame_counted, HalfMoves, link_ends, HalfState, ItemValue, WorldState, half, put_on_port, with_half}
-use Rattle.lagprogress.proofs.Common.{put_ends, half_there, IsSteady}
+use Rattle.lagprogress.proofs.Common.{Force, IsFrame, Move_conversation, Offer, Step, system_force_result, system_move_result, SystemState}
+use Rattle.lagprogress.proofs.Common.{port_index, becomes_slots, offers_slots, Event, Reply, AfterOffer, Algorithms, InHalf, WorldSteps, offered_item}
+use Rattle.lagprogress.proofs.Common.{side_of, with_frame_counted, HalfForces, HalfMoves, forced_if_accepted, link_ends, HalfState, ItemValue}
+use Rattle.lagprogress.proofs.Common.{WorldState, half, put_on_port, with_half, put_ends, half_there, IsSteady}
 use Rattle.lagprogress.proofs.ArrivingLemmas.{is_data, same_ports}
 use Rattle.lagprogress.proofs.EachPort.{OfEach}
 use Rattle.lagprogress.proofs.Halves.{keeps_steady}
@@ -15,10 +15,11 @@ use Rattle.slowpdu.specs.declared.pdu.Pdu.TheVariants as pdu
 use Rattle.lagsystem.specs.declared.drive.Reply.TheVariants as answer
 use Rattle.lagscript.specs.declared.event.Event.TheVariants as event
 
--- the event offers a frame or moves a conversation
+-- the event offers a frame, or moves or forces a conversation
 abbrev pub IsQuiet : Event → Type 0
 IsQuiet (event.Offer n agg octets) = Unit {0}
 IsQuiet (event.Move n agg conv p) = Unit {0}
+IsQuiet (event.Force n agg conv) = Unit {0}
 IsQuiet _ = ⊥
 
 -- system s has sent an item on port p that bears no LACPDU
@@ -73,6 +74,18 @@ offered gives s agg octets (Ok port) old new mid r h log after =
           ∙ (half_logs s (with_frame_counted agg octets (half s j)) j refl t ∙ half_logs s mid old log t);
     }
 
+forced_state : (a : Result Unit SystemFault) (agg : AggId) (conv : ℕ) (h : HalfState) → (forced_if_accepted a agg conv h).state ≡ h.state
+forced_state (Ok done) agg conv h = refl
+forced_state (Err fault) agg conv h = refl
+
+forced_ports : (a : Result Unit SystemFault) (agg : AggId) (conv : ℕ) (h : HalfState)
+    → (forced_if_accepted a agg conv h).state.system_ports ≡ h.state.system_ports
+forced_ports a agg conv h = ap (λ (y : SystemState). y.system_ports) (forced_state a agg conv h)
+
+forced_logs : (a : Result Unit SystemFault) (agg : AggId) (conv : ℕ) (h : HalfState) → (forced_if_accepted a agg conv h).histories ≡ h.histories
+forced_logs (Ok done) agg conv h = refl
+forced_logs (Err fault) agg conv h = refl
+
 pub quietly : (gives : Algorithms) (e : Event) (r : Reply) (old new : WorldState) → IsQuiet e → WorldSteps gives old e r new
     → (s : Side) × Quietly s old new
 quietly gives (event.Offer n agg octets) r old new q h =
@@ -94,6 +107,22 @@ quietly gives (event.Move n agg conv p) r old new q h =
         links = inl (ap (λ (j : WorldState). j.links) v.2.1 ∙ half_links v.0 (half v.0 now) old);
         logs = λ t. ap (λ (j : WorldState). (half t j).histories) v.2.1
             ∙ half_logs v.0 (half v.0 now) old (ap (λ (k : HalfState). k.histories) m.1.same) t;
+      },
+    )
+quietly gives (event.Force n agg conv) r old new q h =
+    let v = value_of (side_of n) _ h.0 in
+    let now = record new { acted = old.acted } in
+    let m = v.2.0 in
+    let st = (half v.0 old).state in
+    let state = ap (λ (k : HalfState). k.state.system_ports) m.4 ∙ forced_ports m.0 agg conv m.1 in
+    let logs = ap (λ (k : HalfState). k.histories) m.4 ∙ forced_logs m.0 agg conv m.1 in (
+      v.0,
+      record {
+        same = λ t. ap (λ (j : WorldState). (half t j).state.system_ports) v.2.1 ∙ one_half v.0 t (half v.0 now) old
+            (state ∙ becomes_slots agg conv (system_force_result st agg conv) st m.0 m.1.state m.2.answers.step);
+        links = inl (ap (λ (j : WorldState). j.links) v.2.1 ∙ half_links v.0 (half v.0 now) old);
+        logs = λ t. ap (λ (j : WorldState). (half t j).histories) v.2.1
+            ∙ half_logs v.0 (half v.0 now) old (logs ∙ ap (λ (k : HalfState). k.histories) m.2.same) t;
       },
     )
 quietly gives e r old new q h = absurd q
@@ -272,3 +301,28 @@ moved_half gives n agg conv p r old new h t = let v = value_of (side_of n) _ h.0
     by_side One named m Two = inl (ap (λ (w : WorldState). w.two.state) m.1)
     by_side Two named m One = inl (ap (λ (w : WorldState). w.one.state) m.1)
     by_side Two named m Two = inr (named, m.0.0, m.0.1.answers.step)
+
+-- a Force event leaves a system to itself, or asks it to force the conversation
+pub forced_half : (gives : Algorithms) (n : ℕ) (agg : AggId) (conv : ℕ) (r : Reply) (old new : WorldState)
+    → WorldSteps gives old (event.Force n agg conv) r new → (t : Side)
+    → ((half t new).state ≡ (half t old).state) ⊎ ((side_of n ≡ Some t) × (a : Result Unit SystemFault)
+    × Step (gives t) (half t old).state (Force agg conv) (answer.Force a) (half t new).state)
+forced_half gives n agg conv r old new h t = let v = value_of (side_of n) _ h.0 in by_side v.0 v.1 v.2 t
+  where
+    by_side : (s : Side) → side_of n ≡ Some s → InHalf s (λ h k. HalfForces (gives s) agg conv h r k) old (record new { acted = old.acted })
+        → (t : Side) → ((half t new).state ≡ (half t old).state) ⊎ ((side_of n ≡ Some t) × (a : Result Unit SystemFault)
+        × Step (gives t) (half t old).state (Force agg conv) (answer.Force a) (half t new).state)
+    by_side One named m One = inr (
+      named,
+      m.0.0,
+      subst (λ (y : SystemState). Step (gives One) old.one.state (Force agg conv) (answer.Force m.0.0) y)
+          (sym (ap (λ (k : HalfState). k.state) m.0.4 ∙ forced_state m.0.0 agg conv m.0.1)) m.0.2.answers.step,
+    )
+    by_side One named m Two = inl (ap (λ (w : WorldState). w.two.state) m.1)
+    by_side Two named m One = inl (ap (λ (w : WorldState). w.one.state) m.1)
+    by_side Two named m Two = inr (
+      named,
+      m.0.0,
+      subst (λ (y : SystemState). Step (gives Two) old.two.state (Force agg conv) (answer.Force m.0.0) y)
+          (sym (ap (λ (k : HalfState). k.state) m.0.4 ∙ forced_state m.0.0 agg conv m.0.1)) m.0.2.answers.step,
+    )

@@ -17,9 +17,10 @@ use Rattle.lagprogress.specs.HostRounds.{AfterTick, Asks, HostRounds, IsHostRoun
 use Rattle.lagprogress.specs.Rounds.{AtEnd, IsHealthyAt, IsRound, NothingInFlight}
 use Rattle.lagprogress.specs.Steady.{IsSteady}
 
--- the event does not move conversation k of aggregator g of system s
+-- the event neither moves nor forces conversation k of aggregator g of system s
 abbrev pub IsNoMoveOf : Side → (g k : ℕ) → Event → Type 0
 IsNoMoveOf s g k (event.Move n agg conv p) = side_of n ≡ Some s → agg.0 ≡ g → conv ≡ k → ⊥
+IsNoMoveOf s g k (event.Force n agg conv) = side_of n ≡ Some s → agg.0 ≡ g → conv ≡ k → ⊥
 IsNoMoveOf s g k e = Unit {0}
 
 -- no LACPDU and no marker is due at the end of the cable at system s
@@ -85,7 +86,7 @@ AsksInVainAfterTick s p (e ∷ es) [] = ⊥
 AsksInVainAfterTick s p (e ∷ es) (r ∷ rs) = (IsTickOf s e × AsksInVain s p es rs) ⊎ AsksInVainAfterTick s p es rs
 
 -- And the loop of hosts is one: each system ticks once, each end of a healthy cable is asked after that until it sends nothing, and nothing
--- is on any cable in the end, whatever else is asked, delivered, offered or moved, and in what order. The conversation is not moved,
+-- is on any cable in the end, whatever else is asked, delivered, offered, moved or forced, and in what order. The conversation is neither moved nor forced,
 -- and the world is steady.
 abbrev pub AskingInVainIsDraining : Algorithms → Type 0
 AskingInVainIsDraining gives = (t : Side) (g k : ℕ) (events : List Event) (replies : List Reply) (old new : WorldState) → IsSteady old

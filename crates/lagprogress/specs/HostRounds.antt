@@ -16,12 +16,13 @@ use Rattle.lagprogress.specs.Steady.{IsSteady}
 abbrev pub IsTickOf : Side → Event → Type 0
 IsTickOf s e = (n : ℕ) × (side_of n ≡ Some s) × (e ≡ event.Tick n 1)
 
--- what hosts do between ticks: a port is asked, something on a cable arrives, a frame is offered, a conversation is moved
+-- what hosts do between ticks: a port is asked, something on a cable arrives, a frame is offered, a conversation is moved or forced
 abbrev pub IsBetweenTicks : Event → Type 0
 IsBetweenTicks (event.Emit n p) = Unit {0}
 IsBetweenTicks (event.Deliver c n) = Unit {0}
 IsBetweenTicks (event.Offer n agg octets) = Unit {0}
 IsBetweenTicks (event.Move n agg conv p) = Unit {0}
+IsBetweenTicks (event.Force n agg conv) = Unit {0}
 IsBetweenTicks _ = ⊥
 
 -- each event is a tick of system s or of its peer, or comes between ticks; and each of the two ticks once, if it has still to tick
@@ -93,7 +94,7 @@ AsksAfterTick s p [] = ⊥
 AsksAfterTick s p (e ∷ es) = (IsTickOf s e × AsksIn s p es) ⊎ AsksAfterTick s p es
 
 -- These events are a healthy round of hosts if each end of a healthy cable is asked after its system's tick, once at least, and
--- nothing is on any cable in the end: whatever else is asked, delivered, offered or moved, and in what order. The world is steady.
+-- nothing is on any cable in the end: whatever else is asked, delivered, offered, moved or forced, and in what order. The world is steady.
 abbrev pub AskingIsHostRound : Algorithms → Type 0
 AskingIsHostRound gives = (events : List Event) (replies : List Reply) (old new : WorldState) → IsSteady old → TickOnce One true true events
     → WorldRuns gives old events replies new
@@ -101,7 +102,7 @@ AskingIsHostRound gives = (events : List Event) (replies : List Reply) (old new 
     → IsHostRound gives old new
 
 -- The loop of two hosts: each system ticks, and then asks each of its ports, until nothing is due or once at the least; then what
--- is on the cables arrives, and ports are asked again after each arrival, or not. Frames may be offered, conversations moved, and
+-- is on the cables arrives, and ports are asked again after each arrival, or not. Frames may be offered, conversations moved or forced, and
 -- items arrive, at any time after the first tick. In the end nothing is on any cable.
 pub record IsHostLoop (gives : Algorithms) (old new : WorldState) : Type 0 where
   pub first : List Event

@@ -35,7 +35,7 @@ abbrev pub LateRounds : Algorithms → ℕ → WorldState → WorldState → Typ
 LateRounds gives n old new = PlayedRounds OldArrive gives n old new
 
 -- These events are such a round if each end of a healthy cable is asked after its system's tick, once at least, and what was on it
--- arrives, whatever else is asked, delivered, offered or moved, and in what order. The world is steady.
+-- arrives, whatever else is asked, delivered, offered, moved or forced, and in what order. The world is steady.
 abbrev pub AskingIsLateRound : Algorithms → Type 0
 AskingIsLateRound gives = (events : List Event) (replies : List Reply) (old new : WorldState) → IsSteady old → TickOnce One true true events
     → WorldRuns gives old events replies new
