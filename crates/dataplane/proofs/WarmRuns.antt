@@ -1,5 +1,5 @@
 -- The calls of a warm start, one after another.
-use Rattle.dataplane.proofs.Common.{Bool, List, [], ap, append-nil, arith, false, get_or, length, map, refl, subst, suc, sym, take, true, zero, ℕ}
+use Rattle.dataplane.proofs.Common.{Bool, List, [], ap, append-nil, arith, false, get_or, length, map, refl, subst, suc, sym, take, true, ℕ}
 use Rattle.dataplane.proofs.Common.{◌++◌, ◌+◌, ◌-◌, ◌<◌, ◌∙◌, ◌∷◌, ◌≡◌, ◌≤◌, flat_map-append, map-append, take_all, take_more, flat_map, Key}
 use Rattle.dataplane.proofs.Common.{PortConfig, Reply, Call, Tick, Drives, CallPromise, SystemState, SavedPort, Before, Leading, Runs, call_if}
 use Rattle.dataplane.proofs.Common.{filled, heard, occupied, passing}

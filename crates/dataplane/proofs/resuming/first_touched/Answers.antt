@@ -1,4 +1,4 @@
-use Rattle.dataplane.proofs.Common.{Some, [], ap, drop, false, get_or, refl, subst, sym, true, ◌+◌, ◌<◌, ◌∙◌, ◌≡◌, ◌≤◌, PortConfig}
+use Rattle.dataplane.proofs.Common.{refl, sym, ◌∙◌}
 use Rattle.dataplane.proofs.WarmPorts.{touched_next, touched_none, touched_on}
 use Rattle.dataplane.proofs.resuming.first_touched.Goals as goal
 

@@ -1,4 +1,4 @@
-use Rattle.dataplane.proofs.Common.{[], false, get_or, refl, subst, ◌∙◌, SavedPort, Runs, heard_of}
+use Rattle.dataplane.proofs.Common.{[], get_or, refl, subst, ◌∙◌, SavedPort, Runs, heard_of}
 use Rattle.dataplane.proofs.WarmRuns.{flat_all, flat_on}
 use Rattle.dataplane.proofs.warming.hear.Goals as goal
 

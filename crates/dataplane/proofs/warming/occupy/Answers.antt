@@ -1,4 +1,4 @@
-use Rattle.dataplane.proofs.Common.{[], ap, get_or, refl, subst, take, ◌+◌, ◌∙◌, ◌≡◌, Key, Leading, Runs, filled, heard}
+use Rattle.dataplane.proofs.Common.{ap, get_or, subst, take, ◌+◌, ◌∙◌, ◌≡◌, Key, Leading, Runs, filled, heard}
 use Rattle.dataplane.proofs.WarmRuns.{occupied_on}
 use Rattle.dataplane.proofs.warming.occupy.Goals as goal
 
