@@ -1,8 +1,8 @@
 -- The calls of a warm start, one after another.
-use Rattle.dataplane.proofs.Common.{Bool, List, [], ap, append-nil, arith, false, get_or, length, map, refl, subst, suc, sym, take, true, ℕ}
-use Rattle.dataplane.proofs.Common.{◌++◌, ◌+◌, ◌-◌, ◌<◌, ◌∙◌, ◌∷◌, ◌≡◌, ◌≤◌, flat_map-append, map-append, take_all, take_more, flat_map, Key}
-use Rattle.dataplane.proofs.Common.{PortConfig, Reply, Call, Tick, Drives, CallPromise, SystemState, SavedPort, Before, Leading, Runs, call_if}
-use Rattle.dataplane.proofs.Common.{filled, heard, occupied, passing}
+use Rattle.dataplane.proofs.Common.{Bool, List, [], ap, append-nil, arith, false, get_or, length, map, refl, subst, suc, sym, take, true, ℕ, ◌++◌}
+use Rattle.dataplane.proofs.Common.{◌+◌, ◌-◌, ◌<◌, ◌∙◌, ◌∷◌, ◌≡◌, ◌≤◌, flat_map-append, map-append, take_all, take_more, flat_map, Key, PortConfig}
+use Rattle.dataplane.proofs.Common.{Reply, Call, Tick, Drives, CallPromise, SystemState, SavedPort, Before, Leading, Runs, call_if, filled, heard}
+use Rattle.dataplane.proofs.Common.{occupied, passing}
 use Rattle.lagsystem.specs.declared.drive.Reply.TheVariants as reply
 use Rattle.lagsystem.proofs.DriveLemmas.{drives_more}
 

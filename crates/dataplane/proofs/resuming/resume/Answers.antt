@@ -1,5 +1,5 @@
-use Rattle.dataplane.proofs.Common.{IfOk, false, subst, ◌∙◌, ◌≡◌, AllByRecursion, IfErr, IsFirstWithout, IsNotWarmed, IsResumed}
-use Rattle.dataplane.proofs.Common.{IsWarmed, MayRefuse, is_stale, warm_calls}
+use Rattle.dataplane.proofs.Common.{IfOk, false, subst, ◌∙◌, ◌≡◌, AllByRecursion, IfErr, IsFirstWithout, IsNotWarmed, IsResumed, IsWarmed, MayRefuse}
+use Rattle.dataplane.proofs.Common.{is_stale, warm_calls}
 use Rattle.dataplane.proofs.WarmTables.{if_err, if_ok, refused_by, resumed_by}
 use Rattle.dataplane.proofs.resuming.resume.Goals as goal
 
