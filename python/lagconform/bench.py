@@ -8,18 +8,21 @@ from typing import Callable, Iterator, Optional, Sequence, cast
 
 from niwhopera import Lacpdu, Mac, MarkerKind, State
 
-from .model import Claim, Frame, NotHere, Result, Stop
+from .floods import Meter
+from .model import Claim, Frame, NotHere, Result, Stop, Stuck
 from .partner import Partner, slow
-from .pdus import CARRIES, end, read
+from .pdus import CARRIES, DATA, PAYLOAD, SENDERS, SIX, SLOW, end, read, told, value
 from .wires import Answer, Hook, Wire
 
 # 6.4.4: each timer may be wrong by so much. What is due at once has to be seen so soon: the standard has no number for that, but its
 # limit of three LACPDUs a second, so 1/3 s is right in any case, and a quiet port sends at once.
 TIMERS, PROMPT = 0.25, 0.5
-# The frames that a hook makes the device send: IPv4 and UDP from 198.18.0.0/16, the network for measurements (RFC 2544).
-DATA, SENDERS = b"\x08\0", b"\xc6\x12"
-# So long a device may wait behind three LACPDUs (6.4.16: a second; the project's engine has 11 ticks).
+# So long a device may wait behind three LACPDUs (6.4.16: a second; the project's engine has 11 ticks), and so long a test that is prompt looks for
+# its answer.
 LIMIT = 1.1
+SOON = PROMPT + LIMIT + 0.4
+# So long a device sends nothing new before a test asks it for several LACPDUs in a row.
+REST = LIMIT + 0.1
 # How long a device may be quiet if it was asked for long timeouts, or is on defaults (6.4.4: 30 s).
 QUIET = 35.0
 HOOK_SECONDS = 40.0
@@ -32,6 +35,9 @@ class Link:
     def __init__(self, bench: Bench, number: int, name: str) -> None:
         self.number, self.name = number, name
         self.frame: Optional[Frame] = None
+        # The last frame that has the subtype of LACP, whether it can be read or not.
+        self.spoke: Optional[Frame] = None
+        self.meter = Meter()
         self.partner = Partner(bench, number)
 
 
@@ -48,9 +54,12 @@ class Bench:
         self.late, self.refused = 0.0, 0
         self.links = {number: Link(self, number, name) for number, name in enumerate(wire.names, 1)}
         self.result: Optional[Result] = None
-        # Whether data of one aggregator was seen on both links; whether a marker was answered, and when one went out last.
-        self.spreads = self.answers = False
+        # Whether data of one aggregator was seen on both links, and whether broadcasts came out of another link; whether a marker was answered, and
+        # when one went out last.
+        self.spreads = self.floods = self.answers = False
         self.marked = -9.0
+        # Which of our six parameters the device tells wrong, by the tests before: the others go by the rest.
+        self.mistold: set[str] = set()
 
     def close(self) -> None:
         """Gives back what the partners have, and the links."""
@@ -91,11 +100,17 @@ class Bench:
     def send_raw(self, link: int, octets: bytes) -> Frame:
         """Sends a frame."""
         frame = self.log(link, self.now(), True, octets)
+        self.links[link].meter.sent(frame.time)
         self.refused += not self.wire.send(link, octets)
         return frame
 
     def _take(self, link: int, when: float, octets: bytes) -> None:
-        frame, it = self.log(link, when, False, octets), self.links[link]
+        it = self.links[link]
+        if not it.meter.takes(when, octets):
+            return
+        frame = self.log(link, when, False, octets)
+        if is_lacp(octets):
+            it.spoke = frame
         if frame.lacpdu:
             it.frame = frame
         it.partner.take(frame)
@@ -164,9 +179,9 @@ class Bench:
 
     def frame(self, link: int = 1) -> Frame:
         """The last LACPDU of the device on a link, as a frame."""
-        frame = self.links[link].frame
+        frame, spoke = self.links[link].frame, self.links[link].spoke
         if not frame:
-            raise Stop(f"no LACPDU of the device was heard on link {link}")
+            raise Stuck(f"what the device sends on link {link} is no LACPDU: {spoke.fault}" if spoke else f"no LACPDU of the device was heard on link {link}")
         return frame
 
     def device(self, link: int = 1) -> Lacpdu:
@@ -200,13 +215,28 @@ class Bench:
         links = links or (1,)
         self.begin(*links)
         mark = self.mark()
-        self.until(QUIET, lambda: all(next(self.heard(it, mark), None) for it in links))
+        self.until(QUIET if all(self.links[it].frame for it in links) else 2, lambda: all(next(self.heard(it, mark), None) for it in links))
         heard = [it for it in links if next(self.heard(it, mark), None)]
-        if not self.until(limit, lambda: len(heard) == len(links) and all(self.carries(it) and self.names_us(it) for it in links)):
-            left = [it for it in links if it not in heard or not self.carries(it)]
-            told = ", ".join(f"link {it}: {end(self.device(it).actor)}" for it in left) or "it names another partner"
-            raise Stop(f"the device does not carry after {limit:g} s beside a right partner: {told}")
+        if not self.until(limit if heard else 0, lambda: len(heard) == len(links) and all(self.carries(it) and self.names_us(it) for it in links)):
+            self.look_past(*links)
+            left = [it for it in links if it not in heard or not self.carries(it) or not self.names_us(it)]
+            if left:
+                raise Stuck(f"the device does not carry after {limit:g} s beside a right partner: {', '.join(map(self.stands, left))}")
         self.until(1.5, lambda: all(self.partner(it).tells_carrying for it in links))
+
+    def look_past(self, *links: int) -> None:
+        """Where the device names our system, and tells another of our parameters wrong: tests go on without that one."""
+        for link in links:
+            told, own = self.device(link).partner, self.partner(link).me.info
+            if told.system.mac == own.system.mac:
+                self.mistold.update(it for it in SIX if it != "system" and value(told, it) != value(own, it))
+
+    def stands(self, link: int) -> str:
+        """What the device told last on a link, where that is not what it should be."""
+        pdu = self.device(link)
+        if self.carries(link) and not self.names_us(link):
+            return f"link {link}: it names another partner, {end(pdu.partner)}, and has to name {end(self.partner(link).me.info)}"
+        return f"link {link}: {end(pdu.actor)}"
 
     def is_up(self, link: int = 1) -> bool:
         """Whether the link of the last test still carries for a right partner with short timeouts."""
@@ -222,7 +252,10 @@ class Bench:
 
     def say(self, link: int = 1, **bits: bool) -> Frame:
         """Forces bits of our state, by their names, and sends an LACPDU at once."""
-        names = {"sync": State.SYNCHRONIZATION, "collecting": State.COLLECTING, "distributing": State.DISTRIBUTING}
+        names = {
+            "sync": State.SYNCHRONIZATION, "collecting": State.COLLECTING, "distributing": State.DISTRIBUTING,
+            "expired": State.EXPIRED, "defaulted": State.DEFAULTED,
+        }  # fmt: skip
         partner = self.partner(link)
         partner.forced.update({names[it]: on for it, on in bits.items()})
         return partner.send()
@@ -277,15 +310,17 @@ class Bench:
 
     # What a test claims.
 
-    def claim(self, holds: object, text: str, *frames: Optional[Frame]) -> bool:
-        """Claims that something holds, as these frames show."""
+    def claim(self, holds: object, text: str, *frames: Optional[Frame], bears: float = 0.0, late: Optional[float] = None) -> bool:
+        """Claims that something holds, as these frames show. A bench that is up to `bears` seconds late, or loses frames, makes it no less true."""
         assert self.result
-        self.result.claims.append(Claim(bool(holds), text, tuple(it.number for it in frames if it)))
+        self.result.claims.append(Claim(bool(holds), text, tuple(it.number for it in frames if it), bears, late))
         return bool(holds)
 
-    def holds(self, holds: object, statement: str, *frames: Optional[Frame]) -> bool:
+    def holds(self, holds: object, statement: str, *frames: Optional[Frame], bears: float = 0.0) -> bool:
         """Claims a statement, as these frames show; it is denied where it does not hold."""
-        return self.claim(holds, statement if holds else f"not so: {statement}", *frames)
+        if not holds and frames and frames[0]:
+            return self.claim(False, f"not so: {statement}; packet {frames[0].number}: {told(frames[0].octets)}", *frames, bears=bears)
+        return self.claim(holds, statement if holds else f"not so: {statement}", *frames, bears=bears)
 
     def note(self, text: str) -> None:
         """Tells something that is right either way."""
@@ -302,9 +337,16 @@ class Bench:
             before = self.heard(sent.link, max(0, sent.number - 400))
             if sum(begin < it.time < seen.time for it in before) >= 3:  # the transmit machine had to wait
                 most += LIMIT
-        passed = f"after {seen.time - sent.time:.2f} s" if seen else "never"
+        took = seen.time - sent.time if seen else None
+        passed = f"after {took:.2f} s" if took is not None else "never"
         limits = f"{least:.2f} to {most:.2f} s" if least > 0 else f"at most {most:.2f} s"
-        return self.claim(seen and least <= seen.time - sent.time <= most, f"{what}: {passed}; has to be {limits}", sent, seen)
+        late = took if took is not None and took > most and least <= 0 else None
+        return self.claim(took is not None and least <= took <= most, f"{what}: {passed}; has to be {limits}", sent, seen, late=late)
+
+
+def is_lacp(octets: bytes) -> bool:
+    """Whether a frame has the subtype of LACP, whatever stands behind it."""
+    return octets[12:14] == SLOW and octets[PAYLOAD : PAYLOAD + 1] == b"\1"
 
 
 def most_within(times: Sequence[float], window: float) -> int:

@@ -44,11 +44,18 @@ class Frame:
 
 @dataclass(frozen=True)
 class Claim:
-    """One thing that was looked at, and the packets that show it."""
+    """One thing that was looked at, and the packets that show it. A machine that is up to `bears` seconds late, or loses frames, does not make
+    it false. `late` is the second at which an answer came that was due at once, and came too late."""
 
     holds: bool
     text: str
     packets: tuple[int, ...]
+    bears: float = 0.0
+    late: Optional[float] = None
+
+
+# What nothing that goes wrong on this machine makes: as four LACPDUs in a second, whose times are the kernel's.
+SURE = float("inf")
 
 
 Run = Callable[["Bench"], None]
@@ -88,7 +95,7 @@ class Test:
 @dataclass
 class Result:
     """What came of a test: packets `first` to `last`, seconds `begin` to `end`, and how late the bench was at most. `gone` says which
-    interface is no longer there, and `known` why a fail is known."""
+    interface is no longer there, `known` why a fail is known, and `stuck` that no test can go on like this."""
 
     test: Test
     verdict: str = PASS
@@ -102,6 +109,7 @@ class Result:
     late: float = 0
     known: str = ""
     gone: str = ""
+    stuck: bool = False
 
     @property
     def packets(self) -> dict[int, bool]:
@@ -117,6 +125,10 @@ class Stop(Exception):
     """A test ends here, without an answer."""
 
     verdict = INCONCLUSIVE
+
+
+class Stuck(Stop):
+    """The device does not come to where any test begins."""
 
 
 class NotHere(Stop):

@@ -12,7 +12,7 @@ from typing import TYPE_CHECKING, Any, Callable, Optional
 from niwhopera import Config, Info, Lacpdu, Mac, PortConfig, PortId, State, System, SystemId, encode
 
 from .model import Frame
-from .pdus import CARRIES, GROUP, NO_STATE, PARTNER_STATE, PAYLOAD, SLOW, put, six, with_bits
+from .pdus import CARRIES, GROUP, NO_STATE, PARTNER, PARTNER_STATE, PAYLOAD, SIX, SLOW, put, value, with_bits
 
 if TYPE_CHECKING:
     from .bench import Bench
@@ -192,20 +192,29 @@ class Partner:
             self.bench.send_raw(self.link, got.response)
 
     def _restored(self, octets: bytes) -> bytes:
-        """What came, with our own state as the system told it: it does not learn what a test changed."""
-        if not self.forced or octets[PAYLOAD : PAYLOAD + 1] != b"\1" or len(octets) <= PARTNER_STATE:
+        """What came, with our own state as the system told it, and with what the device tells wrong of us all along put right: the system does not
+        learn what a test changed."""
+        if octets[PAYLOAD : PAYLOAD + 1] != b"\1" or len(octets) <= PARTNER_STATE:
             return octets
+        if self.bench.mistold and octets[PARTNER + 2 : PARTNER + 8] == self.me.system.mac:
+            octets = put(octets, PARTNER, named(self.me.info) + octets[PARTNER_STATE : PARTNER_STATE + 1])
         own, mask = self.system.state(self.me.port.number), sum(self.forced, NO_STATE)
         return put(octets, PARTNER_STATE, bytes([int(octets[PARTNER_STATE] & ~mask | own & mask)]))
 
     def is_named_by(self, pdu: Lacpdu) -> bool:
-        """Whether an LACPDU of the device names this end."""
-        return six(pdu.partner) == six(self.me.info)
+        """Whether an LACPDU of the device names this end, but for what it tells wrong all along."""
+        return all(value(pdu.partner, it) == value(self.me.info, it) for it in SIX if it not in self.bench.mistold)
 
     @property
     def tells_carrying(self) -> bool:
         """Whether it told that it collects and distributes."""
         return self.told is not None and self.told.actor.state & CARRIES == CARRIES
+
+
+def named(info: Info) -> bytes:
+    """The octets by which an LACPDU names an end, without its state."""
+    ends = info.system.priority.to_bytes(2, "big") + info.system.mac + info.key.to_bytes(2, "big")
+    return ends + info.port.priority.to_bytes(2, "big") + info.port.number.to_bytes(2, "big")
 
 
 def slow(payload: bytes, source: Mac) -> bytes:

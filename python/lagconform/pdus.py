@@ -8,8 +8,11 @@ from typing import Optional
 from niwhopera import BadPayload, Info, Lacpdu, Mac, Marker, MarkerKind, Pdu, PortId, State, SystemId, decode
 
 GROUP, SLOW = bytes.fromhex("0180c2000002"), b"\x88\x09"
-# Offsets in a frame: its payload, and the state octets of an LACPDU.
-PAYLOAD, ACTOR_STATE, PARTNER_STATE = 14, 32, 52
+# The frames that a hook makes the device send: IPv4 and UDP from 198.18.0.0/16, the network for measurements (RFC 2544). The type of the bench's
+# own broadcasts is for local experiments (802).
+DATA, SENDERS, BROADCAST_TYPE = b"\x08\0", b"\xc6\x12", b"\x88\xb5"
+# Offsets in a frame: its payload, and in an LACPDU the actor's state, the partner and its state.
+PAYLOAD, ACTOR_STATE, PARTNER, PARTNER_STATE = 14, 32, 38, 52
 CARRIES = State.COLLECTING | State.DISTRIBUTING
 NO_STATE = State(0)
 NOBODY = Info(SystemId(0, Mac(bytes(6))), 0, PortId(0, 0), NO_STATE)
@@ -21,6 +24,16 @@ WORDS = "active short aggregatable synchronized collecting distributing defaulte
 def six(info: Info) -> tuple[SystemId, int, PortId, bool]:
     """The six parameters of an end."""
     return info.system, info.key, info.port, bool(info.state & State.AGGREGATION)
+
+
+def value(info: Info, field: str) -> object:
+    """One of the six parameters of an end."""
+    system, port = info.system, info.port
+    values: dict[str, object] = {
+        "priority": system.priority, "system": system.mac, "key": info.key, "port_priority": port.priority, "port": port.number,
+        "aggregation": bool(info.state & State.AGGREGATION),
+    }  # fmt: skip
+    return values[field]
 
 
 def other(info: Info, field: str) -> Info:

@@ -3,13 +3,13 @@
 from __future__ import annotations
 
 import traceback
-from typing import Callable, Iterable, Mapping, Optional
+from typing import Callable, Iterable, Mapping, Optional, Sequence
 
 from niwhopera import State
 
 from .bench import QUIET, Bench
-from .model import FAIL, INCONCLUSIVE, PASS, DoesNotApply, NotHere, Result, Stop, Test
-from .pdus import is_of_lag
+from .floods import FLOOD
+from .model import FAIL, INCONCLUSIVE, PASS, Claim, DoesNotApply, NotHere, Result, Stop, Stuck, Test
 from .pics import ITEMS, lacking
 from .wires import Gone
 
@@ -22,20 +22,41 @@ class NoDevice(Exception):
 
 
 def meet(b: Bench) -> None:
-    """Waits until the device has sent an LACPDU on each link."""
+    """Waits until the device has sent something on each link that has the subtype of LACP: what is wrong in it, tests say."""
     b.begin(*b.links)
-    if b.until(MEETS, lambda: all(it.frame for it in b.links.values())):
+    before = Traffic(b)
+    if b.until(MEETS, lambda: all(it.spoke for it in b.links.values())):
         return
-    missing = [it for it in b.links.values() if not it.frame]
-    faults = {it.fault for it in b.frames if not it.out and it.fault and is_of_lag(it.octets)}
+    missing = [it for it in b.links.values() if not it.spoke]
     names = ", ".join(it.name for it in missing)
-    if faults:
-        raise NoDevice(f"what the device sends on {names} is no LACPDU: {'; '.join(sorted(faults))}")
+    if flood := before.flood():
+        raise NoDevice(f"no LACPDU came in {MEETS:g} s on {names}. {flood}")
     raise NoDevice(
         f"no LACPDU came in {MEETS:g} s on {names}. The usual causes: LACP is not enabled on the device's port (mode static or off); the "
         "cable ends in another port, or a bridge lies between, which forwards no frames to 01-80-C2-00-00-02; the device is passive and its "
         "link is down at its end"
     )
+
+
+class Traffic:
+    """What comes on the links of a bench from now on."""
+
+    def __init__(self, b: Bench) -> None:
+        self.b, self.begin = b, b.now()
+        self.before = {number: b.wire.received(number) for number in b.links}
+        for link in b.links.values():
+            link.meter.spilled()
+
+    def flood(self) -> str:
+        """Which link is flooded, and by what; nothing where none is."""
+        seconds = max(1.0, self.b.now() - self.begin)
+        for number, link in self.b.links.items():
+            rate = (self.b.wire.received(number) - self.before[number]) / seconds
+            spilled = link.meter.spilled()
+            if spilled or rate >= FLOOD:
+                told = "; ".join(filter(None, (f"{rate:.0f} frames came a second" if rate >= 1 else "", spilled)))
+                return f"link {number} ({link.name}) is flooded: {told}. The usual causes: a loop behind the device, or traffic of others on this port"
+        return ""
 
 
 def wake(b: Bench) -> None:
@@ -55,6 +76,9 @@ def prepare(b: Bench, test: Test, claimed: Mapping[str, bool]) -> None:
         raise DoesNotApply(f"the device claims not to have {missing[0]}: {ITEMS[missing[0]]}")
     if test.links > len(b.links):
         raise NotHere(f"wants {test.links} links")
+    frame = b.links[1].frame
+    if test.links > 1 and "two-ports" in test.needs and frame and frame.lacpdu and not frame.lacpdu.actor.state & State.AGGREGATION:
+        raise DoesNotApply("the device's ports are individual: they tell Aggregation 0 (PICS: two-ports)")
     for number, link in b.links.items():
         if number > test.links:
             link.partner.hush()
@@ -68,17 +92,18 @@ def run_one(b: Bench, test: Test, claimed: Optional[Mapping[str, bool]] = None) 
     result = Result(test, first=len(b.frames) + 1, begin=b.now())
     b.result, b.late, b.refused = result, 0.0, 0
     b.wire.drops()  # what was lost before is of no test
+    traffic = Traffic(b)
     try:
         prepare(b, test, claimed or {})
         result.first, result.begin = len(b.frames) + 1, b.now()
         test.run(b)
     except Stop as why:
-        result.verdict, result.why = why.verdict, str(why)
+        result.verdict, result.why, result.stuck = why.verdict, str(why), isinstance(why, Stuck)
     except Gone as why:
         result.verdict, result.why, result.gone = INCONCLUSIVE, str(why), str(why)
     except Exception:  # a fault of the bench
         result.verdict, result.why = INCONCLUSIVE, f"the bench has a fault: {traceback.format_exc(limit=-2)}"
-    judge(b, result)
+    judge(b, result, traffic.flood())
     for link in b.links.values():
         if test.group != "TX":
             link.partner.right()
@@ -86,22 +111,38 @@ def run_one(b: Bench, test: Test, claimed: Optional[Mapping[str, bool]] = None) 
     return result
 
 
-def judge(b: Bench, result: Result) -> None:
-    """The verdict: a claim that does not hold is a fail, unless the bench itself is to blame."""
+def judge(b: Bench, result: Result, flood: str = "") -> None:
+    """The verdict: a claim that does not hold is a fail, unless the bench itself or a flood is to blame."""
     failed = [it for it in result.claims if not it.holds]
     if failed:
         result.verdict, result.why = FAIL, failed[0].text
     elif result.verdict == PASS and not result.claims:
         result.verdict, result.why = INCONCLUSIVE, "nothing was claimed"
     result.last, result.end, result.late = len(b.frames), b.now(), b.late
-    if result.verdict == FAIL and (excuse := excused(b, result)):
+    if flood:
+        result.stuck = result.verdict in (FAIL, INCONCLUSIVE)
+        result.notes.append(flood)
+    if result.verdict == FAIL:
+        blame(b, result, failed, flood)
+    elif result.verdict == INCONCLUSIVE and flood:
+        result.why = f"{flood}. Seen: {result.why}"
+
+
+def blame(b: Bench, result: Result, failed: Sequence[Claim], flood: str) -> None:
+    """Takes a fail back that the bench, its links or a flood may have made. One that no late bench and no lost frame makes stays."""
+    excuse = excused(b, result, flood)
+    sure = [] if flood or result.gone else [it for it in failed if it.bears and it.bears >= result.late]
+    if sure and excuse:
+        result.why = sure[0].text
+        result.notes.append(f"{excuse}; this fail does not come of that")
+    elif excuse:
         result.verdict, result.why = INCONCLUSIVE, f"{excuse}. Seen: {result.why}"
 
 
-def excused(b: Bench, result: Result) -> str:
+def excused(b: Bench, result: Result, flood: str) -> str:
     """What the bench or its links did in a test, so that nothing is the device's fault; nothing where they were as they should be."""
-    if result.gone:
-        return result.gone
+    if result.gone or flood:
+        return result.gone or flood
     if result.late > b.slack:
         return f"this machine is too busy for a verdict: the bench was {result.late:.2f} s late, more than --slack {b.slack:g}"
     if drops := b.wire.drops():
@@ -110,14 +151,28 @@ def excused(b: Bench, result: Result) -> str:
     return f"the link refused {b.refused} frames" if b.refused and not flaps else ""
 
 
-def run_all(b: Bench, tests: Iterable[Test], say: Callable[[Result], None], claimed: Optional[Mapping[str, bool]] = None) -> list[Result]:
-    """Runs tests in order; `say` gets each result. Where an interface is gone, no other test is run."""
+class CameToNothing(Exception):
+    """Tests in turn came to nothing for one reason; the text says which."""
+
+
+# After so many tests in turn that can't begin, or in a flood, a run ends: each of them takes 9 s and more.
+IN_TURN = 5
+
+
+def run_all(
+    b: Bench, tests: Iterable[Test], say: Callable[[Result], None], claimed: Optional[Mapping[str, bool]] = None, goes_on: bool = False
+) -> list[Result]:  # fmt: skip
+    """Runs tests in order; `say` gets each result. Where an interface is gone, no other test is run; nor, unless it `goes_on`, behind IN_TURN that
+    came to nothing."""
     results: list[Result] = []
     for test in tests:
         results.append(run_one(b, test, claimed))
         say(results[-1])
         if results[-1].gone:
             raise Gone(results[-1].gone)
+        last = results[-IN_TURN:]
+        if not goes_on and len(last) == IN_TURN and all(it.stuck for it in last):
+            raise CameToNothing(f"{IN_TURN} tests in turn came to nothing, and others would not go better: {last[-1].why}")
     return results
 
 

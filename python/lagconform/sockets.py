@@ -2,6 +2,7 @@
 
 from __future__ import annotations
 
+import ctypes
 import errno
 import os
 import select
@@ -18,7 +19,8 @@ from typing import Optional, Sequence
 from niwhopera import Mac
 
 from .model import NotHere
-from .pdus import GROUP
+from .pdus import BROADCAST_TYPE, DATA, GROUP, SENDERS, SLOW
+from .refusals import NET, read_file
 from .wires import Answer, Arrival, Gone
 
 # Numbers of Linux that the socket module does not name.
@@ -27,6 +29,11 @@ PACKET_ADD_MEMBERSHIP, PACKET_MR_MULTICAST, PACKET_MR_PROMISC, PACKET_IGNORE_OUT
 PACKET_STATISTICS, PACKET_AUXDATA, VLAN_VALID, VLAN_TYPE_VALID, VLAN_TYPE = 6, 8, 1 << 4, 1 << 6, 0x8100
 OUTGOING = 4
 RECEIVE_OCTETS = 4 << 20
+# So many frames of a link are taken at a time: more wait in the kernel, which drops what it has no room for, and counts it.
+MOST_TAKEN = 256
+# Instructions of a packet filter: load two octets, compare, and answer how many octets of the frame are taken.
+SO_ATTACH_FILTER, LOAD, EQUAL, ANSWER = 26, 0x28, 0x15, 0x06
+WHOLE, TYPE_AT, SENDER_AT = 65535, 12, 26
 # How many octets addresses take, and how many of what a hook says are kept.
 ADDRESSES, SAID_OCTETS = 12, 4096
 # What a link that refuses a frame may say: it is lost then.
@@ -37,8 +44,33 @@ LOST = (errno.ENETDOWN, errno.ENXIO, errno.EMSGSIZE, errno.ENOBUFS, errno.EINVAL
 DOWN = (errno.ENETDOWN, errno.ENXIO, errno.ENODEV)
 
 
+def number(octets: bytes) -> int:
+    """Octets as a number."""
+    return int.from_bytes(octets, "big")
+
+
+# What tests look at: Slow Protocols, the bench's own broadcasts, and the flows of the device's client. Each instruction has its code, how many
+# are left out behind it if a comparison holds and if it does not, and its number.
+FILTER = (
+    (LOAD, 0, 0, TYPE_AT),
+    (EQUAL, 4, 0, number(SLOW)),
+    (EQUAL, 3, 0, number(BROADCAST_TYPE)),
+    (EQUAL, 0, 3, number(DATA)),
+    (LOAD, 0, 0, SENDER_AT),
+    (EQUAL, 0, 1, number(SENDERS)),
+    (ANSWER, 0, 0, WHOLE),
+    (ANSWER, 0, 0, 0),
+)
+
+
+def filtered(it: socket.socket) -> None:
+    """Has the kernel drop what no test looks at: the traffic of others may be more than Python can take."""
+    program = ctypes.create_string_buffer(b"".join(struct.pack("=HBBI", *line) for line in FILTER))
+    it.setsockopt(socket.SOL_SOCKET, SO_ATTACH_FILTER, struct.pack("@HP", len(FILTER), ctypes.addressof(program)))
+
+
 def opened(name: str, index: int) -> socket.socket:
-    """A packet socket on an interface, which takes each frame that comes there, those to the group address and to strangers too. It takes
+    """A packet socket on an interface, which takes each frame of FILTER that comes there, to the group address and to strangers too. It takes
     none before it is bound, and so none of another interface."""
     it = socket.socket(socket.AF_PACKET, socket.SOCK_RAW, 0)
     try:
@@ -48,6 +80,7 @@ def opened(name: str, index: int) -> socket.socket:
         it.setsockopt(SOL_PACKET, PACKET_AUXDATA, 1)
         for kind, address in (PACKET_MR_MULTICAST, GROUP), (PACKET_MR_PROMISC, b""):
             it.setsockopt(SOL_PACKET, PACKET_ADD_MEMBERSHIP, struct.pack("=iHH8s", index, kind, len(address), address))
+        filtered(it)
         it.setblocking(False)
         it.bind((name, EVERY))
     except BaseException:
@@ -113,15 +146,15 @@ class PacketWire:
             return False
 
     def wait(self, seconds: float) -> list[Arrival]:
-        """The frames that came, in the order of their times."""
+        """The frames that came, at most MOST_TAKEN of each link, in the order of their times."""
         ready = select.select(self._sockets, [], [], seconds)[0]
         came = [it for link, at in enumerate(self._sockets, 1) if at in ready for it in self._taken(link, at)]
         return sorted(came, key=lambda it: it.time)
 
     def _taken(self, link: int, it: socket.socket) -> list[Arrival]:
-        """All frames that wait at a link."""
+        """The frames that wait at a link, up to MOST_TAKEN."""
         came: list[Arrival] = []
-        while True:
+        for _ in range(MOST_TAKEN):
             try:
                 octets, more, _, address = it.recvmsg(65535, 128)
             except OSError as why:
@@ -132,6 +165,7 @@ class PacketWire:
                 return came
             if address[2] != OUTGOING:
                 came.append(Arrival(link, self._time(more), octets[:ADDRESSES] + tag(more) + octets[ADDRESSES:]))
+        return came
 
     def _time(self, more: Sequence[tuple[int, int, bytes]]) -> float:
         """When a frame came: the age of the kernel's time stamp, which is of the clock that may be set, before now."""
@@ -155,6 +189,10 @@ class PacketWire:
         """How many frames the kernel had no room for since that was asked last."""
         told = [it.getsockopt(SOL_PACKET, PACKET_STATISTICS, 8) for it in self._sockets]
         return sum(drops for _, drops in (struct.unpack("=II", it) for it in told))
+
+    def received(self, link: int) -> int:
+        """How many frames the interface has received, those too that the filter drops; 0 where /sys does not tell."""
+        return int(read_file(NET, self.names[link - 1], "statistics", "rx_packets") or 0)
 
 
 class Command:

@@ -47,10 +47,13 @@ class Wire(Protocol):
         """Puts a frame on a link; answers whether it went. One that the link refuses is lost."""
 
     def wait(self, seconds: float) -> list[Arrival]:
-        """The frames that came; waits for the first one for so long at most."""
+        """The frames that came, or some of them; waits for the first one for so long at most."""
 
     def drops(self) -> int:
         """How many frames came and were lost by this machine since that was asked last."""
+
+    def received(self, link: int) -> int:
+        """How many frames have come on a link since ever, those too that no test looks at."""
 
     def flap(self, link: int, up: bool) -> None:
         """Takes our own end of a link down or up."""

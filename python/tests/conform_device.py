@@ -6,23 +6,17 @@
 from __future__ import annotations
 
 from collections import deque
-from typing import Deque, Iterable, Iterator, Optional, Sequence
+from typing import Deque, Iterable, Iterator, Optional
 
-from lagconform.wires import Answer, Arrival
+from lagconform.memory import FLOWS, Stack, World, flow
 from niwhopera import Config, LagError, Mac, PortConfig, State, System, SystemId
 
+__all__ = ["World"]
 SLOW = b"\x88\x09"
 KEY = 23
 OWN = SystemId(32768, Mac("0200000000bb"))
-# A frame takes so long, and a port may send so many Marker PDUs in any second (802.3 57A).
-WIRE_SECONDS, MOST_RESPONSES = 0.0005, 10
-FLOWS = 64
-
-
-def flow(number: int) -> bytes:
-    """A frame of the client: UDP from 198.18.0.0/16."""
-    ends = bytes([2, 0, 0, 0, 0xF0, number * 37 % 251, 2, 0, 0, 0, 0xF1, number])
-    return ends + b"\x08\x00\x45\x00\x00\x26\x00\x00\x00\x00\x40\x11\x00\x00\xc6\x12\x00" + bytes([number, 198, 19, 0, number]) + bytes(26)
+# A port may send so many Marker PDUs in any second (802.3 57A).
+MOST_RESPONSES = 10
 
 
 def put(frame: bytes, at: int, octets: bytes) -> bytes:
@@ -40,77 +34,11 @@ def is_lacpdu(frame: bytes) -> bool:
     return frame[12:15] == SLOW + b"\1" and len(frame) >= 124
 
 
-class World:
-    """The wire of the bench, and its hook: what it sends the device gets at once, and time passes where the bench waits."""
-
-    def __init__(self, device: Device, links: int = 2) -> None:
-        self.names = [f"link{it}" for it in range(1, links + 1)]
-        self.started = 1.7e9
-        self.clock = 0.0
-        self.came: Deque[Arrival] = deque()
-        self.device = device
-        device.world = self
-        device.start()
-
-    def now(self) -> float:
-        return self.clock
-
-    def source(self, link: int) -> Mac:
-        return Mac(bytes([2, 0, 0, 0, 0xAA, link]))
-
-    def send(self, link: int, octets: bytes) -> bool:
-        self.device.take(link, octets)
-        return True
-
-    def drops(self) -> int:
-        return 0
-
-    def close(self) -> None:
-        pass
-
-    def wait(self, seconds: float) -> list[Arrival]:
-        limit = self.clock + seconds
-        while not self.came and self.clock < limit:
-            due = max(self.clock, self.device.due)
-            self.clock = min(limit, due)
-            if due <= limit:
-                self.device.pass_time()
-        came = list(self.came)
-        self.came.clear()
-        return came
-
-    def flap(self, link: int, up: bool) -> None:
-        self.device.link(link, up)
-
-    def emit(self, link: int, octets: bytes) -> None:
-        """A frame of the device."""
-        if link <= len(self.names):
-            self.came.append(Arrival(link, self.clock + WIRE_SECONDS, octets))
-
-    def call(self, words: Sequence[str]) -> Done:
-        """The hook."""
-        return Done(self.device.do(words))
-
-
-class Done:
-    """A hook that has ended."""
-
-    def __init__(self, status: int) -> None:
-        self.status = status
-
-    def answer(self) -> Answer:
-        return Answer(self.status, "")
-
-    def stop(self) -> None:
-        pass
-
-
-class Device:
+class Device(Stack):
     """A right device."""
 
     # What each fault changes.
-    tick_seconds = 0.1
-    short = True
+    short = active = aggregatable = True
     most_responses = MOST_RESPONSES
     # The tests that find the fault; each of them has to fail.
     finds = ""
@@ -118,15 +46,10 @@ class Device:
     long = False
 
     def __init__(self) -> None:
-        self.world: World
+        super().__init__()
         self.system: Optional[System] = None
-        self.due = 0.037
         self.sends_data = False
         self.responses: dict[int, Deque[float]] = {1: deque(), 2: deque()}
-
-    @property
-    def now(self) -> float:
-        return self.world.clock
 
     @property
     def on(self) -> System:
@@ -137,7 +60,8 @@ class Device:
     # The host of the system.
 
     def start(self) -> None:
-        ports = tuple(PortConfig(number=it, key=KEY, mac=Mac(bytes([2, 0, 0, 0, 0xBB, it])), short_timeout=self.short) for it in (1, 2))
+        own = {"short_timeout": self.short, "active": self.active, "aggregatable": self.aggregatable}
+        ports = tuple(PortConfig(number=it, key=KEY, mac=Mac(bytes([2, 0, 0, 0, 0xBB, it])), **own) for it in (1, 2))
         self.system = System(Config(OWN, ports, aggregators=(KEY, KEY)))
         for it in (1, 2):
             self.system.set_link(it, True)
@@ -170,9 +94,7 @@ class Device:
             for to, it in self.responds(port, marker, response):
                 self.world.emit(to, it)
 
-    def pass_time(self) -> None:
-        """A tick."""
-        self.due += self.tick_seconds
+    def tick(self) -> None:
         if not self.system:
             return
         self.system.tick()
@@ -196,19 +118,8 @@ class Device:
         if self.system:
             self.system.set_link(port, up)
 
-    def do(self, words: Sequence[str]) -> int:
-        """What a hook asks for; the status."""
-        if words[0] == "stop":
-            self.stop()
-        elif words[0] == "start":
-            self.start()
-        elif words[0] in ("up", "down"):
-            self.link(int(words[1]), words[0] == "up")
-        elif words[0] == "data":
-            self.sends_data = words[1] == "start"
-        else:
-            return 64
-        return 0
+    def data(self, on: bool) -> None:
+        self.sends_data = on
 
     # What a fault changes.
 

@@ -82,6 +82,30 @@ class WrongEcho(Says):
     finds, at, octets = "FM-06", 34, b"\0\0"
 
 
+class EchoMasked(Device):
+    """Tells Expired and Defaulted of the partner as 0."""
+
+    finds = "FM-09"
+
+    def says(self, port: int, frame: bytes) -> Iterable[bytes]:
+        yield set_bits(frame, 38, 0xC0, False)
+
+
+class CutOff(Device):
+    """Sends 60 octets: the least length of a frame."""
+
+    finds = "FM-02 FM-03"
+
+    def says(self, port: int, frame: bytes) -> Iterable[bytes]:
+        yield frame[:60]
+
+
+class PartnerLength(Says):
+    """Sends a Partner TLV of length 22."""
+
+    finds, at, octets = "FM-03", 23, b"\x16"
+
+
 class EchoesNoCollecting(Device):
     """Tells Collecting of the partner as 1."""
 
@@ -366,6 +390,131 @@ class NewAggregation(SelectionUnchanged):
     """Does not select anew for another Aggregation of the partner."""
 
     finds, field = "RX-12f", "aggregation"
+
+
+class LowOctet(Device):
+    """Compares the low octet of the partner's keys alone."""
+
+    finds = "RX-12g SL-13"
+
+    def __init__(self) -> None:
+        super().__init__()
+        self.high = {1: b"\0", 2: b"\0"}
+
+    def hears(self, port: int, frame: bytes) -> Iterable[bytes]:
+        if is_lacpdu(frame):
+            self.high[port], frame = part(frame, 12, 1), put(frame, 12, b"\0")
+        yield frame
+
+    def says(self, port: int, frame: bytes) -> Iterable[bytes]:
+        yield put(frame, 32, self.high[port])
+
+class VendorOfPartner(Device):
+    """Compares the last three octets of the partner's system alone."""
+
+    finds = "RX-12h"
+
+    def hears(self, port: int, frame: bytes) -> Iterable[bytes]:
+        yield put(frame, 6, b"\2\xcf\0") if is_lacpdu(frame) else frame
+
+
+class NamedToTheBit(Device):
+    """A partner has to tell its state to the bit."""
+
+    finds = "RX-19"
+
+    def hears(self, port: int, frame: bytes) -> Iterable[bytes]:
+        wrong = is_lacpdu(frame) and (frame[52] ^ self.own(port)[14]) & 0x3A
+        yield set_bits(frame, 18, SYNC, False) if wrong else frame
+
+
+class TimeoutOfPartner(Device):
+    """current_while goes by the partner's LACP_Timeout: each LACPDU of a partner that asks for long ones is heard on for 30 s."""
+
+    finds = "RX-16"
+
+    def __init__(self) -> None:
+        super().__init__()
+        self.last: dict[int, tuple[float, bytes]] = {}
+
+    def took(self, port: int, frame: bytes) -> None:
+        if is_lacpdu(frame):
+            self.last[port] = self.now, frame
+
+    def ticked(self) -> None:
+        for port, (when, frame) in self.last.items():
+            if not frame[32] & 2 and 1 < self.now - when < 30 and int(self.now * 10) % 10 == 0:
+                self.on.receive(port, frame)
+
+
+class SyncOnDefaults(Device):
+    """Stays synchronized when it defaults."""
+
+    finds = "RX-06"
+
+    def says(self, port: int, frame: bytes) -> Iterable[bytes]:
+        yield set_bits(frame, 18, SYNC, True) if frame[32] & 0x40 else frame
+
+
+class DisabledByChurn(Device):
+    """A partner that is out of sync for 10 s takes the port out for 30 s."""
+
+    finds = "MX-09"
+
+    def __init__(self) -> None:
+        super().__init__()
+        self.since: dict[int, float] = {}
+        self.out: dict[int, float] = {}
+
+    def ticked(self) -> None:
+        for port in (1, 2):
+            if self.on.mux_state(port) is not MuxState.ATTACHED:
+                self.since[port] = self.now
+            elif self.now - self.since.get(port, self.now) > 10:
+                self.out[port], self.since[port] = self.now + 30, self.now
+
+    def hears(self, port: int, frame: bytes) -> Iterable[bytes]:
+        if self.now >= self.out.get(port, 0):
+            yield frame
+
+
+class DisabledByLongChurn(DisabledByChurn):
+    """A partner that is out of sync for 60 s takes the port out: what churn detection finds."""
+
+    finds, long = "MX-10", True
+
+    def ticked(self) -> None:
+        for port in (1, 2):
+            if self.on.mux_state(port) is not MuxState.ATTACHED:
+                self.since[port] = self.now
+            elif self.now - self.since.get(port, self.now) > 60:
+                self.out[port], self.since[port] = self.now + 30, self.now
+
+
+class AnswersOtherBits(Device):
+    """Answers an LACPDU that tells any bit of its state otherwise."""
+
+    finds = "TX-07"
+
+    def hears(self, port: int, frame: bytes) -> Iterable[bytes]:
+        other = is_lacpdu(frame) and frame[52] ^ self.own(port)[14]
+        yield put(frame, 38, bytes([frame[52] ^ 2])) if other and not (frame[52] ^ self.own(port)[14]) & 0x0F else frame
+
+
+class OneASecond(Device):
+    """Sends one LACPDU a second at most."""
+
+    finds = "TX-09"
+
+    def __init__(self) -> None:
+        super().__init__()
+        self.sent = -9.0
+
+    def may_send(self) -> bool:
+        if self.now - self.sent < 0.95:
+            return False
+        self.sent = self.now if self.on.due() else self.sent
+        return True
 
 
 class LinkUnseen(Device):

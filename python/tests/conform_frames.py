@@ -6,7 +6,7 @@ from typing import Iterable, Iterator, Optional
 
 from conform_device import OWN, SLOW, Device, is_lacpdu, part, put
 from conform_faults import set_bits
-from niwhopera import State
+from niwhopera import ReceiveState, State
 
 
 class Drops(Device):
@@ -258,7 +258,7 @@ class NoMarkers(Responds):
 class OtherId(Responds):
     """Answers with another identifier."""
 
-    finds = "MK-01 MK-02"
+    finds = "MK-02 EN-03"
 
     def says_back(self, marker: bytes, response: bytes) -> Optional[bytes]:
         return put(response, 15, bytes([response[29] ^ 1]))
@@ -302,6 +302,15 @@ class MarkerSlow(Responds):
             return None
         self.last = self.now
         return response
+
+
+class LongResponse(Responds):
+    """Sends back all octets of a marker."""
+
+    finds = "MK-13"
+
+    def says_back(self, marker: bytes, response: bytes) -> Optional[bytes]:
+        return response + marker[124:]
 
 
 class ManyResponses(Device):
@@ -357,6 +366,51 @@ class StrayResponses(Device):
 
     def responds(self, port: int, marker: bytes, response: bytes) -> Iterator[tuple[int, bytes]]:
         yield (3 - port if self.is_on(2, State.COLLECTING) and port == 1 else port), response
+
+
+class KeptByMarkers(Device):
+    """A marker keeps the partner current."""
+
+    finds = "RX-17"
+
+    def keeps(self, frame: bytes) -> bool:
+        """Whether a frame is taken for a sign of life."""
+        return frame[12:15] == SLOW + b"\2"
+
+    def __init__(self) -> None:
+        super().__init__()
+        self.last: dict[int, bytes] = {}
+
+    def hears(self, port: int, frame: bytes) -> Iterable[bytes]:
+        if is_lacpdu(frame):
+            self.last[port] = frame
+        yield frame
+        if self.keeps(frame) and port in self.last and self.on.receive_state(port) is ReceiveState.CURRENT:
+            yield self.last[port]
+
+
+class KeptByRunts(KeptByMarkers):
+    """Any frame but LACPDUs and markers keeps the partner current."""
+
+    finds = "RX-18"
+
+    def keeps(self, frame: bytes) -> bool:
+        return not is_lacpdu(frame) and frame[12:15] != SLOW + b"\2"
+
+
+class LateUnderData(Device):
+    """Answers up to a second late while data goes out."""
+
+    finds = "TX-08"
+    looked = 0.0
+
+    def may_send(self) -> bool:
+        if not self.sends_data:
+            return True
+        if self.now - self.looked < 0.95:
+            return False
+        self.looked = self.now
+        return True
 
 
 # Two links, and the engine.

@@ -6,12 +6,13 @@ import xml.etree.ElementTree as xml
 from typing import Iterable, Iterator, Optional, Sequence, Type
 
 import pytest
-from conform_device import Device, Done, World, is_lacpdu
+from conform_device import Device, World, is_lacpdu
 from conform_faults import KeyUnchecked, LinkUnseen, set_bits
 
 from lagconform import command, report
 from lagconform.bench import HOOK_SECONDS, Bench
 from lagconform.groups import TESTS
+from lagconform.memory import Done
 from lagconform.model import FAIL, INCONCLUSIVE, PASS, SKIPPED, Result
 from lagconform.refusals import Refused
 from lagconform.runner import NoDevice, meet, run_all, run_one

@@ -120,10 +120,10 @@ def counts_of_records(pages: Read) -> list[str]:
 
 
 def tests_that_pass(pages: Read) -> list[str]:
-    """Of the tests of lagconform those that pass beside the daemon, all that there are, and those that the run left out."""
+    """Of the tests of lagconform those that pass beside the daemon, those of that run, and all that there are."""
     run, all_of_them = pages.table(PEERS, "Conformance", "tests", "lagd"), pages.table(CONFORM, "The groups", "group", "tests")
     there, played = sum(map(int, all_of_them.cells("*", "tests"))), sum(map(int, run.cells("[*]*[*]", "lagd")))
-    return [run.cell("[*]pass[*]", "lagd"), str(there), word(there - played)]
+    return [run.cell("[*]pass[*]", "lagd"), str(played), str(there)]
 
 
 def tests_beside_open_vswitch(pages: Read) -> list[str]:
@@ -216,9 +216,9 @@ QUOTES: tuple[Quote, ...] = (
           " frames are held. The marker of line {} goes behind the frames; its response (line {}) frees the conversation,"
           " and line {} sends the next frame on port 2.",
           lines_of_a_move),
-    Quote(CONFORM, "{} tests on 2 links", tests_played),
+    Quote(CONFORM, "{} tests on 2 links, some 10 min", tests_played),
     Quote(CONFORM, "{} pass, {} fail, {} inconclusive, {} skipped", tests_beside_open_vswitch),
-    Quote(CONFORMANCE, "[{} of {} tests pass](PEERS.md#conformance), {} of more than 25 s were not run", tests_that_pass),
+    Quote(CONFORMANCE, "[{} of {} tests pass](PEERS.md#conformance). The bench has {} now, of which those of more than 25 s were not run", tests_that_pass),
     Quote(EXAMPLES, "the driver, which starts {} s later|", later_speaker),
     Quote(LAGD, "is 0 if the port distributes, 1 to {} for [the reason why not]", last_status),
     Quote(MEASURED, "one aggregator of 256 conversations, which take {} octets", octets_of_conversations),

@@ -62,7 +62,8 @@ def comes_up(b: Bench, links: tuple[int, ...]) -> None:
 
         engine.run(12, both)
         states = ", ".join(system.port_status(it).name for it in links)
-        b.claim(both(), f"both ends carry after {b.now() - begin:.1f} s: {states}", *[b.frame(it) for it in links])
+        told = f"both ends carry after {b.now() - begin:.1f} s" if both() else f"not both ends carry after {b.now() - begin:.1f} s, and have to after 12 s"
+        b.claim(both(), f"{told}: {states}", *[b.frame(it) for it in links])
         broken: list[bool] = []
 
         def looks() -> bool:
@@ -92,7 +93,7 @@ def two_links(b: Bench) -> None:
 
 
 @group.test("03", "6.5", "The engine's marker is answered", "be the engine on link 1, and probe", rule="the engine notes that the peer answers",
-            takes=6, needs=("marker-responder",), causes=("MK-01",))  # fmt: skip
+            takes=6, needs=("marker-responder",), causes=("MK-01", "MK-02"))  # fmt: skip
 def probe(b: Bench) -> None:
     """What the engine needs of a peer before it moves a conversation behind a marker."""
     engine = Engine(b, (1,))
@@ -103,4 +104,4 @@ def probe(b: Bench) -> None:
         frame = b.send_raw(1, sent.frame) if sent else None
         engine.run(1.5, lambda: system.answers(1) is Answers.ANSWERED)
         answers = system.answers(1)
-        b.claim(answers is Answers.ANSWERED, f"the engine notes: {answers.name}", frame, *(b.markers(1, frame.number) if frame else ()))
+        b.claim(answers is Answers.ANSWERED, f"the engine notes {answers.name}; has to be {Answers.ANSWERED.name}", frame, *(b.markers(1, frame.number) if frame else ()))

@@ -6,9 +6,9 @@ from dataclasses import replace
 
 from niwhopera import PortId, State, SystemId
 
-from ..bench import Bench
-from ..model import Frame, Group, Stop
-from ..pdus import GROUP, PAYLOAD, SLOW, end, mac, words
+from ..bench import SOON, Bench, is_lacp
+from ..model import SURE, Frame, Group, Stop, Stuck
+from ..pdus import GROUP, PAYLOAD, end, mac, words
 
 group = Group("FM", "Format and fields of LACPDUs (6.4.2)")
 RESERVED = [*range(19, 22), *range(39, 42), *range(46, 58), *range(60, 110)]
@@ -28,6 +28,23 @@ def sample(b: Bench, least: int = 3) -> list[Frame]:
     return found
 
 
+def spoken(b: Bench, least: int = 3) -> list[Frame]:
+    """Some frames of the device with the subtype of LACP, whether they can be read or not, beside a right partner."""
+    try:
+        b.still_up()
+    except Stuck:
+        b.begin(1)
+    mark = b.mark()
+
+    def found() -> list[Frame]:
+        return [it for it in b.frames[mark:] if not it.out and it.link == 1 and is_lacp(it.octets)]
+
+    b.until(6, lambda: len(found()) >= least)
+    if len(found()) < least:
+        raise Stuck(f"{len(found())} LACPDUs in 6 s")
+    return found()
+
+
 def octets(frame: Frame, at: int, count: int) -> bytes:
     """Octets of the payload."""
     return frame.octets[PAYLOAD + at : PAYLOAD + at + count]
@@ -37,47 +54,49 @@ def octets(frame: Frame, at: int, count: int) -> bytes:
             rule="each has the Slow Protocols address and type and an individual source", takes=5.5)  # fmt: skip
 def addresses(b: Bench) -> None:
     """Each LACPDU goes to 01-80-C2-00-00-02, with EtherType 8809, from the individual address of the port."""
-    found = sample(b)
+    found = spoken(b)
     wrong = [it for it in found if it.octets[:6] != GROUP]
-    b.holds(not wrong, f"destination is {mac(GROUP)}", *wrong[:3] or found[:1])
-    b.holds(all(it.octets[12:14] == SLOW for it in found), "EtherType is 8809", found[0])
+    b.claim(not wrong, f"destination {mac((wrong or found)[0].octets[:6])}; has to be {mac(GROUP)}", *wrong[:3] or found[:1], bears=SURE)
     sources = {it.octets[6:12] for it in found}
     one = min(sources)
-    b.holds(len(sources) == 1 and not one[0] & 1 and any(one), f"one individual source address: {', '.join(map(mac, sources))}", found[0])
+    right = len(sources) == 1 and not one[0] & 1 and any(one)
+    b.claim(right, f"source {', '.join(map(mac, sources))}; has to be one individual address", found[0], bears=SURE)
 
 
 @group.test("02", "6.4.2.3, 6.4.2.2", "Length, subtype and version", "take LACPDUs",
             rule="payload of exactly 110 octets (version 1); subtype 1; version 1 or 2", takes=3.5)  # fmt: skip
 def head(b: Bench) -> None:
     """An LACPDU has subtype 1, version 1 (or 2), and as version 1 has 110 octets of payload."""
-    found = sample(b)
-    versions = {octets(it, 1, 1)[0] for it in found}
-    b.claim(versions <= {1, 2}, f"version {', '.join(map(str, versions))}", found[0])
-    sizes = {len(it.octets) for it in found}
-    right = sizes == {124} if versions == {1} else min(sizes) >= 124
-    b.claim(right, f"frames of {', '.join(map(str, sizes))} octets without FCS; version 1 has 124", found[0])
+    found = spoken(b)
+    versions = sorted({octets(it, 1, 1).hex() or "none" for it in found})
+    b.claim(set(versions) <= {"01", "02"}, f"version {', '.join(versions)}; has to be 01, or 02", found[0], bears=SURE)
+    wrong = [it for it in found if len(it.octets) < 124 or len(it.octets) > 124 and octets(it, 1, 1) == b"\1"]
+    sizes = sorted({len(it.octets) for it in found})
+    text = f"frames of {', '.join(map(str, sizes))} octets without FCS; has to be 124, or more in version 2"
+    b.claim(not wrong, text, *wrong[:2] or found[:1], bears=SURE)
 
 
 @group.test("03", "6.4.2.3", "Types and lengths of TLVs", "take LACPDUs", rule="1/20, 2/20, 3/16, 0/0 at their offsets", takes=3.5)
 def tlvs(b: Bench) -> None:
     """The Actor, Partner, Collector and Terminator TLVs have their types and lengths."""
-    found = sample(b)
+    found = spoken(b)
     for name, at, right in TLVS:
         if name == "Terminator" and octets(found[0], 1, 1) != b"\1":
             continue
         wrong = [it for it in found if octets(it, at, 2) != right]
-        stands = f", found {octets(wrong[0], at, 2).hex()}" if wrong else ""
-        b.claim(not wrong, f"{name} TLV is {right.hex()}{stands}", *wrong[:2] or found[:1])
+        stands = octets(wrong[0], at, 2).hex() or "nothing: the frame ends before" if wrong else right.hex()
+        text = f"{name} TLV, octets {at} and {at + 1} of the payload: {stands}; has to be {right.hex()}"
+        b.claim(not wrong, text, *wrong[:2] or found[:1], bears=SURE)
 
 
 @group.test("04", "6.4.2.3", "Reserved octets are zero", "take LACPDUs",
             rule="octets 19-21, 39-41, 46-57 and, in version 1, 60-109 of the payload are 0", takes=3.5)  # fmt: skip
 def reserved(b: Bench) -> None:
     """Reserved octets are sent as zero."""
-    found = sample(b)
+    found = spoken(b)
     wrong = [(it, at) for it in found for at in RESERVED if octets(it, 1, 1) == b"\1" and octets(it, at, 1) not in (b"", b"\0")]
-    stands = f"; octet {wrong[0][1]} is {octets(wrong[0][0], wrong[0][1], 1).hex()}" if wrong else ""
-    b.claim(not wrong, f"reserved octets are 0{stands}", *[it for it, _ in wrong[:2]] or found[:1])
+    stands = f"octet {wrong[0][1]} is {octets(wrong[0][0], wrong[0][1], 1).hex()}" if wrong else "all are 00"
+    b.claim(not wrong, f"reserved octets: {stands}; has to be 00", *[it for it, _ in wrong[:2]] or found[:1], bears=SURE)
 
 
 @group.test("05", "6.3.2, 6.3.4", "Identifiers of the actor", "take LACPDUs over 3 s",
@@ -87,9 +106,12 @@ def identifiers(b: Bench) -> None:
     found = sample(b, least=4)
     actors = [it.lacpdu.actor for it in found if it.lacpdu]
     system, port = actors[0].system, actors[0].port
-    b.claim(any(system.mac) and not system.mac[0] & 1, f"system {system}", found[0])
-    b.claim(port.number, f"port number {port.number}", found[0])
-    b.holds(len({(it.system, it.key, it.port) for it in actors}) == 1, "identifiers and key stay", found[0], found[-1])
+    b.claim(any(system.mac) and not system.mac[0] & 1, f"system {system}; has to be an individual address, not 0", found[0], bears=SURE)
+    b.claim(port.number, f"port number {port.number}; has to be another than 0", found[0], bears=SURE)
+    ends = {it: (it.lacpdu.actor.system, it.lacpdu.actor.key, it.lacpdu.actor.port) for it in found if it.lacpdu}
+    changed = [it for it in found if ends.get(it) != ends[found[0]]]
+    stands = f"; then {end(changed[0].lacpdu.actor)}" if changed and changed[0].lacpdu else ""
+    b.claim(not changed, f"system, key and port {end(actors[0])}{stands}; have to stay", found[0], *changed[:1], bears=SURE)
     if not actors[0].key:
         b.note("the key is 0")
 
@@ -108,9 +130,11 @@ def echo(b: Bench) -> None:
         seen = b.first(1, mark, lambda pdu: pdu.partner.system.mac == partner.me.system.mac, 3)
         told, own = seen.lacpdu.partner if seen and seen.lacpdu else None, partner.me.info
         same = told and replace(told, state=own.state) == own
-        b.claim(same, f"the partner told is {end(told) if told else 'none'}", seen)
-        alike = told and not (told.state ^ own.state) & (State.ACTIVITY | State.TIMEOUT | State.AGGREGATION)
-        b.holds(alike, "Activity, Timeout and Aggregation of it are right", seen)
+        b.claim(same, f"the partner told is {end(told) if told else 'none'}; has to be what was sent, {end(own)}", seen)
+        mask = State.ACTIVITY | State.TIMEOUT | State.AGGREGATION
+        bits = words(told.state & mask) if told else "nothing"
+        alike = told and not (told.state ^ own.state) & mask
+        b.claim(alike, f"of Activity, Timeout and Aggregation it tells {bits}; has to be {words(own.state & mask)}", seen)
 
 
 @group.test("07", "6.4.2.3, 6.4.9", "State bits of the partner are recorded",
@@ -122,8 +146,9 @@ def echoed_bits(b: Bench) -> None:
     for bits in dict(distributing=False), dict(collecting=False), dict(collecting=True, distributing=True):
         mark, sent = b.mark(), b.say(**bits)
         want = b.partner().lacpdu().actor.state & ECHOED
-        seen = b.first(1, mark, lambda pdu: pdu.partner.state & ECHOED == want, 2)
-        b.holds(seen, f"after {bits} the partner's state is told with {words(want)}", sent, seen)
+        seen = b.first(1, mark, lambda pdu: pdu.partner.state & ECHOED == want, SOON)
+        said = words(b.device().partner.state & ECHOED)
+        b.claim(seen, f"of the partner's Timeout, Collecting and Distributing it tells {said}; has to be {words(want)}", sent, seen or b.frame())
 
 
 @group.test("08", "6.4.2.3", "Timeout and Aggregation are told, and stay", "take LACPDUs",
@@ -133,8 +158,26 @@ def steady_bits(b: Bench) -> None:
     b.still_up()
     b.wait(0.5)
     found = sample(b)
-    states = [it.lacpdu.actor.state for it in found if it.lacpdu]
-    b.holds(not any(it & (State.DEFAULTED | State.EXPIRED) for it in states), "neither Defaulted nor Expired", *found[:2])
-    b.holds(len({it & 7 for it in states}) == 1, f"Activity, Timeout, Aggregation stay: {words(states[0] & 7)}", *found[:2])
-    b.holds(states[0] & State.SYNCHRONIZATION, "synchronized", found[0])
-    b.note("aggregatable" if states[0] & State.AGGREGATION else "individual")
+    states = {it.number: it.lacpdu.actor.state for it in found if it.lacpdu}
+    first = states[found[0].number]
+    wrong = [it for it in found if states[it.number] & (State.DEFAULTED | State.EXPIRED)]
+    b.holds(not wrong, "neither Defaulted nor Expired", *wrong[:2] or found[:2])
+    wrong = [it for it in found if (states[it.number] ^ first) & 7]
+    text = f"Activity, Timeout, Aggregation are {words(first & 7)}"
+    b.claim(not wrong, f"{text}, then {words(states[wrong[0].number] & 7)}; have to stay" if wrong else f"{text}, and stay", found[0], *wrong[:1], bears=SURE)
+    b.holds(first & State.SYNCHRONIZATION, "synchronized", found[0])
+    b.note("aggregatable" if first & State.AGGREGATION else "individual")
+
+
+@group.test("09", "6.4.2.3, 6.4.9", "Expired and Defaulted of the partner are recorded",
+            "beside a device that carries, say Expired, then Defaulted, then neither", rule="the partner's state told next has these bits", takes=5.5)  # fmt: skip
+def echoed_machines(b: Bench) -> None:
+    """Actor_State is recorded as Partner_State whole, but for Synchronization: Expired and Defaulted, too."""
+    b.still_up()
+    mask = State.EXPIRED | State.DEFAULTED
+    for expired, defaulted in (True, False), (False, True), (False, False):
+        mark, sent = b.mark(), b.say(expired=expired, defaulted=defaulted)
+        want = b.partner().lacpdu().actor.state & mask
+        seen = b.first(1, mark, lambda pdu: pdu.partner.state & mask == want, SOON)
+        said = words(b.device().partner.state & mask)
+        b.claim(seen, f"of the partner's Defaulted and Expired it tells {said}; has to be {words(want)}", sent, seen or b.frame())

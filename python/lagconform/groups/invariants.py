@@ -4,16 +4,16 @@ from __future__ import annotations
 
 from typing import Optional, Tuple
 
-from niwhopera import Info, Lacpdu, PortId, State, SystemId
+from niwhopera import Info, Lacpdu, State
 
 from ..bench import Bench
-from ..model import Frame, Group
-from ..pdus import PAYLOAD, SLOW, is_of_lag, put, read, six
+from ..model import SURE, Frame, Group
+from ..pdus import PAYLOAD, SIX, SLOW, is_of_lag, put, read, value
 
 group = Group("IV", "All frames of the run")
 # The first octets of the systems that the bench is.
 OURS = b"\x02\xcf"
-Six = Tuple[SystemId, int, PortId, bool]
+Told = Tuple[object, ...]
 
 
 def lacpdus(b: Bench) -> list[tuple[Frame, Lacpdu]]:
@@ -33,7 +33,8 @@ def implied(b: Bench) -> None:
     found = lacpdus(b)
     pairs = ((State.DISTRIBUTING, State.COLLECTING), (State.COLLECTING, State.SYNCHRONIZATION))
     wrong = [it for it, pdu in found if not all(implies(pdu.actor, *pair) for pair in pairs)]
-    b.claim(not wrong, f"{len(wrong)} of {len(found)} LACPDUs", *wrong[:4])
+    text = f"{len(wrong)} of {len(found)} LACPDUs tell Distributing without Collecting, or Collecting without Synchronization; has to be none"
+    b.claim(not wrong, text, *wrong[:4], bears=SURE)
 
 
 @group.test("02", "6.4.15, 6.4.9", "It never carries for a partner that it tells as out of sync", "look at all LACPDUs of the run",
@@ -42,7 +43,7 @@ def in_sync(b: Bench) -> None:
     """COLLECTING_DISTRIBUTING is left as partner Synchronization becomes false; no LACPDU is sent between."""
     found = lacpdus(b)
     wrong = [it for it, pdu in found if pdu.actor.state & State.DISTRIBUTING and not pdu.partner.state & State.SYNCHRONIZATION]
-    b.claim(not wrong, f"{len(wrong)} of {len(found)} LACPDUs", *wrong[:4])
+    b.claim(not wrong, f"{len(wrong)} of {len(found)} LACPDUs tell Distributing for a partner out of sync; has to be none", *wrong[:4], bears=SURE)
 
 
 @group.test("03", "6.4.2, 6.5.3", "The proved codec reads each LACPDU and Marker PDU", "look at all LACPDUs and Marker PDUs of the device: subtypes 1 and 2",
@@ -58,22 +59,28 @@ def whole(b: Bench) -> None:
         return it.pdu is not None and right and len(it.octets) >= 124
 
     wrong = [it for it in slow if not is_whole(it) and it.octets[17:30] not in sent]
-    b.claim(not wrong, f"{len(wrong)} of {len(slow)} frames are something else{f': {wrong[0].fault}' if wrong else ''}", *wrong[:4])
+    text = f"{len(wrong)} of {len(slow)} frames are something else{f': {wrong[0].fault}' if wrong else ''}; has to be none"
+    b.claim(not wrong, text, *wrong[:4], bears=SURE)
 
 
 @group.test("04", "6.4.9 (recordPDU)", "The partner that it tells is one that it was told", "look at all LACPDUs of the run whose partner is one of our systems",
             rule="each was sent on that link before", takes=0.1)  # fmt: skip
 def known(b: Bench) -> None:
     """A partner that is told was the actor of an LACPDU on that link: nothing is mixed between links."""
-    sent: dict[int, set[Six]] = {link: set() for link in b.links}
+    sent: dict[int, set[Told]] = {link: set() for link in b.links}
     wrong = []
     for frame in b.frames:
         pdu = frame.lacpdu or (shown(frame) if frame.out else None)
         if pdu and frame.out:
-            sent[frame.link].add(six(pdu.actor))
-        elif pdu and pdu.partner.system.mac[:2] == OURS and six(pdu.partner) not in sent[frame.link]:
+            sent[frame.link].add(told_of(b, pdu.actor))
+        elif pdu and pdu.partner.system.mac[:2] == OURS and told_of(b, pdu.partner) not in sent[frame.link]:
             wrong.append(frame)
-    b.claim(not wrong, f"{len(wrong)} LACPDUs tell a partner that was never there", *wrong[:3])
+    b.claim(not wrong, f"{len(wrong)} LACPDUs tell a partner that was never there; has to be none", *wrong[:3])
+
+
+def told_of(b: Bench, info: Info) -> Told:
+    """How the device should tell an end of ours: the six parameters, but for those that it tells wrong all along."""
+    return tuple(value(info, it) for it in SIX if it not in b.mistold)
 
 
 def shown(frame: Frame) -> Optional[Lacpdu]:
@@ -93,7 +100,7 @@ def rate(b: Bench) -> None:
         found = list(b.heard(link, 0))
         spans = [found[at + 3].time - found[at].time for at in range(len(found) - 3)]
         high = [at for at, span in enumerate(spans) if span < 0.75]
-        text = f"link {link}: four or more LACPDUs within 0.75 s, {len(high)} times of {len(found)}"
-        b.claim(not high, text, *(found[high[0] : high[0] + 4] if high else ()))
+        text = f"link {link}: four or more LACPDUs within 0.75 s, {len(high)} times of {len(found)}; has to be never"
+        b.claim(not high, text, *(found[high[0] : high[0] + 4] if high else ()), bears=SURE)
         if not high and (near := [span for span in spans if span < 0.98]):
             b.note(f"link {link}: four or more within 0.98 s, {len(near)} times")

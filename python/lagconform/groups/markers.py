@@ -8,7 +8,7 @@ from niwhopera import MarkerKind, State, encode
 from niwhopera import Marker as MarkerPdu
 
 from ..bench import Bench, most_within
-from ..model import MEMORY, Frame, Group, NotHere, Stop
+from ..model import MEMORY, SURE, Frame, Group, NotHere, Stop
 from ..partner import slow
 from ..pdus import GROUP, PAYLOAD, SLOW, mac, put
 from .mux import OUT_OF_SYNC
@@ -22,13 +22,26 @@ ID = slice(PAYLOAD + 12, PAYLOAD + 16)
 
 
 def marker(b: Bench, link: int = 1, kind: MarkerKind = MarkerKind.INFORMATION) -> bytes:
-    """The payload of a marker with an identifier of its own."""
-    return encode(MarkerPdu(kind, 0x0102, b.partner(link).me.system.mac, 0xC0DE0000 + b.number()))
+    """The payload of a marker with an identifier of its own, which differs from those of others by more than one."""
+    return encode(MarkerPdu(kind, 0x0102, b.partner(link).me.system.mac, 0xC0000000 + 0x111 * b.number()))
 
 
 def answered(b: Bench, link: int, mark: int, sent: Frame) -> Optional[Frame]:
-    """The response to a marker, if it came."""
-    return next((it for it in b.markers(link, mark) if it.octets[ID] == sent.octets[ID]), None)
+    """The response to a marker, if it came: the one with its identifier, or one whose identifier no marker of ours had."""
+    came = b.markers(link, mark)
+    right = next((it for it in came if it.octets[ID] == sent.octets[ID]), None)
+    if right or not came:
+        return right
+    asked = {it.octets[ID] for it in b.frames if it.out and it.octets[12:15] == SLOW + b"\2"}
+    return next((it for it in came if it.octets[ID] not in asked), None)
+
+
+def shown(frame: Optional[Frame]) -> str:
+    """The port, the system and the identifier of a Marker PDU, as octets."""
+    if not frame:
+        return "nothing"
+    octets = frame.octets
+    return f"port {octets[18:20].hex()}, system {mac(octets[20:26])}, identifier {octets[ID].hex()}"
 
 
 def ask(b: Bench, payload: bytes, link: int = 1, to: bytes = GROUP, tries: int = 1) -> tuple[Frame, Optional[Frame]]:
@@ -75,7 +88,9 @@ def responds(b: Bench) -> None:
         got.append(ask(b, marker(b)))
     times = [seen.time - sent.time for sent, seen in got if seen]
     told = f", after {max(times) * 1000:.1f} ms at most" if times else ""
-    b.claim(len(times) == 3, f"{len(times)} of 3 markers were answered{told}", *[it for pair in got for it in pair])
+    b.claim(len(times) == 3, f"{len(times)} of 3 markers were answered within 1 s{told}; has to be 3", *[it for pair in got for it in pair])
+    if other := [seen for sent, seen in got if seen and seen.octets[ID] != sent.octets[ID]]:
+        b.note(f"{len(other)} of the responses have another identifier than the marker: MK-02 looks at that")
 
 
 @group.test("02", "6.5.3.3, 6.5.4.2", "The response echoes port, system and transaction", "send a marker",
@@ -92,9 +107,11 @@ def echoes(b: Bench) -> None:
     seen = next(iter(b.markers(1, mark)), None)
     if not seen:
         raise NotHere("no response came (MK-01)")
-    b.holds(seen.octets[18:30] == sent.octets[18:30], "port, system and identifier are the same", sent, seen)
-    b.claim(seen.octets[14] == 2 and seen.octets[16:18] == b"\2\x10", f"subtype, TLV type and length are 02, 02 10: {seen.octets[14:18].hex(' ')}", seen)
-    b.claim(seen.octets[32:34] == b"\0\0" and len(seen.octets) == 124, f"Terminator 0/0, frame of 124 octets: {len(seen.octets)}", seen)
+    b.claim(seen.octets[18:30] == sent.octets[18:30], f"the response has {shown(seen)}; has to be what was sent, {shown(sent)}", sent, seen, bears=SURE)
+    head = seen.octets[14:15] + seen.octets[16:18]
+    b.claim(head == b"\2\2\x10", f"subtype, TLV type and length are {head.hex(' ')}; has to be 02 02 10", seen, bears=SURE)
+    told = f"Terminator {seen.octets[32:34].hex(' ')}, frame of {len(seen.octets)} octets"
+    b.claim(seen.octets[32:34] == b"\0\0" and len(seen.octets) == 124, f"{told}; has to be 00 00, and 124", seen, bears=SURE)
 
 
 @group.test("03", "6.5.3.2, 6.2.10.1", "Addresses of the response", "send a marker",
@@ -105,11 +122,12 @@ def addresses(b: Bench) -> None:
     sent, seen = ask(b, marker(b), tries=3)
     if not seen:
         raise Stop("no answer this time")
-    b.claim(seen.octets[:6] == GROUP, f"destination {mac(seen.octets[:6])}", seen)
+    b.claim(seen.octets[:6] == GROUP, f"destination {mac(seen.octets[:6])}; has to be {mac(GROUP)}", seen, bears=SURE)
     individual = not seen.octets[6] & 1 and seen.octets[6:12] != sent.octets[6:12]
     b.holds(individual, f"source {mac(seen.octets[6:12])} is individual, and not ours", seen)
     own = b.frame()
-    b.holds(seen.octets[6:12] == own.octets[6:12], "and is that of its LACPDUs", own, seen)
+    same = seen.octets[6:12] == own.octets[6:12]
+    b.claim(same, f"its LACPDUs come from {mac(own.octets[6:12])}; the response has to, too", own, seen, bears=SURE)
 
 
 @group.test("04", "6.5.3.3, 6.5.4.2", "Version, pad and reserved octets of the response",
@@ -140,7 +158,7 @@ def each_second(b: Bench) -> None:
         sent, seen = ask(b, marker(b))
         missed += [] if seen else [sent]
         b.until(max(0.0, sent.time + 1 - b.now()))
-    b.claim(not missed, f"{10 - len(missed)} of 10 were answered", *missed[:4])
+    b.claim(not missed, f"{10 - len(missed)} of 10 were answered; has to be 10", *missed[:4])
 
 
 @group.test("06", "6.5.4.1, 802.3 57A.2", "A burst of markers", "send 40 markers in 1 s", "then one more after 2.6 s",
@@ -156,8 +174,8 @@ def burst(b: Bench) -> None:
     b.wait(GAP)
     found = pdus(b, mark)
     most = most_within([it.time for it in found], 0.98)
-    text = f"{most} Marker PDUs within one second; {len(b.markers(1, mark))} of 40 markers were answered"
-    b.claim(most <= 10, text, *found[:2], *found[-2:])
+    text = f"{most} Marker PDUs within one second, {len(b.markers(1, mark))} of 40 markers were answered; has to be at most 10 in a second"
+    b.claim(most <= 10, text, *found[:2], *found[-2:], bears=SURE)
     b.holds(ask(b, marker(b), tries=3)[1], "afterwards a marker is answered")
 
 
@@ -171,7 +189,7 @@ def no_answer_to_response(b: Bench) -> None:
     b.marked = sent.time
     b.wait(1.5)
     wrong = b.markers(1, mark, MarkerKind.INFORMATION) + b.markers(1, mark)
-    b.claim(not wrong, f"{len(wrong)} Marker PDUs come back", sent, *wrong[:2])
+    b.claim(not wrong, f"{len(wrong)} Marker PDUs come back; has to be none", sent, *wrong[:2], bears=SURE)
 
 
 @group.test("08", "6.5.4.2, 6.2.7", "A Marker PDU of an unknown TLV", "send a Marker PDU with TLV type 3", rule="no response", takes=2.5)
@@ -183,7 +201,7 @@ def unknown_tlv(b: Bench) -> None:
     b.marked = sent.time
     b.wait(1.2)
     found = pdus(b, mark)
-    b.claim(not found, f"{len(found)} responses", sent, *found[:1])
+    b.claim(not found, f"{len(found)} responses; has to be none", sent, *found[:1], bears=SURE)
 
 
 @group.test("09", "6.5.3.3", "Malformed markers", "send markers of 14, 20 and 45 octets of payload and one with a wrong TLV length",
@@ -246,7 +264,18 @@ def own_link(b: Bench) -> None:
         if not seen and not stray:
             raise NotHere(f"no marker is answered on link {link} (MK-01)")
         came = "answered" if seen else "not answered"
-        b.claim(seen and not stray, f"link {link}: {came}, and {len(stray)} responses on the other link", sent, seen, *stray[:1])
+        b.claim(seen and not stray, f"link {link}: {came} there, and {len(stray)} times on the other link; has to be answered there alone", sent, seen, *stray[:1])
+
+
+@group.test("13", "6.5.3.3, 6.5.4.2", "A long marker gets an ordinary response", "send a marker of 1500 octets of payload",
+            rule="a response of 110 octets of payload", takes=3, basis=MEMORY)  # fmt: skip
+def long_marker(b: Bench) -> None:
+    """A Marker Response PDU has 110 octets, however long the marker was: what stands behind the PDU is no part of it, and is not sent back."""
+    wants_answers(b)
+    sent, seen = ask(b, marker(b) + b"\xa5" * 1390, tries=3)
+    if not seen:
+        raise Stop("a marker of 1500 octets is not answered")
+    b.claim(len(seen.octets) == 124, f"a marker of 1514 octets gets a response of {len(seen.octets)}; has to be 124", sent, seen, bears=SURE)
 
 
 @group.test("12", "6.2.9, 6.5.3.2", "A marker to the port's own address", "send a marker to the source address of the device's LACPDUs",

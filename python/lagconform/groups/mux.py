@@ -4,8 +4,8 @@ from __future__ import annotations
 
 from niwhopera import Lacpdu, State
 
-from ..bench import PROMPT, TIMERS, Bench
-from ..model import Group, Stop
+from ..bench import LIMIT, PROMPT, REST, SOON, TIMERS, Bench
+from ..model import SURE, Group, Run, Stop
 from ..pdus import CARRIES, words
 from .receive import carries, does_not_carry
 
@@ -39,7 +39,8 @@ def waits(b: Bench) -> None:
     partner.speak()
     first = b.first(1, mark, lambda pdu: pdu.partner.system == partner.me.system, 2)
     told = first.lacpdu.actor.state if first and first.lacpdu else None
-    b.holds(told is not None and not told & State.SYNCHRONIZATION, "the first LACPDU that names us is not synchronized", first)
+    what = f"the first LACPDU that names us tells {'nothing' if told is None else words(told)}; has to be without Synchronization"
+    b.claim(told is not None and not told & State.SYNCHRONIZATION, what, first)
     seen = b.first(1, mark, lambda pdu: pdu.partner.system == partner.me.system and pdu.actor.state & State.SYNCHRONIZATION, 6)
     b.timed("it is synchronized", sent, seen, 2, 2, timer=True)
 
@@ -61,18 +62,19 @@ def collects(b: Bench) -> None:
     coupled = b.bits() & State.DISTRIBUTING
     b.note("coupled control: it distributes without Collecting of the partner" if coupled else "independent control: it waits for Collecting")
     mark, sent = b.mark(), b.say(collecting=True, distributing=True)
-    b.first(1, mark, lambda pdu: pdu.actor.state & State.DISTRIBUTING, 1.5)
+    b.first(1, mark, lambda pdu: pdu.actor.state & State.DISTRIBUTING, SOON)
     b.holds(b.carries(), "with Collecting of the partner it distributes", b.frame())
 
 
 @group.test("03", "6.4.15", "The partner falls out of sync", "carry", "say Synchronization 0",
-            rule="promptly Collecting and Distributing 0; Synchronization stays 1", tolerance="prompt: 0.5 s", takes=2,
+            rule="promptly Collecting and Distributing 0; Synchronization stays 1", tolerance="prompt: 0.5 s", takes=3.2,
             causes=("RX-09",))  # fmt: skip
 def back_to_attached(b: Bench) -> None:
     """From COLLECTING_DISTRIBUTING the port goes to ATTACHED, not to DETACHED, if the partner falls out of sync."""
     b.still_up()
+    b.wait(REST)
     mark, sent = b.mark(), b.say(sync=False, collecting=False, distributing=False)
-    seen = b.first(1, mark, does_not_carry, 2)
+    seen = b.first(1, mark, does_not_carry, SOON)
     b.timed("it neither collects nor distributes", sent, seen, 0, PROMPT)
     b.wait(1.5)
     wrong = list(b.heard(1, mark, lambda pdu: not pdu.actor.state & State.SYNCHRONIZATION))
@@ -109,7 +111,8 @@ def detaches(b: Bench) -> None:
     b.partner().send()
     seen = b.first(1, mark, lambda pdu: pdu.partner.key == b.partner().me.key, 2)
     told = seen.lacpdu.actor.state if seen and seen.lacpdu else None
-    b.claim(told is not None and not told & (State.SYNCHRONIZATION | CARRIES), f"it tells {'nothing' if told is None else words(told)}", seen)
+    what = f"together with the new key it tells {'nothing' if told is None else words(told)}; has to be without Synchronization, Collecting, Distributing"
+    b.claim(told is not None and not told & (State.SYNCHRONIZATION | CARRIES), what, seen)
 
 
 @group.test("06", "6.4.15 (Ready), 6.4.14", "Ports wait for each other", "be a new partner on link 1",
@@ -137,27 +140,55 @@ def wait_together(b: Bench) -> None:
     b.timed("link 1 is synchronized", sent, one, 3.5, 3.5, timer=True)
     b.timed("link 2 is synchronized", later, two, 2, 2, timer=True)
     apart = abs(one.time - two.time)
-    b.claim(apart <= TIMERS + PROMPT + b.slack, f"{apart:.2f} s lie between them", one, two)
+    most = TIMERS + PROMPT + b.slack
+    b.claim(apart <= most, f"{apart:.2f} s lie between them; has to be at most {most:.2f} s", one, two)
 
 
-@group.test("07", "6.4.15, 6.4.9", "A partner that alternates in and out of sync", "carry",
-            "say Synchronization 0 and 1 in turn, each 0.7 s, six times",
+@group.test("07", "6.4.15, 6.4.9", "A partner that alternates in and out of sync", "carry, and change nothing for 1.2 s",
+            "say Synchronization 0 and 1 in turn, each 1.1 s, six times",
             rule="Collecting and Distributing follow each time, never told beside partner Synchronization 0", tolerance="prompt: 0.5 s",
-            takes=6.5, causes=("MX-03",))  # fmt: skip
+            takes=9, causes=("MX-03",))  # fmt: skip
 def alternates(b: Bench) -> None:
-    """Each change of partner Synchronization moves the port between ATTACHED and COLLECTING_DISTRIBUTING."""
+    """Each change of partner Synchronization moves the port between ATTACHED and COLLECTING_DISTRIBUTING. The steps leave room for three LACPDUs
+    a second: independent control tells two for each way up."""
     b.still_up()
     b.partner().keep_pace(1)
-    start, missed = b.mark(), []
+    b.wait(REST)
+    start = b.mark()
     for turn in range(6):
         on = bool(turn % 2)
         mark, sent = b.mark(), b.say(sync=on, collecting=on, distributing=on)
-        b.wait(0.7)
-        if not next(b.heard(1, mark, lambda pdu: carries(pdu) == on), None):
-            missed.append(sent)
-    b.claim(not missed, f"{6 - len(missed)} of 6 changes were followed within 0.7 s", *missed[:3])
+        seen = b.first(1, mark, carries if on else does_not_carry, SOON)
+        b.timed(f"change {turn + 1} of 6: it {'carries' if on else 'stops carrying'}", sent, seen, 0, PROMPT)
+        b.until(max(0.0, sent.time + LIMIT - b.now()))
     wrong = list(b.heard(1, start, lambda pdu: pdu.actor.state & State.DISTRIBUTING and not pdu.partner.state & State.SYNCHRONIZATION))
-    b.holds(not wrong, "Distributing is never told beside a partner out of sync", *wrong[:3])
+    b.holds(not wrong, "Distributing is never told beside a partner out of sync", *wrong[:3], bears=SURE)
+
+
+def out_for(seconds: float) -> Run:
+    """The partner is out of sync for a time, and then in sync."""
+
+    def run(b: Bench) -> None:
+        mark = attach(b)
+        b.wait(seconds)
+        wrong = list(b.heard(1, mark, lambda pdu: pdu.actor.state & CARRIES and b.partner().is_named_by(pdu)))
+        b.holds(not wrong, "it does not collect before", *wrong[:2])
+        heard = next(b.heard(1, b.frame().number - 1), None)
+        quiet = b.now() - b.frame().time
+        b.claim(quiet <= 2, f"after {seconds:g} s out of sync its last LACPDU is {quiet:.1f} s old; has to be 1 s", heard)
+        mark, sent = b.mark(), b.say(sync=True, collecting=True, distributing=True)
+        seen = b.first(1, mark, carries, 4)
+        b.timed(f"in sync after {seconds:g} s, it carries", sent, seen, 0, PROMPT)
+
+    return run
+
+
+for _number, _seconds in ("09", 15), ("10", 65):
+    group.test(_number, "6.4.15, 6.4.17", f"A partner that is out of sync for {_seconds} s", f"be a partner out of sync for {_seconds} s", "then in sync",
+               rule="it goes on sending, and carries promptly then", tolerance="prompt: 0.5 s", takes=_seconds + 3.5,
+               causes=("MX-02", "MX-09") if _number == "10" else ("MX-02",),
+               purpose="The port stays in ATTACHED however long the partner is out of sync. Churn detection, which notices it after "
+               "60 s (6.4.17), only tells of it.")(out_for(_seconds))  # fmt: skip
 
 
 @group.test("08", "6.4.15, 6.3.5", "An individual partner", "be a partner that is not aggregatable, in sync",

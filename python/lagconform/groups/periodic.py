@@ -7,7 +7,7 @@ from typing import Sequence
 from niwhopera import State
 
 from ..bench import PROMPT, TIMERS, Bench
-from ..model import DoesNotApply, Frame, Group, Stop
+from ..model import SURE, DoesNotApply, Frame, Group, Stop
 from .receive import wants_active
 
 group = Group("PT", "Periodic transmission (6.4.13)")
@@ -43,7 +43,7 @@ def fast(b: Bench) -> None:
     found = list(b.heard(1, mark))
     between, more = gaps(found), TIMERS + b.slack
     if not between:
-        b.claim(False, f"{len(found)} LACPDUs in 8.3 s", *found)
+        b.claim(False, f"{len(found)} LACPDUs in 8.3 s; has to be 8", *found)
         return
     wrong = [at for at, gap in enumerate(between) if abs(gap - 1) > more]
     text = f"{len(between)} gaps of {min(between):.2f} to {max(between):.2f} s; has to be 1 s, within {more:.2f} s"
@@ -57,7 +57,7 @@ def slow_is_quiet(b: Bench) -> None:
     mark = b.mark()
     b.wait(8)
     found = list(b.heard(1, mark))
-    b.claim(len(found) <= 1, f"{len(found)} LACPDUs in 8 s", *found[:4])
+    b.claim(len(found) <= 1, f"asked for one each 30 s, it sends {len(found)} LACPDUs in 8 s; has to be at most 1", *found[:4], bears=SURE)
 
 
 @group.test("03", "6.4.13", "From long to short", "ask for long timeouts for 4 s", "ask for short ones",
@@ -75,7 +75,8 @@ def to_short(b: Bench) -> None:
     b.wait(3.3)
     found = list(b.heard(1, mark))
     between = gaps(found)
-    b.claim(len(between) >= 2 and max(between) <= 1 + TIMERS + b.slack, f"then gaps of {listed(between)} s", *found[:4])
+    most = 1 + TIMERS + b.slack
+    b.claim(len(between) >= 2 and max(between) <= most, f"then gaps of {listed(between)} s; has to be at most {most:.2f} s", *found[:4])
 
 
 @group.test("04", "6.4.13", "From short to long", "ask for short timeouts", "ask for long ones",
@@ -89,12 +90,12 @@ def to_long(b: Bench) -> None:
     mark = b.mark()
     b.wait(6)
     found = list(b.heard(1, mark))
-    b.claim(len(found) <= 1, f"{len(found)} LACPDUs in 6 s", *found[:4])
+    b.claim(len(found) <= 1, f"asked for one each 30 s, it sends {len(found)} LACPDUs in 6 s; has to be at most 1", *found[:4], bears=SURE)
 
 
 @group.test("05", "6.4.12, 6.4.13", "In EXPIRED it sends each second", "ask for long timeouts", "say nothing: the device expires after 3 s",
             "take LACPDUs in the next 3 s", rule="at least two, each with partner Timeout short", takes=11, needs=("short-timeouts",),
-            causes=("RX-02",))  # fmt: skip
+            causes=("RX-02", "RX-16"))  # fmt: skip
 def expired_is_fast(b: Bench) -> None:
     """EXPIRED sets Partner_Oper_Port_State.LACP_Timeout to short: the device sends each second there, whatever the partner had asked
     for."""
@@ -106,10 +107,10 @@ def expired_is_fast(b: Bench) -> None:
     mark = b.mark()
     seen = b.first(1, mark, lambda pdu: pdu.actor.state & State.EXPIRED, 4.5)
     if not seen:
-        raise Stop("it did not expire")
+        raise Stop("it did not expire: RX-02 and RX-16 look at that")
     b.wait(2.6)
     found = list(b.heard(1, mark, lambda pdu: pdu.actor.state & State.EXPIRED))
-    b.claim(len(found) >= 2, f"{len(found)} LACPDUs in EXPIRED", *found[:4])
+    b.claim(len(found) >= 2, f"{len(found)} LACPDUs in EXPIRED, of 3 s; has to be 2 at least", *found[:4])
     long = [it for it in found if it.lacpdu and not it.lacpdu.partner.state & State.TIMEOUT]
     b.holds(not long, "partner Timeout is told as short", *long[:2] or found[:2])
 
@@ -128,7 +129,8 @@ def passive_partner(b: Bench) -> None:
     b.wait(4.3)
     found = list(b.heard(1, mark))
     between = gaps(found)
-    b.claim(len(between) >= 2 and max(between) <= 1 + TIMERS + b.slack, f"gaps of {listed(between)} s", *found[:3])
+    most = 1 + TIMERS + b.slack
+    b.claim(len(between) >= 2 and max(between) <= most, f"gaps of {listed(between)} s; has to be at most {most:.2f} s", *found[:3])
 
 
 @group.test("07", "6.4.13, 6.4.4", "Long timeouts: one LACPDU each 30 s", "carry, and ask for long timeouts", "take LACPDUs for 92 s",
@@ -154,6 +156,6 @@ def speaks_first(b: Bench) -> None:
     mark = b.mark()
     b.wait(31)
     found = list(b.heard(1, mark))
-    b.claim(found, f"{len(found)} LACPDUs in 31 s", *found[:3])
+    b.claim(found, f"{len(found)} LACPDUs in 31 s; has to be 1 at least", *found[:3])
     if between := gaps(found):
         b.note(f"on defaults it sends each {min(between):.2f} to {max(between):.2f} s")

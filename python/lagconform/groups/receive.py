@@ -2,9 +2,12 @@
 
 from __future__ import annotations
 
-from niwhopera import Info, Lacpdu, State
+from dataclasses import replace
+from typing import Any
 
-from ..bench import PROMPT, TIMERS, Bench
+from niwhopera import Info, Lacpdu, Mac, PortId, State, SystemId
+
+from ..bench import PROMPT, SOON, TIMERS, Bench
 from ..model import DoesNotApply, Group, Run, Stop
 from ..pdus import CARRIES, NOBODY, SIX, end, other, other_octet, six
 
@@ -49,7 +52,7 @@ def differs(field: str) -> Run:
         partner = b.partner()
         mark, partner.says = b.mark(), lambda info: other(info, field)
         sent = partner.send()
-        seen = b.first(1, mark, does_not_carry, 1.6)
+        seen = b.first(1, mark, does_not_carry, SOON)
         b.timed(f"with another {field} of the device it stops carrying", sent, seen, 0, PROMPT)
         b.wait(1.3)
         back = next(b.heard(1, seen.number, lambda pdu: pdu.actor.state & CARRIES), None) if seen else None
@@ -72,7 +75,7 @@ for _place, _field in enumerate(SIX):
 
 @group.test("07g", "6.4.9 (recordPDU)", "Each octet of the system is compared", "carry",
             "name another system of the device, six times: each differs in one octet", rule="it stops carrying each time",
-            tolerance="1.3 s", takes=6, causes=("RX-07b", "RX-08"))  # fmt: skip
+            tolerance="prompt: 0.5 s", takes=8.5, causes=("RX-07b", "RX-08"))  # fmt: skip
 def each_octet(b: Bench) -> None:
     """A system that differs from the device's in any one octet is another system."""
     b.still_up()
@@ -80,8 +83,8 @@ def each_octet(b: Bench) -> None:
     for at in range(6):
         mark, partner.says = b.mark(), lambda info, at=at: other_octet(info, at)  # type: ignore[misc]
         sent = partner.send()
-        seen = b.first(1, mark, does_not_carry, 1.3)
-        b.claim(seen, f"octet {at}: it {'stops' if seen else 'goes on'} carrying", sent, seen)
+        seen = b.first(1, mark, does_not_carry, SOON)
+        b.timed(f"with another octet {at} it stops carrying", sent, seen, 0, PROMPT)
         mark, partner.says = b.mark(), None
         partner.send()
         b.first(1, mark, carries, 4)
@@ -101,7 +104,7 @@ def never_named(b: Bench) -> None:
     if not list(b.heard(1, mark)):
         raise Stop("no LACPDU of the device")
     wrong = list(b.heard(1, mark, lambda pdu: pdu.actor.state & CARRIES and pdu.partner.system == partner.me.system))
-    b.claim(not wrong, f"{len(wrong)} LACPDUs that collect or distribute", *wrong[:3])
+    b.claim(not wrong, f"{len(wrong)} LACPDUs collect or distribute, of {len(list(b.heard(1, mark)))} in 6 s; has to be none", *wrong[:3])
 
 
 @group.test("09", "6.4.9 (recordPDU)", "A partner out of sync", "be a partner that names the device, without Synchronization",
@@ -115,7 +118,7 @@ def out_of_sync(b: Bench) -> None:
     b.wait(5)
     wrong = list(b.heard(1, mark, lambda pdu: pdu.partner.system == partner.me.system and pdu.actor.state & CARRIES))
     b.holds(not wrong, "it neither collects nor distributes", *wrong[:3])
-    b.claim(b.bits() & State.SYNCHRONIZATION, "it is synchronized itself", b.frame())
+    b.holds(b.bits() & State.SYNCHRONIZATION, "it is synchronized itself", b.frame())
 
 
 @group.test("10", "6.4.9 (recordPDU)", "A passive partner that knows that the device is active",
@@ -159,7 +162,7 @@ def selects_anew(field: str) -> Run:
         partner = b.partner()
         partner.become_other(field)
         mark, sent = b.mark(), partner.send()
-        seen = b.first(1, mark, lambda pdu: not pdu.actor.state & State.SYNCHRONIZATION, 1.6)
+        seen = b.first(1, mark, lambda pdu: not pdu.actor.state & State.SYNCHRONIZATION, SOON)
         b.timed(f"with another {field} it is no longer synchronized", sent, seen, 0, PROMPT)
         if seen:
             own = six(partner.me.info)
@@ -178,6 +181,75 @@ for _place, _field in enumerate(SIX):
                tolerance="prompt: 0.5 s; 2 s: -0.25 s, +0.75 s (timer and LACPDU)", takes=2.5, causes=() if _field == "system" else ("RX-12b",),
                purpose=f"update_Selected: another {_field} of the partner makes the port UNSELECTED: it detaches (Synchronization 0), and "
                "attaches after wait_while of 2 s.")(selects_anew(_field))  # fmt: skip
+
+
+def selected_anew(b: Bench, what: str, **changes: Any) -> None:
+    """Another end in the place of our own, by these fields: the device has to select anew."""
+    b.still_up()
+    partner = b.partner()
+    partner.become(**changes)
+    mark, sent = b.mark(), partner.send()
+    seen = b.first(1, mark, lambda pdu: not pdu.actor.state & State.SYNCHRONIZATION, SOON)
+    b.timed(f"with another {what} it is no longer synchronized", sent, seen, 0, PROMPT)
+    b.until(6, lambda: b.carries() and b.names_us())
+
+
+@group.test("12g", "6.4.9 (update_Selected)", "The high octets of the partner's numbers are compared", "carry",
+            "change the high octet of our system priority, key, port priority and port number, one by one",
+            rule="Synchronization is 0 promptly each time", tolerance="prompt: 0.5 s", takes=11, causes=("RX-12b",))  # fmt: skip
+def high_octets(b: Bench) -> None:
+    """update_Selected compares whole numbers: one that differs in its high octet alone is another one."""
+    b.still_up()
+    me = b.partner().me
+    ends = {
+        "key": replace(me, key=me.key ^ 0x4000),
+        "port number": replace(me, port=PortId(me.port.priority, me.port.number ^ 0x4000)),
+        "port priority": replace(me, port=PortId(me.port.priority ^ 0x4000, me.port.number)),
+        "system priority": replace(me, system=SystemId(me.system.priority ^ 0x4000, me.system.mac)),
+    }
+    for what, it in ends.items():
+        selected_anew(b, f"high octet of the {what}", key=it.key, port=it.port, system=it.system)
+
+
+@group.test("12h", "6.4.9 (update_Selected)", "Each octet of the partner's system is compared", "carry",
+            "change an octet of our system, five times", rule="Synchronization is 0 promptly each time", tolerance="prompt: 0.5 s", takes=13.5,
+            causes=("RX-12b",))  # fmt: skip
+def octets_of_the_system(b: Bench) -> None:
+    """A partner whose system differs in any one octet is another one. RX-12b has the last octet."""
+    b.still_up()
+    system = b.partner().me.system
+    for at in range(5):
+        octets = bytearray(system.mac)
+        octets[at] ^= 0x40
+        selected_anew(b, f"octet {at} of the system", system=replace(system, mac=Mac(bytes(octets))))
+
+
+NOT_COMPARED = {
+    "LACP_Timeout": State.TIMEOUT, "Synchronization": State.SYNCHRONIZATION, "Collecting": State.COLLECTING, "Distributing": State.DISTRIBUTING,
+    "Defaulted": State.DEFAULTED, "Expired": State.EXPIRED,
+}  # fmt: skip
+
+
+@group.test("19", "6.4.9 (recordPDU)", "Other bits of the device's state may be told as they were", "carry",
+            "tell LACP_Timeout, Synchronization, Collecting, Distributing, Defaulted and Expired of the device wrong, one by one for 1.3 s",
+            rule="it carries all the time", takes=9.5)  # fmt: skip
+def other_bits(b: Bench) -> None:
+    """recordPDU compares the six parameters: a partner that tells another bit of the device's state wrong, as one that answers with what it heard
+    before, is synchronized all the same."""
+    b.still_up()
+    partner = b.partner()
+    for what, bit in NOT_COMPARED.items():
+        mark, partner.says = b.mark(), lambda info, bit=bit: replace(info, state=info.state ^ bit)  # type: ignore[misc]
+        sent = partner.send()
+        partner.keep_pace(0.6)
+        b.wait(1.3)
+        wrong = next(b.heard(1, mark, lambda pdu: not carries(pdu)), None)
+        came = f"it stops carrying: {end(wrong.lacpdu.actor)}" if wrong and wrong.lacpdu else "it carries on"
+        b.claim(not wrong, f"with another {what} of the device told, {came}; has to carry on", sent, wrong)
+        if wrong:
+            partner.right()
+            partner.send()
+            b.until(4, lambda: b.carries() and b.names_us())
 
 
 @group.test("13", "6.4.12 (PORT_DISABLED)", "The link goes down and comes back", "carry", "take the link down for 1.5 s (--flap, or the hook)",

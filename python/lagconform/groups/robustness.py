@@ -8,7 +8,7 @@ from typing import Iterable
 from niwhopera import encode
 
 from ..bench import Bench, most_within
-from ..model import DEVICES, Group, Stop
+from ..model import DEVICES, SURE, Group, Stop
 from ..partner import slow
 from ..pdus import GROUP, SLOW, with_bits
 from .mux import OUT_OF_SYNC
@@ -18,7 +18,7 @@ group = Group("RB", "Robustness", DEVICES)
 HEAD = b"\1\1\1\x14"
 
 
-def storm(b: Bench, frames: Iterable[bytes], gap: float) -> None:
+def storm(b: Bench, frames: Iterable[bytes], gap: float, what: str = "frames") -> None:
     """Sends frames while the partner goes on; the device has to carry all the time, and to go on sending."""
     b.still_up()
     b.wait(1.2)
@@ -31,9 +31,9 @@ def storm(b: Bench, frames: Iterable[bytes], gap: float) -> None:
     found = list(b.heard(1, mark))
     wrong = [it for it in found if it.lacpdu and not carries(it.lacpdu)]
     if not found:
-        b.claim(False, "the device goes silent")
+        b.claim(False, f"the device sends nothing any more behind {count} {what}; has to go on")
         return
-    b.holds(not wrong, f"it carries all the time, through {count} frames", *wrong[:2])
+    b.holds(not wrong, f"it carries all the time, through {count} {what}", *wrong[:2])
     b.holds(b.now() - found[-1].time < 2 + b.slack, "and it goes on sending", found[-1])
 
 
@@ -49,10 +49,14 @@ def to_group(b: Bench) -> bytes:
 
 
 @group.test("01", "802.3 3.1, 57A", "Short frames of Slow Protocols", "while it carries, send frames of type 8809 with 0 to 45 octets of payload",
-            rule="it carries all the time", takes=3.5)  # fmt: skip
+            "send them again, each behind a frame of subtype 11 which as an LACPDU would say Synchronization 0", rule="it carries all the time", takes=7,
+            causes=("RB-03",))  # fmt: skip
 def runts(b: Bench) -> None:
-    """Frames that end within the header of a PDU, or before it, change nothing."""
-    storm(b, [to_group(b) + SLOW + (HEAD + bytes(60))[:size] for size in (*range(0, 8), 19, 20, 23, 24, 41, 43, 45)], 0.05)
+    """Frames that end within the header of a PDU, or before it, change nothing, whatever stood in the device's buffer before."""
+    short = [to_group(b) + SLOW + (HEAD + bytes(60))[:size] for size in (*range(0, 8), 19, 20, 23, 24, 41, 43, 45)]
+    storm(b, short, 0.05, "short frames")
+    before = to_group(b) + SLOW + b"\x0b" + out_of_sync(b)[1:]
+    storm(b, [it for one in short for it in (before, one)], 0.05, "frames of which each second one is short")
 
 
 @group.test("02", "802.3 3.2.6", "Lengths in the place of the type", "send 802.3 frames to the group address whose length is 0, 46, 110, 1500, 1535",
@@ -96,7 +100,7 @@ def wild(b: Bench) -> None:
         b.wait(0.02)
     found = list(b.heard(1, mark))
     most = most_within([it.time for it in found], 0.75)
-    b.claim(most <= 3, f"{most} LACPDUs within 0.75 s", *found[:1])
+    b.claim(most <= 3, f"{most} LACPDUs within 0.75 s; has to be at most 3", *found[:1], bears=SURE)
     try:
         b.up()
         b.claim(True, "a right partner is carried for again", b.frame())
@@ -119,7 +123,8 @@ def flood(b: Bench) -> None:
     found = list(b.heard(1, mark))
     wrong = [it for it in found if it.lacpdu and not carries(it.lacpdu)]
     b.holds(found and not wrong, "it carries all the time", *wrong[:2])
-    b.claim(most_within([it.time for it in found], 0.75) <= 3, f"{len(found)} LACPDUs come", *found[:4])
+    most = most_within([it.time for it in found], 0.75)
+    b.claim(most <= 3, f"{len(found)} LACPDUs come, {most} within 0.75 s; has to be at most 3", *found[:4], bears=SURE)
 
 
 @group.test("07", "6.2.10.1", "Sources that no port has", "send right LACPDUs from a group address, from 0, and from the device's own address",

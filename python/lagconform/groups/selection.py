@@ -11,8 +11,8 @@ from dataclasses import replace
 
 from niwhopera import Lacpdu, State
 
-from ..bench import PROMPT, Bench
-from ..model import MEMORY, Group, NotHere, Stop
+from ..bench import PROMPT, SOON, Bench
+from ..model import MEMORY, SURE, Group, NotHere, Stop
 from ..pdus import CARRIES, end
 from .receive import carries, does_not_carry
 from .silence import wants_short
@@ -53,7 +53,8 @@ def apart(b: Bench, seconds: float = 8, one: bool = True) -> None:
         raise Stop("both links carry, and no data of the device came")
     if not all(found.values()) and not b.spreads:
         raise Stop("both links carry, and data came on one: but the device did so for one aggregator, too (SL-01)")
-    b.claim(not all(found.values()), f"flows of one client: {found[1]} on link 1, {found[2]} on link 2", *frames)
+    text = f"flows of one client: {found[1]} on link 1, {found[2]} on link 2; has to be one link alone"
+    b.claim(not all(found.values()), text, *frames, bears=1.0)
 
 
 @group.test("01", "6.4.14, 6.3.7", "Two links of one partner aggregate", "be one partner with one key on both links",
@@ -81,8 +82,8 @@ def identifiers(b: Bench) -> None:
     b.up(1, 2)
     one, two = b.device(1).actor, b.device(2).actor
     frames = [b.frame(it) for it in (1, 2)]
-    b.claim((one.system, one.key) == (two.system, two.key), f"system and key: {end(one)}; {end(two)}", *frames)
-    b.claim(one.port.number != two.port.number, f"port numbers {one.port.number} and {two.port.number}", *frames)
+    b.claim((one.system, one.key) == (two.system, two.key), f"system and key: {end(one)}; {end(two)}; have to be the same", *frames, bears=SURE)
+    b.claim(one.port.number != two.port.number, f"port numbers {one.port.number} and {two.port.number}; have to differ", *frames, bears=SURE)
     same = frames[0].octets[6:12] == frames[1].octets[6:12]
     b.note("both links have one source address" if same else "each link has a source address of its own")
 
@@ -111,6 +112,18 @@ def two_keys(b: Bench) -> None:
     differ(b, "key")
 
 
+@group.test("13", "6.4.14, 6.3.6", "Two partner keys that differ in the high octet",
+            "be one system with another key on each link, of which the high octet differs", rule="not both links in one aggregator; one carries",
+            links=2, takes=10.5, hooks=DATA, causes=("SL-04",))  # fmt: skip
+def two_high_keys(b: Bench) -> None:
+    """Keys have two octets, and keys of which one differs are two keys."""
+    b.begin(1, 2, silent=True)
+    b.partner(2).become(key=b.partner(2).me.key ^ 0x4000)
+    for link in (1, 2):
+        b.partner(link).speak()
+    apart(b)
+
+
 @group.test("05", "6.4.14, 6.3.2", "Two system priorities", "be one MAC address with another system priority on each link",
             rule="not both links in one aggregator; one carries", links=2, takes=10.5, hooks=DATA)  # fmt: skip
 def two_priorities(b: Bench) -> None:
@@ -137,7 +150,7 @@ def leaves(b: Bench) -> None:
     b.up(1, 2)
     b.partner(2).become_other("key")
     mark, sent = b.mark(), b.partner(2).send()
-    seen = b.first(2, mark, does_not_carry, 2)
+    seen = b.first(2, mark, does_not_carry, SOON)
     b.timed("link 2 stops carrying", sent, seen, 0, PROMPT)
     b.wait(1)
     wrong = list(b.heard(1, mark, lambda pdu: not carries(pdu)))
@@ -209,7 +222,7 @@ def looped(b: Bench) -> None:
     if not found:
         raise Stop("no LACPDU of the device")
     wrong = list(b.heard(1, mark, lambda pdu: carries_for_itself(pdu) and pdu.partner.port == pdu.actor.port))
-    b.claim(not wrong, f"{len(wrong)} LACPDUs that carry with the port itself as the partner", *wrong[:2])
+    b.claim(not wrong, f"{len(wrong)} LACPDUs that carry with the port itself as the partner; has to be none", *wrong[:2])
 
 
 @group.test("11", "6.4.14 (loopback)", "Two ports of the device joined by a cable",
@@ -220,7 +233,7 @@ def crossed(b: Bench) -> None:
     b.up(1, 2)
     mark = reflect(b, True, 9)
     found = {link: list(b.heard(link, mark, carries_for_itself)) for link in (1, 2)}
-    text = f"LACPDUs that carry with the own system as partner: {len(found[1])} on link 1, {len(found[2])} on link 2"
+    text = f"LACPDUs that carry with the own system as partner: {len(found[1])} on link 1, {len(found[2])} on link 2; has to be none on one of them"
     b.claim(not all(found.values()), text, *found[1][-1:], *found[2][-1:])
 
 
@@ -243,4 +256,4 @@ def stranger(b: Bench) -> None:
     wrong = list(b.heard(1, mark, lambda pdu: not carries(pdu)))
     b.holds(not wrong, "link 1 carries all the time", *wrong[:2])
     wrong = list(b.heard(2, mark, lambda pdu: pdu.actor.state & CARRIES))
-    b.claim(len(wrong) <= 1, f"{len(wrong)} LACPDUs of link 2 carry while its partner changes twice a second", *wrong[:3])
+    b.claim(len(wrong) <= 1, f"{len(wrong)} LACPDUs of link 2 carry while its partner changes twice a second; has to be at most 1", *wrong[:3])

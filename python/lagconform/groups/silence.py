@@ -2,12 +2,15 @@
 
 from __future__ import annotations
 
-from niwhopera import Lacpdu, State
+from typing import Callable, Optional
+
+from niwhopera import Lacpdu, Marker, MarkerKind, State, encode
 
 from ..bench import PROMPT, Bench
 from ..model import DoesNotApply, Frame, Stop
+from ..partner import slow
 from ..pdus import CARRIES
-from .receive import carries, group
+from .receive import carries, group, wants_active
 
 IS_OVER = State.EXPIRED | State.DEFAULTED
 
@@ -23,11 +26,11 @@ def on_defaults(pdu: Lacpdu) -> bool:
     return pdu.actor.state & IS_OVER == State.DEFAULTED
 
 
-def fall_silent(b: Bench) -> tuple[int, Frame]:
+def fall_silent(b: Bench, pause: float = 0.5) -> tuple[int, Frame]:
     """The device carries, and the partner says nothing more; the last thing that it said."""
     b.up()
     wants_short(b)
-    b.wait(0.5)
+    b.wait(pause)
     sent = b.partner().send()
     b.silence()
     return b.mark(), sent
@@ -47,21 +50,23 @@ def expires(b: Bench) -> None:
     b.holds(pdu and pdu.actor.state & State.EXPIRED, "and Expired is 1", seen)
 
 
-@group.test("03", "6.4.12", "More silence brings defaults", "carry", "say nothing for 7 s",
+@group.test("03", "6.4.12", "More silence brings defaults", "carry", "say nothing for 7 s, twice, half a second of the device's period apart",
             rule="Defaulted is 1 and Expired 0 6 s after our last LACPDU",
-            tolerance="6 s, two timers of 0.25 s; up to 1 s more if it waits for the next periodic LACPDU", takes=9,
-            needs=("short-timeouts",), causes=("RX-02",))  # fmt: skip
+            tolerance="6 s, two timers of 0.25 s; up to 1 s more if it waits for the next periodic LACPDU", takes=18,
+            needs=("short-timeouts", "active"), causes=("RX-02",))  # fmt: skip
 def defaults(b: Bench) -> None:
     """In EXPIRED current_while runs 3 s, then the administrative partner is recorded: Defaulted true, Expired false, and our end is no
-    longer named."""
-    mark, sent = fall_silent(b)
-    seen = b.first(1, mark, on_defaults, 10)
-    more = b.slack + 0.5
-    passed = f"after {seen.time - sent.time:.2f} s" if seen else "never"
-    right = seen and 6 - more <= seen.time - sent.time <= 7 + more
-    b.claim(right, f"defaults are told {passed}; has to be 6 to 7 s, within {more:.2f} s", sent, seen)
-    pdu = seen.lacpdu if seen else None
-    b.holds(pdu and pdu.partner.system != b.partner().me.system, "our system is no longer named", seen)
+    longer named. A passive device has a passive partner then, and need not say so."""
+    wants_active(b)
+    for pause in (0.5, 1.0):
+        mark, sent = fall_silent(b, pause)
+        seen = b.first(1, mark, on_defaults, 10)
+        more = b.slack + 0.5
+        passed = f"after {seen.time - sent.time:.2f} s" if seen else "never"
+        right = seen and 6 - more <= seen.time - sent.time <= 7 + more
+        b.claim(right, f"defaults are told {passed}; has to be 6 to 7 s, within {more:.2f} s", sent, seen)
+        pdu = seen.lacpdu if seen else None
+        b.holds(pdu and pdu.partner.system != b.partner().me.system, "our system is no longer named", seen)
 
 
 @group.test("04", "6.4.12", "Each LACPDU starts current_while again", "carry", "send an LACPDU every 2.5 s, four times",
@@ -92,13 +97,16 @@ def returns(b: Bench) -> None:
 
 
 @group.test("06", "6.4.12, 6.4.9 (update_Default_Selected)", "From defaults back through wait_while", "carry", "say nothing until Defaulted",
-            "be the same partner again", rule="Synchronization is 0 until 2 s after our LACPDU",
+            "be the same partner again", rule="Synchronization is 0 on defaults, and until 2 s after our LACPDU",
             tolerance="2 s: -0.25 s, +0.75 s (timer and LACPDU)", takes=13.5, needs=("short-timeouts",), causes=("RX-12b",))  # fmt: skip
 def waits_again(b: Bench) -> None:
-    """A port that defaulted was UNSELECTED. A partner that comes then is selected anew: 2 s pass in WAITING, in which Synchronization
+    """A port that defaults is UNSELECTED, and detaches. A partner that comes then is selected anew: 2 s pass in WAITING, in which Synchronization
     is 0."""
     mark, _ = fall_silent(b)
-    if not b.first(1, mark, on_defaults, 9):
+    told = b.first(1, mark, on_defaults, 9)
+    if told:
+        b.holds(not b.bits() & State.SYNCHRONIZATION, "the first LACPDU on defaults is not synchronized: the port was UNSELECTED", told)
+    else:
         b.note("it did not tell of its defaults in 9 s")
     b.wait(2.5)
     mark, sent = b.mark(), b.partner().send()
@@ -107,6 +115,55 @@ def waits_again(b: Bench) -> None:
     synced = State.SYNCHRONIZATION
     seen = b.first(1, mark, lambda pdu: pdu.partner.system == system and pdu.actor.state & (synced | State.DEFAULTED) == synced, 6)
     b.timed("it is synchronized", sent, seen, 2, 2, timer=True)
+
+
+@group.test("16", "6.4.12, 6.4.4", "Silence of a partner that asks for long timeouts", "carry, asked for long timeouts", "say nothing",
+            rule="an LACPDU with Expired comes 3 s after our last one: the time is that of the device's own LACP_Timeout",
+            tolerance="3 s: -0.25 s, +0.75 s (timer and LACPDU)", takes=8, needs=("short-timeouts",), causes=("RX-02",))  # fmt: skip
+def expires_by_its_own(b: Bench) -> None:
+    """current_while is set by the LACP_Timeout of the actor itself, not by what the partner asks for."""
+    b.up()
+    wants_short(b)
+    b.partner().become(short=False)
+    b.partner().send()
+    b.partner().keep_pace(1)
+    b.wait(1.2)
+    mark, sent = b.mark(), b.partner().send()
+    b.silence()
+    seen = b.first(1, mark, lambda pdu: pdu.actor.state & IS_OVER or not carries(pdu), 6)
+    b.timed("the partner expires", sent, seen, 3, 3, timer=True)
+
+
+def kept_by(b: Bench, frames: Callable[[int], bytes]) -> None:
+    """The partner says nothing more, while other frames go on each 0.3 s: they are no LACPDUs, and it expires all the same."""
+    mark, sent = fall_silent(b)
+    seen: Optional[Frame] = None
+    for turn in range(18):
+        b.send_raw(1, frames(turn))
+        seen = b.first(1, mark, lambda pdu: pdu.actor.state & IS_OVER or not carries(pdu), 0.3)
+        if seen:
+            break
+    b.timed("the partner expires", sent, seen, 3, 3, timer=True)
+
+
+@group.test("17", "6.4.12, 6.5.4", "Markers keep no partner current", "carry", "say nothing but a marker each 0.3 s",
+            rule="an LACPDU with Expired comes 3 s after our last one", tolerance="3 s: -0.25 s, +0.75 s (timer and LACPDU)", takes=6.5,
+            needs=("short-timeouts",), causes=("RX-02",))  # fmt: skip
+def kept_by_markers(b: Bench) -> None:
+    """current_while is started by an LACPDU alone, not by a Marker PDU."""
+    mac = b.partner().me.system.mac
+    kept_by(b, lambda turn: slow(encode(Marker(MarkerKind.INFORMATION, 1, mac, 0xCAFE0000 + turn)), b.wire.source(1)))
+
+
+@group.test("18", "6.4.12, 802.3 57A", "Runts and other slow protocols keep no partner current", "carry",
+            "say nothing but, each 0.3 s, a frame of another subtype or an LACPDU that is cut off in its actor",
+            rule="an LACPDU with Expired comes 3 s after our last one", tolerance="3 s: -0.25 s, +0.75 s (timer and LACPDU)", takes=6.5,
+            needs=("short-timeouts",), causes=("RX-02",))  # fmt: skip
+def kept_by_runts(b: Bench) -> None:
+    """current_while is started by an LACPDU alone: neither OAM nor a frame that ends too early is one."""
+    source = b.wire.source(1)
+    rest = encode(b.partner().lacpdu())
+    kept_by(b, lambda turn: slow(b"\3" + rest[1:] if turn % 2 else rest[:16], source))
 
 
 @group.test("14", "6.4.12, 6.4.4", "Silence of long timeouts", "the device asks for long timeouts", "carry, and say nothing",

@@ -7,8 +7,8 @@ from typing import Callable
 
 from niwhopera import Info, PortId, State
 
-from ..bench import PROMPT, Bench, most_within
-from ..model import Group, Run, Stop
+from ..bench import PROMPT, REST, SOON, Bench, most_within
+from ..model import SURE, Frame, Group, Run, Stop, Stuck
 from ..pdus import NOBODY, SIX, other
 from .periodic import calm
 
@@ -30,7 +30,7 @@ def three(b: Bench) -> None:
     found = list(b.heard(1, mark))
     times = [it.time for it in found]
     if not times:
-        raise Stop("no LACPDU of the device")
+        raise Stuck("no LACPDU of the device")
     most, sure = most_within(times, 0.98), most_within(times, 0.75)
     at = next(it for it in times if sum(it <= other < it + 0.98 for other in times) == most)
     shown = [it for it in found if at <= it.time < at + 0.98][:4]
@@ -38,7 +38,7 @@ def three(b: Bench) -> None:
         b.note(f"{len(times)} LACPDUs in 6 s")
         within, packets = shown[-1].time - shown[0].time, f"packets {shown[0].number} to {shown[-1].number}"
         raise Stop(f"{most} LACPDUs within {within:.2f} s, {packets}, but 3 within 0.75 s: right only if the timer may be 0.25 s short")
-    b.claim(most <= 3, f"{most} LACPDUs within one second at most, {len(times)} in 6 s", *shown)
+    b.claim(most <= 3, f"{most} LACPDUs within one second, {len(times)} in 6 s; has to be at most 3 in a second", *shown, bears=SURE)
 
 
 def still_calm(b: Bench) -> None:
@@ -61,7 +61,7 @@ def asks(what: str, change: Callable[[Info], Info], phase: float) -> Run:
         partner = b.partner()
         mark, partner.says = b.mark(), change
         sent = partner.send()
-        seen = b.first(1, mark, lambda _: True, 2)
+        seen = b.first(1, mark, lambda _: True, SOON)
         b.timed(f"an LACPDU that tells {what} wrong is answered", sent, seen, 0, PROMPT)
         partner.says = None
         partner.send()
@@ -92,7 +92,70 @@ def silent_if_right(b: Bench) -> None:
     mark = b.mark()
     b.wait(6)
     found = list(b.heard(1, mark))
-    b.claim(len(found) <= 1, f"{len(found)} LACPDUs in 6 s", *found[:3])
+    b.claim(len(found) <= 1, f"told right, it sends {len(found)} LACPDUs in 6 s; has to be at most 1", *found[:3], bears=SURE)
+
+
+@group.test("07", "6.4.9 (update_NTT)", "No NTT for bits that update_NTT does not compare", "carry, asked for long timeouts",
+            "for 6 s, each second tell another of Collecting, Distributing, Defaulted and Expired of the device wrong",
+            rule="at most one LACPDU (the periodic one)", takes=7.5, causes=("TX-04",))  # fmt: skip
+def silent_for_other_bits(b: Bench) -> None:
+    """update_NTT compares the six parameters, LACP_Activity, LACP_Timeout and Synchronization. What differs in another bit asks for no answer."""
+    still_calm(b)
+    partner, mark = b.partner(), b.mark()
+    for turn in range(6):
+        bit = (State.COLLECTING, State.DISTRIBUTING, State.DEFAULTED, State.EXPIRED)[turn % 4]
+        partner.says = lambda info, bit=bit: replace(info, state=info.state ^ bit)  # type: ignore[misc]
+        partner.send()
+        b.wait(0.95)
+    partner.says = None
+    found = list(b.heard(1, mark))
+    text = f"told Collecting, Distributing, Defaulted and Expired wrong, it sends {len(found)} LACPDUs in 6 s; has to be at most 1"
+    b.claim(len(found) <= 1, text, *found[:3], bears=SURE)
+    partner.send()
+    b.until(2, lambda: b.carries() and b.names_us())
+
+
+@group.test("08", "6.4.16, 6.4.9", "Prompt while data flows", "carry, asked for long timeouts, while the device's client sends (hook: data)",
+            "tell another key of the device, three times at other phases of a second", rule="an answer each time", tolerance="prompt: 0.5 s", takes=11,
+            hooks=("data",), causes=("TX-02c",))  # fmt: skip
+def prompt_under_data(b: Bench) -> None:
+    """LACPDUs are answered as fast as ever while data goes out: a device whose LACP waits behind its data loses links where they carry most."""
+    still_calm(b)
+    partner = b.partner()
+    with b.undone(lambda: b.hook("data", "stop")):
+        b.hook("data", "start")
+        b.wait(0.5)
+        for phase in (0.1, 0.45, 0.8):
+            b.wait(REST)
+            b.wait((phase - b.now()) % 1.0)
+            mark, partner.says = b.mark(), lambda info: other(info, "key")
+            sent = partner.send()
+            seen = b.first(1, mark, lambda _: True, SOON)
+            b.timed("while data flows, an LACPDU that tells key wrong is answered", sent, seen, 0, PROMPT)
+            partner.says = None
+            partner.send()
+            b.until(SOON, lambda: b.carries() and b.names_us())
+    b.hook("data", "stop")
+
+
+@group.test("09", "6.4.16", "Three LACPDUs a second may be sent, and are", "carry, asked for long timeouts, and ask for nothing for 1.2 s",
+            "tell another key of the device, then the right one and another port number, 0.2 s apart",
+            rule="three answers", tolerance="prompt: 0.5 s", takes=4)  # fmt: skip
+def three_are_sent(b: Bench) -> None:
+    """The limit is three in a second, not one: what a quiet device is asked for three times in half a second it tells three times, promptly."""
+    still_calm(b)
+    b.wait(REST)
+    partner, start, asked = b.partner(), b.mark(), list[Frame]()
+    for what in "key", "port", "priority":
+        partner.says = lambda info, what=what: other(info, what)  # type: ignore[misc]
+        asked.append(partner.send())
+        b.wait(0.2)
+    partner.says = None
+    b.wait(max(0.0, asked[-1].time + PROMPT + b.slack - b.now()))
+    found = [it for it in b.heard(1, start) if it.time <= asked[-1].time + PROMPT + b.slack]
+    b.claim(len(found) >= 3, f"asked three times in 0.4 s, it sent {len(found)} LACPDUs in 1 s; has to be 3", *asked, *found)
+    partner.send()
+    b.until(SOON, lambda: b.carries() and b.names_us())
 
 
 @group.test("05", "6.4.16", "What waited is told as it is when it is sent", "send seven LACPDUs in 0.7 s, each of another port number of ours",
@@ -108,9 +171,9 @@ def newest(b: Bench) -> None:
     b.wait(1.5)
     found = list(b.heard(1, mark))
     named = b.device().partner.port.number
-    b.claim(found and named == 109, f"it names port {named}", last, *found[-1:])
+    b.claim(found and named == 109, f"in the end it names port {named}; has to be 109, which was sent last", last, *found[-1:])
     times = [it.time for it in found]
-    b.claim(most_within(times, 0.75) <= 3, f"{len(found)} LACPDUs, {most_within(times, 0.98)} within a second", *found[:4])
+    b.claim(most_within(times, 0.75) <= 3, f"{most_within(times, 0.75)} LACPDUs within 0.75 s; has to be at most 3", *found[:4], bears=SURE)
 
 
 @group.test("06", "6.4.16, 6.4.9", "An answer tells the change", "carry, asked for long timeouts", "say Synchronization 0",
@@ -119,5 +182,5 @@ def tells(b: Bench) -> None:
     """A change of the mux machine sets NTT, so that the partner learns of it without a periodic LACPDU."""
     calm(b, False)
     mark, sent = b.mark(), b.say(sync=False)
-    seen = b.first(1, mark, lambda pdu: not pdu.partner.state & State.SYNCHRONIZATION, 2)
+    seen = b.first(1, mark, lambda pdu: not pdu.partner.state & State.SYNCHRONIZATION, SOON)
     b.timed("the change is told", sent, seen, 0, PROMPT)

@@ -56,7 +56,7 @@ def accepts(number: str, title: str, change: Change, why: str, clause: str = "6.
 
     def run(b: Bench) -> None:
         sent, seen = taken(b, change, None)
-        b.claim(seen, "it is taken" if seen else "it is ignored", sent, seen)
+        b.claim(seen, "it is taken" if seen else f"it is ignored: no LACPDU in {SEEN} s tells what it said; has to be taken", sent, seen)
 
     group.test(number, clause, title, "carry", "send one such LACPDU with Collecting and Distributing 0",
                rule="taken: an LACPDU within 1.7 s shows it", tolerance="1.7 s", takes=2, causes=() if number == "01" else ("VN-01",),
@@ -70,7 +70,7 @@ def refuses(number: str, title: str, why: str, clause: str, change: Change = lam
     def run(b: Bench) -> None:
         sent, seen = taken(b, change, wrap)
         if must:
-            b.claim(not seen, "it is taken for an LACPDU" if seen else "it is not taken", sent, seen)
+            b.claim(not seen, "it is taken for an LACPDU; has to be ignored" if seen else "it is not taken", sent, seen)
         else:
             b.note(f"it is {'taken' if seen else 'not taken'}: both are right")
         wrong = list(b.heard(1, sent.number, lambda pdu: pdu.actor.state & STAYS != STAYS))

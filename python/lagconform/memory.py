@@ -1,0 +1,254 @@
+"""A device in memory: a stack of LACP at the far end of the links, with a clock that the bench moves. It wants no link, no root and no waiting,
+and each run is like the one before.
+
+A maker's stack is a class below `Stack` in a file of Python, or functions of a shared library (examples/conform/device.h). It gets frames and
+the time, and sends frames.
+"""
+
+from __future__ import annotations
+
+import ctypes
+import runpy
+from collections import deque
+from typing import Any, Deque, Optional, Sequence
+
+from niwhopera import Mac
+
+from .pdus import DATA, SENDERS
+from .refusals import Refused
+from .wires import Answer, Arrival
+
+# A frame takes so long from one end of a link to the other.
+WIRE_SECONDS = 0.0005
+# Flows of the device's client, each of which is sent once between two ticks.
+FLOWS = 64
+# The status of a hook that does not know what it is asked for (EX_USAGE of sysexits.h).
+UNKNOWN = 64
+
+
+def flow(number: int) -> bytes:
+    """A frame of the client: UDP from 198.18.0.0/16."""
+    ends = bytes([2, 0, 0, 0, 0xF0, number * 37 % 251, 2, 0, 0, 0, 0xF1, number])
+    head = b"\x45\x00\x00\x26\x00\x00\x00\x00\x40\x11\x00\x00" + SENDERS + b"\x00" + bytes([number, 198, 19, 0, number])
+    return ends + DATA + head + bytes(26)
+
+
+class Stack:
+    """A stack of LACP with a port at each link. What a maker's does not know stays out of its class: the tests that want it are skipped."""
+
+    # So often `tick` is called.
+    tick_seconds = 0.1
+
+    def __init__(self) -> None:
+        self.world: World
+        # When time passes for it the next time.
+        self.due = 0.037
+
+    @property
+    def now(self) -> float:
+        """Seconds since the start of the run."""
+        return self.world.clock
+
+    @property
+    def links(self) -> range:
+        """The numbers of its links."""
+        return range(1, len(self.world.names) + 1)
+
+    def send(self, link: int, frame: bytes) -> None:
+        """Puts a frame on a link: addresses, type and payload, without the FCS."""
+        self.world.emit(link, frame)
+
+    # What a stack does.
+
+    def start(self) -> None:
+        """Begins, with each link up, and again after `stop`."""
+        raise NotImplementedError
+
+    def take(self, link: int, frame: bytes) -> None:
+        """Takes a frame that came on a link."""
+        raise NotImplementedError
+
+    def tick(self) -> None:
+        """Lets `tick_seconds` pass."""
+        raise NotImplementedError
+
+    def stop(self) -> None:
+        """Ends: neither takes nor sends until the next start."""
+        raise NotImplementedError
+
+    def link(self, link: int, up: bool) -> None:
+        """Takes notice that a link went down or came up."""
+        raise NotImplementedError
+
+    def data(self, on: bool) -> None:
+        """Has the client of its aggregator begin or end to send `flow(0)` to `flow(FLOWS - 1)`, each with each tick."""
+        raise NotImplementedError
+
+    # What the world calls.
+
+    def pass_time(self) -> None:
+        """A tick is due."""
+        self.due += self.tick_seconds
+        self.tick()
+
+    def do(self, words: Sequence[str]) -> int:
+        """What a hook asks for; the status."""
+        try:
+            if words[0] == "stop":
+                self.stop()
+            elif words[0] == "start":
+                self.start()
+            elif words[0] in ("up", "down"):
+                self.link(int(words[1]), words[0] == "up")
+            elif words[0] == "data":
+                self.data(words[1] == "start")
+            elif words[0] != "reset":
+                return UNKNOWN
+        except NotImplementedError:
+            return UNKNOWN
+        return 0
+
+
+class World:
+    """The wire of the bench, and its hook: what it sends the stack gets at once, and time passes where the bench waits."""
+
+    def __init__(self, device: Stack, links: int = 2) -> None:
+        self.names = [f"link{it}" for it in range(1, links + 1)]
+        self.started = 1.7e9
+        self.clock = 0.0
+        self.came: Deque[Arrival] = deque()
+        self.counts = dict.fromkeys(range(1, links + 1), 0)
+        self.device = device
+        device.world = self
+        device.start()
+
+    def now(self) -> float:
+        """The second of the run."""
+        return self.clock
+
+    def source(self, link: int) -> Mac:
+        """The address of the bench."""
+        return Mac(bytes([2, 0, 0, 0, 0xAA, link]))
+
+    def send(self, link: int, octets: bytes) -> bool:
+        """Hands a frame to the stack."""
+        self.device.take(link, octets)
+        return True
+
+    def drops(self) -> int:
+        """Nothing is lost here."""
+        return 0
+
+    def received(self, link: int) -> int:
+        """How many frames the stack has sent on a link."""
+        return self.counts[link]
+
+    def close(self) -> None:
+        """Nothing is to be given back."""
+
+    def wait(self, seconds: float) -> list[Arrival]:
+        """Moves the clock to the next frame, or so far."""
+        limit = self.clock + seconds
+        while not self.came and self.clock < limit:
+            due = max(self.clock, self.device.due)
+            self.clock = min(limit, due)
+            if due <= limit:
+                self.device.pass_time()
+        came = list(self.came)
+        self.came.clear()
+        return came
+
+    def flap(self, link: int, up: bool) -> None:
+        """Takes a link down or up."""
+        self.device.link(link, up)
+
+    def emit(self, link: int, octets: bytes) -> None:
+        """A frame of the stack."""
+        if link in self.counts:
+            self.counts[link] += 1
+            self.came.append(Arrival(link, self.clock + WIRE_SECONDS, octets))
+
+    def call(self, words: Sequence[str]) -> Done:
+        """The hook."""
+        return Done(self.device.do(words))
+
+
+class Done:
+    """A hook that has ended."""
+
+    def __init__(self, status: int) -> None:
+        self.status = status
+
+    def answer(self) -> Answer:
+        """What it said."""
+        return Answer(self.status, "")
+
+    def stop(self) -> None:
+        """It has ended."""
+
+
+SEND = ctypes.CFUNCTYPE(None, ctypes.c_void_p, ctypes.c_uint, ctypes.POINTER(ctypes.c_ubyte), ctypes.c_size_t)
+
+
+class Library(Stack):
+    """A stack in a shared library, with the functions of examples/conform/device.h."""
+
+    def __init__(self, path: str) -> None:
+        super().__init__()
+        self._library = ctypes.CDLL(path)
+        for name in "device_start", "device_take", "device_tick":
+            if not hasattr(self._library, name):
+                raise Refused(f"{path} has no {name}: examples/conform/device.h has what a stack gives")
+        self._on = False
+
+        def send(_: Any, link: int, frame: Any, size: int) -> None:
+            if self._on:
+                self.send(link, bytes(frame[:size]))
+
+        self._send = SEND(send)  # as long as the library may call it
+
+    def _optional(self, name: str) -> Any:
+        if not hasattr(self._library, name):
+            raise NotImplementedError
+        return getattr(self._library, name)
+
+    def start(self) -> None:
+        """Calls device_start."""
+        self._on = True
+        self._library.device_start(ctypes.c_uint(len(self.links)), self._send, None)
+
+    def take(self, link: int, frame: bytes) -> None:
+        """Calls device_take."""
+        if self._on:
+            self._library.device_take(ctypes.c_uint(link), frame, ctypes.c_size_t(len(frame)))
+
+    def tick(self) -> None:
+        """Calls device_tick."""
+        if self._on:
+            self._library.device_tick()
+
+    def stop(self) -> None:
+        """Calls device_stop."""
+        self._optional("device_stop")()
+        self._on = False
+
+    def link(self, link: int, up: bool) -> None:
+        """Calls device_link."""
+        self._optional("device_link")(ctypes.c_uint(link), ctypes.c_int(up))
+
+    def data(self, on: bool) -> None:
+        """Calls device_data."""
+        self._optional("device_data")(ctypes.c_int(on))
+
+
+def loaded(path: str) -> Stack:
+    """The stack of a file: the class `Device` of a file of Python, or a shared library."""
+    try:
+        if not path.endswith(".py"):
+            return Library(path)
+        kind: Optional[Any] = runpy.run_path(path).get("Device")
+    except OSError as why:
+        raise Refused(f"{path}: {why}") from why
+    if not isinstance(kind, type) or not issubclass(kind, Stack):
+        raise Refused(f"{path} has no class Device below lagconform.memory.Stack")
+    return kind()

@@ -1,0 +1,135 @@
+"""Right devices of many kinds fail no test, and no test of theirs is without an answer."""
+
+from __future__ import annotations
+
+from typing import Iterable, Sequence, Type
+
+import pytest
+from conform_device import Device, World, is_lacpdu, put
+from conform_faults import set_bits
+
+from lagconform.bench import Bench
+from lagconform.groups import TESTS
+from lagconform.model import FAIL, INCONCLUSIVE, Result
+from lagconform.model import Test as Case
+from lagconform.runner import meet, ordered, run_all
+
+
+class LongTimeouts(Device):
+    """Asks for long timeouts."""
+
+    short = False
+
+
+class Passive(Device):
+    """Is passive."""
+
+    active = False
+
+
+class PassiveOfLongTimeouts(Device):
+    """Is passive, and asks for long timeouts."""
+
+    active = short = False
+
+
+class Individual(Device):
+    """Its ports are individual."""
+
+    aggregatable = False
+
+
+class Independent(Device):
+    """Has independent control: it distributes when the partner collects, and tells each step."""
+
+    def __init__(self) -> None:
+        super().__init__()
+        self.collecting: dict[int, int] = {}
+
+    def hears(self, port: int, frame: bytes) -> Iterable[bytes]:
+        if not is_lacpdu(frame):
+            yield frame
+            return
+        before, self.collecting[port] = self.collecting.get(port, 0), frame[32] & 0x10
+        changed = before != self.collecting[port] and self.is_on(port, 0x10)
+        yield put(frame, 38, bytes([frame[52] ^ 2])) if changed else frame  # asks for an LACPDU
+
+    def says(self, port: int, frame: bytes) -> Iterable[bytes]:
+        yield frame if self.collecting.get(port) else set_bits(frame, 18, 0x20, False)
+
+
+class AtTicks(Device):
+    """Sends what is due each 100 ms."""
+
+    sends = False
+
+    def ticked(self) -> None:
+        self.sends = True
+
+    def may_send(self) -> bool:
+        sends, self.sends = self.sends, False
+        return sends
+
+
+class LongTicks(Device):
+    """Its second is 0.2 s long."""
+
+    tick_seconds = 0.106
+
+
+class OneSource(Device):
+    """Both links send from one address."""
+
+    def says(self, port: int, frame: bytes) -> Iterable[bytes]:
+        yield frame[:6] + bytes([2, 0, 0, 0, 0xBB, 1]) + frame[12:]
+
+    def responds(self, port: int, marker: bytes, response: bytes) -> Iterable[tuple[int, bytes]]:  # type: ignore[override]
+        yield port, response[:6] + bytes([2, 0, 0, 0, 0xBB, 1]) + response[12:]
+
+
+class SecondVersion(Device):
+    """Sends LACPDUs of version 2 with the TLVs of that version."""
+
+    def says(self, port: int, frame: bytes) -> Iterable[bytes]:
+        more = b"\4\6\0\x80\xc2\0" + b"\5\x14\0\1" + b"\x5a" * 16 + b"\6\3\0" + bytes(2)
+        yield put(put(frame, 1, b"\2"), 58, more)
+
+
+class Doubled(Device):
+    """Gets each frame twice, from a hub."""
+
+    def hears(self, port: int, frame: bytes) -> Iterable[bytes]:
+        yield frame
+        yield frame
+
+
+KINDS = [LongTimeouts, Passive, PassiveOfLongTimeouts, Individual, Independent, AtTicks, LongTicks, OneSource, SecondVersion, Doubled]
+
+
+def play(kind: Type[Device], tests: Sequence[Case], phase: float = 0.037) -> list[Result]:
+    """Runs tests beside a device of a kind, whose clock has a phase."""
+    device = kind()
+    device.due = phase
+    world = World(device)
+    b = Bench(world, world)
+    try:
+        meet(b)
+        results: list[Result] = []
+        run_all(b, ordered(tests), results.append)
+        return results
+    finally:
+        b.close()
+        device.stop()
+
+
+@pytest.mark.parametrize("kind", KINDS, ids=[it.__name__ for it in KINDS])
+def test_a_right_device_of_another_kind_fails_nothing(kind: Type[Device]) -> None:
+    results = play(kind, [it for it in TESTS if it.id != "PT-07"])
+    assert not [f"{it.test.id} {it.verdict}: {it.why}" for it in results if it.verdict in (FAIL, INCONCLUSIVE)]
+
+
+@pytest.mark.parametrize("phase", [0.001, 0.02, 0.06, 0.099])
+def test_the_phase_of_the_clock_has_no_part(phase: float) -> None:
+    for kind in Device, Independent:
+        results = play(kind, [it for it in TESTS if it.group in ("MX", "TX") and not it.is_long], phase)
+        assert not [f"{it.test.id} {it.verdict}: {it.why}" for it in results if it.verdict in (FAIL, INCONCLUSIVE)]
