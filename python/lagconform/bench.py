@@ -330,6 +330,7 @@ class Bench:
     def timed(self, what: str, sent: Frame, seen: Optional[Frame], least: float, most: float, timer: bool = False) -> bool:
         """Claims that something was seen in time after a frame. `timer`: the times are those of one timer of 6.4.4, and the LACPDU that
         tells of its expiry may come PROMPT later."""
+        due = most if timer else most - PROMPT
         least -= (TIMERS if timer else 0) + self.slack
         most += (TIMERS + PROMPT if timer else 0) + self.slack
         if seen:
@@ -340,7 +341,7 @@ class Bench:
         took = seen.time - sent.time if seen else None
         passed = f"after {took:.2f} s" if took is not None else "never"
         limits = f"{least:.2f} to {most:.2f} s" if least > 0 else f"at most {most:.2f} s"
-        late = took if took is not None and took > most and least <= 0 else None
+        late = took - due if took is not None and took > most else None
         return self.claim(took is not None and least <= took <= most, f"{what}: {passed}; has to be {limits}", sent, seen, late=late)
 
 

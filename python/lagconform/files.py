@@ -11,21 +11,21 @@ from typing import Callable, Iterator, Optional, Sequence, TextIO
 
 from .refusals import Refused
 
-# No list of known fails is longer.
-LONGEST = 1 << 20
+# No list of known fails is longer, and no JSON of a run.
+LONGEST, MOST_OF_A_RUN = 1 << 20, 1 << 28
 
 
-def read_text(path: str) -> str:
+def read_text(path: str, longest: int = LONGEST) -> str:
     """The text of a file of the user's."""
     try:
         with open(os.open(path, os.O_RDONLY | os.O_NONBLOCK | os.O_CLOEXEC), "rb") as it:
             if not stat.S_ISREG(os.fstat(it.fileno()).st_mode):
                 raise Refused(f"{path} is no regular file")
-            octets = it.read(LONGEST + 1)
+            octets = it.read(longest + 1)
     except OSError as why:
         raise Refused(f"{path}: {why.strerror}") from why
-    if len(octets) > LONGEST:
-        raise Refused(f"{path} has more than {LONGEST} octets")
+    if len(octets) > longest:
+        raise Refused(f"{path} has more than {longest} octets")
     try:
         return octets.decode("utf-8")
     except UnicodeDecodeError as why:

@@ -45,7 +45,7 @@ class Frame:
 @dataclass(frozen=True)
 class Claim:
     """One thing that was looked at, and the packets that show it. A machine that is up to `bears` seconds late, or loses frames, does not make
-    it false. `late` is the second at which an answer came that was due at once, and came too late."""
+    it false. `late` is by how many seconds something came too late."""
 
     holds: bool
     text: str
@@ -95,7 +95,8 @@ class Test:
 @dataclass
 class Result:
     """What came of a test: packets `first` to `last`, seconds `begin` to `end`, and how late the bench was at most. `gone` says which
-    interface is no longer there, `known` why a fail is known, and `stuck` that no test can go on like this."""
+    interface is no longer there, `known` why a fail is known, and `stuck` that no test can go on like this. `times` counts the verdicts of a test
+    that ran several times."""
 
     test: Test
     verdict: str = PASS
@@ -110,6 +111,7 @@ class Result:
     known: str = ""
     gone: str = ""
     stuck: bool = False
+    times: dict[str, int] = field(default_factory=dict)
 
     @property
     def packets(self) -> dict[int, bool]:

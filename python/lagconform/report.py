@@ -1,17 +1,14 @@
-"""What comes of a run, as lines, JSON and JUnit."""
+"""What comes of a run, as lines and JSON."""
 
 from __future__ import annotations
 
 import json
-import re
 from dataclasses import dataclass
-from html import escape
 from typing import Optional, Sequence
-from xml.sax.saxutils import quoteattr
 
-from . import causes
+from . import causes, matrix
 from .bench import Bench
-from .model import FAIL, INCONCLUSIVE, NOT_APPLICABLE, SKIPPED, VERDICTS, Result
+from .model import FAIL, VERDICTS, Result, Test
 from .pdus import end, mac
 from .shadow import Shadow
 
@@ -24,6 +21,8 @@ class Run:
     about: dict[str, str]
     results: list[Result]
     shadow: Optional[Shadow] = None
+    # Whether a test without an answer counts as a fail.
+    strict: bool = False
 
 
 def why(it: Result) -> str:
@@ -60,66 +59,38 @@ def about_device(b: Bench) -> dict[str, str]:
     return told_of
 
 
+def about_test(test: Test) -> dict[str, object]:
+    """A test for JSON."""
+    return {
+        "id": test.id, "clause": test.clause, "basis": test.basis, "title": test.title, "purpose": test.purpose, "steps": test.steps,
+        "rule": test.rule, "tolerance": test.tolerance, "links": test.links, "takes": test.takes, "needs": test.needs, "hooks": test.hooks,
+        "causes": test.causes,
+    }  # fmt: skip
+
+
 def record(b: Bench, it: Result) -> dict[str, object]:
     """A result for JSON."""
-    test, frames = it.test, {}
+    frames = {}
     for number in sorted(it.packets):
         frame = b.frames[number - 1]
         sender = "bench" if frame.out else "device"
         frames[number] = {"seconds": round(frame.time, 6), "link": frame.link, "from": sender, "octets": frame.octets.hex()}
     return {
-        "id": test.id, "clause": test.clause, "basis": test.basis, "title": test.title, "purpose": test.purpose, "steps": test.steps,
-        "rule": test.rule, "tolerance": test.tolerance, "causes": test.causes, "verdict": it.verdict, "why": it.why, "known": it.known,
-        "notes": it.notes, "seconds": [round(it.begin, 3), round(it.end, 3)], "late": round(it.late, 3), "packets": [it.first, it.last],
+        **about_test(it.test), "verdict": it.verdict, "why": it.why, "known": it.known, "notes": it.notes, "times": it.times,
+        "seconds": [round(it.begin, 3), round(it.end, 3)], "late": round(it.late, 3), "packets": [it.first, it.last],
         "claims": [{"holds": claim.holds, "text": claim.text, "packets": claim.packets} for claim in it.claims], "frames": frames,
     }  # fmt: skip
 
 
 def as_json(run: Run) -> str:
     """The whole run as JSON."""
-    grouped = {it.test.id: [one.test.id for one in more] for it, more in causes.grouped(run.results)}
-    whole: dict[str, object] = {"about": run.about, "counts": counts(run.results), "causes": grouped}
+    grouped = {it.name: [one.test.id for one in it.explains] for it in causes.grouped(run.results)}
+    rows = {clause: {"verdict": verdict, "tests": [it.test.id for it in own]} for clause, verdict, own in matrix.rows(run.results)}
+    whole: dict[str, object] = {"about": run.about, "counts": counts(run.results), "causes": grouped, "clauses": rows}
     if run.shadow:
         differences = [{"packet": it.frame.number, "what": it.what} for it in run.shadow.differences]
         whole["shadow"] = {"compared": run.shadow.compared, "differences": differences}
     return json.dumps({**whole, "tests": [record(run.bench, it) for it in run.results]}, indent=1) + "\n"
-
-
-# What no document of XML 1.0 may have.
-UNWANTED = re.compile("[^\t\n\r\x20-\ud7ff\ue000-\ufffd\U00010000-\U0010ffff]")
-TAGS = {FAIL: "failure", INCONCLUSIVE: "error", SKIPPED: "skipped", NOT_APPLICABLE: "skipped"}
-
-
-def case(it: Result) -> str:
-    """A result as a case of JUnit. A known fail is skipped, with its reason."""
-    name = quoteattr(f"{it.test.id} {it.test.title}")
-    out = f'<testcase classname={quoteattr(it.test.group)} name={name} time="{it.end - it.begin:.3f}">'
-    tag, text = ("skipped", f"known: {it.known}: {it.why}") if it.known else (TAGS.get(it.verdict, ""), it.why)
-    if tag:
-        kind = f" type={quoteattr(it.verdict)}" if tag != "skipped" else ""
-        out += f"<{tag}{kind} message={quoteattr(text)}/>"
-    said = [f"{it.test.clause}; rule by {it.test.basis}", *it.notes]
-    for claim in it.claims:
-        packets = ", ".join(map(str, claim.packets)) or "-"
-        said.append(f"{'holds' if claim.holds else 'FAILS'}: {claim.text} (packets {packets})")
-    text = "\n".join(said)
-    return f"{out}<system-out>{escape(text)}</system-out></testcase>"
-
-
-def suite(tag: str, name: str, results: Sequence[Result]) -> str:
-    """The first tag of a suite."""
-    tags = ["skipped" if it.known else TAGS.get(it.verdict, "") for it in results]
-    failed, wrong, skipped = (tags.count(it) for it in ("failure", "error", "skipped"))
-    return f'<{tag} name={quoteattr(name)} tests="{len(results)}" failures="{failed}" errors="{wrong}" skipped="{skipped}">'
-
-
-def as_junit(run: Run) -> str:
-    """The whole run as JUnit's XML."""
-    out = ['<?xml version="1.0" encoding="utf-8"?>', suite("testsuites", run.about.get("device", "device"), run.results)]
-    for group in dict.fromkeys(it.test.group for it in run.results):
-        own = [it for it in run.results if it.test.group == group]
-        out += [suite("testsuite", group, own), *map(case, own), "</testsuite>"]
-    return UNWANTED.sub("\ufffd", "\n".join([*out, "</testsuites>"]) + "\n")
 
 
 def comments(results: Sequence[Result]) -> dict[int, str]:

@@ -3,12 +3,13 @@
 from __future__ import annotations
 
 import traceback
-from typing import Callable, Iterable, Mapping, Optional, Sequence
+from typing import Callable, Iterable, Mapping, NamedTuple, Optional, Sequence
 
 from niwhopera import State
 
 from .bench import QUIET, Bench
 from .floods import FLOOD
+from .matrix import WORST
 from .model import FAIL, INCONCLUSIVE, PASS, Claim, DoesNotApply, NotHere, Result, Stop, Stuck, Test
 from .pics import ITEMS, lacking
 from .wires import Gone
@@ -29,13 +30,20 @@ def meet(b: Bench) -> None:
         return
     missing = [it for it in b.links.values() if not it.spoke]
     names = ", ".join(it.name for it in missing)
-    if flood := before.flood():
+    if flood := before.flood().text:
         raise NoDevice(f"no LACPDU came in {MEETS:g} s on {names}. {flood}")
     raise NoDevice(
         f"no LACPDU came in {MEETS:g} s on {names}. The usual causes: LACP is not enabled on the device's port (mode static or off); the "
         "cable ends in another port, or a bridge lies between, which forwards no frames to 01-80-C2-00-00-02; the device is passive and its "
         "link is down at its end"
     )
+
+
+class Flood(NamedTuple):
+    """Which link is flooded, and by what, and whether tests did not see all that they look at; no text where none is."""
+
+    text: str = ""
+    hides: bool = False
 
 
 class Traffic:
@@ -47,16 +55,17 @@ class Traffic:
         for link in b.links.values():
             link.meter.spilled()
 
-    def flood(self) -> str:
-        """Which link is flooded, and by what; nothing where none is."""
+    def flood(self) -> Flood:
+        """Which link is flooded, and by what."""
         seconds = max(1.0, self.b.now() - self.begin)
         for number, link in self.b.links.items():
             rate = (self.b.wire.received(number) - self.before[number]) / seconds
             spilled = link.meter.spilled()
             if spilled or rate >= FLOOD:
                 told = "; ".join(filter(None, (f"{rate:.0f} frames came a second" if rate >= 1 else "", spilled)))
-                return f"link {number} ({link.name}) is flooded: {told}. The usual causes: a loop behind the device, or traffic of others on this port"
-        return ""
+                text = f"link {number} ({link.name}) is flooded: {told}. The usual causes: a loop behind the device, or traffic of others on this port"
+                return Flood(text, spilled is not None)
+        return Flood()
 
 
 def wake(b: Bench) -> None:
@@ -111,7 +120,7 @@ def run_one(b: Bench, test: Test, claimed: Optional[Mapping[str, bool]] = None) 
     return result
 
 
-def judge(b: Bench, result: Result, flood: str = "") -> None:
+def judge(b: Bench, result: Result, flood: Flood = Flood()) -> None:
     """The verdict: a claim that does not hold is a fail, unless the bench itself or a flood is to blame."""
     failed = [it for it in result.claims if not it.holds]
     if failed:
@@ -119,13 +128,13 @@ def judge(b: Bench, result: Result, flood: str = "") -> None:
     elif result.verdict == PASS and not result.claims:
         result.verdict, result.why = INCONCLUSIVE, "nothing was claimed"
     result.last, result.end, result.late = len(b.frames), b.now(), b.late
-    if flood:
-        result.stuck = result.verdict in (FAIL, INCONCLUSIVE)
-        result.notes.append(flood)
+    if flood.text:
+        result.stuck = result.verdict in (FAIL, INCONCLUSIVE) or flood.hides
+        result.notes.append(flood.text)
     if result.verdict == FAIL:
-        blame(b, result, failed, flood)
-    elif result.verdict == INCONCLUSIVE and flood:
-        result.why = f"{flood}. Seen: {result.why}"
+        blame(b, result, failed, flood.text)
+    elif result.verdict == INCONCLUSIVE and flood.text or result.verdict == PASS and flood.hides:
+        result.verdict, result.why = INCONCLUSIVE, f"{flood.text}. Seen: {result.why or 'what came between was right'}"
 
 
 def blame(b: Bench, result: Result, failed: Sequence[Claim], flood: str) -> None:
@@ -160,20 +169,36 @@ IN_TURN = 5
 
 
 def run_all(
-    b: Bench, tests: Iterable[Test], say: Callable[[Result], None], claimed: Optional[Mapping[str, bool]] = None, goes_on: bool = False
+    b: Bench, tests: Iterable[Test], say: Callable[[Result], None], claimed: Optional[Mapping[str, bool]] = None, goes_on: bool = False, repeat: int = 1
 ) -> list[Result]:  # fmt: skip
     """Runs tests in order; `say` gets each result. Where an interface is gone, no other test is run; nor, unless it `goes_on`, behind IN_TURN that
     came to nothing."""
     results: list[Result] = []
     for test in tests:
-        results.append(run_one(b, test, claimed))
+        results.append(run_times(b, test, claimed, repeat))
         say(results[-1])
         if results[-1].gone:
             raise Gone(results[-1].gone)
         last = results[-IN_TURN:]
         if not goes_on and len(last) == IN_TURN and all(it.stuck for it in last):
-            raise CameToNothing(f"{IN_TURN} tests in turn came to nothing, and others would not go better: {last[-1].why}")
+            raise CameToNothing(f"{IN_TURN} tests in turn came to nothing, and others would not go better (--keep-going runs them): {last[-1].why}")
     return results
+
+
+def run_times(b: Bench, test: Test, claimed: Optional[Mapping[str, bool]], repeat: int) -> Result:
+    """Runs a test so often; the result is the first of those with the worst verdict, over the frames of all."""
+    found: list[Result] = []
+    while len(found) < repeat and not (found and found[-1].gone):
+        found.append(run_one(b, test, claimed))
+    result = min(found, key=lambda it: WORST.index(it.verdict))
+    if len(found) > 1:
+        result.times = {verdict: count for verdict in WORST if (count := sum(it.verdict == verdict for it in found))}
+        result.notes.append(f"of {len(found)} times: {', '.join(f'{count} {verdict}' for verdict, count in result.times.items())}")
+        if result.why:
+            result.why += f" ({result.times[result.verdict]} of {len(found)} times)"
+        result.first, result.begin, result.last, result.end = found[0].first, found[0].begin, found[-1].last, found[-1].end
+        result.late = max(it.late for it in found)
+    return result
 
 
 def ordered(tests: Iterable[Test]) -> list[Test]:

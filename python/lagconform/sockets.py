@@ -148,10 +148,11 @@ class PacketWire:
     def wait(self, seconds: float) -> list[Arrival]:
         """The frames that came, at most MOST_TAKEN of each link, in the order of their times."""
         ready = select.select(self._sockets, [], [], seconds)[0]
-        came = [it for link, at in enumerate(self._sockets, 1) if at in ready for it in self._taken(link, at)]
+        ahead = self.now() - time.time()
+        came = [it for link, at in enumerate(self._sockets, 1) if at in ready for it in self._taken(link, at, ahead)]
         return sorted(came, key=lambda it: it.time)
 
-    def _taken(self, link: int, it: socket.socket) -> list[Arrival]:
+    def _taken(self, link: int, it: socket.socket, ahead: float) -> list[Arrival]:
         """The frames that wait at a link, up to MOST_TAKEN."""
         came: list[Arrival] = []
         for _ in range(MOST_TAKEN):
@@ -164,17 +165,17 @@ class PacketWire:
                     raise
                 return came
             if address[2] != OUTGOING:
-                came.append(Arrival(link, self._time(more), octets[:ADDRESSES] + tag(more) + octets[ADDRESSES:]))
+                came.append(Arrival(link, self._time(more, ahead), octets[:ADDRESSES] + tag(more) + octets[ADDRESSES:]))
         return came
 
-    def _time(self, more: Sequence[tuple[int, int, bytes]]) -> float:
-        """When a frame came: the age of the kernel's time stamp, which is of the clock that may be set, before now."""
+    def _time(self, more: Sequence[tuple[int, int, bytes]], ahead: float) -> float:
+        """When a frame came: the kernel's time stamp, of the clock that may be set, by how far that of the run is ahead of it now."""
+        now = self.now()
         for _, kind, stamp in more:
             if kind == SO_TIMESTAMPNS and len(stamp) == 16:
                 seconds, nanoseconds = struct.unpack("=qq", stamp)
-                age = time.time() - float(seconds) - float(nanoseconds) / 1e9
-                return self.now() - max(0.0, min(1.0, age))
-        return self.now()
+                return min(now, max(now - 1.0, float(seconds) + float(nanoseconds) / 1e9 + ahead))
+        return now
 
     def flap(self, link: int, up: bool) -> None:
         """Takes our interface down or up, which wants CAP_NET_ADMIN."""

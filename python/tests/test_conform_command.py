@@ -16,7 +16,7 @@ from conform_device import Device, World
 from conform_faults import KeyUnchecked, NoWait, SystemUnchecked
 from conform_frames import NoMarkers
 
-from lagconform import causes, command, files, known, listing, pics, refusals, report
+from lagconform import causes, command, files, known, listing, options, pics, refusals, report
 from lagconform.bench import Bench, most_within
 from lagconform.groups import GROUPS, TESTS
 from lagconform.model import DEVICES, FAIL, INCONCLUSIVE, LONG, MEMORY, NOT_APPLICABLE, PASS, PROFILE, SKIPPED, Claim, Result
@@ -185,8 +185,8 @@ def test_a_run_without_an_answer_is_no_success(run, capsys: pytest.CaptureFixtur
 
 
 def test_a_long_test_runs_by_its_name() -> None:
-    assert [it.id for it in command.selected(["RX-14"], False, 1)] == ["RX-14"]
-    assert not any(it.is_long for it in command.selected(["RX-*"], False, 1))
+    assert [it.id for it in options.selected(["RX-14"], False, 1)] == ["RX-14"]
+    assert not any(it.is_long for it in options.selected(["RX-*"], False, 1))
 
 
 @pytest.mark.parametrize("text", ["nan", "inf", "-0.1", "soon"])
@@ -279,9 +279,9 @@ def result(name: str, verdict: str = FAIL) -> Result:
 
 def test_causes() -> None:
     found = causes.grouped([result("RX-12b"), result("MX-01"), result("MX-05", PASS), result("SL-09"), result("FM-01")])
-    assert [(it.test.id, [one.test.id for one in more]) for it, more in found] == [("RX-12b", ["MX-01", "SL-09"]), ("FM-01", [])]
+    assert [(it.name, [one.test.id for one in it.explains]) for it in found] == [("RX-12b", ["MX-01", "SL-09"]), ("FM-01", [])]
     one = causes.grouped([result("RX-09"), result("MX-02"), result("MX-03")])
-    assert [(it.test.id, len(more)) for it, more in one] == [("MX-02", 2)]
+    assert [(it.name, len(it.explains)) for it in one] == [("MX-02", 2)]
 
 
 def test_each_cause_is_a_test() -> None:

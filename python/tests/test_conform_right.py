@@ -9,7 +9,7 @@ import pytest
 from conform_device import Device, World, is_lacpdu
 from conform_faults import KeyUnchecked, LinkUnseen, set_bits
 
-from lagconform import command, report
+from lagconform import command, junit, options, report
 from lagconform.bench import HOOK_SECONDS, Bench
 from lagconform.groups import TESTS
 from lagconform.memory import Done
@@ -181,7 +181,7 @@ def test_a_hook_that_does_not_end_is_refused() -> None:
     device, hook = Device(), Endless()
     b = Bench(World(device), hook)
     with pytest.raises(Refused, match="the hook did not end in 40 s: reset"):
-        command.prepare_device(command.reader().parse_args(["a", "--hook", "x"]), b)
+        command.prepare_device(options.reader().parse_args(["a", "--hook", "x"]), b)
     assert hook.stopped and HOOK_SECONDS <= b.now() < HOOK_SECONDS + 1
     b.close()
     device.stop()
@@ -211,7 +211,7 @@ def test_junit_is_xml_whatever_a_text_has() -> None:
     device = Device()
     b = Bench(World(device))
     found = Result(BY_NAME["FM-01"], FAIL, why="\x1b[31mred\x00\ufffe\ud800", notes=["\x07"])
-    text = report.as_junit(report.Run(b, {"device": "a\x08b"}, [found]))
+    text = junit.as_junit(report.Run(b, {"device": "a\x08b"}, [found]))
     assert xml.fromstring(text.encode()).get("name") == "a\ufffdb"
     b.close()
     device.stop()

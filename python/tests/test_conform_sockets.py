@@ -42,6 +42,22 @@ assert sent - 0.01 <= came[0].time <= wire.now(), (sent, came[0].time)
 tagged = frame[:12] + bytes.fromhex("81006005") + frame[12:]
 assert wire.send(1, tagged)
 assert tagged in [it.octets for it in wire.wait(2.0)]
+ordinary = bytes.fromhex("ffffffffffff") + wire.source(1) + bytes.fromhex("0800") + bytes(60)
+of_a_flow = ordinary[:26] + bytes.fromhex("c6120001") + ordinary[30:]
+local, v6 = (ordinary[:12] + bytes.fromhex(it) + ordinary[14:] for it in ("88b5", "86dd"))
+before = wire.received(2)
+for octets in ordinary, of_a_flow, local, v6, frame:
+    assert wire.send(1, octets)
+time.sleep(0.1)
+kinds = [it.octets[12:14].hex() for it in wire.wait(2.0)]
+assert kinds == ["0800", "88b5", "8809"] and wire.received(2) - before >= 5, (kinds, wire.received(2) - before)
+for _ in range(2000):
+    wire.send(1, frame)
+begin = time.monotonic()
+found = [len(wire.wait(0.05)) for _ in range(3)]
+assert found == [sockets.MOST_TAKEN] * 3 and time.monotonic() - begin < 1, found
+while wire.wait(0.0):
+    pass
 wire.drops()
 wire._sockets[1].setsockopt(socket.SOL_SOCKET, socket.SO_RCVBUF, 0)
 for _ in range(200):

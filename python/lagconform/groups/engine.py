@@ -78,7 +78,7 @@ def comes_up(b: Bench, links: tuple[int, ...]) -> None:
 
 
 @group.test("01", "6.4", "One link to the proved engine", "be a system of the engine on link 1",
-            rule="both ends distribute within 12 s, and for 5 s more", takes=8)  # fmt: skip
+            rule="both ends distribute within 12 s, and for 5 s more", takes=8, causes=("FM-06", "RX-04", "PT-01"))  # fmt: skip
 def one_link(b: Bench) -> None:
     """A partner that is right for every input, with its own wait_while, comes up with the device."""
     comes_up(b, (1,))
@@ -86,14 +86,14 @@ def one_link(b: Bench) -> None:
 
 @group.test("02", "6.4", "Two links to the proved engine", "be one system of the engine on both links",
             rule="both ends distribute on both links within 12 s, in one group, and for 5 s more", links=2, takes=8,
-            needs=("two-ports",))  # fmt: skip
+            needs=("two-ports",), causes=("EN-01", "SL-01"))  # fmt: skip
 def two_links(b: Bench) -> None:
     """As before, on two links of one aggregator."""
     comes_up(b, (1, 2))
 
 
 @group.test("03", "6.5", "The engine's marker is answered", "be the engine on link 1, and probe", rule="the engine notes that the peer answers",
-            takes=6, needs=("marker-responder",), causes=("MK-01", "MK-02"))  # fmt: skip
+            takes=6, needs=("marker-responder",), causes=("MK-01", "MK-02", "MK-11"))  # fmt: skip
 def probe(b: Bench) -> None:
     """What the engine needs of a peer before it moves a conversation behind a marker."""
     engine = Engine(b, (1,))

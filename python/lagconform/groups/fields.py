@@ -117,7 +117,8 @@ def identifiers(b: Bench) -> None:
 
 
 @group.test("06", "6.4.9 (recordPDU)", "Each field of the partner is recorded", "send LACPDUs of an actor with unusual priorities, key and port",
-            "read the partner of the next LACPDUs", rule="the partner in the answers equals our actor, octet by octet", takes=0.5)  # fmt: skip
+            "read the partner of the next LACPDUs", rule="the partner in the answers equals our actor, octet by octet", takes=0.5,
+            causes=("FM-02", "FM-03"))  # fmt: skip
 def echo(b: Bench) -> None:
     """The partner that the device tells is the actor of the last LACPDU that it got: each of its numbers, and each bit but
     Synchronization, Defaulted and Expired."""

@@ -78,7 +78,7 @@ def pause(b: Bench) -> None:
 
 
 @group.test("01", "6.5.4, 6.2.6", "A marker is answered", "carry", "send a marker, three times, 2.6 s apart",
-            rule="each gets a Marker Response within 1 s", tolerance="1 s: the standard has no number", takes=7.5)  # fmt: skip
+            rule="each gets a Marker Response within 1 s", tolerance="1 s: the standard has no number", takes=7.5, causes=("MK-11",))  # fmt: skip
 def responds(b: Bench) -> None:
     """The Marker Responder is required of every system: a Marker PDU is answered by a Marker Response PDU."""
     b.still_up()
@@ -251,7 +251,7 @@ def not_collecting(b: Bench) -> None:
 
 
 @group.test("11", "6.5.4", "The response leaves on the link of the marker", "carry on both links", "send markers on link 1, then on link 2",
-            rule="each response comes on its own link alone", links=2, takes=5.5, needs=("two-ports",), causes=("MK-01",))  # fmt: skip
+            rule="each response comes on its own link alone", links=2, takes=5.5, needs=("two-ports",))  # fmt: skip
 def own_link(b: Bench) -> None:
     """A response goes out on the port that got the marker: else order is not what it stands for."""
     b.up(1, 2)

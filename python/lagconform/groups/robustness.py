@@ -79,7 +79,7 @@ def subtypes(b: Bench) -> None:
 
 @group.test("04", "6.4.12", "Random payloads behind a right head",
             "send 300 frames of type 8809, subtype 1 or 2, with random octets of random length up to 60",
-            rule="it carries all the time: none is a whole PDU", takes=9)  # fmt: skip
+            rule="it carries all the time: none is a whole PDU", takes=9, causes=("RB-01",))  # fmt: skip
 def noise(b: Bench) -> None:
     """Short random PDUs change nothing, and do no harm."""
     dice = b.dice("RB-04")

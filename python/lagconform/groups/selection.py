@@ -106,7 +106,7 @@ def differ(b: Bench, field: str) -> None:
 
 
 @group.test("04", "6.4.14, 6.3.6", "Two partner keys", "be one system with another key on each link",
-            rule="not both links in one aggregator; one carries", links=2, takes=10.5, hooks=DATA)  # fmt: skip
+            rule="not both links in one aggregator; one carries", links=2, takes=10.5, hooks=DATA, causes=("SL-03",))  # fmt: skip
 def two_keys(b: Bench) -> None:
     """Ports of two LAG IDs never share an aggregator: here the partner keys differ."""
     differ(b, "key")
@@ -125,14 +125,14 @@ def two_high_keys(b: Bench) -> None:
 
 
 @group.test("05", "6.4.14, 6.3.2", "Two system priorities", "be one MAC address with another system priority on each link",
-            rule="not both links in one aggregator; one carries", links=2, takes=10.5, hooks=DATA)  # fmt: skip
+            rule="not both links in one aggregator; one carries", links=2, takes=10.5, hooks=DATA, causes=("SL-03",))  # fmt: skip
 def two_priorities(b: Bench) -> None:
     """The priority is part of the system identifier: two priorities are two systems."""
     differ(b, "priority")
 
 
 @group.test("06", "6.4.14, 6.3.6.1", "Individual links don't aggregate", "be one partner with one key on both links, not aggregatable",
-            rule="not both links in one aggregator", links=2, takes=10.5, hooks=DATA)  # fmt: skip
+            rule="not both links in one aggregator", links=2, takes=10.5, hooks=DATA, causes=("SL-03",))  # fmt: skip
 def individual(b: Bench) -> None:
     """An individual link is alone in its aggregator."""
     b.begin(1, 2, silent=True)

@@ -158,7 +158,7 @@ def kept_by_markers(b: Bench) -> None:
 @group.test("18", "6.4.12, 802.3 57A", "Runts and other slow protocols keep no partner current", "carry",
             "say nothing but, each 0.3 s, a frame of another subtype or an LACPDU that is cut off in its actor",
             rule="an LACPDU with Expired comes 3 s after our last one", tolerance="3 s: -0.25 s, +0.75 s (timer and LACPDU)", takes=6.5,
-            needs=("short-timeouts",), causes=("RX-02",))  # fmt: skip
+            needs=("short-timeouts",), causes=("RX-02", "RB-03", "RB-01"))  # fmt: skip
 def kept_by_runts(b: Bench) -> None:
     """current_while is started by an LACPDU alone: neither OAM nor a frame that ends too early is one."""
     source = b.wire.source(1)

@@ -140,7 +140,7 @@ def prompt_under_data(b: Bench) -> None:
 
 @group.test("09", "6.4.16", "Three LACPDUs a second may be sent, and are", "carry, asked for long timeouts, and ask for nothing for 1.2 s",
             "tell another key of the device, then the right one and another port number, 0.2 s apart",
-            rule="three answers", tolerance="prompt: 0.5 s", takes=4)  # fmt: skip
+            rule="three answers", tolerance="prompt: 0.5 s", takes=4, causes=("TX-02a", "TX-02c", "TX-02e"))  # fmt: skip
 def three_are_sent(b: Bench) -> None:
     """The limit is three in a second, not one: what a quiet device is asked for three times in half a second it tells three times, promptly."""
     still_calm(b)

@@ -7,7 +7,7 @@ quicker to see, but one device in the field does not look at that bit.)
 
 from __future__ import annotations
 
-from typing import Callable, Optional
+from typing import Callable, Optional, Sequence
 
 from niwhopera import State, encode
 
@@ -51,7 +51,7 @@ def not_collecting(b: Bench) -> bytes:
     return payload
 
 
-def accepts(number: str, title: str, change: Change, why: str, clause: str = "6.4.12") -> None:
+def accepts(number: str, title: str, change: Change, why: str, clause: str = "6.4.12", causes: Sequence[str] = ()) -> None:
     """A test of an LACPDU that has to be taken."""
 
     def run(b: Bench) -> None:
@@ -59,12 +59,12 @@ def accepts(number: str, title: str, change: Change, why: str, clause: str = "6.
         b.claim(seen, "it is taken" if seen else f"it is ignored: no LACPDU in {SEEN} s tells what it said; has to be taken", sent, seen)
 
     group.test(number, clause, title, "carry", "send one such LACPDU with Collecting and Distributing 0",
-               rule="taken: an LACPDU within 1.7 s shows it", tolerance="1.7 s", takes=2, causes=() if number == "01" else ("VN-01",),
+               rule="taken: an LACPDU within 1.7 s shows it", tolerance="1.7 s", takes=2, causes=() if number == "01" else ("VN-01", *causes),
                purpose=why)(run)  # fmt: skip
 
 
 def refuses(number: str, title: str, why: str, clause: str, change: Change = lambda it: it, wrap: Optional[Change] = None,
-            must: bool = True, basis: str = PROFILE) -> None:  # fmt: skip
+            must: bool = True, basis: str = PROFILE, causes: Sequence[str] = ()) -> None:  # fmt: skip
     """A test of a frame that is no LACPDU; where it need not be one, either is right."""
 
     def run(b: Bench) -> None:
@@ -78,7 +78,8 @@ def refuses(number: str, title: str, why: str, clause: str, change: Change = lam
 
     rule = "not taken, and the link stays as it was" if must else "either is right; the link stays as it was"
     step = "send one such frame, which as an LACPDU says Collecting and Distributing 0"
-    group.test(number, clause, title, "carry", step, rule=rule, tolerance="1.7 s", takes=2.1, basis=basis, purpose=why)(run)
+    group.test(number, clause, title, "carry", step, rule=rule, tolerance="1.7 s", takes=2.1, basis=basis, purpose=why,
+               causes=(*causes, "RX-04"))(run)  # fmt: skip
 
 
 SHALL = "The Receive machine does not validate the version, the TLV types and the reserved octets: its actions are the same whatever they are."
@@ -99,24 +100,25 @@ def reserved(payload: bytes) -> bytes:
 accepts("01", "An ordinary LACPDU is taken (base line)", lambda it: it,
         "The way by which this group sees whether an LACPDU is taken works with this device.")  # fmt: skip
 accepts("02", "Version 2", lambda it: put(it, 1, b"\2"), SHALL)
-accepts("03", "Version 255", lambda it: put(it, 1, b"\xff"), SHALL)
-accepts("04", "Version 0", lambda it: put(it, 1, b"\0"), SHALL)
+accepts("03", "Version 255", lambda it: put(it, 1, b"\xff"), SHALL, causes=("VN-02",))
+accepts("04", "Version 0", lambda it: put(it, 1, b"\0"), SHALL, causes=("VN-02",))
 accepts("05", "Version 2 with the Port Algorithm and Digest TLVs", lambda it: put(put(it, 1, b"\2"), 58, V2),
         "A receiver of version 1 takes an LACPDU of version 2 by its first octets, and ignores the TLVs behind.",
-        "6.4.2.4, 6.4.12")  # fmt: skip
+        "6.4.2.4, 6.4.12", ("VN-02",))  # fmt: skip
 accepts("06", "Reserved octets that are not 0", reserved, SHALL)
 accepts("07", "Other types of the Actor and Partner TLV", lambda it: put(put(it, 2, b"\x77"), 22, b"\x78"), SHALL)
 accepts("08", "Another type of the Collector TLV", lambda it: put(it, 42, b"\x79"), SHALL)
 accepts("09", "Another type of the Terminator TLV", lambda it: put(it, 58, b"\x7a\0"), SHALL)
 accepts("10", "An LACPDU of 1500 octets", lambda it: put(it, 1, b"\2") + b"\xa5" * 1390,
-        "A longer LACPDU of a later version is taken by its first octets.", "6.4.2.4, 6.4.12")  # fmt: skip
+        "A longer LACPDU of a later version is taken by its first octets.", "6.4.2.4, 6.4.12", ("VN-02",))  # fmt: skip
 refuses("11", "Wrong length of the Actor TLV", MAY, "6.4.12", lambda it: put(it, 3, b"\x13"), must=False)
 refuses("12", "Wrong length of the Partner TLV", MAY, "6.4.12", lambda it: put(it, 23, b"\xff"), must=False)
 refuses("13", "Wrong length of the Collector TLV", MAY, "6.4.12", lambda it: put(it, 43, b"\x00"), must=False)
 refuses("13a", "Wrong length of the Terminator TLV", MAY, "6.4.12", lambda it: put(it, 59, b"\xa5"), must=False)
-refuses("14", "Subtype 0", UNKNOWN, "6.2.7, 802.3 57A", lambda it: put(it, 0, b"\0"))
-refuses("15", "Subtype 11", UNKNOWN, "6.2.7, 802.3 57A", lambda it: put(it, 0, b"\x0b"))
-refuses("16", "Subtype 3 (OAM)", "A frame of another slow protocol is no LACPDU.", "6.2.7, 802.3 57A", lambda it: put(it, 0, b"\3"))
+refuses("14", "Subtype 0", UNKNOWN, "6.2.7, 802.3 57A", lambda it: put(it, 0, b"\0"), causes=("RB-03",))
+refuses("15", "Subtype 11", UNKNOWN, "6.2.7, 802.3 57A", lambda it: put(it, 0, b"\x0b"), causes=("RB-03",))
+refuses("16", "Subtype 3 (OAM)", "A frame of another slow protocol is no LACPDU.", "6.2.7, 802.3 57A", lambda it: put(it, 0, b"\3"),
+        causes=("RB-03",))  # fmt: skip
 refuses("17", "Another EtherType", TYPE, "6.2.9, 6.4.2.2", wrap=lambda it: GROUP + it[:6] + b"\x88\xb5" + it[6:])
 refuses("18", "A length in the place of the EtherType", TYPE, "6.2.9, 6.4.2.2", wrap=lambda it: GROUP + it[:6] + b"\0\x6e" + it[6:])
 refuses("19", "To a group address that is not Slow Protocols'",
@@ -126,6 +128,6 @@ refuses("20", "With a tag of priority 7, VLAN 0",
         "LACPDUs are not tagged (6.2.9 compares the type alone); a receiver that takes a priority-tagged one does more than it has to.",
         "6.2.9", wrap=lambda it: GROUP + it[:6] + b"\x81\x00\xe0\x00" + SLOW + it[6:], must=False, basis=MEMORY)  # fmt: skip
 refuses("21", "An LACPDU cut off after 109 octets", "An LACPDU has 110 octets; of a shorter one the standard says nothing.", "6.4.2.3",
-        lambda it: it[:109], must=False)  # fmt: skip
+        lambda it: it[:109], must=False, causes=("RB-01",))  # fmt: skip
 refuses("22", "An LACPDU cut off within the Partner TLV", "Of an LACPDU that has no partner nothing may be recorded.", "6.4.2.3",
-        lambda it: it[:30])  # fmt: skip
+        lambda it: it[:30], causes=("RB-01",))  # fmt: skip

@@ -1,0 +1,105 @@
+"""What comes of a run for machines that collect tests: JUnit's XML, and TAP."""
+
+from __future__ import annotations
+
+import json
+import re
+import time
+from html import escape
+from typing import Iterable, Sequence
+from xml.sax.saxutils import quoteattr
+
+from .model import FAIL, INCONCLUSIVE, PASS, Result
+from .pdus import told
+from .report import Run
+
+# What no document of XML 1.0 may have.
+UNWANTED = re.compile("[^\t\n\r\x20-\ud7ff\ue000-\ufffd\U00010000-\U0010ffff]")
+
+
+def tag(run: Run, it: Result) -> str:
+    """What a result is to JUnit. A known fail is skipped; so is what came to no answer, unless the run is strict: then it is an error, as it makes
+    the status 1."""
+    if it.verdict == PASS:
+        return ""
+    if it.verdict == FAIL and not it.known:
+        return "failure"
+    return "error" if it.verdict == INCONCLUSIVE and run.strict else "skipped"
+
+
+def words(run: Run, it: Result) -> list[str]:
+    """What was looked at in a test, with what the packets say that show it."""
+    said = [f"{it.test.clause}; rule by {it.test.basis}: {it.test.rule}", *it.notes]
+    for claim in it.claims:
+        said.append(f"{'holds' if claim.holds else 'FAILS'}: {claim.text}")
+        if not claim.holds:
+            for number in claim.packets:
+                frame = run.bench.frames[number - 1]
+                said.append(f"  packet {number}, {frame.time:.3f} s, link {frame.link}, {'bench' if frame.out else 'device'}: {told(frame.octets)}")
+    return said
+
+
+def case(run: Run, it: Result) -> str:
+    """A result as a case of JUnit."""
+    name = quoteattr(f"{it.test.id} {it.test.title}")
+    out = f'<testcase classname={quoteattr(it.test.group)} name={name} time="{it.end - it.begin:.3f}">'
+    kind, text = tag(run, it), f"known: {it.known}: {it.why}" if it.known else f"{it.verdict}: {it.why}" if it.verdict != FAIL else it.why
+    body = escape("\n".join(words(run, it)))
+    if kind == "skipped":
+        out += f"<skipped message={quoteattr(text)}/>"
+    elif kind:
+        out += f"<{kind} type={quoteattr(it.verdict)} message={quoteattr(text)}>{body}</{kind}>"
+    return f"{out}<system-out>{body}</system-out></testcase>"
+
+
+def suite(run: Run, kind: str, name: str, results: Sequence[Result]) -> str:
+    """The first tag of a suite."""
+    tags = [tag(run, it) for it in results]
+    failed, wrong, skipped = (tags.count(it) for it in ("failure", "error", "skipped"))
+    begin = run.bench.wire.started + (results[0].begin if results else 0.0)
+    when = time.strftime("%Y-%m-%dT%H:%M:%S", time.gmtime(begin))
+    seconds = sum(it.end - it.begin for it in results)
+    counts = f'tests="{len(results)}" failures="{failed}" errors="{wrong}" skipped="{skipped}" time="{seconds:.3f}"'
+    return f'<{kind} name={quoteattr(name)} {counts}{f" timestamp={quoteattr(when)}" if kind == "testsuite" else ""}>'
+
+
+def properties(run: Run) -> str:
+    """What the run was: the device by its frames, and the options."""
+    told_of = "".join(f"<property name={quoteattr(key)} value={quoteattr(value)}/>" for key, value in run.about.items())
+    return f"<properties>{told_of}</properties>"
+
+
+def as_junit(run: Run) -> str:
+    """The whole run as JUnit's XML."""
+    out = ['<?xml version="1.0" encoding="utf-8"?>', suite(run, "testsuites", run.about.get("device", "device"), run.results)]
+    for group in dict.fromkeys(it.test.group for it in run.results):
+        own = [it for it in run.results if it.test.group == group]
+        out += [suite(run, "testsuite", group, own), properties(run), *(case(run, it) for it in own), "</testsuite>"]
+    return UNWANTED.sub("\ufffd", "\n".join([*out, "</testsuites>"]) + "\n")
+
+
+def plain(text: str) -> str:
+    """A text in one line, without the signs that mean something in TAP."""
+    return " ".join(text.replace("#", "no.").split())
+
+
+def point(run: Run, number: int, it: Result) -> Iterable[str]:
+    """A result as a test point of TAP, with what failed behind it as YAML."""
+    kind = tag(run, it)
+    name = f"{number} - {plain(f'{it.test.id} {it.test.title}')}"
+    if it.known:
+        yield f"not ok {name} # TODO {plain(it.known)}"
+    elif kind == "skipped":
+        yield f"ok {name} # SKIP {plain(f'{it.verdict}: {it.why}')}"
+    else:
+        yield f"{'not ok' if kind else 'ok'} {name}"
+    if kind in ("failure", "error"):
+        yield from ["  ---", f"  message: {json.dumps(it.why)}", f"  severity: {it.verdict}", "  data:"]
+        yield from (f"    - {json.dumps(line)}" for line in words(run, it))
+        yield "  ..."
+
+
+def as_tap(run: Run) -> str:
+    """The whole run as TAP, version 14."""
+    points = [line for number, it in enumerate(run.results, 1) for line in point(run, number, it)]
+    return "\n".join(["TAP version 14", f"1..{len(run.results)}", *points]) + "\n"

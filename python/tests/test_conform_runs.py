@@ -1,0 +1,246 @@
+"""What a whole run makes of floods, early faults, a busy machine and the options for CI, beside devices in memory."""
+
+from __future__ import annotations
+
+import json
+import os
+import shutil
+import subprocess
+import xml.etree.ElementTree as xml
+from pathlib import Path
+from typing import Iterable, Iterator, Type
+
+import pytest
+from conform_device import Device, World, put
+from conform_faults import CutOff, KeyUnchecked, NoNtt, PartnerLength, WrongEcho
+from conform_frames import OtherId, VersionChecked
+
+from lagconform import causes, command, floods, matrix
+from lagconform.bench import Bench
+from lagconform.groups import TESTS
+from lagconform.model import FAIL, INCONCLUSIVE, PASS, SURE, Claim, Result
+from lagconform.runner import IN_TURN, CameToNothing, Flood, judge, meet, ordered, run_all, run_times
+
+BY_NAME = {it.id: it for it in TESTS}
+EXAMPLES = Path(__file__).parents[2] / "examples" / "conform"
+HEADER = Path(__file__).parents[2] / "crates" / "lagffi" / "include"
+
+
+@pytest.fixture
+def bench() -> Iterator[object]:
+    """Makes benches beside devices."""
+    made: list[tuple[Bench, Device]] = []
+
+    def make(kind: Type[Device]) -> Bench:
+        device = kind()
+        world = World(device)
+        made.append((Bench(world, world), device))
+        return made[-1][0]
+
+    yield make
+    for b, device in made:
+        b.close()
+        device.stop()
+
+
+class Loop(Device):
+    """Stands behind a loop: each tick brings as many frames as the link can take."""
+
+    octets = b"\x01\x80\xc2\0\0\2" + bytes([2, 0, 0, 0, 9, 9]) + b"\x88\x09\1" + bytes(109)
+
+    def ticked(self) -> None:
+        for _ in range(600 if self.now > 0.5 else 0):
+            self.world.emit(1, self.octets)
+
+
+class BesideALoop(Loop):
+    """Copies of its own LACPDUs come back by the loop."""
+
+    def says(self, port: int, frame: bytes) -> Iterable[bytes]:
+        self.octets = frame
+        yield frame
+
+
+@pytest.mark.parametrize("kind", [Loop, BesideALoop])
+def test_a_flood_is_told_and_ends_the_run(bench, kind: Type[Device]) -> None:  # type: ignore[no-untyped-def]
+    b, results = bench(kind), list[Result]()
+    meet(b)
+    with pytest.raises(CameToNothing, match=f"{IN_TURN} tests in turn came to nothing.*link 1 .link1. is flooded: .* frames came a second"):
+        run_all(b, [BY_NAME[it] for it in ("RX-01", "RX-02", "RX-04", "RX-06", "RX-09", "RX-10", "TX-01", "MX-07")], results.append)
+    assert b.now() < 120 and len(b.frames) < 2 * floods.KEPT * b.now()
+    assert not any(it.verdict == FAIL for it in results)
+    told = [it for it in results if "is flooded" in it.why]
+    assert told and "frames beyond 1000 a second, as one of subtype 1 from" in told[-1].why and "The usual causes: a loop" in told[-1].why
+
+
+def test_a_device_that_answers_all_of_a_storm_is_no_flood() -> None:
+    meter = floods.Meter()
+    for _ in range(2000):
+        meter.sent(1.0)
+    assert all(meter.takes(1.2, bytes(20)) for _ in range(5000)) and meter.takes(2.0, bytes(20))
+    assert meter.spilled() is None
+    assert not all(meter.takes(3.0, bytes(20)) for _ in range(1001))
+    assert "1 frames beyond" in str(meter.spilled()) and meter.spilled() is None
+
+
+def test_one_number_that_is_told_wrong_costs_no_other_test(bench) -> None:  # type: ignore[no-untyped-def]
+    b, results = bench(WrongEcho), list[Result]()
+    meet(b)
+    run_all(b, ordered(it for it in TESTS if not it.is_long), results.append)
+    assert not [it.test.id for it in results if it.verdict == INCONCLUSIVE]
+    assert [it.name for it in causes.grouped(results)] == ["FM-06"] and len([it for it in results if it.verdict == FAIL]) < 10
+    assert "has to be what was sent, 258/02-cf" in next(it.why for it in results if it.test.id == "FM-06")
+
+
+@pytest.fixture
+def run(monkeypatch: pytest.MonkeyPatch, tmp_path: Path) -> object:
+    """Runs the command beside a stack in a file that has this device; its status."""
+
+    def play(kind: Type[Device], *words: str) -> int:
+        (tmp_path / "device.py").write_text(f"from {kind.__module__} import {kind.__name__} as Device\n")
+        monkeypatch.chdir(tmp_path)
+        return command.main(["--memory", "device.py", *words])
+
+    return play
+
+
+@pytest.mark.parametrize("kind, fails", [(CutOff, ["FM-02", "FM-03", "FM-06"]), (PartnerLength, ["FM-03", "FM-06"])])
+def test_lacpdus_that_can_not_be_read_get_a_report(run, kind: Type[Device], fails: list[str], capsys: pytest.CaptureFixture[str], tmp_path: Path) -> None:  # type: ignore[no-untyped-def]
+    assert run(kind, "--json", "r.json", "--junit", "r.xml") == 1
+    told = json.loads((tmp_path / "r.json").read_text())
+    assert [it["id"] for it in told["tests"] if it["verdict"] == "fail"] == fails
+    assert "5 tests in turn came to nothing" in told["about"]["incomplete"] and "is no LACPDU" in capsys.readouterr().err
+    assert len(told["tests"]) < 15 and xml.parse(tmp_path / "r.xml").getroot().get("failures") == str(len(fails))
+
+
+def test_a_late_bench_excuses_no_count_of_lacpdus(bench) -> None:  # type: ignore[no-untyped-def]
+    b = bench(Device)
+    for bears, late, verdict in (SURE, 0.3, FAIL), (1.0, 0.3, FAIL), (1.0, 1.3, INCONCLUSIVE), (0.0, 0.3, INCONCLUSIVE):
+        found = Result(BY_NAME["TX-01"], claims=[Claim(False, "19 LACPDUs within one second", (), bears)])
+        b.late = late
+        judge(b, found)
+        assert found.verdict == verdict and ("too busy" in found.why) == (verdict == INCONCLUSIVE), (bears, late)
+    flooded = Result(BY_NAME["TX-01"], claims=[Claim(False, "19 LACPDUs within one second", (), SURE)])
+    b.late = 0.0
+    judge(b, flooded, Flood("link 1 is flooded", True))
+    assert flooded.verdict == INCONCLUSIVE
+
+
+def test_status_junit_and_tap_agree_on_what_has_no_answer(run, tmp_path: Path, capsys: pytest.CaptureFixture[str]) -> None:  # type: ignore[no-untyped-def]
+    words = ["--only", "FM-01", "--only", "SL-06", "--junit", "r.xml", "--tap", "r.tap"]
+    (tmp_path / "device.py").write_text("from conform_device import Device as Right\n\nclass Device(Right):\n    def data(self, on):\n        raise NotImplementedError\n")
+    os.chdir(tmp_path)
+    for strict, status, tag, point in ((), 0, "skipped", "ok 2 - SL-06"), (("--strict",), 1, "errors", "not ok 2 - SL-06"):
+        assert command.main(["--memory", "device.py", *words, *strict]) == status
+        root = xml.parse(tmp_path / "r.xml").getroot()
+        assert (root.get(tag), root.get("failures")) == ("1", "0")
+        assert f"\n{point}" in (tmp_path / "r.tap").read_text()
+
+
+def test_junit_and_tap_have_what_the_device_said(run, tmp_path: Path) -> None:  # type: ignore[no-untyped-def]
+    assert run(KeyUnchecked, "--only", "RX-07c", "--only", "FM-01", "--junit", "r.xml", "--tap", "r.tap", "--device", "a switch") == 1
+    suite = xml.parse(tmp_path / "r.xml").getroot()[0]
+    assert suite.get("timestamp") and {it.get("name"): it.get("value") for it in suite.iter("property")}["device"] == "a switch"
+    text = next(xml.parse(tmp_path / "r.xml").getroot().iter("failure")).text or ""
+    assert "FAILS: with another key of the device it stops carrying: never; has to be at most 0.65 s" in text and "bench: LACPDU 3f" in text
+    tap = (tmp_path / "r.tap").read_text().splitlines()
+    assert tap[:3] == ["TAP version 14", "1..2", "ok 1 - FM-01 Destination, source and type"]
+    assert tap[3].startswith("not ok 2 - RX-07c") and tap[4:6] == ["  ---", '  message: "with another key of the device it stops carrying: never; has to be at most 0.65 s"']
+
+
+def test_a_matrix_has_each_clause(run, tmp_path: Path) -> None:  # type: ignore[no-untyped-def]
+    assert run(VersionChecked, "--only", "VN-0*", "--only", "FM-05", "--matrix", "m.md", "--json", "r.json") == 1
+    lines = (tmp_path / "m.md").read_text().splitlines()
+    assert lines[2:4] == ["| 6.3.2 | pass | FM-05 |", "| 6.3.4 | pass | FM-05 |"] and lines[-1].startswith("| 6.4.12 | fail | VN-01, VN-02 (fail)")
+    assert json.loads((tmp_path / "r.json").read_text())["clauses"]["6.4.2.4"] == {"verdict": "fail", "tests": ["VN-05"]}
+    assert matrix.clauses(BY_NAME["RX-06"]) == ["6.4.12", "6.4.9"]
+    assert sorted(["802.3 57A", "6.4.12", "6.4.9", "6.4.2.3"], key=matrix.order) == ["6.4.2.3", "6.4.9", "6.4.12", "802.3 57A"]
+
+
+def test_a_capture_for_each_test(run, tmp_path: Path) -> None:  # type: ignore[no-untyped-def]
+    (tmp_path / "each").mkdir()
+    assert run(KeyUnchecked, "--only", "RX-07c", "--only", "FM-0*", "--not", "FM-06", "--captures", "each") == 1
+    assert sorted(it.name for it in (tmp_path / "each").iterdir()) == [*[f"FM-0{it}.pcapng" for it in (1, 2, 3, 4, 5, 7, 8, 9)], "RX-07c.pcapng"]
+    assert b"RX-07c fails" in (tmp_path / "each" / "RX-07c.pcapng").read_bytes()
+    assert run(Device, "--captures", "nowhere") == 2
+
+
+class SometimesWrong(Device):
+    """Sends a wrong version in the first 8 s of its life."""
+
+    def says(self, port: int, frame: bytes) -> Iterable[bytes]:
+        yield put(frame, 1, b"\x09") if self.now < 8 else frame
+
+
+def test_a_repeated_test_has_its_worst_verdict(bench) -> None:  # type: ignore[no-untyped-def]
+    b = bench(SometimesWrong)
+    meet(b)
+    found = run_times(b, BY_NAME["FM-02"], None, 4)
+    assert found.verdict == FAIL and found.times[FAIL] + found.times[PASS] == 4 and found.times[PASS] > 0
+    assert found.why.endswith(f"({found.times[FAIL]} of 4 times)") and found.first == 1 + len([it for it in b.frames if it.number < found.first])
+
+
+def test_a_run_goes_on_where_another_one_ended(run, tmp_path: Path, capsys: pytest.CaptureFixture[str]) -> None:  # type: ignore[no-untyped-def]
+    assert run(KeyUnchecked, "--only", "FM-0*", "--only", "RX-07c", "--json", "one.json") == 1
+    capsys.readouterr()
+    assert run(KeyUnchecked, "--only", "FM-0*", "--only", "RX-07*", "--resume", "one.json", "--json", "two.json", "--report", "r.html") == 1
+    said = capsys.readouterr().out
+    assert said.startswith("6 tests on 2 links") and said.endswith("15 pass, 1 fail\n")
+    told = {it["id"]: it for it in json.loads((tmp_path / "two.json").read_text())["tests"]}
+    assert len(told) == 16 and told["RX-07c"]["notes"] == ["of the run in one.json"] and told["RX-07c"]["verdict"] == "fail"
+    (tmp_path / "bad.json").write_text("[]")
+    assert run(Device, "--resume", "bad.json") == 2 and "is no JSON of a run" in capsys.readouterr().err
+
+
+def test_the_page_begins_with_what_failed(run, tmp_path: Path) -> None:  # type: ignore[no-untyped-def]
+    assert run(NoNtt, "--only", "TX-*", "--only", "FM-01", "--report", "r.html") == 1
+    page = (tmp_path / "r.html").read_text()
+    assert page.index("<h2>Fails</h2>") < page.index("<th>device</th>") < page.index('id="FM-01"')
+    assert "what the device tells comes " in page and 'name="viewport"' in page and "prefers-color-scheme:dark" in page
+    assert '#only-fail:checked~.tests .t:not(.fail)' in page and 'id="only-fail"' in page and "<h2>Clauses</h2>" in page
+
+
+def test_fails_that_are_late_by_one_number_have_one_cause(bench) -> None:  # type: ignore[no-untyped-def]
+    b, results = bench(NoNtt), list[Result]()
+    meet(b)
+    run_all(b, ordered(it for it in TESTS if it.group in ("RX", "TX", "MX") and not it.is_long), results.append)
+    found = causes.grouped(results)
+    assert [it.name for it in found] == ["late"] and len(found[0].explains) > 25
+
+
+@pytest.mark.parametrize("kind, root, others", [(OtherId, "MK-02", ["EN-03"]), (VersionChecked, "VN-02", ["VN-03"])])
+def test_the_cause_is_the_fault(bench, kind: Type[Device], root: str, others: list[str]) -> None:  # type: ignore[no-untyped-def]
+    b, results = bench(kind), list[Result]()
+    meet(b)
+    run_all(b, ordered(BY_NAME[it] for it in [root, *others]), results.append)
+    found = causes.grouped(results)
+    assert [it.name for it in found] == [root] and [it.test.id for it in found[0].explains] == others
+
+
+def test_a_list_is_written_as_json(tmp_path: Path, monkeypatch: pytest.MonkeyPatch) -> None:
+    assert command.main(["--list", "--json", str(tmp_path / "l.json"), "--not", "IV-*"]) == 0
+    told = json.loads((tmp_path / "l.json").read_text())
+    assert {it["id"] for it in told} == {it.id for it in TESTS if it.group != "IV"} and told[0]["clause"] == "6.4.2.2, 6.2.10.1"
+
+
+@pytest.mark.parametrize("words, why", [(["--memory", "x.py", "eth0"], "--memory wants no interface"), (["--memory", "none.py"], "No such file"), (["--memory", "none.so"], "none.so")])
+def test_a_stack_that_is_none_is_refused(words: list[str], why: str, capsys: pytest.CaptureFixture[str], tmp_path: Path, monkeypatch: pytest.MonkeyPatch) -> None:
+    monkeypatch.chdir(tmp_path)
+    assert command.main(words) == 2 and why in capsys.readouterr().err
+    (tmp_path / "empty.py").write_text("Device = 7\n")
+    assert command.main(["--memory", "empty.py"]) == 2 and "no class Device below lagconform.memory.Stack" in capsys.readouterr().err
+
+
+@pytest.mark.skipif(not EXAMPLES.exists(), reason="no examples")
+def test_the_example_in_python_passes_all(capsys: pytest.CaptureFixture[str]) -> None:
+    assert command.main(["--memory", str(EXAMPLES / "device.py"), "--strict"]) == 0
+    assert " pass, 0 fail\n" in capsys.readouterr().out
+
+
+@pytest.mark.skipif(not HEADER.exists() or not shutil.which("cc") or "NIWHOPERA_LIBRARY" not in os.environ, reason="no C compiler, or no library")
+def test_the_example_in_c_passes_all(tmp_path: Path, capsys: pytest.CaptureFixture[str]) -> None:
+    made = str(tmp_path / "device.so")
+    line = ["cc", "-Wall", "-Wextra", "-Wconversion", "-Werror", "-shared", "-fPIC", f"-I{HEADER}", "-o", made, str(EXAMPLES / "device.c")]
+    subprocess.run([*line, os.environ["NIWHOPERA_LIBRARY"]], check=True)
+    assert command.main(["--memory", made, "--strict"]) == 0
+    assert " pass, 0 fail\n" in capsys.readouterr().out
