@@ -7,7 +7,7 @@ from typing import Optional
 
 from niwhopera import BadPayload, Info, Lacpdu, Mac, Marker, MarkerKind, Pdu, PortId, State, SystemId, decode
 
-GROUP, SLOW = bytes.fromhex("0180c2000002"), b"\x88\x09"
+GROUP, SLOW, BROADCAST = bytes.fromhex("0180c2000002"), b"\x88\x09", b"\xff" * 6
 # The frames that a hook makes the device send: IPv4 and UDP from 198.18.0.0/16, the network for measurements (RFC 2544). The type of the bench's
 # own broadcasts is for local experiments (802).
 DATA, SENDERS, BROADCAST_TYPE = b"\x08\0", b"\xc6\x12", b"\x88\xb5"

@@ -133,3 +133,54 @@ def test_the_phase_of_the_clock_has_no_part(phase: float) -> None:
     for kind in Device, Independent:
         results = play(kind, [it for it in TESTS if it.group in ("MX", "TX") and not it.is_long], phase)
         assert not [f"{it.test.id} {it.verdict}: {it.why}" for it in results if it.verdict in (FAIL, INCONCLUSIVE)]
+
+
+class Bridge(Device):
+    """A bridge without a hook for data: what goes to everyone comes out of each other aggregator."""
+
+    def data(self, on: bool) -> None:
+        raise NotImplementedError
+
+    def aggregator(self, port: int) -> object:
+        """The aggregator of a port that carries."""
+        return self.on.choice(port) if self.on.distributes(port) else None
+
+    def took(self, port: int, frame: bytes) -> None:
+        if frame[:6] == b"\xff" * 6 and self.aggregator(port):
+            for other in (1, 2):
+                if self.aggregator(other) and self.aggregator(other) != self.aggregator(port):
+                    self.world.emit(other, frame)
+
+
+class JoinsKeys(Bridge):
+    """Takes two keys of a partner for one aggregator."""
+
+    def aggregator(self, port: int) -> object:
+        found = super().aggregator(port)
+        return (self.on.partner(port).system, self.on.partner(port).state & 4) if found else None
+
+
+class NeverJoins(Bridge):
+    """Has an aggregator of its own for each link."""
+
+    def aggregator(self, port: int) -> object:
+        return port if super().aggregator(port) else None
+
+
+SELECTION = ("SL-01", "SL-03", "SL-04", "SL-05", "SL-06", "SL-07", "SL-13")
+
+
+@pytest.mark.parametrize("kind, fails", [(Bridge, []), (JoinsKeys, ["SL-04", "SL-06", "SL-07", "SL-13"]), (NeverJoins, ["SL-01"])])
+def test_broadcasts_tell_aggregators_apart(kind: Type[Device], fails: list[str]) -> None:
+    results = play(kind, [it for it in TESTS if it.id in SELECTION])
+    assert [it.test.id for it in results if it.verdict == FAIL] == fails, [f"{it.test.id} {it.verdict} {it.why}" for it in results]
+    assert not [it.test.id for it in results if it.verdict == INCONCLUSIVE]
+
+
+def test_what_forwards_nothing_has_no_answer() -> None:
+    class Host(Device):
+        def data(self, on: bool) -> None:
+            raise NotImplementedError
+
+    found = {it.test.id: it for it in play(Host, [it for it in TESTS if it.id in ("SL-01", "SL-03")])}
+    assert found["SL-03"].verdict == INCONCLUSIVE and "of 20 broadcasts into link 1, 0 come out of link 2: one aggregator, or a device that forwards none" in found["SL-03"].why

@@ -1,25 +1,31 @@
 """SL: the Selection Logic (6.4.14), on two links.
 
-LACPDUs don't tell in which aggregator a port is. Where the device carries on two links that may not share an aggregator, a hook
-(`data start`, `data stop`) has to make its one client send UDP of many flows from 198.18.0.0/16: if they come on both links, it is one
-aggregator.
+LACPDUs don't tell in which aggregator a port is. Where the device carries on two links that may not share an aggregator, data has to show it:
+
+- A hook (`data start`, `data stop`) makes its one client send UDP of many flows from 198.18.0.0/16: if they come on both links, it is one
+  aggregator.
+- Without a hook, broadcasts of the bench on one link come out of the other, if a bridge joins two aggregators: it sends none back into the
+  one that they came from. A device that does so once is a bridge, and where none comes out, it is one aggregator.
 """
 
 from __future__ import annotations
 
 from dataclasses import replace
+from typing import Sequence
 
 from niwhopera import Lacpdu, State
 
 from ..bench import PROMPT, SOON, Bench
-from ..model import MEMORY, SURE, Group, NotHere, Stop
-from ..pdus import CARRIES, end
+from ..model import MEMORY, SURE, Frame, Group, NotHere, Stop
+from ..pdus import BROADCAST, BROADCAST_TYPE, CARRIES, end
 from .receive import carries, does_not_carry
 from .silence import wants_short
 
 group = Group("SL", "Selection Logic (6.4.14)", needs=("two-ports",))
 SECONDS = 2.0
 DATA = ("data",)
+# What the bench's broadcasts begin with.
+PROBE = b"lagconform "
 
 
 def flows(b: Bench) -> dict[int, int]:
@@ -30,6 +36,22 @@ def flows(b: Bench) -> dict[int, int]:
         b.wait(SECONDS)
         found = {link: b.data(mark, link) for link in (1, 2)}
     b.hook("data", "stop")
+    return found
+
+
+BROADCASTS = 20
+
+
+def broadcasts(b: Bench) -> int:
+    """How many of BROADCASTS frames that go to everyone on link 1 come out of link 2."""
+    mark, source = b.mark(), b.new_mac()
+    head = BROADCAST + source + BROADCAST_TYPE + PROBE
+    for number in range(BROADCASTS):
+        b.send_raw(1, head + bytes([number]) + bytes(46 - len(PROBE)))
+        b.wait(0.03)
+    b.wait(0.5)
+    found = len({it.octets for it in b.frames[mark:] if not it.out and it.link == 2 and it.octets.startswith(head)})
+    b.floods = b.floods or found > 0
     return found
 
 
@@ -48,7 +70,8 @@ def apart(b: Bench, seconds: float = 8, one: bool = True) -> None:
     try:
         found = flows(b)
     except NotHere as why:
-        raise Stop(f"both links carry; without data it cannot be seen in how many aggregators ({why})") from why
+        apart_by_broadcasts(b, frames, str(why))
+        return
     if not any(found.values()):
         raise Stop("both links carry, and no data of the device came")
     if not all(found.values()) and not b.spreads:
@@ -57,9 +80,21 @@ def apart(b: Bench, seconds: float = 8, one: bool = True) -> None:
     b.claim(not all(found.values()), text, *frames, bears=1.0)
 
 
+def apart_by_broadcasts(b: Bench, frames: Sequence[Frame], why: str) -> None:
+    """Claims that two links that carry are two aggregators, as broadcasts show it where the device is a bridge."""
+    floods, found = b.floods, broadcasts(b)
+    text = f"of {BROADCASTS} broadcasts into link 1, {found} come out of link 2"
+    if found:
+        b.claim(True, f"{text}: two aggregators", *frames)
+    elif floods:
+        b.claim(False, f"{text}: one aggregator; has to be two, between which this device forwarded broadcasts in a test before", *frames, bears=1.0)
+    else:
+        raise Stop(f"both links carry, and {text}: one aggregator, or a device that forwards none. Data of its client would show it ({why})")
+
+
 @group.test("01", "6.4.14, 6.3.7", "Two links of one partner aggregate", "be one partner with one key on both links",
-            rule="both carry, and stay so for 4 s; on which links data comes is told alone: the distribution is the device's own", links=2,
-            takes=8.5, hooks=DATA)  # fmt: skip
+            rule="both carry, and stay so for 4 s, and no broadcast comes back; on which links data comes is told alone: the distribution is the "
+            "device's own", links=2, takes=8.5, hooks=DATA)  # fmt: skip
 def aggregates(b: Bench) -> None:
     """Links of one LAG ID share an aggregator."""
     b.up(1, 2)
@@ -72,7 +107,8 @@ def aggregates(b: Bench) -> None:
         b.spreads = all(found.values())
         b.note(f"flows of one client: {found[1]} on link 1, {found[2]} on link 2")
     except NotHere:
-        b.note("no hook for data: that both links are one aggregator is not seen")
+        found = {2: broadcasts(b)}
+        b.claim(not found[2], f"of {BROADCASTS} broadcasts into link 1, {found[2]} come out of link 2; has to be none: they are one aggregator", *wrong[:1])
 
 
 @group.test("02", "6.3.2, 6.3.4, 6.3.5", "Identifiers of two ports", "carry on both links", rule="one system, one key, two port numbers",
