@@ -14,18 +14,20 @@ from lagconform.bench import Bench
 
 FOLDER = Path(__file__).parents[2] / "examples" / "conform"
 HOOKS = ["lagd", "bonding", "teamd", "openvswitch", "testpmd"]
+# Command lines of switches. `eos` takes its lines on its input, and `nxos` one word.
+SWITCHES = {"eos": "cat", "nxos": "echo"}
 pytestmark = pytest.mark.skipif(not FOLDER.exists(), reason="no examples")
 
 
 def hook(name: str, *words: str, folder: Path) -> tuple[int, str]:
     """The status of a hook, and what it would run."""
     files = {it: str(folder / it) for it in ("SENDER", "DAEMON", "FIFO")}
-    env = {**os.environ, **files, "RUN": "echo", "LINKS": "x y"}
+    env = {**os.environ, **files, "RUN": SWITCHES.get(name, "echo"), "LINKS": "x y"}
     ended = subprocess.run(["sh", str(FOLDER / name), *words], env=env, capture_output=True, text=True, timeout=30)
     return ended.returncode, ended.stdout
 
 
-@pytest.mark.parametrize("name", HOOKS)
+@pytest.mark.parametrize("name", [*HOOKS, *SWITCHES])
 def test_a_hook_says_what_it_does_not_know(name: str, tmp_path: Path) -> None:
     assert hook(name, "dance", folder=tmp_path)[0] == 64
     assert hook(name, "set", "speed", "9", folder=tmp_path)[0] == 64
@@ -55,6 +57,23 @@ def test_a_hook_takes_links_down_and_up(name: str, tmp_path: Path) -> None:
 def test_a_hook_starts_and_ends_lacp(name: str, word: str, begins: str, tmp_path: Path) -> None:
     status, told = hook(name, word, folder=tmp_path)
     assert status == 0 and told.startswith(begins), told
+
+
+@pytest.mark.parametrize(
+    "name, words, lines",
+    [
+        ("eos", "down 2", ["enable", "configure", "interface y", "shutdown", "end"]),
+        ("eos", "up 1", ["enable", "configure", "interface x", "no shutdown", "end"]),
+        ("eos", "set short no", [it for link in "xy" for it in ("enable", "configure", f"interface {link}", "lacp timer normal", "end")]),
+        ("nxos", "down 2", ["configure terminal ; interface y ; shutdown"]),
+        ("nxos", "start", [f"configure terminal ; interface {link} ; channel-group 1 mode active ; lacp rate fast" for link in "xy"]),
+        ("nxos", "stop", [f"configure terminal ; interface {link} ; no channel-group 1" for link in "xy"]),
+    ],
+)
+def test_a_switch_gets_its_lines(name: str, words: str, lines: list[str], tmp_path: Path) -> None:
+    status, told = hook(name, *words.split(), folder=tmp_path)
+    assert (status, told.splitlines()) == (0, lines)
+    assert hook(name, "data", "start", folder=tmp_path)[0] == 64
 
 
 def test_the_flows_are_those_that_the_bench_counts() -> None:
