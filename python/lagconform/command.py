@@ -20,7 +20,7 @@ from .memory import World, loaded
 from .model import FAIL, INCONCLUSIVE, PASS, NotHere, Result, Test
 from .options import check_words, reader, selected
 from .page import as_html
-from .refusals import Refused, check_interfaces
+from .refusals import MOST_LINKS, Refused, check_interfaces
 from .report import Run
 from .resume import taken
 from .runner import CameToNothing, NoDevice, meet, run_all
@@ -86,7 +86,7 @@ def write_all(given: argparse.Namespace, run: Run) -> bool:
 def stand(given: argparse.Namespace) -> Bench:
     """The bench at its links, with a device that speaks."""
     if given.memory:
-        world = World(loaded(given.memory))
+        world = World(loaded(given.memory), given.links)
         b = Bench(world, world, given.slack, given.seed)
     else:
         check_interfaces(given.interfaces)
@@ -177,7 +177,7 @@ def interrupt(*_: object) -> None:
 
 def listed(given: argparse.Namespace) -> int:
     """Prints or writes the tests; the status."""
-    tests = sorted(selected(given.only, True, 2, given.left_out), key=TESTS.index)
+    tests = sorted(selected(given.only, True, MOST_LINKS, given.left_out), key=TESTS.index)
     if given.json:
         return 0 if written(given.json, lambda: (json.dumps([*map(report.about_test, tests)], indent=1) + "\n").encode()) else 2
     tell(as_markdown(tests, TITLES) if given.markdown else as_text(tests, TITLES))
@@ -191,7 +191,7 @@ def main(words: Optional[Sequence[str]] = None) -> int:
         if given.list:
             return listed(given)
         check_words(given)
-        tests = selected(given.only, given.long, 2 if given.memory else max(1, len(given.interfaces)), given.left_out)
+        tests = selected(given.only, given.long, given.links if given.memory else max(1, len(given.interfaces)), given.left_out)
         claimed = pics.parsed(read_text(given.pics)) if given.pics else {}
         reasons = known.parsed(read_text(given.known), (it.id for it in TESTS)) if given.known else {}
         if given.resume:

@@ -14,10 +14,10 @@ from . import pics
 from .files import check_writable
 from .groups import TESTS
 from .model import LONG, Test
-from .refusals import Refused
+from .refusals import MOST_LINKS, Refused
 from .runner import ordered
 
-ABOUT = """Tests a device which runs LACP at the far end of one or two cables, by frames alone.
+ABOUT = """Tests a device which runs LACP at the far end of one to four cables, by frames alone.
 
 It prints a line for each test, and in the end the count of each verdict. The status is 0 if nothing failed but what --known has, 1 if
 something did (with --strict also if a test came to no answer), 2 if the bench could not run to its end, a report could not be written, or no
@@ -47,6 +47,14 @@ def seconds(text: str) -> float:
     return number
 
 
+def links(text: str) -> int:
+    """How many links a stack in memory has."""
+    number = int(text)
+    if not 1 <= number <= MOST_LINKS:
+        raise argparse.ArgumentTypeError(f"1 to {MOST_LINKS}, and not {text}")
+    return number
+
+
 def times(text: str) -> int:
     """How often a test is run."""
     number = int(text)
@@ -58,7 +66,7 @@ def times(text: str) -> int:
 def reader() -> argparse.ArgumentParser:
     """The words of the command line."""
     it = argparse.ArgumentParser(prog="lagconform", description=ABOUT, formatter_class=argparse.RawDescriptionHelpFormatter)
-    it.add_argument("interfaces", nargs="*", metavar="INTERFACE", help="the interface of a link; one or two")
+    it.add_argument("interfaces", nargs="*", metavar="INTERFACE", help="the interface of a link; one or two, and three or four for the tests of three links")
     it.add_argument("--version", action="version", version=f"%(prog)s {__version__}")
     add_reports(it)
     add_device(it)
@@ -81,6 +89,7 @@ def add_reports(it: argparse.ArgumentParser) -> None:
 def add_device(it: argparse.ArgumentParser) -> None:
     """What the device is, claims and does."""
     it.add_argument("--memory", metavar="FILE", help="test a stack in memory, without links: a file of Python with a class Device, or a shared library")
+    it.add_argument("--links", metavar="N", type=links, default=2, help="with --memory: how many links there are, 1 to 4 (2)")
     it.add_argument("--pics", metavar="FILE", help=f"what the device claims: lines of yes or no for {', '.join(pics.ITEMS)}")
     it.add_argument("--known", metavar="FILE", help="fails that are known: lines of a test and a reason")
     it.add_argument("--hook", metavar="COMMAND", help="a command that has the device do something, above")
@@ -118,7 +127,7 @@ def selected(only: Optional[Sequence[str]], long: bool, links: int, left_out: Se
         if not own:
             raise Refused(f"there is no test {pattern}: --list prints them")
         if pattern in named and not any(it in runs for it in own):
-            raise Refused(f"{pattern} wants {'two links' if own[0].links > links else '--long'}")
+            raise Refused(f"{pattern} wants {f'{own[0].links} links' if own[0].links > links else '--long'}")
     chosen = ordered(it for it in runs if (not only or matches(it, named)) and not matches(it, left_out))
     if not chosen:
         raise Refused("no test is left")

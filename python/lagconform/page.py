@@ -9,13 +9,14 @@ from . import causes, matrix
 from .bench import Bench
 from .model import FAIL, VERDICTS, Frame, Result
 from .pdus import SLOW, end, told
+from .refusals import MOST_LINKS
 from .report import Run, summary, why
 
 # A picture has at most so many arrows; what stands within so many places of a packet that is named stays.
 MOST, NEAR, MORE = 60, 3, 40
 # Pixels: of the lifelines, where texts of a link stand, and for a second.
-LINES = {0: 490, 1: 820, 2: 1150}
-WIDTHS = {1: 1330, 2: 1660}
+LINES = {link: 490 + 330 * link for link in range(MOST_LINKS + 1)}
+WIDTHS = {links: 1000 + 330 * links for links in range(1, MOST_LINKS + 1)}
 # Colours of the light form and of the dark one.
 LIGHT = "--ink:#222;--paper:#fff;--rule:#ccc;--pass:#24723a;--fail:#a11;--open:#8a4b00;--grey:#666;--lacpdu:#2b5c8a;--other:#b06000;--bad:#c00"
 DARK = "--ink:#ddd;--paper:#181a1b;--rule:#444;--pass:#6fcf8a;--fail:#ff8a80;--open:#ffb74d;--grey:#999;--lacpdu:#8ab8e6;--other:#e0a050;--bad:#ff6b6b"
@@ -90,7 +91,7 @@ def picture(b: Bench, it: Result) -> str:
         last = frame.time
         parts += arrow(frame, it, y, links)
     y += 24
-    names = {0: "lagconform", 1: "device, link 1", 2: "device, link 2"}
+    names = {0: "lagconform", **{link: f"device, link {link}" for link in range(1, links + 1)}}
     for number in range(links + 1):
         parts.append(f'<path class="line" d="M{LINES[number]} 36 V{y:.0f}" stroke-width="2"/>')
         parts.append(f'<text x="{LINES[number]}" y="24" text-anchor="middle">{names[number]}</text>')

@@ -9,6 +9,7 @@ from typing import Iterator, Optional
 from .pdus import SLOW
 
 NET = "/sys/class/net"
+MOST_LINKS = 4
 
 
 class Refused(Exception):
@@ -26,10 +27,11 @@ def read_file(*path: str) -> str:
 
 def check_interfaces(names: list[str]) -> None:
     """Refuses interfaces that are no free cables."""
-    if not 1 <= len(names) <= 2:
-        raise Refused("one or two interfaces: lagconform eth1 [eth2]")
-    if len(set(names)) < len(names):
-        raise Refused(f"{names[0]} is named twice")
+    if not 1 <= len(names) <= MOST_LINKS:
+        raise Refused(f"one to {MOST_LINKS} interfaces: lagconform eth1 [eth2]")
+    for name in names:
+        if names.count(name) > 1:
+            raise Refused(f"{name} is named twice")
     for name in names:
         check_interface(name)
 

@@ -100,7 +100,7 @@ def tag(more: Sequence[tuple[int, int, bytes]]) -> bytes:
 
 
 class PacketWire:
-    """One or two interfaces."""
+    """The interfaces."""
 
     def __init__(self, names: Sequence[str]) -> None:
         self.names = list(names)

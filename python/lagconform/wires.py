@@ -27,7 +27,7 @@ class Gone(Exception):
 
 
 class Wire(Protocol):
-    """One or two links. Links go by their numbers, from 1, and times in seconds since the start of the run."""
+    """One to four links. Links go by their numbers, from 1, and times in seconds since the start of the run."""
 
     @property
     def names(self) -> Sequence[str]:

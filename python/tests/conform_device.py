@@ -5,8 +5,8 @@
 
 from __future__ import annotations
 
-from collections import deque
-from typing import Deque, Iterable, Iterator, Optional
+from collections import defaultdict, deque
+from typing import DefaultDict, Deque, Iterable, Iterator, Optional
 
 from lagconform.memory import FLOWS, Stack, World, flow
 from niwhopera import Config, LagError, Mac, PortConfig, State, System, SystemId
@@ -49,7 +49,7 @@ class Device(Stack):
         super().__init__()
         self.system: Optional[System] = None
         self.sends_data = False
-        self.responses: dict[int, Deque[float]] = {1: deque(), 2: deque()}
+        self.responses: DefaultDict[int, Deque[float]] = defaultdict(deque)
 
     @property
     def on(self) -> System:
@@ -61,9 +61,9 @@ class Device(Stack):
 
     def start(self) -> None:
         own = {"short_timeout": self.short, "active": self.active, "aggregatable": self.aggregatable}
-        ports = tuple(PortConfig(number=it, key=KEY, mac=Mac(bytes([2, 0, 0, 0, 0xBB, it])), **own) for it in (1, 2))
-        self.system = System(Config(OWN, ports, aggregators=(KEY, KEY)))
-        for it in (1, 2):
+        ports = tuple(PortConfig(number=it, key=KEY, mac=Mac(bytes([2, 0, 0, 0, 0xBB, it])), **own) for it in self.links)
+        self.system = System(Config(OWN, ports, aggregators=(KEY,) * len(ports)))
+        for it in self.links:
             self.system.set_link(it, True)
 
     def stop(self) -> None:

@@ -439,6 +439,42 @@ class SecondLinkDrops(Device):
             self.restart(2)
 
 
+class ThirdLinkDrops(Device):
+    """Drops the third link three seconds after all carry."""
+
+    finds = "SL-14 EN-04"
+    since = 0.0
+
+    def ticked(self) -> None:
+        if len(self.links) < 3 or not all(self.on.distributes(port) for port in self.links):
+            self.since = self.now
+        elif self.now - self.since > 3:
+            self.restart(3)
+
+
+class AllAggregators(Device):
+    """Its client uses each of three links that distributes, whatever the aggregator."""
+
+    finds = "SL-15"
+
+    def port_of(self, frame: bytes) -> Optional[int]:
+        ports = [port for port in self.links if self.on.distributes(port)]
+        return ports[frame[11] % len(ports)] if ports else None
+
+
+class AllLeave(Device):
+    """A key that changes on the third link takes the others out."""
+
+    finds = "SL-16"
+    key = b""
+
+    def took(self, port: int, frame: bytes) -> None:
+        if port == 3 and is_lacpdu(frame):
+            old, self.key = self.key, part(frame, 12, 2)
+            if old and old != self.key:
+                self.restart(1)
+
+
 class OnePortNumber(Device):
     """Has one port number on both links."""
 

@@ -213,15 +213,15 @@ def test_one_link_runs_tests_of_one_link(run, capsys: pytest.CaptureFixture[str]
 @pytest.mark.parametrize(
     "words, why",
     [
-        ([], "one or two interfaces"),
-        (["a", "b", "c"], "one or two interfaces"),
+        ([], "one to 4 interfaces"),
+        (["a", "b", "c", "d", "e"], "one to 4 interfaces"),
         (["lo", "lo"], "named twice"),
         (["none0"], "there is no interface none0"),
         (["lo"], "no Ethernet interface"),
         (["lo", "--only", "XX-*"], "there is no test XX"),
         (["lo", "--known", "/none"], "/none: No such file"),
         (["lo", "--only", "RX-14*"], "RX-14* wants --long"),
-        (["lo", "--only", "SL-01", "--only", "FM-01"], "SL-01 wants two links"),
+        (["lo", "--only", "SL-01", "--only", "FM-01"], "SL-01 wants 2 links"),
         (["lo", "--set", "a=b"], "--set wants --hook"),
         (["lo", "--hook", "true", "--set", "a"], "--set a: it is KEY=VALUE"),
     ],
@@ -349,7 +349,7 @@ def test_each_test_tells_what_it_does() -> None:
     assert len(BY_NAME) == len(TESTS)
     for it in TESTS:
         assert it.basis in (PROFILE, DEVICES, MEMORY) and it.purpose and it.rule and it.clause and it.steps, it.id
-        assert set(it.needs) <= set(pics.ITEMS) and it.links in (1, 2)
+        assert set(it.needs) <= set(pics.ITEMS) and 1 <= it.links <= 3
 
 
 def test_the_shadow_agrees_with_a_right_device() -> None:
@@ -388,7 +388,7 @@ def test_the_page_has_each_group_and_its_count() -> None:
 
 
 def test_pages_have_the_time_of_a_run_and_which_tests_are_long() -> None:
-    short = [it for it in TESTS if not it.is_long]
+    short = [it for it in TESTS if not it.is_long and it.links <= 2]
     said = f"{len(short)} tests on 2 links, some {round(sum(it.takes for it in short) / 60)} min"
     assert said in (page_of("CONFORM.md") or said)
     for name, wanted in (

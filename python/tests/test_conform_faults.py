@@ -23,9 +23,9 @@ BY_NAME = {it.id: it for it in TESTS}
 
 
 def play(kind: Type[Device], tests: Sequence[Case]) -> list[Result]:
-    """Runs tests beside a device of a kind."""
+    """Runs tests beside a device of a kind, on as many links as they want."""
     device = kind()
-    world = World(device)
+    world = World(device, max(2, *(it.links for it in tests), 2))
     b = Bench(world, world)
     try:
         meet(b)

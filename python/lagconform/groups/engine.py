@@ -73,7 +73,7 @@ def comes_up(b: Bench, links: tuple[int, ...]) -> None:
         engine.run(5, looks)
         b.holds(not broken, "and for 5 s more")
         if len(links) > 1:
-            one = system.group(1) == system.group(2) and system.choice(1) == system.choice(2)
+            one = len({system.group(it) for it in links}) == 1 and len({system.choice(it) for it in links}) == 1
             b.claim(one, f"one group {system.group(1)}, one aggregator")
 
 
@@ -90,6 +90,14 @@ def one_link(b: Bench) -> None:
 def two_links(b: Bench) -> None:
     """As before, on two links of one aggregator."""
     comes_up(b, (1, 2))
+
+
+@group.test("04", "6.4", "Three links to the proved engine", "be one system of the engine on three links",
+            rule="both ends distribute on all links within 12 s, in one group, and for 5 s more", links=3, takes=8,
+            needs=("two-ports",), causes=("EN-02", "SL-14"))  # fmt: skip
+def three_links(b: Bench) -> None:
+    """As before, on three links of one aggregator."""
+    comes_up(b, (1, 2, 3))
 
 
 @group.test("03", "6.5", "The engine's marker is answered", "be the engine on link 1, and probe", rule="the engine notes that the peer answers",

@@ -1,4 +1,4 @@
-"""SL: the Selection Logic (6.4.14), on two links.
+"""SL: the Selection Logic (6.4.14), on two links and more.
 
 LACPDUs don't tell in which aggregator a port is. Where the device carries on two links that may not share an aggregator, data has to show it:
 
@@ -28,13 +28,13 @@ DATA = ("data",)
 PROBE = b"lagconform "
 
 
-def flows(b: Bench) -> dict[int, int]:
+def flows(b: Bench, links: Sequence[int] = (1, 2)) -> dict[int, int]:
     """How many flows of the device's client came on each link, while a hook makes it send."""
     with b.undone(lambda: b.hook("data", "stop")):
         b.hook("data", "start")
         mark = b.mark()
         b.wait(SECONDS)
-        found = {link: b.data(mark, link) for link in (1, 2)}
+        found = {link: b.data(mark, link) for link in links}
     b.hook("data", "stop")
     return found
 
@@ -233,7 +233,7 @@ def reflect(b: Bench, across: bool, seconds: float) -> int:
     b.silence()
     mark = done = b.mark()
     limit = b.now() + seconds
-    links = len(b.links) if across else 1
+    links = 2 if across else 1
     while b.now() < limit:
         b.wait(0.05)
         came, done = b.frames[done:], len(b.frames)
@@ -293,3 +293,56 @@ def stranger(b: Bench) -> None:
     b.holds(not wrong, "link 1 carries all the time", *wrong[:2])
     wrong = list(b.heard(2, mark, lambda pdu: pdu.actor.state & CARRIES))
     b.claim(len(wrong) <= 1, f"{len(wrong)} LACPDUs of link 2 carry while its partner changes twice a second; has to be at most 1", *wrong[:3])
+
+
+THREE = (1, 2, 3)
+
+
+@group.test("14", "6.4.14, 6.3.7", "Three links of one partner aggregate", "be one partner with one key on three links",
+            rule="all carry, and stay so for 4 s; data comes on all of them, or it is told on which", links=3, takes=8.5, hooks=DATA, causes=("SL-01",))  # fmt: skip
+def three_aggregate(b: Bench) -> None:
+    """Links of one LAG ID share an aggregator, however many they are."""
+    b.up(*THREE)
+    mark = b.mark()
+    b.wait(4)
+    wrong = [it for link in THREE for it in b.heard(link, mark, lambda pdu: not carries(pdu))]
+    b.holds(not wrong, "all carry for 4 s", *wrong[:2])
+    try:
+        b.note(f"flows of one client by link: {flows(b, THREE)}")
+    except NotHere:
+        b.note("no hook for data: that all links are one aggregator is not seen")
+
+
+@group.test("15", "6.4.14, 6.3.6", "Two of three links are of one partner", "be one system on links 1 and 2, and another one on link 3",
+            rule="links 1 and 2 carry; link 3 is not in their aggregator", links=3, takes=10.5, hooks=DATA, causes=("SL-03", "SL-01"))  # fmt: skip
+def two_and_one(b: Bench) -> None:
+    """Links of two LAG IDs are two aggregators, also where one of them has several links."""
+    b.begin(1, 2)
+    b.begin(3)
+    b.wait(8)
+    frames = [b.frame(it) for it in THREE]
+    both = all(b.carries(it) and b.names_us(it) for it in (1, 2))
+    told = "; ".join(f"link {it}: {end(b.device(it).actor)}" for it in THREE)
+    b.claim(both or b.carries(3) and not (b.carries(1) or b.carries(2)), f"{told}; links 1 and 2 have to carry, or link 3 alone", *frames)
+    try:
+        found = flows(b, THREE)
+    except NotHere as why:
+        if both and b.carries(3):
+            raise Stop(f"all links carry; without data it cannot be seen in how many aggregators ({why})") from why
+        return
+    mixed = found[3] and (found[1] or found[2])
+    b.claim(not mixed, f"flows of one client by link: {found}; has to be links 1 and 2, or link 3", *frames, bears=1.0)
+
+
+@group.test("16", "6.4.14, 6.4.9", "One of three links leaves", "carry on three links", "change our key on link 3",
+            rule="link 3 stops carrying promptly; links 1 and 2 carry on", tolerance="prompt: 0.5 s", links=3, takes=6.5, causes=("SL-07",))  # fmt: skip
+def one_of_three_leaves(b: Bench) -> None:
+    """A link that leaves the aggregator takes no other one along."""
+    b.up(*THREE)
+    b.partner(3).become_other("key")
+    mark, sent = b.mark(), b.partner(3).send()
+    seen = b.first(3, mark, does_not_carry, SOON)
+    b.timed("link 3 stops carrying", sent, seen, 0, PROMPT)
+    b.wait(3)
+    wrong = [it for link in (1, 2) for it in b.heard(link, mark, lambda pdu: not carries(pdu))]
+    b.holds(not wrong, "links 1 and 2 carry all the time", *wrong[:2])
