@@ -60,6 +60,8 @@ void device_take(unsigned link, const unsigned char *frame, size_t size) {
 static void send_flow(uint16_t aggregator, unsigned number) {
     uint8_t frame[60] = {2, 0, 0, 0, 0xf0, (uint8_t)(number * 37 % 251), 2, 0, 0, 0, 0xf1, (uint8_t)number, 8, 0, 0x45, 0, 0, 0x26, 0, 0, 0, 0, 0x40, 0x11,
         0, 0, 198, 18, 0, (uint8_t)number, 198, 19, 0, (uint8_t)number};
+    for (unsigned at = 0; at < 4; at++)
+        frame[42 + at] = (uint8_t)(ticks >> (24 - 8 * at)); /* the order of the flow's frames */
     struct niw_number link = niw_offer_in_active_aggregator(&lag, aggregator, frame, sizeof frame);
     if (link.status == NIW_OK)
         put(to, (unsigned)link.number, frame, sizeof frame);

@@ -18,7 +18,8 @@ void device_tick(void);
 void device_stop(void);
 /* A link went down, or came up. */
 void device_link(unsigned link, int up);
-/* The client of the aggregator begins, or ends, to send frames of 64 flows with each tick: UDP from 198.18.0.0/16. */
+/* The client of the aggregator begins, or ends, to send frames of 64 flows with each tick: UDP from 198.18.0.0/16. Octets 42 to 45 of a frame are a
+ * number that grows with each frame of a flow. */
 void device_data(int on);
 
 #endif

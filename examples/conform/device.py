@@ -19,7 +19,7 @@ class Device(Stack):
     def __init__(self) -> None:
         super().__init__()
         self.system: Optional[System] = None
-        self.sends_data = False
+        self.sends_data, self.count = False, 0
         self.answered: list[tuple[float, int]] = []
 
     def start(self) -> None:
@@ -42,9 +42,10 @@ class Device(Stack):
         if self.system:
             self.system.tick()
             self.send_due()
-            for it in map(flow, range(FLOWS if self.sends_data else 0)):
-                if link := self.link_of(it):
-                    self.send(link, it)
+            self.count += 1
+            for number in range(FLOWS if self.sends_data else 0):
+                if link := self.link_of(flow(number, self.count)):
+                    self.send(link, flow(number, self.count))
 
     def stop(self) -> None:
         """Ends."""

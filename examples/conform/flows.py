@@ -20,22 +20,24 @@ def checksum(octets: bytes) -> int:
     return 0xFFFF - ((total & 0xFFFF) + (total >> 16))
 
 
-def flow(number: int) -> bytes:
-    """A frame of a flow."""
+def flow(number: int, count: int = 0) -> bytes:
+    """A frame of a flow, and the how many-th of it it is."""
     ends = bytes([2, 0, 0, 0, 0xF1, number, 2, 0, 0, 0, 0xF0, number * 37 % 251])
     head = bytes.fromhex("450000260000000040110000") + bytes([198, 18, 0, number, 198, 19, 0, number])
     head = head[:10] + checksum(head).to_bytes(2, "big") + head[12:]
     ports = (5000 + 7 * number).to_bytes(2, "big") + (6000 + 13 * number).to_bytes(2, "big")
-    return ends + b"\x08\x00" + head + ports + bytes.fromhex("00120000") + bytes(10)
+    return ends + b"\x08\x00" + head + ports + bytes.fromhex("00120000") + count.to_bytes(4, "big") + bytes(6)
 
 
 def main() -> None:
     out = socket.socket(socket.AF_PACKET, socket.SOCK_RAW)
     out.bind((sys.argv[1], 0))
     limit = time.monotonic() + SECONDS
+    count = 0
     while time.monotonic() < limit:
+        count += 1
         for number in range(FLOWS):
-            out.send(flow(number))
+            out.send(flow(number, count))
             time.sleep(0.5 / FLOWS)
 
 

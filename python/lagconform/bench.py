@@ -11,7 +11,7 @@ from niwhopera import Lacpdu, Mac, MarkerKind, State
 from .floods import Meter
 from .model import Claim, Frame, NotHere, Result, Stop, Stuck
 from .partner import Partner, slow
-from .pdus import CARRIES, DATA, PAYLOAD, SENDERS, SIX, SLOW, end, read, told, value
+from .pdus import CARRIES, COUNT_AT, DATA, PAYLOAD, SENDERS, SIX, SLOW, end, read, told, value
 from .wires import Answer, Hook, Wire
 
 # 6.4.4: each timer may be wrong by so much. What is due at once has to be seen so soon: the standard has no number for that, but its
@@ -170,6 +170,15 @@ class Bench:
         """How many flows of the device's client came on a link since a mark."""
         came = (it.octets for it in self.frames[mark:] if not it.out and it.link == link)
         return len({it[:12] + it[26:38] for it in came if it[12:14] == DATA and it[26:28] == SENDERS})
+
+    def flows(self, mark: int) -> dict[bytes, list[Frame]]:
+        """The frames of each flow of the device's client since a mark, on all links, in the order of their times."""
+        found: dict[bytes, list[Frame]] = {}
+        for it in self.frames[mark:]:
+            octets = it.octets
+            if not it.out and octets[12:14] == DATA and octets[26:28] == SENDERS and any(octets[COUNT_AT : COUNT_AT + 4]):
+                found.setdefault(octets[:12] + octets[26:38], []).append(it)
+        return {key: sorted(those, key=lambda it: it.time) for key, those in found.items()}
 
     # What a test does.
 

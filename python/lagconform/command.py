@@ -86,7 +86,7 @@ def write_all(given: argparse.Namespace, run: Run) -> bool:
 def stand(given: argparse.Namespace) -> Bench:
     """The bench at its links, with a device that speaks."""
     if given.memory:
-        world = World(loaded(given.memory), given.links)
+        world = World(loaded(given.memory), given.links, time.time())
         b = Bench(world, world, given.slack, given.seed)
     else:
         check_interfaces(given.interfaces)

@@ -14,7 +14,7 @@ from typing import Any, Deque, Optional, Sequence
 
 from niwhopera import Mac
 
-from .pdus import DATA, SENDERS
+from .pdus import COUNT_AT, DATA, SENDERS
 from .refusals import Refused
 from .wires import Answer, Arrival
 
@@ -26,11 +26,11 @@ FLOWS = 64
 UNKNOWN = 64
 
 
-def flow(number: int) -> bytes:
-    """A frame of the client: UDP from 198.18.0.0/16."""
+def flow(number: int, count: int = 0) -> bytes:
+    """A frame of the client, and the how many-th of its flow it is: UDP from 198.18.0.0/16."""
     ends = bytes([2, 0, 0, 0, 0xF0, number * 37 % 251, 2, 0, 0, 0, 0xF1, number])
     head = b"\x45\x00\x00\x26\x00\x00\x00\x00\x40\x11\x00\x00" + SENDERS + b"\x00" + bytes([number, 198, 19, 0, number])
-    return ends + DATA + head + bytes(26)
+    return ends + DATA + head + bytes(COUNT_AT - 34) + count.to_bytes(4, "big") + bytes(14)
 
 
 class Stack:
@@ -81,7 +81,8 @@ class Stack:
         raise NotImplementedError
 
     def data(self, on: bool) -> None:
-        """Has the client of its aggregator begin or end to send `flow(0)` to `flow(FLOWS - 1)`, each with each tick."""
+        """Has the client of its aggregator begin or end to send a frame of each flow with each tick: `flow(0, 1)` to `flow(FLOWS - 1, 1)`, then
+        those with 2."""
         raise NotImplementedError
 
     # What the world calls.
@@ -112,9 +113,9 @@ class Stack:
 class World:
     """The wire of the bench, and its hook: what it sends the stack gets at once, and time passes where the bench waits."""
 
-    def __init__(self, device: Stack, links: int = 2) -> None:
+    def __init__(self, device: Stack, links: int = 2, started: float = 1.7e9) -> None:
         self.names = [f"link{it}" for it in range(1, links + 1)]
-        self.started = 1.7e9
+        self.started = started
         self.clock = 0.0
         self.came: Deque[Arrival] = deque()
         self.counts = dict.fromkeys(range(1, links + 1), 0)

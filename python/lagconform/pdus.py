@@ -11,6 +11,8 @@ GROUP, SLOW, BROADCAST = bytes.fromhex("0180c2000002"), b"\x88\x09", b"\xff" * 6
 # The frames that a hook makes the device send: IPv4 and UDP from 198.18.0.0/16, the network for measurements (RFC 2544). The type of the bench's
 # own broadcasts is for local experiments (802).
 DATA, SENDERS, BROADCAST_TYPE = b"\x08\0", b"\xc6\x12", b"\x88\xb5"
+# Where such a frame has the how many-th of its flow it is, from 1 on.
+COUNT_AT = 42
 # Offsets in a frame: its payload, and in an LACPDU the actor's state, the partner and its state.
 PAYLOAD, ACTOR_STATE, PARTNER, PARTNER_STATE = 14, 32, 38, 52
 CARRIES = State.COLLECTING | State.DISTRIBUTING

@@ -48,7 +48,7 @@ class Device(Stack):
     def __init__(self) -> None:
         super().__init__()
         self.system: Optional[System] = None
-        self.sends_data = False
+        self.sends_data, self.count = False, 0
         self.responses: DefaultDict[int, Deque[float]] = defaultdict(deque)
 
     @property
@@ -101,10 +101,11 @@ class Device(Stack):
         self.ticked()
         self.send_due()
         if self.sends_data:
-            for number in range(FLOWS):
-                port = self.port_of(flow(number))
+            self.count += 1
+            for frame in (flow(number, self.count) for number in range(FLOWS)):
+                port = self.port_of(frame)
                 if port:
-                    self.world.emit(port, flow(number))
+                    self.put_data(port, frame)
 
     def send_due(self) -> None:
         """Sends what is due."""
@@ -144,6 +145,10 @@ class Device(Stack):
     def may_send(self) -> bool:
         """Whether what is due goes out now."""
         return True
+
+    def put_data(self, port: int, frame: bytes) -> None:
+        """A frame of the client goes out on a port."""
+        self.world.emit(port, frame)
 
     def port_of(self, frame: bytes) -> Optional[int]:
         """The port of a frame of the client."""

@@ -439,6 +439,38 @@ class SecondLinkDrops(Device):
             self.restart(2)
 
 
+class SendsTwice(Device):
+    """Sends each tenth frame of its client on both links."""
+
+    finds = "SL-17"
+
+    def put_data(self, port: int, frame: bytes) -> None:
+        for it in (1, 2) if frame[45] % 10 == 0 and self.on.distributes(3 - port) else (port,):
+            self.world.emit(it, frame)
+
+
+class KeepsBack(Device):
+    """A frame that goes out on the second link goes out one tick late."""
+
+    finds = "SL-17"
+
+    def __init__(self) -> None:
+        super().__init__()
+        self.kept: list[bytes] = []
+
+    def put_data(self, port: int, frame: bytes) -> None:
+        if port == 2:
+            self.kept.append(frame)
+        else:
+            self.world.emit(port, frame)
+
+    def ticked(self) -> None:
+        if self.count % 5 == 0:
+            for it in self.kept:
+                self.world.emit(2, it)
+            self.kept = []
+
+
 class ThirdLinkDrops(Device):
     """Drops the third link three seconds after all carry."""
 

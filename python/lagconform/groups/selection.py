@@ -17,7 +17,7 @@ from niwhopera import Lacpdu, State
 
 from ..bench import PROMPT, SOON, Bench
 from ..model import MEMORY, SURE, Frame, Group, NotHere, Stop
-from ..pdus import BROADCAST, BROADCAST_TYPE, CARRIES, end
+from ..pdus import BROADCAST, BROADCAST_TYPE, CARRIES, COUNT_AT, end
 from .receive import carries, does_not_carry
 from .silence import wants_short
 
@@ -226,6 +226,41 @@ def restarts(b: Bench) -> None:
         b.holds(seen, f"link {link} detaches", seen)
     both = b.until(8, lambda: all(b.carries(it) and b.names_us(it) for it in (1, 2)))
     b.holds(both, "both carry again", b.frame(1), b.frame(2))
+
+
+def counted(frame: Frame) -> int:
+    """The how many-th of its flow a frame is."""
+    return int.from_bytes(frame.octets[COUNT_AT : COUNT_AT + 4], "big")
+
+
+@group.test("17", "6.2.4, 6.4.14", "Each frame of a flow goes out once, and in order", "carry on both links, while the device's client sends (hook: data)",
+            "change our key on link 2, and take it back after 3 s",
+            rule="no frame of a flow comes twice, or behind a later one, by the kernel's times", links=2, takes=14.5, hooks=DATA)  # fmt: skip
+def in_order(b: Bench) -> None:
+    """A frame of the client goes out on one link, and its conversation stays in order, also where links leave and come back: the Distributor
+    neither duplicates nor misorders."""
+    b.up(1, 2)
+    with b.undone(lambda: b.hook("data", "stop")):
+        b.hook("data", "start")
+        mark, partner = b.mark(), b.partner(2)
+        b.wait(2)
+        key = partner.me.key
+        partner.become_other("key")
+        partner.send()
+        b.wait(3)
+        partner.become(key=key)
+        partner.send()
+        b.until(5, lambda: b.carries(2) and b.names_us(2))
+        b.wait(2)
+    b.hook("data", "stop")
+    flows_seen = b.flows(mark)
+    if not flows_seen:
+        raise Stop("no data of the device came that has numbers: those of examples/conform/flows.py have them")
+    twice = [it for those in flows_seen.values() for one, it in zip(those, those[1:]) if counted(it) == counted(one)]
+    behind = [it for those in flows_seen.values() for one, it in zip(those, those[1:]) if counted(it) < counted(one)]
+    total = sum(map(len, flows_seen.values()))
+    b.claim(not twice, f"of {total} frames of {len(flows_seen)} flows, {len(twice)} came twice; has to be none", *twice[:3], bears=1.0)
+    b.claim(not behind, f"of {total} frames of {len(flows_seen)} flows, {len(behind)} came behind a later one; has to be none", *behind[:3], bears=1.0)
 
 
 def reflect(b: Bench, across: bool, seconds: float) -> int:
