@@ -9,14 +9,16 @@ from __future__ import annotations
 
 import ctypes
 import runpy
+import traceback
 from collections import deque
-from typing import Any, Deque, Optional, Sequence
+from contextlib import contextmanager
+from typing import Any, Deque, Iterator, Optional, Sequence
 
 from niwhopera import Mac
 
 from .pdus import COUNT_AT, DATA, SENDERS
 from .refusals import Refused
-from .wires import Answer, Arrival
+from .wires import Answer, Arrival, Gone
 
 # A frame takes so long from one end of a link to the other.
 WIRE_SECONDS = 0.0005
@@ -110,6 +112,15 @@ class Stack:
         return 0
 
 
+@contextmanager
+def calling() -> Iterator[None]:
+    """Tells what a stack raises: it is no fault of the bench, and no test goes on without the stack."""
+    try:
+        yield
+    except Exception as why:
+        raise Gone(f"the stack broke by {type(why).__name__}\n{traceback.format_exc(limit=-3)}") from why
+
+
 class World:
     """The wire of the bench, and its hook: what it sends the stack gets at once, and time passes where the bench waits."""
 
@@ -121,7 +132,8 @@ class World:
         self.counts = dict.fromkeys(range(1, links + 1), 0)
         self.device = device
         device.world = self
-        device.start()
+        with calling():
+            device.start()
 
     def now(self) -> float:
         """The second of the run."""
@@ -133,7 +145,8 @@ class World:
 
     def send(self, link: int, octets: bytes) -> bool:
         """Hands a frame to the stack."""
-        self.device.take(link, octets)
+        with calling():
+            self.device.take(link, octets)
         return True
 
     def drops(self) -> int:
@@ -154,7 +167,8 @@ class World:
             due = max(self.clock, self.device.due)
             self.clock = min(limit, due)
             if due <= limit:
-                self.device.pass_time()
+                with calling():
+                    self.device.pass_time()
         came = list(self.came)
         self.came.clear()
         return came
@@ -171,7 +185,8 @@ class World:
 
     def call(self, words: Sequence[str]) -> Done:
         """The hook."""
-        return Done(self.device.do(words))
+        with calling():
+            return Done(self.device.do(words))
 
 
 class Done:

@@ -129,10 +129,11 @@ def judge(b: Bench, result: Result, flood: Flood = Flood()) -> None:
         result.verdict, result.why = INCONCLUSIVE, "nothing was claimed"
     result.last, result.end, result.late = len(b.frames), b.now(), b.late
     if flood.text:
-        result.stuck = result.verdict in (FAIL, INCONCLUSIVE) or flood.hides
+        result.stuck = result.stuck or flood.hides
         result.notes.append(flood.text)
     if result.verdict == FAIL:
-        blame(b, result, failed, flood.text)
+        blame(b, result, failed, flood.text if flood.hides else "")
+        result.why += f". Beside it, {flood.text}" if flood.text and not flood.hides else ""
     elif result.verdict == INCONCLUSIVE and flood.text or result.verdict == PASS and flood.hides:
         result.verdict, result.why = INCONCLUSIVE, f"{flood.text}. Seen: {result.why or 'what came between was right'}"
 

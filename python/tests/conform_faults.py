@@ -178,6 +178,23 @@ class ShortCurrentWhile(Device):
             self.on.tick(8)
 
 
+class RestartsOnChange(Device):
+    """current_while is started again only by an LACPDU that differs from the last one."""
+
+    finds = "RX-04 EN-01"
+
+    def __init__(self) -> None:
+        super().__init__()
+        self.last: dict[int, bytes] = {}
+
+    def hears(self, port: int, frame: bytes) -> Iterable[bytes]:
+        same = is_lacpdu(frame) and self.last.get(port) == frame and self.on.receive_state(port) is ReceiveState.CURRENT
+        if is_lacpdu(frame):
+            self.last[port] = frame
+        if not same:
+            yield frame
+
+
 class ReturnsSlowly(Device):
     """Begins anew where a partner comes back in EXPIRED."""
 

@@ -12,7 +12,7 @@ from typing import Iterable, Iterator, Type
 
 import pytest
 from conform_device import Device, World, put
-from conform_faults import CutOff, KeyUnchecked, NoNtt, PartnerLength, WrongEcho
+from conform_faults import CutOff, KeyUnchecked, NoNtt, PartnerLength, RestartsOnChange, WrongEcho
 from conform_frames import OtherId, VersionChecked
 
 from lagconform import causes, command, floods, matrix
@@ -71,6 +71,22 @@ def test_a_flood_is_told_and_ends_the_run(bench, kind: Type[Device]) -> None:  #
     assert not any(it.verdict == FAIL for it in results)
     told = [it for it in results if "is flooded" in it.why]
     assert told and "frames beyond 1000 a second, as one of subtype 1 from" in told[-1].why and "The usual causes: a loop" in told[-1].why
+
+
+def test_a_fail_beside_the_traffic_of_others_stays_and_tells_of_it() -> None:
+    class Busy(World):
+        def received(self, link: int) -> int:
+            return int(self.clock * 20000)
+
+    device = KeyUnchecked()
+    world = Busy(device)
+    b = Bench(world, world)
+    meet(b)
+    fails, passes = (run_times(b, BY_NAME[it], None, 1) for it in ("RX-07c", "FM-01"))
+    assert fails.verdict == FAIL and "has to be at most 0.65 s. Beside it, link 1 (link1) is flooded: 20000 frames came a second" in fails.why
+    assert passes.verdict == PASS and not fails.stuck
+    b.close()
+    device.stop()
 
 
 def test_a_device_that_answers_all_of_a_storm_is_no_flood() -> None:
@@ -208,6 +224,14 @@ def test_fails_that_are_late_by_one_number_have_one_cause(bench) -> None:  # typ
     assert [it.name for it in found] == ["late"] and len(found[0].explains) > 25
 
 
+def test_a_device_that_does_not_stay_up_has_one_cause(bench) -> None:  # type: ignore[no-untyped-def]
+    b, results = bench(RestartsOnChange), list[Result]()
+    meet(b)
+    run_all(b, ordered(it for it in TESTS if not it.is_long and it.links == 1), results.append)
+    found = causes.grouped(results)
+    assert [it.name for it in found] == ["RX-04"] and len(found[0].explains) > 10, [it.text for it in found]
+
+
 @pytest.mark.parametrize("kind, root, others", [(OtherId, "MK-02", ["EN-03"]), (VersionChecked, "VN-02", ["VN-03"])])
 def test_the_cause_is_the_fault(bench, kind: Type[Device], root: str, others: list[str]) -> None:  # type: ignore[no-untyped-def]
     b, results = bench(kind), list[Result]()
@@ -229,6 +253,17 @@ def test_a_stack_that_is_none_is_refused(words: list[str], why: str, capsys: pyt
     assert command.main(words) == 2 and why in capsys.readouterr().err
     (tmp_path / "empty.py").write_text("Device = 7\n")
     assert command.main(["--memory", "empty.py"]) == 2 and "no class Device below lagconform.memory.Stack" in capsys.readouterr().err
+
+
+def test_a_stack_that_raises_ends_the_run_with_its_trace(tmp_path: Path, monkeypatch: pytest.MonkeyPatch, capsys: pytest.CaptureFixture[str]) -> None:
+    monkeypatch.chdir(tmp_path)
+    text = "from conform_device import Device as Right\n\nclass Device(Right):\n    def ticked(self):\n        if self.now > SECONDS:\n            raise ValueError('no partner')\n"
+    for seconds in 0, 8:
+        (tmp_path / "device.py").write_text(text.replace("SECONDS", str(seconds)))
+        assert command.main(["--memory", "device.py", "--only", "FM-*", "--json", "r.json"]) == 2
+        told = capsys.readouterr().err
+        assert "the stack broke by ValueError" in told and "no partner" in told and "in ticked" in told
+    assert json.loads((tmp_path / "r.json").read_text())["counts"]["pass"] >= 1
 
 
 @pytest.mark.skipif(not EXAMPLES.exists(), reason="no examples")

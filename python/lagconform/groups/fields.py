@@ -153,7 +153,7 @@ def echoed_bits(b: Bench) -> None:
 
 
 @group.test("08", "6.4.2.3", "Timeout and Aggregation are told, and stay", "take LACPDUs",
-            rule="Activity, Timeout and Aggregation stay; Defaulted and Expired are 0 beside a right partner", takes=3.5)  # fmt: skip
+            rule="Activity, Timeout and Aggregation stay; Defaulted and Expired are 0 beside a right partner", takes=3.5, causes=("RX-04",))  # fmt: skip
 def steady_bits(b: Bench) -> None:
     """Beside a right partner, Defaulted and Expired are 0, and Activity, Timeout and Aggregation stay."""
     b.still_up()

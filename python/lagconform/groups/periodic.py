@@ -34,7 +34,7 @@ def calm(b: Bench, short: bool) -> None:
 
 
 @group.test("01", "6.4.13, 6.4.4", "Short timeouts: one LACPDU each second", "carry, and ask for short timeouts", "take LACPDUs for 8 s",
-            rule="each gap is 1 s", tolerance="timers 0.25 s", takes=13.5)  # fmt: skip
+            rule="each gap is 1 s", tolerance="timers 0.25 s", takes=13.5, causes=("RX-04",))  # fmt: skip
 def fast(b: Bench) -> None:
     """A partner that asks for short timeouts gets an LACPDU each Fast_Periodic_Time."""
     calm(b, True)

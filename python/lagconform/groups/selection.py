@@ -94,7 +94,7 @@ def apart_by_broadcasts(b: Bench, frames: Sequence[Frame], why: str) -> None:
 
 @group.test("01", "6.4.14, 6.3.7", "Two links of one partner aggregate", "be one partner with one key on both links",
             rule="both carry, and stay so for 4 s, and no broadcast comes back; on which links data comes is told alone: the distribution is the "
-            "device's own", links=2, takes=8.5, hooks=DATA)  # fmt: skip
+            "device's own", links=2, takes=8.5, hooks=DATA, causes=("SL-02",))  # fmt: skip
 def aggregates(b: Bench) -> None:
     """Links of one LAG ID share an aggregator."""
     b.up(1, 2)
