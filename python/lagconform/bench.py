@@ -237,8 +237,10 @@ class Bench:
         """Where the device names our system, and tells another of our parameters wrong: tests go on without that one."""
         for link in links:
             told, own = self.device(link).partner, self.partner(link).me.info
-            if told.system.mac == own.system.mac:
-                self.mistold.update(it for it in SIX if it != "system" and value(told, it) != value(own, it))
+            wrong = {it for it in SIX if it != "system" and value(told, it) != value(own, it)} - self.mistold
+            if told.system.mac == own.system.mac and wrong:
+                self.mistold |= wrong
+                self.note(f"the device tells our {', '.join(sorted(wrong))} wrong (FM-06): tests go by the other parameters from here on")
 
     def stands(self, link: int) -> str:
         """What the device told last on a link, where that is not what it should be."""
