@@ -10,8 +10,8 @@ from niwhopera import Lacpdu, Mac, MarkerKind, State
 
 from .floods import Meter
 from .model import Claim, Frame, NotHere, Result, Stop, Stuck
-from .partner import Partner, slow
-from .pdus import CARRIES, COUNT_AT, DATA, PAYLOAD, SENDERS, SIX, SLOW, end, read, told, value
+from .partner import PLACES, Partner, slow
+from .pdus import CARRIES, COUNT_AT, DATA, PAYLOAD, SENDERS, SLOW, end, read, told, value
 from .wires import Answer, Hook, Wire
 
 # 6.4.4: each timer may be wrong by so much. What is due at once has to be seen so soon: the standard has no number for that, but its
@@ -237,7 +237,7 @@ class Bench:
         """Where the device names our system, and tells another of our parameters wrong: tests go on without that one."""
         for link in links:
             told, own = self.device(link).partner, self.partner(link).me.info
-            wrong = {it for it in SIX if it != "system" and value(told, it) != value(own, it)} - self.mistold
+            wrong = {it for it in PLACES if value(told, it) != value(own, it)} - self.mistold
             if told.system.mac == own.system.mac and wrong:
                 self.mistold |= wrong
                 self.note(f"the device tells our {', '.join(sorted(wrong))} wrong (FM-06): tests go by the other parameters from here on")

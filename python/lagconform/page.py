@@ -7,7 +7,7 @@ from typing import Iterable, Sequence, Union
 
 from . import causes, matrix
 from .bench import Bench
-from .model import FAIL, VERDICTS, Frame, Result
+from .model import FAIL, INCONCLUSIVE, VERDICTS, Frame, Result
 from .pdus import SLOW, end, told
 from .refusals import MOST_LINKS
 from .report import Run, summary, why
@@ -163,6 +163,12 @@ def fails(results: Sequence[Result]) -> str:
     return f"<h2>Fails</h2><ol>{''.join(out)}</ol>" if out else ""
 
 
+def unanswered(results: Sequence[Result]) -> str:
+    """What came to no answer."""
+    out = [f"<li>{link_to(it)} {escape(it.test.title)}: {escape(why(it))}</li>" for it in results if it.verdict == INCONCLUSIVE]
+    return f"<h2>Without an answer</h2><ul>{''.join(out)}</ul>" if out else ""
+
+
 def clauses(results: Sequence[Result]) -> str:
     """The matrix of clauses."""
     out = ["<tr><th>clause</th><th>verdict</th><th>tests</th></tr>"]
@@ -186,7 +192,8 @@ def as_html(run: Run, titles: dict[str, str]) -> str:
     device = run.about.get("device", "device")
     head = '<meta charset="utf-8"><meta name="viewport" content="width=device-width, initial-scale=1">'
     out = [f'<!DOCTYPE html><html lang="en">{head}<title>{escape(device)}: LACP and Marker protocol</title><style>{STYLE}</style>', TIP]
-    out += [f"<h1>{escape(device)}</h1><p><b>{summary(run.results)}</b></p>", fails(run.results), rows(run.about.items())]
+    out += [f"<h1>{escape(device)}</h1><p><b>{summary(run.results)}</b></p>", fails(run.results), unanswered(run.results)]
+    out.append(rows(run.about.items()))
     if run.shadow:
         differences = "".join(f"<li>packet {it.frame.number}: {escape(it.what)}</li>" for it in run.shadow.differences[:100])
         out.append(f"<h2>Shadow</h2><p>{escape(run.shadow.text)}. A difference is no fail: the standard may leave it open.</p><ul>{differences}</ul>")

@@ -196,8 +196,9 @@ class Partner:
         learn what a test changed."""
         if octets[PAYLOAD : PAYLOAD + 1] != b"\1" or len(octets) <= PARTNER_STATE:
             return octets
-        if self.bench.mistold and octets[PARTNER + 2 : PARTNER + 8] == self.me.system.mac:
-            octets = put(octets, PARTNER, named(self.me.info) + octets[PARTNER_STATE : PARTNER_STATE + 1])
+        if octets[PARTNER + 2 : PARTNER + 8] == self.me.system.mac:
+            for at in (PLACES[it] for it in self.bench.mistold):
+                octets = put(octets, PARTNER + at.start, named(self.me.info)[at])
         own, mask = self.system.state(self.me.port.number), sum(self.forced, NO_STATE)
         return put(octets, PARTNER_STATE, bytes([int(octets[PARTNER_STATE] & ~mask | own & mask)]))
 
@@ -209,6 +210,10 @@ class Partner:
     def tells_carrying(self) -> bool:
         """Whether it told that it collects and distributes."""
         return self.told is not None and self.told.actor.state & CARRIES == CARRIES
+
+
+# Where an LACPDU has each of the parameters of an end but its system, from the begin of that end on.
+PLACES = {"priority": slice(0, 2), "key": slice(8, 10), "port_priority": slice(10, 12), "port": slice(12, 14)}
 
 
 def named(info: Info) -> bytes:

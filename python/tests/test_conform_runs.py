@@ -7,6 +7,7 @@ import os
 import shutil
 import subprocess
 import xml.etree.ElementTree as xml
+from dataclasses import replace
 from pathlib import Path
 from typing import Iterable, Iterator, Type
 
@@ -279,3 +280,13 @@ def test_the_example_in_c_passes_all(tmp_path: Path, capsys: pytest.CaptureFixtu
     subprocess.run([*line, os.environ["NIWHOPERA_LIBRARY"]], check=True)
     assert command.main(["--memory", made, "--strict"]) == 0
     assert " pass, 0 fail\n" in capsys.readouterr().out
+
+
+def test_what_is_looked_past_is_that_one_parameter(bench) -> None:  # type: ignore[no-untyped-def]
+    b = bench(WrongEcho)
+    meet(b)
+    found = run_times(b, BY_NAME["FM-07"], None, 1)
+    assert found.verdict == PASS and b.mistold == {"port_priority"}, found.why
+    assert found.notes == ["the device tells our port_priority wrong (FM-06): tests go by the other parameters from here on"]
+    partner, pdu = b.partner(), b.device()
+    assert partner.is_named_by(pdu) and not partner.is_named_by(replace(pdu, partner=replace(pdu.partner, key=7)))
