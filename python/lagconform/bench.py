@@ -58,6 +58,8 @@ class Bench:
         # when one went out last.
         self.spreads = self.floods = self.answers = False
         self.marked = -9.0
+        # What flooded a link in a test before, so that not all of its frames were kept.
+        self.flood = ""
         # Which of our six parameters the device tells wrong, by the tests before: the others go by the rest.
         self.mistold: set[str] = set()
 

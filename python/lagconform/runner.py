@@ -112,7 +112,10 @@ def run_one(b: Bench, test: Test, claimed: Optional[Mapping[str, bool]] = None) 
         result.verdict, result.why, result.gone = INCONCLUSIVE, str(why), str(why)
     except Exception:  # a fault of the bench
         result.verdict, result.why = INCONCLUSIVE, f"the bench has a fault: {traceback.format_exc(limit=-2)}"
-    judge(b, result, traffic.flood())
+    flood = traffic.flood()
+    b.flood = flood.text if flood.hides else b.flood
+    # What looks at all frames of the run lacks those that a flood hid in any test.
+    judge(b, result, Flood(b.flood, True) if test.group == WHOLE_RUN and b.flood else flood)
     for link in b.links.values():
         if test.group != "TX":
             link.partner.right()
@@ -165,6 +168,8 @@ class CameToNothing(Exception):
     """Tests in turn came to nothing for one reason; the text says which."""
 
 
+# The group of tests that look at all frames of the run.
+WHOLE_RUN = "IV"
 # After so many tests in turn that can't begin, or in a flood, a run ends: each of them takes 9 s and more.
 IN_TURN = 5
 
@@ -173,16 +178,21 @@ def run_all(
     b: Bench, tests: Iterable[Test], say: Callable[[Result], None], claimed: Optional[Mapping[str, bool]] = None, goes_on: bool = False, repeat: int = 1
 ) -> list[Result]:  # fmt: skip
     """Runs tests in order; `say` gets each result. Where an interface is gone, no other test is run; nor, unless it `goes_on`, behind IN_TURN that
-    came to nothing."""
+    came to nothing, but for those that look at all frames of the run."""
     results: list[Result] = []
+    ends = ""
     for test in tests:
+        if ends and test.group != WHOLE_RUN:
+            continue
         results.append(run_times(b, test, claimed, repeat))
         say(results[-1])
         if results[-1].gone:
             raise Gone(results[-1].gone)
         last = results[-IN_TURN:]
-        if not goes_on and len(last) == IN_TURN and all(it.stuck for it in last):
-            raise CameToNothing(f"{IN_TURN} tests in turn came to nothing, and others would not go better (--keep-going runs them): {last[-1].why}")
+        if not goes_on and not ends and len(last) == IN_TURN and all(it.stuck for it in last):
+            ends = f"{IN_TURN} tests in turn came to nothing, and others would not go better (--keep-going runs them): {last[-1].why}"
+    if ends:
+        raise CameToNothing(ends)
     return results
 
 
@@ -204,4 +214,4 @@ def run_times(b: Bench, test: Test, claimed: Optional[Mapping[str, bool]], repea
 
 def ordered(tests: Iterable[Test]) -> list[Test]:
     """Tests of one link, those of two, and what looks at all frames."""
-    return sorted(tests, key=lambda it: (it.group == "IV", it.links))
+    return sorted(tests, key=lambda it: (it.group == WHOLE_RUN, it.links))

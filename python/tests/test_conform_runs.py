@@ -74,6 +74,22 @@ def test_a_flood_is_told_and_ends_the_run(bench, kind: Type[Device]) -> None:  #
     assert told and "frames beyond 1000 a second, as one of subtype 1 from" in told[-1].why and "The usual causes: a loop" in told[-1].why
 
 
+class BesideAShortLoop(BesideALoop):
+    """The loop ends after some seconds."""
+
+    def ticked(self) -> None:
+        if self.now < 12:
+            super().ticked()
+
+
+def test_what_looks_at_all_frames_takes_none_of_a_flood_for_the_device(bench) -> None:  # type: ignore[no-untyped-def]
+    b, results = bench(BesideAShortLoop), list[Result]()
+    meet(b)
+    run_all(b, [BY_NAME[it] for it in ("FM-01", "RX-04", "FM-02", "IV-03", "IV-05")], results.append)
+    assert b.now() > 14 and [it.verdict for it in results[-3:]] == [PASS, INCONCLUSIVE, INCONCLUSIVE], [it.why for it in results]
+    assert "is flooded" in results[-1].why and not [it.test.id for it in results if it.verdict == FAIL]
+
+
 def test_a_fail_beside_the_traffic_of_others_stays_and_tells_of_it() -> None:
     class Busy(World):
         def received(self, link: int) -> int:
@@ -121,13 +137,13 @@ def run(monkeypatch: pytest.MonkeyPatch, tmp_path: Path) -> object:
     return play
 
 
-@pytest.mark.parametrize("kind, fails", [(CutOff, ["FM-02", "FM-03", "FM-06"]), (PartnerLength, ["FM-03", "FM-06"])])
+@pytest.mark.parametrize("kind, fails", [(CutOff, ["FM-02", "FM-03", "FM-06", "IV-03"]), (PartnerLength, ["FM-03", "FM-06", "IV-03"])])
 def test_lacpdus_that_can_not_be_read_get_a_report(run, kind: Type[Device], fails: list[str], capsys: pytest.CaptureFixture[str], tmp_path: Path) -> None:  # type: ignore[no-untyped-def]
     assert run(kind, "--json", "r.json", "--junit", "r.xml") == 1
     told = json.loads((tmp_path / "r.json").read_text())
     assert [it["id"] for it in told["tests"] if it["verdict"] == "fail"] == fails
     assert "5 tests in turn came to nothing" in told["about"]["incomplete"] and "is no LACPDU" in capsys.readouterr().err
-    assert len(told["tests"]) < 15 and xml.parse(tmp_path / "r.xml").getroot().get("failures") == str(len(fails))
+    assert len(told["tests"]) < 20 and [it for it in told["causes"] if it not in ("FM-02", "FM-03")] == [] and xml.parse(tmp_path / "r.xml").getroot().get("failures") == str(len(fails))
 
 
 def test_a_late_bench_excuses_no_count_of_lacpdus(bench) -> None:  # type: ignore[no-untyped-def]
