@@ -52,6 +52,8 @@ class Bench:
         self.events: list[tuple[float, tuple[str, ...]]] = []
         # What the bench itself did wrong in a test: how late it was, and how many frames its links refused.
         self.late, self.refused = 0.0, 0
+        # How late it was at most in all tests before.
+        self.latest = 0.0
         self.links = {number: Link(self, number, name) for number, name in enumerate(wire.names, 1)}
         self.result: Optional[Result] = None
         # Whether data of one aggregator was seen on both links, and whether broadcasts came out of another link; whether a marker was answered, and

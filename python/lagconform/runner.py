@@ -130,7 +130,8 @@ def judge(b: Bench, result: Result, flood: Flood = Flood()) -> None:
         result.verdict, result.why = FAIL, failed[0].text
     elif result.verdict == PASS and not result.claims:
         result.verdict, result.why = INCONCLUSIVE, "nothing was claimed"
-    result.last, result.end, result.late = len(b.frames), b.now(), b.late
+    b.latest = max(b.latest, b.late)
+    result.last, result.end, result.late = len(b.frames), b.now(), b.latest if result.test.group == WHOLE_RUN else b.late
     if flood.text:
         result.stuck = result.stuck or flood.hides
         result.notes.append(flood.text)

@@ -148,11 +148,19 @@ def test_lacpdus_that_can_not_be_read_get_a_report(run, kind: Type[Device], fail
 
 def test_a_late_bench_excuses_no_count_of_lacpdus(bench) -> None:  # type: ignore[no-untyped-def]
     b = bench(Device)
-    for bears, late, verdict in (SURE, 0.3, FAIL), (1.0, 0.3, FAIL), (1.0, 1.3, INCONCLUSIVE), (0.0, 0.3, INCONCLUSIVE):
+    for bears, late, verdict in (SURE, 0.3, FAIL), (SURE, 1.3, INCONCLUSIVE), (0.0, 0.3, INCONCLUSIVE):
         found = Result(BY_NAME["TX-01"], claims=[Claim(False, "19 LACPDUs within one second", (), bears)])
         b.late = late
         judge(b, found)
         assert found.verdict == verdict and ("too busy" in found.why) == (verdict == INCONCLUSIVE), (bears, late)
+    of_all = Result(BY_NAME["IV-05"], claims=[Claim(False, "four LACPDUs", (), SURE)])
+    b.late = 0.0
+    judge(b, of_all)
+    assert of_all.verdict == INCONCLUSIVE and "the bench was 1.30 s late" in of_all.why
+    b.latest = 0.9
+    of_all = Result(BY_NAME["IV-05"], claims=[Claim(False, "four LACPDUs", (), SURE)])
+    judge(b, of_all)
+    assert of_all.verdict == FAIL and of_all.why == "four LACPDUs"
     flooded = Result(BY_NAME["TX-01"], claims=[Claim(False, "19 LACPDUs within one second", (), SURE)])
     b.late = 0.0
     judge(b, flooded, Flood("link 1 is flooded", True))

@@ -75,7 +75,7 @@ def known(b: Bench) -> None:
             sent[frame.link].add(told_of(b, pdu.actor))
         elif pdu and pdu.partner.system.mac[:2] == OURS and told_of(b, pdu.partner) not in sent[frame.link]:
             wrong.append(frame)
-    b.claim(not wrong, f"{len(wrong)} LACPDUs tell a partner that was never there; has to be none", *wrong[:3])
+    b.claim(not wrong, f"{len(wrong)} LACPDUs tell a partner that was never there; has to be none", *wrong[:3], bears=SURE)
 
 
 def told_of(b: Bench, info: Info) -> Told:
