@@ -11,7 +11,7 @@ import ctypes
 import runpy
 import traceback
 from collections import deque
-from contextlib import contextmanager
+from contextlib import contextmanager, suppress
 from typing import Any, Deque, Iterator, Optional, Sequence
 
 from niwhopera import Mac
@@ -158,7 +158,9 @@ class World:
         return self.counts[link]
 
     def close(self) -> None:
-        """Nothing is to be given back."""
+        """Ends the stack, if it can."""
+        with suppress(Exception):
+            self.device.stop()
 
     def wait(self, seconds: float) -> list[Arrival]:
         """Moves the clock to the next frame, or so far."""
