@@ -45,6 +45,14 @@ def test_a_way_goes_through_public_functions_of_lower_crates() -> None:
     assert calls.hops(["lagd:serve", "low:hidden"]) == "-"
 
 
+def test_the_c_library_is_its_crate_and_all_below_it() -> None:
+    assert measure.crates_of_library({"lagffi": ["high"], "high": ["low", "std_alloc"], "low": [], "other": ["low"]}) == {"lagffi", "high", "low"}
+
+
+def test_empty_lines_are_left_out() -> None:
+    assert measure.filled(["a\n\n b\n", "\t\nc"]) == 3
+
+
 def test_edits_and_changes_are_not_touched() -> None:
     files = {"docs/A.md": "`is_new`", "python/niwhopera/_numbers.py": "is_new", "CHANGELOG.md": "is_new", "crates/a/must-fail/b.edit": "is_new"}
     assert measure.counted(measure.touched(files, r"\bis_new\b")) == "2 / 1"
