@@ -13,7 +13,7 @@ from repository import TOP, Missing
 PARTS = os.path.join(TOP, "page")
 # The modules in the order in which each has what it imports.
 SCRIPTS = (
-    "module records shapes packets fields octets timeline viewing saving capture script report diagram playing payload page"
+    "module records causes summary shapes packets files fields octets timeline viewing saving capture script report diagram playing payload page"
 ).split()
 EXAMPLES = os.path.join(TOP, "examples")
 EXAMPLE = os.path.join(EXAMPLES, "captures", "unequal-keys.pcapng")
@@ -38,7 +38,7 @@ def joined() -> str:
             unknown = [it for it in names.split(", ") if it not in known]
             if unknown or source.removesuffix(".js") not in SCRIPTS[: SCRIPTS.index(name)]:
                 raise Missing(f"page/{name}.js imports {', '.join(unknown) or source}, and no module before it has that")
-        known |= set(re.findall(r"^export (?:class|const|function) (\w+)", text, re.M))
+        known |= set(re.findall(r"^export (?:async )?(?:class|const|function\*?) (\w+)", text, re.M))
         texts.append(re.sub(r"^export ", "", IMPORT.sub("", text), flags=re.M))
     return "\n".join(texts)
 
