@@ -140,8 +140,8 @@ function foldedBehind(parts, most, word) {
     return rest.length ? [...parts.slice(0, most), opening(`and ${counted(rest.length, word)} more`, () => rest, false)] : parts;
 }
 
-const placesOf = (item, pairOf) => foldedBehind(item.findings.map((it) => placeIn(it, pairOf(it))), MOST_PLACES, "place");
-const ruleIn = ({ rule, clause }) => made("span", ` (rule ${rule}, ${clause})`, "quiet rule");
+const placesOf = ({ findings = [] }, pairOf) => foldedBehind(findings.map((it) => placeIn(it, pairOf(it))), MOST_PLACES, "place");
+const ruleIn = ({ rule, clause }) => rule ? [made("span", ` (rule ${rule}, ${clause})`, "quiet rule")] : [];
 
 /* What follows from a cause, folded: what, how often, and where. */
 function effectsOf({ effects }, pairOf) {
@@ -152,14 +152,14 @@ function effectsOf({ effects }, pairOf) {
 
 function headOf(title, item) {
     const head = made("strong", title);
-    head.append(ruleIn(item));
+    head.append(...ruleIn(item));
     return head;
 }
 
 /* A cause: what, what to do, what is seen, where it shows, and what follows from it. */
-function itemOf(item, pairOf) {
+export function causeItem(item, pairOf) {
     const it = made("li"), title = item.kind === FAULT ? upper(item.title) : `${upper(item.kind)}: ${item.title}`;
-    const said = foldedBehind(item.lines.map((line) => made("strong", line)), MOST_SAID, "line");
+    const said = foldedBehind(item.lines.map((line, number) => made("span", line, number ? "line" : "line first")), MOST_SAID, "line");
     it.append(headOf(title, item), made("span", item.unexplained ? `${item.advice} ${item.unexplained}` : item.advice), ...said);
     it.append(...placesOf(item, pairOf), ...effectsOf(item, pairOf));
     return it;
@@ -174,7 +174,7 @@ function lineIn(line) {
     return it;
 }
 
-function linesIn(lines) {
+export function lineItems(lines) {
     const parts = lines.map(lineIn), list = made("li");
     if (parts.length <= MOST_LINES) return parts;
     const inside = made("ul");
@@ -188,8 +188,8 @@ export function showRecords(records, blob, at) {
     const packets = new Packets(blob), bundles = bundlesOf(records), causes = causesOf(records, bundles), lines = linesOf(records, bundles);
     const pairs = bundles.map((it, number) => new Pair(it, { packets, records }, number === 0));
     const pairOf = (finding) => pairs.find((it) => it.bundle.findings.includes(finding));
-    at.lines.replaceChildren(...linesIn(lines));
-    at.findings.replaceChildren(...causes.map((it) => itemOf(it, pairOf)));
+    at.lines.replaceChildren(...lineItems(lines));
+    at.findings.replaceChildren(...causes.map((it) => causeItem(it, pairOf)));
     at.links.replaceChildren(...pairs.map((it) => it.part));
     return { pairs, lines, causes };
 }

@@ -8,6 +8,8 @@ import { lookedAt, merged } from "./files.js";
 import { picturesOf, showRecords } from "./capture.js";
 import { Playing } from "./playing.js";
 import { digitsOf, Payload } from "./payload.js";
+import { Texts } from "./pasting.js";
+import { statusIn } from "./status.js";
 import { offer, textOfReport } from "./saving.js";
 import { byId } from "./shapes.js";
 
@@ -53,7 +55,7 @@ function put(name, verdict, look, said) {
     byId("shown").hidden = false;
 }
 
-function clear(name) {
+function clear(name, hasFocus = true) {
     now.job?.stop();
     window.shown = null;
     for (const it of ["lines", "findings"]) byId(it).replaceChildren();
@@ -62,7 +64,8 @@ function clear(name) {
     byId("counts").textContent = byId("lasts").textContent = byId("undrawn-frames").textContent = "";
     byId("text").textContent = byId("copied").textContent = "";
     put(name, "It is being read.", "good", "");
-    byId("name").focus();
+    byId("printed").hidden = byId("report").hidden = false;
+    if (hasFocus) byId("name").focus();
 }
 
 /* Runs one job over a file; shows how far it is where that takes long. */
@@ -171,34 +174,46 @@ function saveReport() {
     offer("report.html", "text/html", textOfReport(title, byId("shown"), pictures, byId("closing").innerHTML));
 }
 
-/* What a file is: a capture, unless it is a text that is a payload or reads like a script. */
+/* What a file is: a capture, unless it is a text that is a status or a payload, or reads like a script. */
 async function kindOf(file) {
     if (file.size > MOST_TEXT) return { kind: "capture" };
     const octets = new Uint8Array(await file.arrayBuffer());
     if (octets.includes(0)) return { kind: "capture" };
     const text = new TextDecoder().decode(octets);
     if (/^\s*\[\[\s*system|^\s*events\s*=/m.test(text) || file.name.endsWith(".toml")) return { kind: "script", text };
-    return { kind: /^([0-9a-f]{2})+$/i.test(digitsOf(text)) ? "payload" : "capture", text };
+    if (/^([0-9a-f]{2})+$/i.test(digitsOf(text))) return { kind: "payload", text };
+    return { kind: statusIn(text) ? "status" : text.trim() && !/[\u0001-\u0008\ufffd]/.test(text) ? "text" : "capture", text };
 }
 
 function listen(lagtool) {
     const playing = new Playing(lagtool, JSON.parse(byId("example-scripts").textContent)), payload = new Payload(lagtool), drop = byId("drop");
-    /* Captures together; of what else is given the last of each kind. */
+    const texts = new Texts(lagtool, (name) => {
+        clear(name, false);
+        byId("printed").hidden = byId("report").hidden = true;
+        return ([verdict, look], said) => {
+            put(name, verdict, look, said);
+            window.shown = { name, status: look === "good" ? 0 : 1, printed: "", said };
+        };
+    });
+    /* Captures together, and texts of a status; of what else is given the last of each kind. */
     const take = async (files) => {
-        const captures = [], name = files.map((it) => it.name).join(", ");
+        const name = files.map((it) => it.name).join(", "), captures = [], said = [];
         try {
             for (const file of files) {
                 const { kind, text } = await kindOf(file);
                 if (kind === "capture") captures.push(file);
-                else (kind === "script" ? playing : payload).load(text);
-                if (kind !== "capture") byId(kind === "script" ? "scripts" : "payloads").scrollIntoView();
+                else if (kind === "status" || kind === "text") said.push(text);
+                else take[kind](text);
             }
         } catch (error) {
             clear(name);
             return refuse(name, error);
         }
-        return captures.length ? show(lagtool, captures.map((it) => it.name).join(", "), captures) : undefined;
+        if (captures.length) return show(lagtool, captures.map((it) => it.name).join(", "), captures);
+        return said.length ? texts.load(said) : undefined;
     };
+    const loaded = (part, id) => (text) => { part.load(text); byId(id).scrollIntoView(); };
+    Object.assign(take, { script: loaded(playing, "scripts"), payload: loaded(payload, "payloads") });
     const isOver = (over) => (event) => { event.preventDefault(); drop.classList.toggle("over", over); };
     addEventListener("dragover", isOver(true));
     addEventListener("dragleave", isOver(false));
