@@ -54,7 +54,7 @@ function matchings(ones, others) {
 
 /* The links of a group that lead astray, where both ends have several keys: those outside the groups that most links make, one to one. Where
  * two such ways are as good, `other` has those of the second. */
-function astrayIn(group) {
+export function astrayIn(group) {
     const [ones, others] = [0, 1].map((way) => distinct(group.map(({ keys }) => keys[way])).slice(0, 5));
     const counts = matchings(ones, others).map((pairs) => ({ pairs, links: group.filter(({ keys }) => !pairs.includes(pairOf(keys))) }));
     counts.sort((one, other) => one.links.length - other.links.length);
@@ -62,13 +62,17 @@ function astrayIn(group) {
     return { astray: best.links, other: isTied ? second.links : [] };
 }
 
-/* What a link is called: the interface that it was captured on, else its ends. */
-export function linkName(link) {
-    const [label] = link.ends.filter(Boolean).map((it) => it.label);
-    return label || link.ends.filter(Boolean).map((it) => it.short).join(" - ");
+/* What a link is called among those of two systems: the interface that it was captured on, else its ports. */
+function linkName(link) {
+    const ends = link.ends.filter(Boolean), [{ label }] = ends;
+    return label || `${ends.length > 1 ? "ports" : "port"} ${ends.map((it) => it.port).join("-")}`;
 }
 
-const listOf = (links) => links.map(({ link }) => linkName(link)).join(", ");
+/* Several as one text: with commas, and the word before the last. */
+export const joinedBy = (list) => list.length > 1 ? `${list.slice(0, -1).join(", ")} and ${list.at(-1)}` : list.join("");
+const byNumber = (list) => [...list].sort((one, other) => one - other);
+
+const listOf = (links) => joinedBy(links.map(({ link }) => linkName(link)));
 
 /* Two links whose keys are each other's: with the far ends swapped both lead right. */
 function swapped(links) {
@@ -81,9 +85,9 @@ function ofKeys(group, systems) {
     const [ones, others] = [0, 1].map((way) => distinct(group.map(({ keys }) => keys[way])));
     if (ones.length > 1 && others.length > 1) return ofCables(group, systems, ones, others);
     const way = ones.length > 1 ? 0 : 1, keys = way ? others : ones, who = addressOf(systems[way]);
-    const each = keys.map((key) => `key ${key}: ${listOf(group.filter((it) => it.keys[way] === key))}`);
+    const each = byNumber(keys).map((key) => `key ${key}: ${listOf(group.filter((it) => it.keys[way] === key))}`);
     return {
-        lines: [`${who} has keys ${keys.sort((one, other) => one - other).join(" and ")}, where ${addressOf(systems[1 - way])} has ${(way ? ones : others)[0]}`, ...each],
+        lines: [`${who} has keys ${joinedBy(byNumber(keys))}, where ${addressOf(systems[1 - way])} has ${(way ? ones : others)[0]}`, ...each],
         advice: `Give the ports of ${who} on these links one key: put them into one group (switch: same channel-group; bonding: it follows speed, duplex, `
             + "ad_user_port_key; Open vSwitch: one bond; teamd: lacp_key). If they are to be two bundles, give the other end two groups as well.",
     };
@@ -96,7 +100,7 @@ function ofCables(group, systems, ones, others) {
     const which = astray.length ? `${listOf(astray)}${other.length ? `, or ${listOf(other)},` : ""} ${astray.length === 1 ? "leads" : "lead"} astray` : "";
     return {
         title: "cables of two bundles are crossed, or a port is in the group of another link",
-        lines: [`${addressOf(systems[0])} has the keys ${ones.join(", ")}, ${addressOf(systems[1])} ${others.join(", ")}: ${which}`, ...each],
+        lines: [`${addressOf(systems[0])} has keys ${joinedBy(byNumber(ones))}, ${addressOf(systems[1])} ${joinedBy(byNumber(others))}: ${which}`, ...each],
         advice: swaps ? `${swaps[0].toUpperCase()}${swaps.slice(1)}; or put the ports there into each other's groups. Leave the other links as they are.`
             : `Look where ${listOf(astray)} ends: it joins a group to one that is another bundle's. Move its far end to a port of the right group, or put that port there.`,
     };
@@ -143,7 +147,7 @@ function ofSteps(finding, { records }) {
 
 const ofUnheard = ({ at }, { link }) => {
     const other = link.ends.find((it) => it && it !== at);
-    return { advice: other ? `LACPDUs of ${other.short} are in this capture, and do not reach ${at.short}: look at its receiver, a filter there, or a device between.`
+    return { title: "an end hears nobody for longer than 6 seconds", advice: other ? `LACPDUs of ${other.short} are in this capture, and do not reach ${at.short}: look at its receiver, a filter there, or a device between.`
         : "No LACPDU of its partner is in this capture: set LACP on there (switch: mode active, not on; bonding: mode=802.3ad), or look at the path to here." };
 };
 
@@ -189,6 +193,12 @@ class Item {
     get whole() { return [...this.findings, ...this.effects.flatMap((it) => it.findings)]; }
 }
 
+/* Whether an end that hears nobody now has heard the other one, which never heard it: then that one's is the cause. */
+function isDeafFirst({ rule, at }, { ends }) {
+    const other = ends.find((it) => it && it !== at);
+    return rule === 12 && other?.last && !other.hasHeard && at.hasHeard;
+}
+
 /* Looks at what is found, link by link. */
 class Looking {
     constructor(records, bundles) {
@@ -206,7 +216,7 @@ class Looking {
      * its interface. */
     follows(finding, faults) {
         const { bundle, link } = this.at(finding), isAt = (it) => this.at(it).link === link;
-        if (this.isOfStranger(finding)) return true;
+        if (this.isOfStranger(finding) || isDeafFirst(finding, link)) return true;
         if (UNHEARD.includes(finding.rule)) {
             const isSame = (it) => isAt(it) || (it.at.interface === finding.at.interface && !bundle.systems.every(isKnown));
             return faults.some((it) => it.rule !== 1 && isSame(it)) || (finding.rule === 23 && link.findings.some((it) => it.rule === 12));

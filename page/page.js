@@ -170,6 +170,8 @@ async function copy() {
 }
 
 function saveReport() {
+    /* What is folded is made, and what is folded in it. */
+    for (const depth of ["", " details"]) for (const it of document.querySelectorAll(`:is(#findings, #lines) details${depth}`)) it.fill();
     const pictures = picturesOf(now.pairs), title = `${byId("name").textContent}: ${byId("verdict").textContent}`.replace(/[: ]+$/, "");
     offer("report.html", "text/html", textOfReport(title, byId("shown"), pictures, byId("closing").innerHTML));
 }

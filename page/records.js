@@ -56,6 +56,9 @@ export class End {
     /* By its system: what is said of a link is of two systems. */
     get short() { return this.system ? `${addressOf(this.system)} port ${this.port}` : this.name; }
 
+    /* Whether it has named a partner ever. */
+    get hasHeard() { return [...this.partners].some((it) => isKnown(it.split(" ")[0])); }
+
     has(bit) { return this.last !== null && bitsOf(this.last.actor.state).includes(bit); }
 
     take(frame) {

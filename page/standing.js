@@ -36,7 +36,7 @@ function linkFacts({ name, ports }) {
 function silentFacts({ ports }, form) {
     const facts = [], add = (fact, of, title, advice) => { if (of.length) facts.push({ name: fact, ports: of, title, advice }); };
     const silent = ports.filter((it) => it.actor && !it.partner && isLinked(it)), passive = silent.filter((it) => !(it.actor.state & 1));
-    add("passive-unheard", passive, `${namesIn(passive)} is passive and hears nobody`, "Set this end, or the other one, to active.");
+    add("passive-unheard", passive, `passive, and hears nobody: ${namesIn(passive)}`, "Set this end, or the other one, to active.");
     const both = DEFAULTED_BIT | EXPIRED_BIT, loops = form === "bonding" || form === "ip" ? silent.filter((it) => (it.actor.state & both) === both) : [];
     add("never-heard", loops, `no LACPDU was ever accepted on ${namesIn(loops)}`,
         "Linux drops LACPDUs of its own system (dmesg: \"An illegal loopback occurred\"): look for a loop, or for two machines with one system.");
@@ -46,7 +46,7 @@ function silentFacts({ ports }, form) {
 function partnerFacts({ name, ports }) {
     const facts = [], add = (fact, of, title, advice) => { if (of.length) facts.push({ name: fact, ports: of, title, advice }); };
     const heard = ports.filter((it) => it.partner), apart = heard.filter((it) => it.partner.system === null && it.aggregator !== null);
-    add("apart", apart, `${namesIn(apart)} is in another aggregator than the one in use`,
+    add("apart", apart, `another aggregator than the one in use has ${namesIn(apart)}`,
         `Both ends speak there: it has another partner, or another key. As root, cat /proc/net/bonding/${name} names it.`);
     const alike = heard.filter((it) => it.partner.system === it.actor.system && it.partner.priority !== null && it.partner.priority !== it.actor.priority);
     add("own-address", alike, `the partner of ${namesIn(alike)} has this end's MAC address, with another priority`, "Linux drops such LACPDUs: give each system its own address.");
@@ -172,7 +172,7 @@ const FLOW = "One flow has the speed of one link: the hash chooses it.";
 /* The headline, and how it looks. */
 export function headlineOfTexts(texts, lines, causes) {
     const carry = lines.filter(({ how }) => how === CARRIES).length, all = lines.length, [cause] = causes.filter(({ kind }) => kind === FAULT);
-    const head = all ? `${carry} of ${counted(all, "link")} ${carry === 1 || all === 1 ? "carries" : "carry"}. ` : "";
+    const head = all && !lines.some(({ how }) => how === UNKNOWN) ? `${carry} of ${counted(all, "link")} ${carry === 1 || all === 1 ? "carries" : "carry"}. ` : "";
     if (texts.some((it) => it.bundles.some((bundle) => bundle.isCut))) return ["The text is cut: nothing is named. Give all of it, with the line behind it.", "bad"];
     if (cause) return [`${head}${cause.title[0].toUpperCase()}${cause.title.slice(1)}.`, "bad"];
     if (!all) return ["No port of an LACP bundle is in this text.", "bad"];

@@ -1,7 +1,7 @@
 /* What is said before all else: of each link in one line whether it carries, and why not; and a headline. */
 
 import { addressOf, isKnown, isSilent, machinesOf } from "./records.js";
-import { counted, EFFECT, FAULT, keyGroups, linkName, REMARK } from "./causes.js";
+import { astrayIn, counted, EFFECT, FAULT, joinedBy, keyGroups, REMARK } from "./causes.js";
 
 export const CARRIES = "carries";
 export const CARRIES_APART = "carries apart";
@@ -15,13 +15,17 @@ const isUp = ({ ends }) => ends.every((it) => it?.distributes && !it.has("defaul
 /* How the keys of a link differ from those of the other links that share one with it, and carry if any does; nothing where they do not. */
 function ofKeysOf(link, bundle) {
     const group = keyGroups(bundle).find((it) => it.some((one) => one.link === link)), own = group?.find((it) => it.link === link);
-    const others = group?.filter((it) => it !== own) ?? [], up = others.filter((it) => isUp(it.link)), beside = up.length ? up : others;
-    if (isUp(link) && !up.length) return "";
+    const others = group?.filter((it) => it !== own) ?? [], up = others.filter((it) => isUp(it.link));
+    if (!own || (isUp(link) && !up.length)) return "";
+    if ([0, 1].every((way) => new Set(group.map(({ keys }) => keys[way])).size > 1)) {
+        const { astray, other } = astrayIn(group);
+        return [...astray, ...other].includes(own) ? `it joins key ${own.keys[0]} to key ${own.keys[1]}: a cable or a port's group ${other.length ? "may be" : "is"} wrong` : "";
+    }
     const said = (way) => {
-        const keys = [...new Set(beside.map(({ keys: it }) => it[way]))].sort((one, other) => one - other);
-        if (keys.length ? keys.includes(own.keys[way]) : true) return "";
+        const all = [...new Set((up.length ? up : others).map(({ keys }) => keys[way]))].sort((one, other) => one - other), keys = all.filter((it) => it !== own.keys[way]);
+        if (!keys.length || (up.length && all.length > keys.length)) return "";
         const where = up.length ? `the ${up.length === 1 ? "link that carries" : "links that carry"}` : "other links";
-        return `${addressOf(bundle.systems[way])} has key ${own.keys[way]} there, and ${keys.join(" and ")} on ${where}`;
+        return `${addressOf(bundle.systems[way])} has key ${own.keys[way]} there, and ${joinedBy(keys)} on ${where}`;
     };
     return [0, 1].map(said).filter(Boolean).join("; ");
 }
@@ -37,10 +41,11 @@ function ofOneEnd(end, until) {
 
 /* Whether a link with both ends carries, and why not. */
 function ofBothEnds(link, bundle, until) {
-    const { ends } = link, silent = ends.filter((it) => isSilent(it, until)), deaf = ends.filter((it) => it.has("defaulted") || it.has("expired"));
+    const { ends } = link, silent = ends.filter((it) => isSilent(it, until)), lost = ends.filter((it) => it.has("defaulted") || it.has("expired"));
+    const never = lost.filter((it) => !it.hasHeard), deaf = never.length ? never : lost;
     const keys = ofKeysOf(link, bundle);
     if (silent.length === 1) return [IDLE, `${silent[0].short} sends nothing after ${seconds(silent[0].record.last)}`];
-    if (isUp(link)) return keys ? [CARRIES_APART, `both ways, in a group of its own: ${keys}`] : [CARRIES, "both ways"];
+    if (isUp(link)) return keys ? [CARRIES_APART, `both ways: ${keys}`] : [CARRIES, "both ways"];
     if (ends[0].system === ends[1].system) return [IDLE, "both ends have one system: a loop, or a copied identifier"];
     if (ends.every((it) => !it.has("active"))) return [IDLE, "both ends are passive"];
     if (keys && !deaf.length) return [IDLE, keys];
@@ -57,14 +62,15 @@ function ofBothEnds(link, bundle, until) {
 function lineOf(link, bundle, until) {
     const heard = link.ends.filter((it) => it?.last), isWhole = heard.length === 2;
     if (!heard.length) return null;
-    const [how, why] = isWhole ? ofBothEnds(link, bundle, until) : ofOneEnd(heard[0], until), name = linkName(link);
-    const ends = heard.map((it) => it.short).join(" - "), far = isWhole ? "" : isKnown(heard[0].named ?? "") ? ` - ${addressOf(heard[0].named)}` : " - nobody";
-    return { link, name: name === ends ? `${ends}${far}` : `${name} (${ends}${far})`, how, why };
+    const [how, why] = isWhole ? ofBothEnds(link, bundle, until) : ofOneEnd(heard[0], until), [{ label }] = heard;
+    const far = isWhole ? "" : isKnown(heard[0].named ?? "") ? ` - ${addressOf(heard[0].named)}` : " - nobody", ends = `${heard.map((it) => it.short).join(" - ")}${far}`;
+    return { link, port: heard[0].port, name: label ? `${label} (${ends})` : ends, how, why };
 }
 
 /* The lines of all links, those that do not carry first. */
 export function linesOf(records, bundles) {
     const lines = bundles.flatMap((bundle) => bundle.links.map((it) => lineOf(it, bundle, records.lacpdus.last))).filter(Boolean);
+    lines.sort((one, other) => one.port - other.port);
     return [IDLE, CARRIES_APART, UNKNOWN, CARRIES].flatMap((how) => lines.filter((it) => it.how === how));
 }
 
