@@ -2,8 +2,8 @@
 use Rattle.std.proofs.Common.{◌≡◌, ◌∷◌, ◌∙◌, [], ℕ, Bool, List, Option, None, Some, refl, sym, ap, false}
 use Rattle.findings.specs.declared.slow_frame.LinkEnd.{LinkEnd}
 use Rattle.findings.specs.declared.slow_frame.SlowFrame.{SlowFrame}
-use Rattle.findings.specs.Ends.{Relation, Unsent, answers, faces, frames_of, intrudes, is_fellow, is_named, is_sibling, lacpdus, latest, rivals, said, standing}
-use Rattle.findings.specs.Ends.{end_of, same_end, others}
+use Rattle.findings.specs.Ends.{Relation, Unsent, answers, faces, frames_of, intrudes, is_fellow, is_named, is_sibling, lacpdus, latest, rivals, said}
+use Rattle.findings.specs.Ends.{standing, end_of, same_end, others}
 use Rattle.findings.specs.Markers.{first_overdue, open_marker, response_in, unless_answered, asking}
 use Rattle.slowpdu.specs.declared.pdu.Marker.{Marker}
 use Rattle.findings.specs.Responses.{first_response, is_overdue, is_unasked, none_wait, request, responding, waiting}
