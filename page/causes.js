@@ -11,8 +11,9 @@ export const REMARK = "remark";
 const LEADING = [28, 30, 26, 29], FOLLOWING = [12, 13, 17, 22, 23], UNHEARD = [12, 23];
 /* All, in the order in which they are told: whoever explains others comes first, what is usual at a start last. */
 const ORDER = [...LEADING, 15, 10, 9, 7, 5, 14, 18, 11, 12, 16, 2, 3, 4, 23, 25, 24, 20, 19, 21, 22, 17, 13, 1, 27, 6, 8];
-/* So many seconds behind its first LACPDU an end may send faster: it starts. A gap between LACPDUs from so many seconds on is slow. */
-const START = 3, SLOW_GAP = 10;
+/* So many seconds behind its first LACPDU an end may send faster: it starts. A gap between LACPDUs from so many seconds on is slow. Of so many keys
+ * at one end it is looked which cables are crossed. */
+const START = 3, SLOW_GAP = 10, MOST_KEYS = 5;
 /* What is said of effects on links of two systems that have no fault. */
 export const CAUSELESS = "This capture does not show why: ask both ends, and capture all links.";
 const AT_START = [13, "Right after a start rule 13 is normal if both ends distribute later."];
@@ -55,7 +56,8 @@ function matchings(ones, others) {
 /* The links of a group that lead astray, where both ends have several keys: those outside the groups that most links make, one to one. Where
  * two such ways are as good, `other` has those of the second. */
 export function astrayIn(group) {
-    const [ones, others] = [0, 1].map((way) => distinct(group.map(({ keys }) => keys[way])).slice(0, 5));
+    const [ones, others] = [0, 1].map((way) => distinct(group.map(({ keys }) => keys[way])));
+    if (Math.max(ones.length, others.length) > MOST_KEYS) return { astray: [], other: [] };
     const counts = matchings(ones, others).map((pairs) => ({ pairs, links: group.filter(({ keys }) => !pairs.includes(pairOf(keys))) }));
     counts.sort((one, other) => one.links.length - other.links.length);
     const [best, second] = counts, isTied = second && second.links.length === best.links.length;
@@ -101,7 +103,7 @@ function ofCables(group, systems, ones, others) {
     return {
         title: "cables of two bundles are crossed, or a port is in the group of another link",
         lines: [`${addressOf(systems[0])} has keys ${joinedBy(byNumber(ones))}, ${addressOf(systems[1])} ${joinedBy(byNumber(others))}: ${which}`, ...each],
-        advice: swaps ? `${swaps[0].toUpperCase()}${swaps.slice(1)}; or put the ports there into each other's groups. Leave the other links as they are.`
+        advice: !astray.length ? "Compare each cable with the groups of both of its ports." : swaps ? `${swaps[0].toUpperCase()}${swaps.slice(1)}; or put the ports there into each other's groups. Leave the other links as they are.`
             : `Look where ${listOf(astray)} ends: it joins a group to one that is another bundle's. Move its far end to a port of the right group, or put that port there.`,
     };
 }
@@ -151,6 +153,17 @@ const ofUnheard = ({ at }, { link }) => {
         : "No LACPDU of its partner is in this capture: set LACP on there (switch: mode active, not on; bonding: mode=802.3ad), or look at the path to here." };
 };
 
+/* Who loses its partner again and again: the partner sends too seldom, or its frames are lost. */
+const ofRelapse = ({ at }, { link }) => {
+    const other = link.ends.find((it) => it && it !== at), { median } = other?.record ?? {};
+    if (median === undefined || median === null) return {};
+    if (median < SLOW_GAP) return { advice: `${other.short} sends each ${secondsIn(median)}, and not all arrives: look for what loses frames on the way (errors of the link, a filter, a device between).` };
+    return {
+        title: "an end loses its partner again and again, which sends too seldom", lines: [`${other.short} sends each ${secondsIn(median)}`],
+        advice: `Set the rate of ${at.short}, by which it asks, to slow (bonding: lacp_rate; switch: lacp rate), or mend ${other.short}: it does not follow what it is asked for.`,
+    };
+};
+
 const ofOneWay = ({ at }) => ({ advice: isKnown(at.named ?? "")
     ? "It names a partner, so it hears one: the capture has one direction alone. Capture both directions, or at the other end."
     : "It names no partner: look whether LACP runs at the other end (switch: mode active, not on; bonding: mode=802.3ad), and whether the cable leads there." });
@@ -166,7 +179,7 @@ const ofSplit = (finding, { records, bundles }) => {
     return { advice: `${finding.advice}${more}` };
 };
 
-const CASES = new Map([[1, ofRate], [11, ofSilence], [12, ofUnheard], [18, ofOneWay], [28, ofSteps], [29, ofSplit]]);
+const CASES = new Map([[1, ofRate], [11, ofSilence], [12, ofUnheard], [18, ofOneWay], [23, ofRelapse], [28, ofSteps], [29, ofSplit]]);
 
 /* What several packets of one rule say of a system when they are taken together: links to two systems. */
 function systemsIn(findings) {

@@ -10,7 +10,7 @@ const COMMENT = 1, IF_NAME = 2, IF_TSRESOL = 9, IF_TSOFFSET = 14;
 /* Octets of an LACPDU: up to the end of the partner's; all of it. Behind the partner's: the collector's TLV, and the terminator. */
 const BOTH_ENDS = 42, WHOLE = 110, COLLECTOR = [3, 16];
 /* Of one file so much is looked at for names and comments. */
-const MOST_LOOKED = 1 << 26;
+const MOST_LOOKED = 1 << 24;
 
 /* The numbers of an interface of a section. */
 class Interface {

@@ -223,3 +223,11 @@ def crowd(path: str, count: int) -> None:
     """So many ends that send one LACPDU each."""
     partner = Party(2, 7, 1, UP)
     pcap(path, ((number / 1000, frame(struct.pack(">HI", 0x0200, number), lacpdu(Party(1, 7, number, UP), partner))) for number in range(count)))
+
+
+def slow(path: str) -> None:
+    """System 2 sends each 30 s, whatever it is asked for: system 1 loses it behind each."""
+    one, other, lost = Party(1, 7, 1, FAST), Party(2, 8, 1, FAST), Party(1, 7, 1, EXPIRED)
+    packets = [(second + 0.004, frame(other.source(), lacpdu(other, one._replace(state=UP)))) for second in range(0, 100, 30)]
+    packets += [(float(second), frame(one.source(), lacpdu(one if second % 30 < 4 else lost, other))) for second in range(0, 100) if second % 30 < 8]
+    pcap(path, sorted(packets))

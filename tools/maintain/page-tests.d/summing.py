@@ -69,6 +69,8 @@ def of_ends(tests: Tests, browser: Browser, folder: str) -> None:
         "a clock that is set back": (made.set_back, "1 of 1 link carries. The clock was set back while it was captured.", ["The clock was set back while it was captured"], [link(1, up)]),
         "an end that starts anew": (made.restarted, "1 of 1 link carries. An end was silent, and starts anew.",
                                     ["An end was silent, and starts anew", "Remark: a wait of less than 2 seconds before synchronization"], [link(1, up)]),
+        "a partner that sends too seldom": (made.slow, "0 of 1 link carries. An end loses its partner again and again, which sends too seldom.",
+                                            ["An end loses its partner again and again, which sends too seldom"], [link(1, f"does not carry: {SYSTEM}1 port 1 hears nobody")]),
         "unequal keys behind a fast start": (made.burst, "1 of 2 links carries. Keys differ within one pair of systems.", ["Keys differ within one pair of systems", "Remark: more than three LACPDUs in a second"],
                                              [link(2, f"does not carry: {SYSTEM}2 has key 20 there, and 10 on the link that carries"), link(1, up)]),
     }
