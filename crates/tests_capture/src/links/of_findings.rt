@@ -240,7 +240,7 @@ fn an_end_that_is_expired_may_be_silent_for_longer(rt: HostRuntime) {
     shows(&rt, &frames[..5], 36_000, &expected);
     // Before it is Expired it may not.
     let frames = [at(0, heard), at(3001, expired)];
-    shows(&rt, &frames, 3500, &[(11, 2)]);
+    shows(&rt, &frames, 3500, &[(11, 2), (18, 2)]);
 }
 
 // 6.4.13: one active end is enough for both to send.
