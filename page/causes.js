@@ -1,7 +1,7 @@
 /* What is wrong, by causes: the findings of a capture in the order in which they explain each other, each cause with what follows from it.
  * The findings are the module's; the order, what is told beside them, and what to do in a case that the records tell apart are this page's. */
 
-import { addressOf, bitsOf, isKnown, isRemark } from "./records.js";
+import { addressOf, bitsOf, isKnown, isRemark, isSilent } from "./records.js";
 
 export const FAULT = "fault";
 export const EFFECT = "likely effect";
@@ -12,8 +12,8 @@ const LEADING = [28, 30, 26, 29], FOLLOWING = [12, 13, 17, 22, 23], UNHEARD = [1
 /* All, in the order in which they are told: whoever explains others comes first, what is usual at a start last. */
 const ORDER = [...LEADING, 15, 10, 9, 7, 5, 14, 18, 11, 12, 16, 2, 3, 4, 23, 25, 24, 20, 19, 21, 22, 17, 13, 1, 27, 6, 8];
 /* So many seconds behind its first LACPDU an end may send faster: it starts. A gap between LACPDUs from so many seconds on is slow. Of so many keys
- * at one end it is looked which cables are crossed. */
-const START = 3, SLOW_GAP = 10, MOST_KEYS = 5;
+ * at one end it is looked which cables are crossed. So many seconds the last LACPDUs of two ends may stand apart where a link goes down. */
+const START = 3, SLOW_GAP = 10, MARGIN = 1.1, MOST_KEYS = 5;
 /* What is said of effects on links of two systems that have no fault. */
 export const CAUSELESS = "This capture does not show why: ask both ends, and capture all links.";
 const AT_START = [13, "Right after a start rule 13 is normal if both ends distribute later."];
@@ -113,14 +113,31 @@ function ofCables(group, systems, ones, others) {
 const has = (frame, bit) => bitsOf(frame.actor.state).includes(bit);
 const secondsIn = (it) => `${it.toFixed(1)} s`;
 
+/* Whether the other end sends nothing either between two LACPDUs of an end. */
+function isPause(before, frame, { ends }) {
+    const other = ends.find((it) => it && it !== frame.end), [from, to] = [before.seconds + MARGIN, frame.seconds - MARGIN];
+    return Boolean(other?.last) && before.seconds !== null && to - from > Math.max(other.record?.median ?? 0, 1) && !other.frames.some(({ seconds }) => seconds > from && seconds < to);
+}
+
+const ofDeadLink = ({ ends }, { lacpdus }) => ({
+    isFirst: true, title: "both ends of a link send nothing more",
+    lines: [`${ends.map((it) => it.short).join(" and ")} send nothing after ${secondsIn(Math.max(...ends.map((it) => it.record.last)))}; the capture goes on to ${secondsIn(lacpdus.last)}`],
+    advice: "The link went down, or this capture lost it: look at carrier and cable (ip link, show interfaces).",
+});
+
 /* No LACPDU for longer than the timeout: dead from then on, started anew, slower than it is asked to, or frames are lost. */
-function ofSilence(finding, { records }) {
+function ofSilence(finding, { records, link }) {
+    if (link.ends.every((it) => isSilent(it, records.lacpdus.last))) return ofDeadLink(link, records);
     const { at } = finding, frame = frameOf(finding), { record } = at, before = at.frames[at.frames.indexOf(frame) - 1];
     const isLast = frame && frame === at.last && record && record.last < records.lacpdus.last;
     if (isLast) return {
         isFirst: true, title: "an end sends nothing more",
         lines: [`${at.short} sends nothing after ${secondsIn(record.last)}; the capture goes on to ${secondsIn(records.lacpdus.last)}`],
         advice: "Look at this end, not at its partner: its interface, driver or fibre sends no more (the direction to the partner may be dead alone), or the system hangs or is gone.",
+    };
+    if (frame && before && isPause(before, frame, link)) return {
+        title: "a link is silent at both ends for a while", lines: [`nothing is sent on ${linkName(link)} from ${secondsIn(before.seconds)} to ${secondsIn(frame.seconds)}`],
+        advice: "Its carrier went, or this capture lost it: look at carrier, cable and errors (ip -s link, show interfaces).",
     };
     if (frame && before && has(frame, "defaulted") && !has(before, "expired")) return {
         title: "an end was silent, and starts anew",

@@ -45,6 +45,7 @@ function ofBothEnds(link, bundle, until) {
     const never = lost.filter((it) => !it.hasHeard), deaf = never.length ? never : lost;
     const keys = ofKeysOf(link, bundle);
     if (silent.length === 1) return [IDLE, `${silent[0].short} sends nothing after ${seconds(silent[0].record.last)}`];
+    if (silent.length) return [IDLE, `nothing is sent on it after ${seconds(Math.max(...silent.map((it) => it.record.last)))}`];
     if (isUp(link)) return keys ? [CARRIES_APART, `both ways: ${keys}`] : [CARRIES, "both ways"];
     if (ends[0].system === ends[1].system) return [IDLE, "both ends have one system: a loop, or a copied identifier"];
     if (ends.every((it) => !it.has("active"))) return [IDLE, "both ends are passive"];

@@ -71,6 +71,18 @@ def dead(path: str) -> None:
     pcap(path, sorted(packets))
 
 
+def gone(path: str) -> None:
+    """From 20 s on neither end sends on link 2."""
+    packets = exchange(Party(1, 7, 1, FAST), Party(2, 8, 1, FAST), range(60))
+    pcap(path, sorted([*packets, *exchange(Party(1, 7, 2, FAST), Party(2, 8, 2, FAST), (second + 0.1 for second in range(20)))]))
+
+
+def flaps(path: str) -> None:
+    """A link that neither end sends on from 10 s to 17 s and from 27 s to 34 s."""
+    times = [float(it) for it in range(60) if not (10 < it < 17 or 27 < it < 34)]
+    pcap(path, exchange(Party(1, 7, 1, FAST), Party(2, 8, 1, FAST), times))
+
+
 def deaf(path: str) -> None:
     """System 1 hears nobody; its partner hears it, and loses it again and again since it sends each 30 s."""
     one, other, lost = Party(1, 7, 1, 0x45), Party(2, 8, 1, FAST_DOWN), Party(2, 8, 1, EXPIRED)

@@ -62,6 +62,9 @@ def of_ends(tests: Tests, browser: Browser, folder: str) -> None:
     cases: dict[str, tuple[Callable[[str], None], str, list[str], list[str]]] = {
         "an end that sends no more": (made.dead, "1 of 2 links carries. An end sends nothing more.", ["An end sends nothing more"],
                                       [link(2, f"does not carry: {SYSTEM}1 port 2 sends nothing after 19.1 s"), link(1, up)]),
+        "a link that goes down": (made.gone, "1 of 2 links carries. Both ends of a link send nothing more.", ["Both ends of a link send nothing more"],
+                                  [link(2, "does not carry: nothing is sent on it after 19.1 s"), link(1, up)]),
+        "a link that comes and goes": (made.flaps, "1 of 1 link carries. A link is silent at both ends for a while.", ["A link is silent at both ends for a while"], [link(1, up)]),
         "an end that hears nobody": (made.deaf, "0 of 1 link carries. An end hears nobody for longer than 6 seconds.", ["An end hears nobody for longer than 6 seconds"],
                                      [link(1, f"does not carry: {SYSTEM}1 port 1 hears nobody")]),
         "a stranger that hears nobody": (made.stranger, "1 of 2 links carries. A third system speaks on the link, and hears nobody.", ["A third system speaks on the link, and hears nobody"],
