@@ -1,7 +1,7 @@
 /* What is wrong, by causes: the findings of a capture in the order in which they explain each other, each cause with what follows from it.
  * The findings are the module's; the order, what is told beside them, and what to do in a case that the records tell apart are this page's. */
 
-import { addressOf, bitsOf, isKnown, isRemark, isSilent } from "./records.js";
+import { addressOf, bitsOf, isKnown, isRemark, isSilent, SHORT_TIMEOUT } from "./records.js";
 
 export const FAULT = "fault";
 export const EFFECT = "likely effect";
@@ -116,7 +116,9 @@ const secondsIn = (it) => `${it.toFixed(1)} s`;
 /* Whether the other end sends nothing either between two LACPDUs of an end. */
 function isPause(before, frame, { ends }) {
     const other = ends.find((it) => it && it !== frame.end), [from, to] = [before.seconds + MARGIN, frame.seconds - MARGIN];
-    return Boolean(other?.last) && before.seconds !== null && to - from > Math.max(other.record?.median ?? 0, 1) && !other.frames.some(({ seconds }) => seconds > from && seconds < to);
+    if (!other?.last || before.seconds === null || to - from <= Math.max(other.record?.median ?? 0, 1)) return false;
+    const times = other.frames.map((it) => it.seconds), last = Math.max(...times.filter((it) => it <= from)), next = Math.min(...times.filter((it) => it > from));
+    return next >= to && next - last > SHORT_TIMEOUT;
 }
 
 const ofDeadLink = ({ ends }, { lacpdus }) => ({

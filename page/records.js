@@ -4,7 +4,8 @@
 const MOST_KEPT = 100000, MOST_ENDS = 128;
 const NO_SYSTEM = "00-00-00-00-00-00";
 /* Seconds: the timeouts of 6.4.4. */
-const SHORT_TIMEOUT = 3, LONG_TIMEOUT = 90;
+export const SHORT_TIMEOUT = 3;
+const LONG_TIMEOUT = 90;
 const BITS = ["active", "short", "aggregatable", "synchronized", "collecting", "distributing", "defaulted", "expired"];
 
 /* Whether a finding calls for nothing, by its advice. */

@@ -5,9 +5,11 @@ from __future__ import annotations
 import csv
 import json
 import os
+import subprocess
 
 from browser import Browser
-from stored import EXAMPLES, Tests, read
+from repository import TOOLS
+from stored import CAPTURES, EXAMPLES, Tests, captures, read
 
 STATUS = os.path.join(EXAMPLES, "status")
 SAID = "[document.getElementById('verdict').textContent, document.querySelector('#findings strong')?.textContent ?? '', document.getElementById('said').textContent]"
@@ -28,6 +30,23 @@ def truths() -> list[dict[str, str]]:
         return list(csv.DictReader(it, delimiter="\t"))
 
 
+def explained(*paths: str) -> str:
+    """The headline of lagtool explain."""
+    words = ["node", os.path.join(TOOLS, "lagtool.d", "explain.mjs"), *paths]
+    return subprocess.run(words, stdin=subprocess.DEVNULL, capture_output=True, text=True).stdout.partition("\n")[0]
+
+
+def of_explain(tests: Tests, browser: Browser) -> None:
+    """lagtool explain says what the page says."""
+    for name in captures():
+        path = os.path.join(CAPTURES, name)
+        browser.choose(path)
+        tests.same(f"{name}: explain says the same", explained(path), browser.value("document.getElementById('verdict').textContent"))
+    for row in truths():
+        paths = [os.path.join(STATUS, row[name]) for name in ("text", "other end") if row[name]]
+        tests.same(f"{row['text']}: explain says the same", explained(*paths), pasted(browser, *map(read, paths))[0])
+
+
 def of_texts(tests: Tests, browser: Browser) -> None:
     for row in truths():
         text, other = (read(os.path.join(STATUS, row[name])) if row[name] else "" for name in ("text", "other end"))
@@ -37,6 +56,7 @@ def of_texts(tests: Tests, browser: Browser) -> None:
         tests.told(f"{row['text']}: the first cause is the truth", "" if right else f"{verdict} {first} {said}")
     of_ways(tests, browser)
     of_cuts(tests, browser)
+    of_explain(tests, browser)
     shown = browser.choose(os.path.join(STATUS, "keys-bonding.txt"))
     tests.same("a status that is a file is explained", [shown["status"], browser.value(SAID)[0].split(".")[0]], [1, "1 of 2 links carries"])
     browser.value("document.getElementById('here').value = document.getElementById('there').value = '', 1")
