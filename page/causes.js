@@ -118,7 +118,7 @@ function isPause(before, frame, { ends }) {
     const other = ends.find((it) => it && it !== frame.end), [from, to] = [before.seconds + MARGIN, frame.seconds - MARGIN];
     if (!other?.last || before.seconds === null || to - from <= Math.max(other.record?.median ?? 0, 1)) return false;
     const times = other.frames.map((it) => it.seconds), last = Math.max(...times.filter((it) => it <= from)), next = Math.min(...times.filter((it) => it > from));
-    return next >= to && next - last > SHORT_TIMEOUT;
+    return next >= to && Number.isFinite(next) && next - last > SHORT_TIMEOUT;
 }
 
 const ofDeadLink = ({ ends }, { lacpdus }) => ({
