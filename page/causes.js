@@ -64,10 +64,12 @@ export function astrayIn(group) {
     return { astray: best.links, other: isTied ? second.links : [] };
 }
 
-/* What a link is called among those of two systems: the interface that it was captured on, else its ports. */
+const whereOf = ({ ends }) => ends.find(Boolean).label;
+
+/* What a link is called among those of two systems: the interface that it was captured on, if it is alone there, and its ports if not. */
 function linkName(link) {
-    const ends = link.ends.filter(Boolean), [{ label }] = ends;
-    return label || `${ends.length > 1 ? "ports" : "port"} ${ends.map((it) => it.port).join("-")}`;
+    const ends = link.ends.filter(Boolean), label = whereOf(link);
+    return label && link.isAlone ? label : `${label} ${ends.length > 1 ? "ports" : "port"} ${ends.map((it) => it.port).join("-")}`.trim();
 }
 
 /* Several as one text: with commas, and the word before the last. */
@@ -238,6 +240,7 @@ class Looking {
         this.where = new Map(bundles.flatMap((bundle) => bundle.links.flatMap((link) => link.findings.map((it) => [it, { bundle, link }]))));
         this.groups = new Map(bundles.map((it) => [it, keyGroups(it)]));
         this.strangers = strangersIn(bundles);
+        for (const { links } of bundles) for (const link of links) link.isAlone = links.every((it) => it === link || whereOf(it) !== whereOf(link));
     }
 
     at(finding) { return this.where.get(finding); }

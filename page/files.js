@@ -50,6 +50,7 @@ class Reading {
     constructor(head) {
         const magic = magicOf(head);
         this.isPcap = PCAP.has(magic);
+        this.isCapture = this.isPcap ? head.byteLength === 24 : magic === SECTION;
         this.little = this.isPcap ? PCAP.get(magic) : true;
         this.isNano = NANO.includes(magic);
         this.number = 0;
@@ -101,11 +102,13 @@ class Reading {
     }
 }
 
-/* The packets of a capture, as far as it can be read; `reading.interfaces` are those of the section of the latest. */
-export async function* packetsOf(blob, most = blob.size) {
+/* The packets of a capture, as far as it can be read; `told.end` is then the octet behind what was read. */
+export async function* packetsOf(blob, told = {}, most = blob.size) {
     const viewOf = async (offset, count) => new DataView(await blob.slice(offset, offset + count).arrayBuffer());
     const reading = new Reading(await viewOf(0, 24));
+    if (!reading.isCapture) return;
     for (let offset = reading.start, room = PIECE_READ; offset < Math.min(blob.size, most);) {
+        told.end = offset;
         const view = await viewOf(offset, room);
         let at = 0;
         for (let step = reading.step(view, at); step; step = reading.step(view, at)) {
@@ -114,7 +117,7 @@ export async function* packetsOf(blob, most = blob.size) {
         }
         if (!at && (room > view.byteLength || room > PIECE_READ)) return; // nothing whole is left
         room = at ? PIECE_READ : 2 * PIECE_READ;
-        offset += at;
+        told.end = offset += at;
     }
 }
 
@@ -144,7 +147,7 @@ const isCut = ({ octets, original }, at) => at >= 0 && wholeOf(octets, original,
 export async function lookedAt(blob) {
     const found = new Map(), comments = new Map();
     let cut = 0;
-    for await (const it of packetsOf(blob, MOST_LOOKED)) {
+    for await (const it of packetsOf(blob, {}, MOST_LOOKED)) {
         if (!found.get(it.from.number)) found.set(it.from.number, it.from.name);
         if (it.comment) comments.set(it.number, it.comment);
         if (!cut && isCut(it, payloadAt(it))) cut = it.octets.length;
@@ -175,13 +178,14 @@ export function captureOf(links, packets) {
 const stemOf = (name) => name.replace(/\.(pcap|pcapng|cap|dmp)$/i, "");
 
 /* Slow protocols frames of several files as one capture, by their times; with the last packet of each, up to which it goes. `names` has
- * whence each interface is, and `places` for each packet its file and its number there. Packets that were cut get whole. */
+ * whence each interface is, `places` for each packet its file and its number there, `faults` what cannot be read. Packets that were cut get
+ * whole. */
 export async function merged(files) {
-    const kept = [], links = [], names = new Map();
+    const kept = [], links = [], faults = [], names = new Map();
     for (const file of files) {
-        const known = new Map();
+        const known = new Map(), told = { end: -1 };
         let last = null;
-        for await (const it of packetsOf(file)) {
+        for await (const it of packetsOf(file, told)) {
             if (!known.has(it.from)) known.set(it.from, links.push(it.from.link) - 1);
             const at = payloadAt(it), number = known.get(it.from), time = it.time ?? 0n;
             last = { file, number, time, of: it.number, octets: it.octets.slice(0, 60), comment: it.comment };
@@ -189,6 +193,8 @@ export async function merged(files) {
             else last.isAlone = true;
         }
         if (last?.isAlone) kept.push(last);
+        if (told.end < 0) faults.push(`cannot read ${file.name}: neither pcap nor pcapng`);
+        else if (told.end < file.size) faults.push(`cannot read ${file.name}: octet ${told.end}: cut short, or broken`);
         for (const [from, number] of known) {
             const more = known.size > 1 || files.length === 1 ? from.name || (from.number ? `interface ${from.number}` : "") : "";
             names.set(number, [files.length > 1 ? stemOf(file.name) : "", more].filter(Boolean).join(" "));
@@ -197,5 +203,5 @@ export async function merged(files) {
     kept.sort((one, other) => one.time < other.time ? -1 : Number(one.time > other.time));
     const places = new Map(kept.map(({ file, of }, number) => [number + 1, { file: file.name, number: of }]));
     const comments = new Map(kept.flatMap(({ comment }, number) => comment ? [[number + 1, comment]] : []));
-    return { capture: captureOf(links, kept), names, places, comments };
+    return { capture: captureOf(links, kept), names, places, comments, faults };
 }

@@ -111,19 +111,19 @@ function lastingOf({ lasts }) {
 /* What is read: the one capture as it is, with what it says of interfaces and packets; several as one, and one whose LACPDUs are cut made whole. */
 async function given(files) {
     const looked = files.length === 1 ? await lookedAt(files[0]) : null;
-    if (looked && !looked.cut) return { capture: files[0], ...looked, places: new Map(), note: "" };
+    if (looked && !looked.cut) return { capture: files[0], ...looked, places: new Map(), faults: [], note: "" };
     const note = looked ? `Its packets are cut behind ${looked.cut} octets: both ends are in them, and what follows, as CollectorMaxDelay, is taken as 0.` : "";
     return { ...await merged(files), note };
 }
 
 /* The records first, with what they show; then the text. */
 async function explain(lagtool, name, files) {
-    const { capture, names, comments, places, note } = await given(files), records = new Records();
+    const { capture, names, comments, places, faults, note } = await given(files), records = new Records();
     Object.assign(records, { names, comments, places: files.length > 1 ? places : new Map() });
     const text = new Text();
     const onStop = (error) => error.message === "stopped" ? error : Promise.reject(error);
     let told = await run(lagtool, capture, { json: true }, (piece) => records.addLines(piece)).catch(onStop);
-    const isStopped = told instanceof Error, said = isStopped ? told.message : told.said;
+    const isStopped = told instanceof Error, said = isStopped ? told.message : [...faults, told.said].filter(Boolean).join("\n");
     const shown = showRecords(records, capture, { lines: byId("lines"), findings: byId("findings"), links: byId("links") });
     now.pairs = shown.pairs;
     byId("legend").hidden = !shown.pairs.length;
@@ -135,7 +135,7 @@ async function explain(lagtool, name, files) {
         told = await run(lagtool, capture, {}, (piece) => text.add(piece));
     }
     byId("text").textContent = text.whole;
-    window.shown = { name, status: told.status ?? 2, printed: text.whole, said };
+    window.shown = { name, status: faults.length ? 2 : told.status ?? 2, printed: text.whole, said };
 }
 
 /* Why a file cannot be read, and what helps; the browser does not say which of both it was. */

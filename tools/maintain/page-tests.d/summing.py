@@ -105,6 +105,14 @@ def of_files(tests: Tests, browser: Browser, folder: str) -> None:
     tests.same("two files are read as one", [shown["name"], *browser.value(f"[{CAUSES}, {LINES}]")], ["eth1.pcap, eth2.pcap", ["Keys differ within one pair of systems"], lines])
     places = browser.value("[...document.querySelectorAll('#findings a')].map((it) => it.textContent)")
     tests.same("a packet is named by its file", [it.split(" packet ")[0] for it in places], ["eth1.pcap", "eth1.pcap"])
+    broken = os.path.join(folder, "eth3.pcap.gz")
+    with open(broken, "wb") as out:
+        out.write(b"\x1f\x8b\x08" + bytes(40))
+    with open(paths[1], "rb+") as it:
+        it.truncate(os.path.getsize(paths[1]) - 7)
+    browser.begin(*paths, broken)
+    wanted = [2, f"cannot read eth2.pcap: octet {os.path.getsize(paths[1]) - 133}: cut short, or broken\ncannot read eth3.pcap.gz: neither pcap nor pcapng"]
+    tests.same("of several files those that cannot be read are named", [browser.shown()[it] for it in ("status", "said")], wanted)
     path = os.path.join(folder, "named.pcapng")
     made.named(path, ["eth0", "eth1"], "look <b>here")
     browser.choose(path)
