@@ -1,6 +1,8 @@
-/* What is shown of a capture: the findings, then a time axis for each pair of systems, then the frames and the text. */
+/* What is shown of a capture: a line a link, the causes, then a time axis for each pair of systems, then the frames and the text. */
 
-import { addressOf, bundlesOf, carriedOf, isKnown, isRemark, nameOf, Records, ruleOf, saidBy, secondsOf } from "./records.js";
+import { addressOf, bundlesOf, isRemark, nameOf, ruleOf, saidBy, secondsOf } from "./records.js";
+import { causesOf, counted, FAULT, frameOf } from "./causes.js";
+import { CARRIES, IDLE, linesOf, textOfLine } from "./summary.js";
 import { Packets } from "./packets.js";
 import { fieldsOf } from "./fields.js";
 import { octetsBeside } from "./octets.js";
@@ -9,19 +11,9 @@ import { Viewing } from "./viewing.js";
 import { offer, pictureOf, textOfPicture } from "./saving.js";
 import { button, made, table } from "./shapes.js";
 
-/* The most frames that are listed of a link, besides those of findings. */
-const MOST = 400;
-/* The rules of docs/COMMAND.md whose findings often explain others, those whose findings often follow, and of these the faults where there is no other. */
-const LEADING = [26, 28, 29, 30], FOLLOWING = [12, 13, 17, 22, 23], UNHEARD = [12, 23];
-export const FAULT = "fault";
-export const EFFECT = "likely effect";
-const REMARK = "remark", KINDS = [FAULT, EFFECT, REMARK];
-/* What is said of effects on links of two systems that have no fault. */
-export const CAUSELESS = "This capture does not show why: ask both ends, and capture all links.";
-const AT_START = [13, "Right after a start rule 13 is normal if both ends distribute later."];
-const isFault = (finding) => !isRemark(finding) && !FOLLOWING.includes(finding.rule);
-const isCause = (finding) => isFault(finding) || UNHEARD.includes(finding.rule);
-export const counted = (number, word) => `${number} ${word}${number === 1 ? "" : "s"}`;
+/* The most frames that are listed of a link, besides those of findings; the most lines of links, places of a cause and lines of it that do
+ * not fold. */
+const MOST = 400, MOST_LINES = 10, MOST_PLACES = 2, MOST_SAID = 6;
 const upper = (text) => text[0].toUpperCase() + text.slice(1);
 const lookOf = (finding) => isRemark(finding) ? "quiet" : "bad";
 const frameRow = (packet) => `packet-${packet}`;
@@ -38,11 +30,12 @@ function opening(summary, make, isOpen) {
 }
 
 /* The frames of a link, each a row. */
-function framesOf(link, choose) {
+function framesOf(link, { comments }, choose) {
     const packets = new Set(link.findings.map((it) => it.packet));
     const listed = link.frames.filter((it, number) => number < MOST || packets.has(it.packet));
     const rows = listed.map((frame) => {
         const open = button(`${frame.packet}`, () => choose(frame)), said = made("span", saidBy(frame));
+        if (comments.has(frame.packet)) said.append(made("em", ` ${comments.get(frame.packet)}`));
         for (const it of link.findings) if (it.packet === frame.packet) said.append(made("strong", ` ${it.name} (${ruleOf(it)})`, lookOf(it)));
         open.setAttribute("aria-label", `packet ${frame.packet}: its fields`);
         return [open, secondsOf(frame.seconds), frame.end === link.ends[0] ? "\u2192" : "\u2190", said];
@@ -62,8 +55,8 @@ function statesOf(end) {
 
 /* One pair of systems. */
 class Pair {
-    constructor(bundle, packets, isOpen) {
-        Object.assign(this, { bundle, packets });
+    constructor(bundle, { packets, records }, isOpen) {
+        Object.assign(this, { bundle, packets, records });
         this.title = `${nameOf(bundle)}: ${counted(bundle.links.length, "link")}, ${counted(bundle.findings.length, "finding")}`;
         this.fields = made("div", "", "chosen-frame");
         this.fields.hidden = true;
@@ -77,7 +70,7 @@ class Pair {
         const states = opening("The states as text", () => this.bundle.links.flatMap((it) => it.ends.filter(Boolean).map(statesOf)), false);
         this.lists = this.bundle.links.map((link) => {
             const names = link.ends.map((it) => it ? it.name : "no other end").join(" and ");
-            return opening(`The frames of ${names}: ${link.frames.length}`, () => framesOf(link, (frame) => this.take(frame)), false);
+            return opening(`The frames of ${names}: ${link.frames.length}`, () => framesOf(link, this.records, (frame) => this.take(frame)), false);
         });
         return [this.viewing.box, this.fields, tools, states, ...this.lists];
     }
@@ -99,11 +92,12 @@ class Pair {
     async showFields(frame, isEntered) {
         const turn = this.turn = (this.turn ?? 0) + 1, found = await this.packets.packet(frame.packet);
         if (turn !== this.turn) return;
-        const head = made("h3", `Packet ${frame.packet} at ${secondsOf(frame.seconds)} s, from ${frame.end.name}`);
+        const place = this.records.places.has(frame.packet) ? ` (${this.records.placeOf(frame.packet)})` : "", comment = this.records.comments.get(frame.packet);
+        const head = made("h3", `Packet ${frame.packet}${place} at ${secondsOf(frame.seconds)} s, from ${frame.end.name}`);
         const findings = this.bundle.findings.filter((it) => it.packet === frame.packet && it.at === frame.end);
         const said = findings.map((it) => made("p", `${upper(it.name)} (${ruleOf(it)}). ${it.advice}`, lookOf(it)));
         const octets = found ? octetsBeside(found.octets, fieldsOf(found.octets, found.link)) : made("p", "Its octets are not found in the file.");
-        this.fields.replaceChildren(button("Close", () => this.close(), "close"), head, ...said, octets);
+        this.fields.replaceChildren(button("Close", () => this.close(), "close"), head, ...comment ? [made("em", comment)] : [], ...said, octets);
         this.fields.hidden = false;
         this.uncover();
         this.fields.onkeydown = (event) => { if (event.key === "Escape") this.close(); };
@@ -126,87 +120,79 @@ const VALUES = new Map([
     [30, ({ partner }) => `names system ${partner.system}`],
 ]);
 const valueOf = (finding, frame) => frame?.kind === "lacpdu" && VALUES.has(finding.rule) ? `: ${VALUES.get(finding.rule)(frame)}` : "";
-const frameOf = (finding) => finding.at.frames.find((it) => it.packet === finding.packet);
 
-/* What several packets of one rule say of a system when they are taken together: what it has, and which values. */
-const TOGETHER = new Map([
-    [15, { has: "has keys", of: ({ actor, partner }) => [[actor.system, actor.key], [partner.system, partner.key]] }],
-    [29, { has: "leads to", of: ({ actor, partner }) => [[actor.system, addressOf(partner.system)]] }],
-]);
-
-/* Each system of which packets of these findings say more than one value. */
-function togetherOf(findings) {
-    const together = TOGETHER.get(findings[0].rule), values = new Map();
-    if (!together) return [];
-    const frames = findings.map(frameOf).filter((it) => it?.kind === "lacpdu");
-    for (const [system, value] of frames.flatMap(together.of)) values.set(system, (values.get(system) ?? new Set()).add(value));
-    const several = [...values].filter(([, found]) => found.size > 1);
-    return several.map(([system, found]) => `${addressOf(system)} ${together.has} ${[...found].sort((one, other) => one < other ? -1 : 1).join(" and ")}`);
-}
-
-/* Where a finding shows: the clause, the end, and the packet, which leads into the diagram. */
+/* Where a finding shows: the end, and the packet, which leads into the diagram. */
 function placeIn(finding, pair) {
-    const frame = frameOf(finding), link = made(frame ? "a" : "span", `packet ${finding.packet}`);
+    const frame = frameOf(finding), link = made(frame ? "a" : "span", pair.records.placeOf(finding.packet));
     if (frame) link.href = `#${frameRow(finding.packet)}`;
     if (frame) link.addEventListener("click", (event) => {
         event.preventDefault();
         pair.take(frame);
     });
-    const { name, system } = finding.at, of = system ? ` of system ${addressOf(system)}` : "";
-    const where = made("span", `${ruleOf(finding)}: ${name}${of}, `, "quiet");
+    const { name, system } = finding.at, where = made("span", `${name}${system ? ` of system ${addressOf(system)}` : ""}, `, "quiet");
     where.append(link, finding.seconds === null ? "" : ` at ${finding.seconds.toFixed(6)} s`, valueOf(finding, frame));
     return where;
 }
 
-const isCaused = (finding, pairOf, test) => pairOf(finding).bundle.findings.some(test);
-
-/* Whether a fault of any end on its interface may explain a finding: whoever hears nothing may name nobody. */
-const isOfUnknown = (it, pairOf, faults) => !pairOf(it).bundle.systems.every(isKnown) && faults.some(({ at }) => at.interface === it.at.interface);
-
-/* What the findings of one rule are. */
-function kindOfRule(findings, pairOf, faults) {
-    const [finding] = findings, isAlone = (it) => !isCaused(it, pairOf, isFault) && !isOfUnknown(it, pairOf, faults);
-    if (isRemark(finding)) return REMARK;
-    return isFault(finding) || (isCause(finding) && findings.some(isAlone)) ? FAULT : EFFECT;
+/* The first of some parts, and the others folded. */
+function foldedBehind(parts, most, word) {
+    const rest = parts.slice(most);
+    return rest.length ? [...parts.slice(0, most), opening(`and ${counted(rest.length, word)} more`, () => rest, false)] : parts;
 }
 
-/* What is said of an effect where its pair of systems has no fault. */
-function causeOf(findings, pairOf) {
-    const [rule, said] = AT_START;
-    if (findings.every((it) => isCaused(it, pairOf, isCause))) return [];
-    return [made("span", findings[0].rule === rule ? ` ${CAUSELESS} ${said}` : ` ${CAUSELESS}`)];
+const placesOf = ({ findings = [] }, pairOf) => foldedBehind(findings.map((it) => placeIn(it, pairOf(it))), MOST_PLACES, "place");
+const ruleIn = ({ rule, clause }) => rule ? [made("span", ` (rule ${rule}, ${clause})`, "quiet rule")] : [];
+
+/* What follows from a cause, folded: what, how often, and where. */
+function effectsOf({ effects }, pairOf) {
+    if (!effects.length) return [];
+    const said = effects.map((it) => it.places > 1 ? `${it.title} (${counted(it.places, "place")})` : it.title).join("; ");
+    return [opening(`Likely effects: ${said}`, () => effects.flatMap((it) => [headOf(upper(it.title), it), ...placesOf(it, pairOf)]), false)];
 }
 
-/* What is found by one rule: what, what to do, and where it shows. */
-function itemOf(findings, kind, pairOf) {
-    const item = made("li"), [{ name, advice }] = findings;
-    item.append(made("strong", kind === FAULT ? upper(name) : `${upper(kind)}: ${name}`), made("span", advice));
-    if (kind === EFFECT) item.append(...causeOf(findings, pairOf));
-    item.append(...togetherOf(findings).map((it) => made("strong", it)));
-    item.append(...findings.map((it) => placeIn(it, pairOf(it))));
-    return item;
+function headOf(title, item) {
+    const head = made("strong", title);
+    head.append(...ruleIn(item));
+    return head;
 }
 
-/* Shows what the records say; `blob` has the capture. Gives the pairs, how many rules are found of each kind, and how many links carry. */
-export function showRecords(records, blob, findingsAt, linksAt) {
-    const packets = new Packets(blob), bundles = bundlesOf(records), { findings } = records;
-    const pairs = bundles.map((it, number) => new Pair(it, packets, number === 0));
+/* A cause: what, what to do, what is seen, where it shows, and what follows from it. */
+export function causeItem(item, pairOf) {
+    const it = made("li"), title = item.kind === FAULT ? upper(item.title) : `${upper(item.kind)}: ${item.title}`;
+    const said = foldedBehind(item.lines.map((line, number) => made("span", line, number ? "line" : "line first")), MOST_SAID, "line");
+    it.append(headOf(title, item), made("span", item.unexplained ? `${item.advice} ${item.unexplained}` : item.advice), ...said);
+    it.append(...placesOf(item, pairOf), ...effectsOf(item, pairOf));
+    return it;
+}
+
+const LOOKS = new Map([[CARRIES, "good"], [IDLE, "bad"]]);
+
+/* A line a link: whether it carries, and why not. */
+function lineIn(line) {
+    const it = made("li"), text = textOfLine(line);
+    it.append(made("b", text.slice(0, line.name.length)), made("span", text.slice(line.name.length), LOOKS.get(line.how)));
+    return it;
+}
+
+export function lineItems(lines) {
+    const parts = lines.map(lineIn), list = made("li");
+    if (parts.length <= MOST_LINES) return parts;
+    const inside = made("ul");
+    inside.append(...parts.slice(MOST_LINES));
+    list.append(opening(`and ${counted(parts.length - MOST_LINES, "link")} more`, () => [inside], false));
+    return [...parts.slice(0, MOST_LINES), list];
+}
+
+/* Shows what the records say; `blob` has the capture, `at` the parts of the page. Gives the pairs, the lines of the links, and the causes. */
+export function showRecords(records, blob, at) {
+    const packets = new Packets(blob), bundles = bundlesOf(records), causes = causesOf(records, bundles), lines = linesOf(records, bundles);
+    const pairs = bundles.map((it, number) => new Pair(it, { packets, records }, number === 0));
     const pairOf = (finding) => pairs.find((it) => it.bundle.findings.includes(finding));
-    const rules = [...new Set(findings.map((it) => it.rule))].map((rule) => findings.filter((it) => it.rule === rule));
-    const items = rules.map((it) => ({ findings: it, kind: kindOfRule(it, pairOf, findings.filter(isFault)) }));
-    const rankOf = ({ findings: [{ rule }], kind }) => KINDS.indexOf(kind) - LEADING.includes(rule);
-    items.sort((one, other) => rankOf(one) - rankOf(other));
-    findingsAt.replaceChildren(...items.map((it) => itemOf(it.findings, it.kind, pairOf)));
-    linksAt.replaceChildren(...pairs.map((it) => it.part));
-    const kinds = KINDS.map((kind) => [items.filter((it) => it.kind === kind).length, kind]).filter(([number]) => number);
-    return { pairs, kinds, carried: carriedOf(bundles) };
+    at.lines.replaceChildren(...lineItems(lines));
+    at.findings.replaceChildren(...causes.map((it) => causeItem(it, pairOf)));
+    at.links.replaceChildren(...pairs.map((it) => it.part));
+    return { pairs, lines, causes };
 }
-
-const recordsIn = (text) => {
-    const records = new Records();
-    records.addLines(text);
-    return records;
-};
 
 /* What is drawn of each pair, for a report. All of it is made then. */
 export function picturesOf(pairs) {

@@ -2,9 +2,13 @@
 
 const PIECE = 1 << 20; // octets that are read at once; a packet has fewer
 
-const magicOf = (view) => view.byteLength < 4 ? 0 : view.getUint32(0, true);
-const PCAP = new Map([[0xa1b2c3d4, true], [0xa1b23c4d, true], [0xd4c3b2a1, false], [0x4d3cb2a1, false]]);
-const SECTION = 0x0a0d0d0a, INTERFACE = 1, OLD_PACKET = 2, SIMPLE = 3, PACKET = 6;
+export const magicOf = (view) => view.byteLength < 4 ? 0 : view.getUint32(0, true);
+export const PCAP = new Map([[0xa1b2c3d4, true], [0xa1b23c4d, true], [0xd4c3b2a1, false], [0x4d3cb2a1, false]]);
+export const SECTION = 0x0a0d0d0a;
+export const INTERFACE = 1;
+export const OLD_PACKET = 2;
+export const SIMPLE = 3;
+export const PACKET = 6;
 
 /* Where a reader stands: an offset, the number of the next packet, and what the packets behind it need. */
 class Place {

@@ -2,9 +2,14 @@
 
 import { Lagtool } from "./module.js";
 import { Records } from "./records.js";
-import { CAUSELESS, counted, EFFECT, FAULT, picturesOf, showRecords } from "./capture.js";
+import { counted } from "./causes.js";
+import { countsOf, headlineOf } from "./summary.js";
+import { lookedAt, merged } from "./files.js";
+import { picturesOf, showRecords } from "./capture.js";
 import { Playing } from "./playing.js";
 import { digitsOf, Payload } from "./payload.js";
+import { Texts } from "./pasting.js";
+import { statusIn } from "./status.js";
 import { offer, textOfReport } from "./saving.js";
 import { byId } from "./shapes.js";
 
@@ -12,8 +17,8 @@ import { byId } from "./shapes.js";
 const MOST_SHOWN = 2000000, MOST_BEHIND = 100000;
 /* A larger file is no script and no payload. */
 const MOST_TEXT = 16000000;
-/* So many seconds show each time-out (docs/TROUBLE.md). */
-const ENOUGH = 100;
+/* So many seconds of LACPDUs show each time-out: the longest is 90. */
+const ENOUGH = 93;
 
 const octetsIn = (id) => Uint8Array.from(atob(byId(id).textContent), (it) => it.charCodeAt(0));
 
@@ -50,16 +55,17 @@ function put(name, verdict, look, said) {
     byId("shown").hidden = false;
 }
 
-function clear(name) {
+function clear(name, hasFocus = true) {
     now.job?.stop();
     window.shown = null;
-    byId("findings").replaceChildren();
+    for (const it of ["lines", "findings"]) byId(it).replaceChildren();
     byId("links").replaceChildren();
     byId("legend").hidden = true;
-    byId("lasts").textContent = byId("undrawn-frames").textContent = "";
+    byId("counts").textContent = byId("lasts").textContent = byId("undrawn-frames").textContent = "";
     byId("text").textContent = byId("copied").textContent = "";
     put(name, "It is being read.", "good", "");
-    byId("name").focus();
+    byId("printed").hidden = byId("report").hidden = false;
+    if (hasFocus) byId("name").focus();
 }
 
 /* Runs one job over a file; shows how far it is where that takes long. */
@@ -76,8 +82,8 @@ async function run(lagtool, file, options, printed) {
     }
 }
 
-const ADVICE = "Look whether LACP is on, and not passive at both ends: at a switch the mode of the group is active, not on (static); "
-    + "bonding has mode=802.3ad.";
+const ADVICE = "If it was taken of the bond (bond0, team0, lag0): capture its members (eth0, eth1), since LACPDUs stand on these alone. "
+    + "Else look whether LACP is on, and not passive at both ends: at a switch the mode of the group is active, not on (static); bonding has mode=802.3ad.";
 
 /* What is said of frames that could not be read: a capture that cuts frames cuts all LACPDUs alike; rule 7 has those that were short on the link. */
 function unreadIn({ unread, frames, all, findings }) {
@@ -88,67 +94,67 @@ function unreadIn({ unread, frames, all, findings }) {
     return `${count}: capture whole frames (tcpdump -s 0)${isRead ? ", unless they are of another protocol, as OAM" : ""}.`;
 }
 
-/* What is said of links that do not carry where there is no fault. */
-function idleIn({ all, idle }) {
-    return idle ? `No fault found, but ${idle} of ${counted(all, "link")} ${idle === 1 ? "is" : "are"} not seen to carry. ${CAUSELESS}` : "";
-}
-
-/* Where there is no fault: it is good if a link carries, and none does not. */
-const faultlessLook = ({ all, idle }) => all && !idle ? "good" : "";
-
-/* What the findings are, in few words, and how they look: effects alone are neither good nor bad. */
-function foundIn(records, kinds, said, carried) {
-    const has = (kind) => kinds.some((it) => it[1] === kind), places = counted(records.findings.length, "place");
-    const found = `${kinds.map(([number, kind]) => counted(number, kind)).join(", ")}, at ${places}`;
-    if (said || has(FAULT)) return [`${found}:`, "bad"];
-    if (has(EFFECT)) return [`${found}; no cause in this capture:`, ""];
-    return [carried.idle ? `${idleIn(carried)} ${found}:` : `No fault found; ${found}:`, faultlessLook(carried)];
-}
-
-function verdictOf(records, kinds, said, carried) {
-    const unread = unreadIn(records), [found, look] = kinds.length ? foundIn(records, kinds, said, carried) : ["", "bad"];
-    if (unread) return [`${unread} ${found}`.trim(), "bad"];
-    if (found || said) return [found, look];
-    if (records.frames > records.others) return [idleIn(carried) || "Nothing found.", faultlessLook(carried)];
-    return [`No frame of the slow protocols (LACPDU, Marker PDU) is in this capture. ${ADVICE}`, "bad"];
+function verdictOf(records, { lines, causes }, said) {
+    const unread = unreadIn(records), [found, look] = headlineOf(lines, causes);
+    if (unread) return [`${unread} ${lines.length ? found : ""}`.trim(), "bad"];
+    if (records.frames > records.others) return [found, said ? "bad" : look];
+    return [said ? "" : `No frame of the slow protocols (LACPDU, Marker PDU) is in this capture. ${ADVICE}`, "bad"];
 }
 
 /* How long a capture lasts, as far as its LACPDUs show it. */
 function lastingOf({ lasts }) {
     if (lasts === null) return "";
-    const said = `Its LACPDUs span ${lasts.toFixed(1)} s`;
-    return lasts < ENOUGH ? `${said}, shorter than ${ENOUGH} s: time-outs may not show.` : `${said}.`;
+    const said = `Its LACPDUs span ${(Math.floor(10 * lasts) / 10).toFixed(1)} s`;
+    return lasts < ENOUGH ? `${said}, shorter than ${ENOUGH} s: not each time-out may show.` : `${said}.`;
+}
+
+/* What is read: the one capture as it is, with what it says of interfaces and packets; several as one, and one whose LACPDUs are cut made whole. */
+async function given(files) {
+    const looked = files.length === 1 ? await lookedAt(files[0]) : null;
+    if (looked && !looked.cut) return { capture: files[0], ...looked, places: new Map(), faults: [], note: "" };
+    const note = looked ? `Its packets are cut behind ${looked.cut} octets: both ends are in them, and what follows, as CollectorMaxDelay, is taken as 0.` : "";
+    return { ...await merged(files), note };
 }
 
 /* The records first, with what they show; then the text. */
-async function explain(lagtool, name, file) {
-    const records = new Records();
+async function explain(lagtool, name, files) {
+    const { capture, names, comments, places, faults, note } = await given(files), records = new Records();
+    Object.assign(records, { names, comments, places: files.length > 1 ? places : new Map() });
     const text = new Text();
     const onStop = (error) => error.message === "stopped" ? error : Promise.reject(error);
-    let told = await run(lagtool, file, { json: true }, (piece) => records.addLines(piece)).catch(onStop);
-    const isStopped = told instanceof Error, said = isStopped ? told.message : told.said;
-    const { pairs, kinds, carried } = showRecords(records, file, byId("findings"), byId("links"));
-    now.pairs = pairs;
-    byId("legend").hidden = !pairs.length;
+    let told = await run(lagtool, capture, { json: true }, (piece) => records.addLines(piece)).catch(onStop);
+    const isStopped = told instanceof Error, said = isStopped ? told.message : [...faults, told.said].filter(Boolean).join("\n");
+    const shown = showRecords(records, capture, { lines: byId("lines"), findings: byId("findings"), links: byId("links") });
+    now.pairs = shown.pairs;
+    byId("legend").hidden = !shown.pairs.length;
     byId("undrawn-frames").textContent = records.frames > records.kept ? `Of ${records.frames} frames ${records.kept} are drawn.` : "";
-    byId("lasts").textContent = lastingOf(records);
-    put(name, ...verdictOf(records, kinds, said, carried), isStopped ? "Stopped: the findings want the whole capture." : said);
+    byId("lasts").textContent = [lastingOf(records), note].filter(Boolean).join(" ");
+    byId("counts").textContent = countsOf(shown.causes);
+    put(name, ...verdictOf(records, shown, said), isStopped ? "Stopped: the findings want the whole capture." : said);
     if (!isStopped) {
-        told = await run(lagtool, file, {}, (piece) => text.add(piece));
+        told = await run(lagtool, capture, {}, (piece) => text.add(piece));
     }
     byId("text").textContent = text.whole;
-    window.shown = { name, status: told.status ?? 2, printed: text.whole, said };
+    window.shown = { name, status: faults.length ? 2 : told.status ?? 2, printed: text.whole, said };
 }
 
-async function show(lagtool, name, file) {
+/* Why a file cannot be read, and what helps; the browser does not say which of both it was. */
+const UNREADABLE = "The browser may not read this file, or it changed while it was read. Of a capture that root made: sudo chmod a+r FILE. "
+    + "Of one that still runs: end tcpdump first. Then give it again.";
+
+function refuse(name, error) {
+    const isUnread = ["NotReadableError", "NotFoundError", "SecurityError"].includes(error.name) || /could not be read/.test(error.message);
+    const said = isUnread ? UNREADABLE : `This page could not explain it: ${error.message}. lagtool capture reads files of any size.`;
+    put(name, "", "bad", said);
+    window.shown = { name, status: 2, printed: "", said };
+}
+
+async function show(lagtool, name, files) {
     clear(name);
     try {
-        await explain(lagtool, name, file);
+        await explain(lagtool, name, files);
     } catch (error) {
-        if (error.message === "stopped") return;
-        const said = `This page could not explain it: ${error.message}. lagtool capture reads files of any size.`;
-        put(name, "", "bad", said);
-        window.shown = { name, status: 2, printed: "", said };
+        if (error.message !== "stopped") refuse(name, error);
     }
 }
 
@@ -164,46 +170,69 @@ async function copy() {
 }
 
 function saveReport() {
+    /* What is folded is made, and what is folded in it. */
+    for (const depth of ["", " details"]) for (const it of document.querySelectorAll(`:is(#findings, #lines) details${depth}`)) it.fill();
     const pictures = picturesOf(now.pairs), title = `${byId("name").textContent}: ${byId("verdict").textContent}`.replace(/[: ]+$/, "");
     offer("report.html", "text/html", textOfReport(title, byId("shown"), pictures, byId("closing").innerHTML));
 }
 
-/* What a file is: a capture, unless it is a text that is a payload or reads like a script. */
+/* What a file is: a capture, unless it is a text that is a status or a payload, or reads like a script. */
 async function kindOf(file) {
     if (file.size > MOST_TEXT) return { kind: "capture" };
     const octets = new Uint8Array(await file.arrayBuffer());
     if (octets.includes(0)) return { kind: "capture" };
     const text = new TextDecoder().decode(octets);
     if (/^\s*\[\[\s*system|^\s*events\s*=/m.test(text) || file.name.endsWith(".toml")) return { kind: "script", text };
-    return { kind: /^([0-9a-f]{2})+$/i.test(digitsOf(text)) ? "payload" : "capture", text };
+    if (/^([0-9a-f]{2})+$/i.test(digitsOf(text))) return { kind: "payload", text };
+    return { kind: statusIn(text) ? "status" : text.trim() && !/[\u0001-\u0008\ufffd]/.test(text) ? "text" : "capture", text };
 }
 
 function listen(lagtool) {
     const playing = new Playing(lagtool, JSON.parse(byId("example-scripts").textContent)), payload = new Payload(lagtool), drop = byId("drop");
-    const take = async (file) => {
-        const { kind, text } = await kindOf(file);
-        if (kind === "capture") return show(lagtool, file.name, file);
-        const loaded = (kind === "script" ? playing : payload).load(text);
-        byId(kind === "script" ? "scripts" : "payloads").scrollIntoView();
-        return loaded;
+    const texts = new Texts(lagtool, (name) => {
+        clear(name, false);
+        byId("printed").hidden = byId("report").hidden = true;
+        return ([verdict, look], said) => {
+            put(name, verdict, look, said);
+            window.shown = { name, status: look === "good" ? 0 : 1, printed: "", said };
+        };
+    });
+    /* Captures together, and texts of a status; of what else is given the last of each kind. */
+    const take = async (files) => {
+        const name = files.map((it) => it.name).join(", "), captures = [], said = [];
+        try {
+            for (const file of files) {
+                const { kind, text } = await kindOf(file);
+                if (kind === "capture") captures.push(file);
+                else if (kind === "status" || kind === "text") said.push(text);
+                else take[kind](text);
+            }
+        } catch (error) {
+            clear(name);
+            return refuse(name, error);
+        }
+        if (captures.length) return show(lagtool, captures.map((it) => it.name).join(", "), captures);
+        return said.length ? texts.load(said) : undefined;
     };
+    const loaded = (part, id) => (text) => { part.load(text); byId(id).scrollIntoView(); };
+    Object.assign(take, { script: loaded(playing, "scripts"), payload: loaded(payload, "payloads") });
     const isOver = (over) => (event) => { event.preventDefault(); drop.classList.toggle("over", over); };
     addEventListener("dragover", isOver(true));
     addEventListener("dragleave", isOver(false));
     addEventListener("drop", (event) => {
         isOver(false)(event);
-        if (event.dataTransfer.files.length) take(event.dataTransfer.files[0]);
+        if (event.dataTransfer.files.length) take([...event.dataTransfer.files]);
     });
     addEventListener("paste", (event) => {
-        const [file] = event.clipboardData.files, text = event.clipboardData.getData("text");
-        if (file) take(file);
-        else if (text && !event.target.closest("textarea, input")) take(new File([text], "what is pasted"));
+        const files = [...event.clipboardData.files], text = event.clipboardData.getData("text");
+        if (files.length) take(files);
+        else if (text && !event.target.closest("textarea, input")) take([new File([text], "what is pasted")]);
     });
     byId("file").addEventListener("change", (event) => {
-        if (event.target.files.length) take(event.target.files[0]);
+        if (event.target.files.length) take([...event.target.files]);
         event.target.value = "";
     });
-    byId("example").addEventListener("click", () => show(lagtool, "unequal-keys.pcapng, an example", new Blob([octetsIn("capture")])));
+    byId("example").addEventListener("click", () => show(lagtool, "unequal-keys.pcapng, an example", [new Blob([octetsIn("capture")])]));
     byId("copy").addEventListener("click", copy);
     byId("stop").addEventListener("click", () => now.job?.stop());
     byId("report").addEventListener("click", saveReport);

@@ -3,6 +3,9 @@
 /* So many frames of so many ends are kept to be drawn; lagtool examines 64 ends. */
 const MOST_KEPT = 100000, MOST_ENDS = 128;
 const NO_SYSTEM = "00-00-00-00-00-00";
+/* Seconds: the timeouts of 6.4.4. */
+export const SHORT_TIMEOUT = 3;
+const LONG_TIMEOUT = 90;
 const BITS = ["active", "short", "aggregatable", "synchronized", "collecting", "distributing", "defaulted", "expired"];
 
 /* Whether a finding calls for nothing, by its advice. */
@@ -30,8 +33,9 @@ export function saidBy(frame) {
 
 /* One end of a link: an interface of the capture, a source address, and the number of its port, null where no frame names it. */
 export class End {
-    constructor(number, source, port) {
+    constructor(number, source, port, label) {
         this.interface = number;
+        this.label = label ?? (number ? `interface ${number}` : "");
         this.source = source;
         this.port = port;
         this.frames = [];
@@ -41,12 +45,22 @@ export class End {
         this.system = null;
         this.named = null;
         this.distributes = false;
+        this.last = null;
+        this.record = null;
     }
 
     get name() {
-        const source = this.interface === 0 ? this.source : `interface ${this.interface} ${this.source}`;
+        const source = `${this.label} ${this.source}`.trim();
         return this.port === null ? source : `${source} port ${this.port}`;
     }
+
+    /* By its system: what is said of a link is of two systems. */
+    get short() { return this.system ? `${addressOf(this.system)} port ${this.port}` : this.name; }
+
+    /* Whether it has named a partner ever. */
+    get hasHeard() { return [...this.partners].some((it) => isKnown(it.split(" ")[0])); }
+
+    has(bit) { return this.last !== null && bitsOf(this.last.actor.state).includes(bit); }
 
     take(frame) {
         this.frames.push(frame);
@@ -57,7 +71,15 @@ export class End {
         this.system = frame.actor.system;
         this.named = frame.partner.system;
         this.distributes = bitsOf(frame.actor.state).includes("distributing");
+        this.last = frame;
     }
+}
+
+/* Whether an end sends nothing more at the end of a capture, for longer than its partner waits; times are seconds. */
+export function isSilent(end, until) {
+    if (!end?.last || !end.record || !Number.isFinite(until)) return false;
+    const partner = bitsOf(end.last.partner.state), timeout = partner.includes("short") && !end.has("expired") ? SHORT_TIMEOUT : LONG_TIMEOUT;
+    return (end.has("active") || partner.includes("active")) && until - end.record.last > timeout;
 }
 
 const portNumberOf = (port) => Number(port.split("/")[1]);
@@ -80,6 +102,15 @@ export class Records {
         this.others = 0;
         this.lacpdus = { first: Infinity, last: -Infinity };
         this.counts = null;
+        this.names = new Map();
+        this.comments = new Map();
+        this.places = new Map();
+    }
+
+    /* Where a packet stands: of several files, in which. */
+    placeOf(packet) {
+        const it = this.places.get(packet);
+        return it ? `${it.file} packet ${it.number}` : `packet ${packet}`;
     }
 
     /* The end of these, which is there from now on; without a port it is the first of that source. */
@@ -89,7 +120,7 @@ export class Records {
         if (found) return found;
         const bare = this.ends.get(places[1]);
         if (bare && bare.port === null) bare.port = port;
-        const end = bare && bare.port === port ? bare : new End(number, source, port);
+        const end = bare && bare.port === port ? bare : new End(number, source, port, this.names.get(number));
         if (end !== bare) this.all.push(end);
         this.ends.set(places[0], end);
         if (!bare) this.ends.set(places[1], end);
@@ -119,10 +150,12 @@ export class Records {
         else this.unread += 1;
     }
 
-    addEnd({ interface: number, source, port, first, last, distributing: { began, ended } }) {
+    addEnd(record) {
+        const { interface: number, source, port, first, last, distributing: { began, ended } } = record;
         if (first === null || last === null) return;
         this.lacpdus = { first: Math.min(this.lacpdus.first, first), last: Math.max(this.lacpdus.last, last) };
         const end = this.ends.get(`${number} ${source} ${port}`);
+        if (end) end.record = record;
         if (end && this.kept >= MOST_KEPT) end.distributes = began !== null && (ended === null || ended < began);
     }
 

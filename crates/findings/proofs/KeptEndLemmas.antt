@@ -3,15 +3,16 @@ use Rattle.std.proofs.Common.{◌≡◌, ◌∷◌, ◌∙◌, [], ℕ, Bool, Li
 use Rattle.findings.specs.declared.slow_frame.LinkEnd.{LinkEnd}
 use Rattle.findings.specs.declared.slow_frame.SlowFrame.{SlowFrame}
 use Rattle.findings.specs.Ends.{Relation, Unsent, answers, faces, frames_of, intrudes, is_fellow, is_named, is_sibling, lacpdus, latest, rivals, said}
-use Rattle.findings.specs.Ends.{end_of, same_end, others}
+use Rattle.findings.specs.Ends.{standing, end_of, same_end, others}
 use Rattle.findings.specs.Markers.{first_overdue, open_marker, response_in, unless_answered, asking}
 use Rattle.slowpdu.specs.declared.pdu.Marker.{Marker}
-use Rattle.findings.specs.Responses.{first_response, is_overdue, is_unasked, owed, request, responding}
+use Rattle.findings.specs.Responses.{first_response, is_overdue, is_unasked, none_wait, request, responding, waiting}
 use Rattle.findings.specs.KeptEnds.{frame_rules, lacpdu_rules, recent_of, kept_end}
 use Rattle.findings.specs.declared.kept_end.KeptEnd.{KeptEnd}
 use Rattle.findings.specs.declared.asking.Asked.{Asked}
 use Rattle.findings.specs.declared.asking.Asking.{Asking}
 use Rattle.findings.specs.declared.responding.Responding.{Responding}
+use Rattle.findings.specs.declared.waiting.Waiting.{Waiting}
 use Rattle.findings.specs.declared.others.Others.{Others}
 
 none_said : (e : LinkEnd) (h : List SlowFrame) → Unsent e h → said e h ≡ None
@@ -46,11 +47,15 @@ no_request : (e : LinkEnd) (h : List SlowFrame) → Unsent e h → request e h �
 no_request e [] u = refl
 no_request e (o ∷ h) u = rw (u.0, none_said e h u.1, no_request e h u.1) refl
 
-none_owed : (e : LinkEnd) (h : List SlowFrame) → Unsent e h → owed e h ≡ 0
-none_owed e [] u = refl
-none_owed e (o ∷ h) u = rw (u.0, none_said e h u.1, none_owed e h u.1) refl
+no_waiting : (e : LinkEnd) (h : List SlowFrame) → Unsent e h → waiting e h ≡ none_wait
+no_waiting e [] u = refl
+no_waiting e (o ∷ h) u = rw (u.0, none_said e h u.1, no_waiting e h u.1) refl
 
-no_response : (holds : ℕ → Option Asked → ℕ → Marker → Bool) (e : LinkEnd) (h : List SlowFrame) → Unsent e h → first_response holds e h ≡ None
+none_standing : (relation : Relation) (e : LinkEnd) (h : List SlowFrame) → Unsent e h → standing relation e h ≡ None
+none_standing relation e [] u = refl
+none_standing relation e (o ∷ h) u = rw (u.0, none_said e h u.1, none_standing relation e h u.1) refl
+
+no_response : (holds : Waiting → Option Asked → ℕ → Marker → Bool) (e : LinkEnd) (h : List SlowFrame) → Unsent e h → first_response holds e h ≡ None
 no_response holds e [] u = refl
 no_response holds e (o ∷ h) u = rw (u.0, none_said e h u.1, no_response holds e h u.1) refl
 
@@ -62,14 +67,14 @@ before_first e h u = λ i. record {
   asking = record { waiting = sym (none_open e h u) i; overdue = sym (none_overdue e h u) i };
   responding = record {
     request = sym (no_request e h u) i;
-    owed = sym (none_owed e h u) i;
-    unasked = sym (no_response (λ n m time. is_unasked n m) e h u) i;
-    late = sym (no_response (λ n m time. is_overdue time m) e h u) i;
+    waiting = sym (no_waiting e h u) i;
+    unasked = sym (no_response (λ w m time. is_unasked w) e h u) i;
+    late = sym (no_response (λ w m time. is_overdue time m) e h u) i;
   };
   others = record {
     answer = sym (none_latest answers e h u) i;
     rival = sym (none_latest rivals e h u) i;
-    sibling = sym (none_latest is_sibling e h u) i;
+    sibling = sym (none_standing is_sibling e h u) i;
     facing = sym (none_latest faces e h u) i;
     third = sym (none_latest intrudes e h u) i;
     named = sym (none_latest is_named e h u) i;

@@ -82,9 +82,15 @@ abbrev pub rivals : Relation
 rivals e own o v =
     (o.interface == e.interface) && (same_system v.partner.system own.partner.system && same_port v.partner.port own.partner.port)
 
--- an LACPDU of the same pair of systems
+-- one of the two keys is the same, and the other one is not: one group of a system faces two groups of the other one (6.3.6)
+abbrev pub mixes_keys : Lacpdu → Lacpdu → Bool
+mixes_keys v w =
+    if v.actor.key.0 == w.actor.key.0 then not (v.partner.key.0 == w.partner.key.0) else v.partner.key.0 == w.partner.key.0
+
+-- an LACPDU of the same pair of systems, with one of the two keys
 abbrev pub is_sibling : Relation
-is_sibling e own o v = same_system v.actor.system own.actor.system && same_system v.partner.system own.partner.system
+is_sibling e own o v =
+    same_system v.actor.system own.actor.system && (same_system v.partner.system own.partner.system && mixes_keys own v)
 
 -- on the same interface, any LACPDU
 abbrev pub faces : Relation
@@ -117,12 +123,31 @@ intrudes e own o v =
 abbrev pub is_named : Relation
 is_named e own o v = (o.interface == e.interface) && same_system v.actor.system own.partner.system
 
+-- the LACPDU of another end than this
+abbrev pub unless_of : LinkEnd → Option Other → Option Other
+unless_of e None = None
+unless_of e (Some x) = if same_end e x.end then None else Some x
+
+-- the LACPDU of another end that is related to this end, behind one frame more: an end is judged by its latest
+abbrev pub standing_with : Relation → LinkEnd → SlowFrame → Option Lacpdu → Option Lacpdu → Option Other → Option Other
+standing_with relation e o None theirs kept = kept
+standing_with relation e o (Some own) None kept = kept
+standing_with relation e o (Some own) (Some v) kept =
+    if relation e own o v then Some (record { end = end_of o; nanoseconds = o.nanoseconds; pdu = v }) else unless_of (end_of o) kept
+
+-- the latest LACPDU of another end that is related to this end, unless that end has sent one since that is not
+abbrev pub standing : Relation → LinkEnd → List SlowFrame → Option Other
+standing relation e [] = None
+standing relation e (o ∷ h) =
+    if same_end (end_of o) e then standing relation e h
+    else standing_with relation e o (said e h) (lacpdu_in o.what) (standing relation e h)
+
 -- what is known of other ends
 abbrev pub others : LinkEnd → List SlowFrame → Others
 others e h = record {
   answer = latest answers e h;
   rival = latest rivals e h;
-  sibling = latest is_sibling e h;
+  sibling = standing is_sibling e h;
   facing = latest faces e h;
   third = latest intrudes e h;
   named = latest is_named e h;

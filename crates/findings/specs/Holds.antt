@@ -9,7 +9,7 @@ use Rattle.findings.specs.declared.others.Other.{Other}
 use Rattle.findings.specs.declared.slow_frame.SlowFrame.{SlowFrame}
 use Rattle.findings.specs.declared.slow_frame.What.{What}
 use Rattle.findings.specs.declared.slow_frame.What.TheVariants.{Lacpdu, Marker, Refused}
-use Rattle.findings.specs.Ends.{may_aggregate}
+use Rattle.findings.specs.Ends.{may_aggregate, mixes_keys}
 
 -- the nanoseconds of so many seconds
 abbrev pub seconds : ℕ → ℕ
@@ -57,9 +57,10 @@ is_rushed a before =
 abbrev pub is_passive : Heard → List Heard → Bool
 is_passive a before = not (actor a).activity && not (partner a).activity && not (actor a).defaulted
 
--- the timeout that the partner asks for, as the sender has recorded it (6.4.4)
+-- the timeout that the partner asks for, as the sender has recorded it (6.4.4); behind Expired comes Defaulted, without an LACPDU,
+-- and Defaulted may record a long one (6.4.12)
 abbrev pub timeout : Heard → ℕ
-timeout a = if (partner a).timeout then seconds 3 else seconds 90
+timeout a = if (partner a).timeout && not (actor a).expired then seconds 3 else seconds 90
 
 -- it sends LACPDUs periodically: one of the two ends is active (6.4.13)
 abbrev pub is_periodic : Heard → Bool
@@ -107,9 +108,13 @@ has_relapsed (a ∷ before) = is_relapse a before || has_relapsed before
 abbrev pub is_relapsing : Heard → List Heard → Bool
 is_relapsing a before = is_relapse a before && has_relapsed before
 
--- no LACPDU of another end has come on the interface since the sender's first
+-- it names its own system and port: its LACPDUs come back
+abbrev pub hears_itself : Heard → Bool
+hears_itself a = same_system a.pdu.partner.system a.pdu.actor.system && same_port a.pdu.partner.port a.pdu.actor.port
+
+-- no LACPDU of another end has come on the interface since the sender's first, nor its own
 abbrev pub is_alone : Heard → Bool
-is_alone a = is_none a.others.facing
+is_alone a = is_none a.others.facing && not (hears_itself a)
 
 -- the same, and the sender asks for Short Timeout (6.4.4)
 abbrev pub is_alone_short : Heard → Bool
@@ -159,19 +164,15 @@ has_other_key a =
 abbrev pub is_sibling_of : Heard → Other → Bool
 is_sibling_of a x = same_system a.pdu.actor.system x.pdu.actor.system && same_system a.pdu.partner.system x.pdu.partner.system
 
--- it has the same keys
-abbrev pub has_keys_of : Heard → Other → Bool
-has_keys_of a x = (a.pdu.actor.key.0 == x.pdu.actor.key.0) && (a.pdu.partner.key.0 == x.pdu.partner.key.0)
-
 -- it names the same partner, a system and its port
 abbrev pub names_partner_of : Heard → Other → Bool
 names_partner_of a x = same_system a.pdu.partner.system x.pdu.partner.system && same_port a.pdu.partner.port x.pdu.partner.port
 
--- Keys differ within one pair of systems (6.3.6): the latest LACPDU of another link of the pair has other keys, and came at
--- most a Long Timeout before.
+-- Keys differ within one pair of systems (6.3.6): another link of the pair has one of the two keys and not the other, by its latest
+-- LACPDU, which came at most a Long Timeout before. Links of which both keys differ are of two groups at both ends.
 abbrev pub has_other_keys : Heard → Bool
 has_other_keys a =
-    is_current a && and_if (λ x. is_fresh a x && is_sibling_of a x && not (has_keys_of a x)) a.others.sibling
+    is_current a && and_if (λ x. is_fresh a x && is_sibling_of a x && mixes_keys a.pdu x.pdu) a.others.sibling
 
 -- Two actors on one segment (6.4.9): another end has named the same partner, at most a Long Timeout ago.
 abbrev pub has_rival : Heard → List Heard → Bool

@@ -1,17 +1,17 @@
 -- Responses to markers, by the end that sends them (6.5.4). A response names no port of its sender, so it is of an end by
 -- interface and source address; an end responds from its first LACPDU on.
-use Rattle.std.specs.Prelude.{◌==◌, ◌&&◌, ◌||◌, ◌+◌, ◌-◌, ℕ, Bool, true, not, is_some, List, [], ◌∷◌, Option, Some, None, if◌then◌else◌}
+use Rattle.std.specs.Prelude.{◌==◌, ◌&&◌, ◌||◌, ℕ, Bool, false, not, is_some, List, [], ◌∷◌, Option, Some, None, if◌then◌else◌}
 use Rattle.std.specs.Option.{option_or}
 use Rattle.std.specs.Str.{bytes_eq}
 use Rattle.slowpdu.specs.declared.pdu.Marker.{Marker}
 use Rattle.findings.specs.declared.asking.Asked.{Asked}
 use Rattle.findings.specs.declared.responding.Responding.{Responding}
+use Rattle.findings.specs.declared.waiting.Waiting.{Waiting}
 use Rattle.findings.specs.declared.finding.Shown.{Shown}
 use Rattle.findings.specs.declared.slow_frame.LinkEnd.{LinkEnd}
 use Rattle.findings.specs.declared.slow_frame.SlowFrame.{SlowFrame}
 use Rattle.findings.specs.Ends.{end_of, said, same_end}
 use Rattle.findings.specs.Holds.{and_if, is_over, seconds}
-use Rattle.findings.specs.Counts.{counted}
 use Rattle.findings.specs.Markers.{asked_in, is_response_to, marker_in, response_in}
 
 -- the marker that a frame asks an end with: one on its interface from another source address
@@ -31,25 +31,100 @@ abbrev pub request : LinkEnd → List SlowFrame → Option Asked
 request e [] = None
 request e (o ∷ h) = option_or (if comes_later e o h then asks e o else None) (request e h)
 
--- one more marker waits for a response, or one fewer
-abbrev pub owed_with : Option Asked → Option Marker → ℕ → ℕ
-owed_with (Some m) response n = counted (n + 1)
-owed_with None (Some r) n = n - 1
-owed_with None None n = n
+-- a place behind a marker, which takes it if it is free
+abbrev pub placed : Option Asked → Option Asked → Option Asked
+placed None m = m
+placed (Some q) m = Some q
 
--- how many markers an end has been asked with more than it has responded to
-abbrev pub owed : LinkEnd → List SlowFrame → ℕ
-owed e [] = 0
-owed e (o ∷ h) = if comes_later e o h then owed_with (asks e o) (responds e o) (owed e h) else owed e h
+-- the marker, if the place was taken
+abbrev pub unplaced : Option Asked → Option Asked → Option Asked
+unplaced None m = None
+unplaced (Some q) m = m
 
--- a response has the marker's port and system
-abbrev pub is_of_requester : Marker → Marker → Bool
-is_of_requester m r = (r.port == m.port) && bytes_eq r.system m.system
+-- a place behind a response: free, if the response is to the marker in it
+abbrev pub freed : Option Asked → Option Marker → Option Asked
+freed None r = None
+freed (Some q) None = Some q
+freed (Some q) (Some r) = if is_response_to q.marker r then None else Some q
 
--- A response that nobody asked for (6.5.4): no marker waits for one, or it is not for the sender of the latest marker.
-abbrev pub is_unasked : ℕ → Option Asked → Marker → Bool
-is_unasked n None r = true
-is_unasked n (Some m) r = (n == 0) || not (is_of_requester m.marker r)
+-- the response, unless it is to the marker in a place
+abbrev pub unpaired : Option Asked → Option Marker → Option Marker
+unpaired None r = r
+unpaired (Some q) None = None
+unpaired (Some q) (Some r) = if is_response_to q.marker r then None else Some r
+
+-- no marker waits
+abbrev pub none_wait : Waiting
+none_wait = record {
+  first = None;
+  second = None;
+  third = None;
+  fourth = None;
+  fifth = None;
+  sixth = None;
+  seventh = None;
+  eighth = None;
+  beyond = false;
+}
+
+-- one more marker waits: it takes the first free place
+abbrev pub with_marker : Option Asked → Waiting → Waiting
+with_marker m w =
+    let m2 = unplaced w.first m in
+    let m3 = unplaced w.second m2 in
+    let m4 = unplaced w.third m3 in
+    let m5 = unplaced w.fourth m4 in
+    let m6 = unplaced w.fifth m5 in
+    let m7 = unplaced w.sixth m6 in
+    let m8 = unplaced w.seventh m7 in
+    record {
+      first = placed w.first m;
+      second = placed w.second m2;
+      third = placed w.third m3;
+      fourth = placed w.fourth m4;
+      fifth = placed w.fifth m5;
+      sixth = placed w.sixth m6;
+      seventh = placed w.seventh m7;
+      eighth = placed w.eighth m8;
+      beyond = w.beyond || is_some (unplaced w.eighth m8);
+    }
+
+-- a response frees the first place whose marker it is to
+abbrev pub with_response : Option Marker → Waiting → Waiting
+with_response r w =
+    let r2 = unpaired w.first r in
+    let r3 = unpaired w.second r2 in
+    let r4 = unpaired w.third r3 in
+    let r5 = unpaired w.fourth r4 in
+    let r6 = unpaired w.fifth r5 in
+    let r7 = unpaired w.sixth r6 in
+    let r8 = unpaired w.seventh r7 in
+    record {
+      first = freed w.first r;
+      second = freed w.second r2;
+      third = freed w.third r3;
+      fourth = freed w.fourth r4;
+      fifth = freed w.fifth r5;
+      sixth = freed w.sixth r6;
+      seventh = freed w.seventh r7;
+      eighth = freed w.eighth r8;
+      beyond = w.beyond;
+    }
+
+-- the response, unless it is to a marker that waits
+abbrev pub unasked_by : Waiting → Option Marker → Option Marker
+unasked_by w r =
+    unpaired w.eighth (unpaired w.seventh (unpaired w.sixth (unpaired w.fifth (unpaired w.fourth (unpaired w.third (unpaired w.second (unpaired w.first r)))))))
+
+-- the markers that an end is asked with and has not responded to
+abbrev pub waiting : LinkEnd → List SlowFrame → Waiting
+waiting e [] = none_wait
+waiting e (o ∷ h) = if comes_later e o h then with_response (responds e o) (with_marker (asks e o) (waiting e h)) else waiting e h
+
+-- A response that nobody asked for (6.5.4): no marker that waits has its port, system and transaction. Of a marker that found no
+-- place nothing is known.
+abbrev pub is_unasked : Waiting → Marker → Bool
+is_unasked w r = not w.beyond && is_some (unasked_by w (Some r))
 
 -- A response late (6.5.4): to the latest marker, for longer than 3 seconds behind it.
 abbrev pub is_overdue : ℕ → Option Asked → Marker → Bool
@@ -61,21 +136,21 @@ if_response_is holds o None = None
 if_response_is holds o (Some r) =
     if holds r then Some (record { number = o.number; nanoseconds = o.nanoseconds; partner = None }) else None
 
--- the first response of an end with a property, by how many markers wait, the latest marker and the time
-abbrev pub first_response : (ℕ → Option Asked → ℕ → Marker → Bool) → LinkEnd → List SlowFrame → Option Shown
+-- the first response of an end with a property, by the markers that wait, the latest marker and the time
+abbrev pub first_response : (Waiting → Option Asked → ℕ → Marker → Bool) → LinkEnd → List SlowFrame → Option Shown
 first_response holds e [] = None
 first_response holds e (o ∷ h) =
     option_or (first_response holds e h)
-    (if comes_later e o h then if_response_is (holds (owed e h) (request e h) o.nanoseconds) o (responds e o) else None)
+    (if comes_later e o h then if_response_is (holds (waiting e h) (request e h) o.nanoseconds) o (responds e o) else None)
 
 -- the first response of an end that nobody asked for
 abbrev pub first_unasked : LinkEnd → List SlowFrame → Option Shown
-first_unasked = first_response (λ n m time. is_unasked n m)
+first_unasked = first_response (λ w m time. is_unasked w)
 
 -- the first response of an end that comes late
 abbrev pub first_late : LinkEnd → List SlowFrame → Option Shown
-first_late = first_response (λ n m time. is_overdue time m)
+first_late = first_response (λ w m time. is_overdue time m)
 
 -- what is kept of an end's responses
 abbrev pub responding : LinkEnd → List SlowFrame → Responding
-responding e h = record { request = request e h; owed = owed e h; unasked = first_unasked e h; late = first_late e h }
+responding e h = record { request = request e h; waiting = waiting e h; unasked = first_unasked e h; late = first_late e h }

@@ -69,7 +69,7 @@ row_of variants.Third = rule_row 26 (codes "a third system on the link") (codes 
 row_of variants.Hasty = rule_row 27 (codes "a wait of less than 2 seconds before synchronization") (codes "6.4.15")
     (codes "None is needed if both ends distribute: an end that waits lets links that come up together attach together.")
 row_of variants.Backward = rule_row 28 (codes "more than a second earlier than the frame before it") (codes "6.4.4")
-    (codes "Sort the packets by reordercap and read them again: rules 18 to 21 are left out, and no time is judged from a packet to an earlier one.")
+    (codes "If files were joined, sort the packets by reordercap and read them again; if a clock was set back, capture anew: rules 18 to 21 are left out, and no time is judged from a packet to an earlier one.")
 row_of variants.Split = rule_row 29 (codes "links of one system lead to two systems") (codes "6.3.6")
     (codes "Cable these links to one system, or make the two systems one (MLAG); give links that are to stay apart keys of their own.")
 row_of variants.OwnSystem = rule_row 30 (codes "the partner's system is the end's own") (codes "6.3.2")

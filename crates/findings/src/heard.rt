@@ -1,12 +1,12 @@
 ghost use Rattle.std.specs.Prelude.{◌≡◌, List};
 ghost use Rattle.findings.specs.declared.recent.Heard.{Heard};
 ghost use Rattle.findings.specs.Firsts.{shown_heard};
-ghost use Rattle.findings.specs.Holds.{is_current, is_fresh, is_passive, is_individual, is_named_system, is_sibling_of, has_keys_of, names_partner_of};
+ghost use Rattle.findings.specs.Holds.{is_current, is_fresh, is_passive, is_individual, is_named_system, is_sibling_of, names_partner_of};
 ghost use Rattle.findings.specs.Holds.{is_split, names_own_system, parts_from};
 ghost use Rattle.findings.specs.Holds.{has_other_system, has_other_port, has_other_key, has_other_keys, has_rival, has_third, names_as};
 
 use crate::finding::Shown;
-use crate::others::{Other, may_aggregate};
+use crate::others::{Other, may_aggregate, mixes_keys};
 use crate::recent::{Heard, LONG_TIMEOUT, is_ordered};
 
 impl Heard {
@@ -98,14 +98,7 @@ impl Heard {
             && self.pdu.partner.system == other.pdu.partner.system
     }
 
-    /// Whether the other LACPDU has the same keys.
-    fn has_keys_of(&self, other: &Other) -> bool
-        ensures { result ≡ has_keys_of self.now other.now }
-    {
-        self.pdu.actor.key == other.pdu.actor.key && self.pdu.partner.key == other.pdu.partner.key
-    }
-
-    /// Whether another link of the same pair of systems has other keys.
+    /// Whether another link of the same pair of systems has one of the two keys and not the other.
     pub(crate) fn has_other_keys(&self) -> bool
         ensures { result ≡ has_other_keys self.now }
     {
@@ -114,7 +107,7 @@ impl Heard {
                 self.is_current()
                     && self.is_fresh(&sibling)
                     && self.is_sibling_of(&sibling)
-                    && !self.has_keys_of(&sibling)
+                    && mixes_keys(&self.pdu, &sibling.pdu)
             }
             None => false,
         }

@@ -19,6 +19,7 @@ mod recent;
 mod responding;
 mod rule;
 mod slow_frame;
+mod waiting;
 
 pub use finding::{Finding, Shown};
 pub use observing::{Findings, MOST_ENDS};

@@ -1,7 +1,7 @@
 ghost use Rattle.std.specs.Prelude.{◌≡◌, ◌∷◌, List, Some, None, false, if◌then◌else◌};
 ghost use Rattle.std.specs.Option.{option_or};
 ghost use Rattle.findings.specs.declared.slow_frame.SlowFrame.{SlowFrame};
-ghost use Rattle.findings.specs.Ends.{answers, end_of, faces, intrudes, is_fellow, is_heard, is_named, is_sibling, may_aggregate, names, others, related, rivals, said, same_end};
+ghost use Rattle.findings.specs.Ends.{answers, end_of, faces, intrudes, is_fellow, is_heard, is_named, is_sibling, may_aggregate, mixes_keys, names, others, related, rivals, said, same_end, standing_with, unless_of};
 
 use crate::slow_frame::{LinkEnd, SlowFrame};
 use slowpdu::{Info, Lacpdu};
@@ -24,7 +24,8 @@ pub(crate) struct Others {
     pub(crate) answer: Option<Other>,
     /// The latest LACPDU of another end on the same interface that has the same Partner as this end.
     pub(crate) rival: Option<Other>,
-    /// The latest LACPDU of another end, on any interface, between the same pair of systems.
+    /// The latest LACPDU of another end, on any interface, between the same pair of systems, with one of the two keys and not the
+    /// other; None once that end has sent one that is not so.
     pub(crate) sibling: Option<Other>,
     /// The latest LACPDU of another end on the same interface, whatever its Partner.
     pub(crate) facing: Option<Other>,
@@ -54,11 +55,24 @@ fn rivals(end: &LinkEnd, own: &Lacpdu, now: &SlowFrame, pdu: &Lacpdu) -> bool
         && pdu.partner.port == own.partner.port
 }
 
-/// Whether the LACPDU of another end is of the same pair of systems.
+/// Whether one of the two keys is the same, and the other one is not.
+pub(crate) fn mixes_keys(one: &Lacpdu, other: &Lacpdu) -> bool
+    ensures { result ≡ mixes_keys one.now other.now }
+{
+    if one.actor.key == other.actor.key {
+        one.partner.key != other.partner.key
+    } else {
+        one.partner.key == other.partner.key
+    }
+}
+
+/// Whether the LACPDU of another end is of the same pair of systems, with one of the two keys.
 fn is_sibling(end: &LinkEnd, own: &Lacpdu, now: &SlowFrame, pdu: &Lacpdu) -> bool
     ensures { result ≡ is_sibling end.now own.now now.now pdu.now }
 {
-    pdu.actor.system == own.actor.system && pdu.partner.system == own.partner.system
+    pdu.actor.system == own.actor.system
+        && pdu.partner.system == own.partner.system
+        && mixes_keys(own, pdu)
 }
 
 /// Whether the LACPDU has the end with this information as its Partner.
@@ -116,6 +130,28 @@ fn keep_latest(latest: &mut Option<Other>, is_related: bool, now: &Other)
     }
 }
 
+/// Drops what is kept of this end.
+fn drop_of(end: &LinkEnd, kept: &mut Option<Other>)
+    ensures { kept.new ≡ unless_of end.now kept.old }
+{
+    if let Some(other) = *kept
+        && end.is(&other.end)
+    {
+        *kept = None;
+    }
+}
+
+/// Keeps the new one if it is related, else the one before, unless that is of the same end.
+fn keep_standing(kept: &mut Option<Other>, is_related: bool, now: &Other)
+    ensures { kept.new ≡ (if is_related then Some now.now else unless_of now.now.end kept.old) }
+{
+    if is_related {
+        *kept = Some(*now);
+    } else {
+        drop_of(&now.end, kept);
+    }
+}
+
 impl Others {
     /// Keeps the latest ones behind one more LACPDU of another end.
     fn keep(&mut self, end: &LinkEnd, own: &Lacpdu, now: &SlowFrame, pdu: &Lacpdu)
@@ -125,7 +161,7 @@ impl Others {
         ensures third { self.new.third ≡ option_or (related intrudes end.now now.now (Some own.now) (Some pdu.now)) self.old.third }
         ensures named { self.new.named ≡ option_or (related is_named end.now now.now (Some own.now) (Some pdu.now)) self.old.named }
         ensures fellow { self.new.fellow ≡ option_or (related is_fellow end.now now.now (Some own.now) (Some pdu.now)) self.old.fellow }
-        ensures sibling { self.new.sibling ≡ option_or (related is_sibling end.now now.now (Some own.now) (Some pdu.now)) self.old.sibling }
+        ensures sibling { self.new.sibling ≡ standing_with is_sibling end.now now.now (Some own.now) (Some pdu.now) self.old.sibling }
     {
         let other = Other {
             end: now.end(),
@@ -134,7 +170,7 @@ impl Others {
         };
         keep_latest(&mut self.answer, answers(end, own, now, pdu), &other);
         keep_latest(&mut self.rival, rivals(end, own, now, pdu), &other);
-        keep_latest(&mut self.sibling, is_sibling(end, own, now, pdu), &other);
+        keep_standing(&mut self.sibling, is_sibling(end, own, now, pdu), &other);
         keep_latest(&mut self.facing, now.interface == end.interface, &other);
         keep_latest(&mut self.third, intrudes(end, own, now, pdu), &other);
         keep_latest(&mut self.named, is_named(end, own, now, pdu), &other);

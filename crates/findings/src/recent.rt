@@ -1,6 +1,6 @@
 ghost use Rattle.std.specs.Prelude.{◌≡◌, ◌∷◌, List, unwrap_or, Some, None, if◌then◌else◌};
 ghost use Rattle.findings.specs.declared.recent.Heard.{Heard};
-ghost use Rattle.findings.specs.Holds.{and_if, is_alone, is_alone_short, is_one_way, is_ordered, is_over, is_attached, is_relapse, is_relapsing, is_unheard, is_discarded, is_periodic, is_rushed, is_late, is_silent, is_desynchronized, lasts, seconds, since, timeout, are_in_a_second, is_near, attaches, is_hasty, no_wait_at, is_split};
+ghost use Rattle.findings.specs.Holds.{and_if, hears_itself, is_alone, is_alone_short, is_one_way, is_ordered, is_over, is_attached, is_relapse, is_relapsing, is_unheard, is_discarded, is_periodic, is_rushed, is_late, is_silent, is_desynchronized, lasts, seconds, since, timeout, are_in_a_second, is_near, attaches, is_hasty, no_wait_at, is_split};
 ghost use Rattle.findings.specs.Holds.{has_other_system, has_other_port, has_other_key, has_other_keys, has_third, twice};
 ghost use Rattle.findings.specs.Firsts.{last_silent};
 ghost use Rattle.findings.specs.KeptEnds.{recent_of};
@@ -150,11 +150,19 @@ impl Heard {
             && !self.pdu.partner.state.is_synchronized()
     }
 
-    /// Whether no LACPDU of another end has come on the interface.
+    /// Whether the sender names its own system and port.
+    fn hears_itself(&self) -> bool
+        ensures { result ≡ hears_itself self.now }
+    {
+        self.pdu.partner.system == self.pdu.actor.system
+            && self.pdu.partner.port == self.pdu.actor.port
+    }
+
+    /// Whether no LACPDU of another end has come on the interface, nor the sender's own.
     fn is_alone(&self) -> bool
         ensures { result ≡ is_alone self.now }
     {
-        self.others.facing.is_none()
+        self.others.facing.is_none() && !self.hears_itself()
     }
 
     /// Whether no LACPDU of another end has come on the interface, and the sender asks for Short Timeout.
@@ -171,11 +179,11 @@ impl Heard {
         self.pdu.actor.state.is_active() || self.pdu.partner.state.is_active()
     }
 
-    /// The timeout that the partner asks for, in nanoseconds.
+    /// The timeout that the partner asks for, in nanoseconds; the long one if the sender is Expired, behind which it is Defaulted.
     fn timeout(&self) -> u64
         ensures { result ≡ timeout self.now }
     {
-        if self.pdu.partner.state.is_short() {
+        if self.pdu.partner.state.is_short() && !self.pdu.actor.state.is_expired() {
             SHORT_TIMEOUT
         } else {
             LONG_TIMEOUT

@@ -1,14 +1,14 @@
-ghost use Rattle.std.specs.Prelude.{◌≡◌, ◌∷◌, ◌+◌, List, Some, None, is_some, if◌then◌else◌};
+ghost use Rattle.std.specs.Prelude.{◌≡◌, ◌∷◌, List, Some, None, is_some, if◌then◌else◌};
 ghost use Rattle.findings.specs.declared.slow_frame.SlowFrame.{SlowFrame};
 ghost use Rattle.findings.specs.Ends.{end_of, said, same_end};
-ghost use Rattle.findings.specs.Counts.{counted};
-ghost use Rattle.findings.specs.Responses.{asks, is_of_requester, is_overdue, is_unasked, if_response_is, owed_with, responding, responds};
+ghost use Rattle.findings.specs.Responses.{asks, is_overdue, is_unasked, if_response_is, responding, responds};
 ghost use Rattle.std.specs.Prelude.{false, true};
 
 use crate::asking::{Asked, keep_asked, question};
 use crate::finding::{Shown, keep_first};
 use crate::recent::{SHORT_TIMEOUT, is_over};
 use crate::slow_frame::{LinkEnd, SlowFrame};
+use crate::waiting::Waiting;
 use slowpdu::{Lacpdu, Marker};
 
 /// What an end was asked by markers, and how it responds.
@@ -16,8 +16,8 @@ use slowpdu::{Lacpdu, Marker};
 pub(crate) struct Responding {
     /// The latest marker.
     pub(crate) request: Option<Asked>,
-    /// How many markers came more than responses went; at most 2^64 - 1.
-    pub(crate) owed: u64,
+    /// The markers without a response.
+    pub(crate) waiting: Waiting,
     /// The first response that nobody asked for.
     pub(crate) unasked: Option<Shown>,
     /// The first response that came late.
@@ -46,34 +46,6 @@ fn responds(end: &LinkEnd, now: &SlowFrame) -> Option<Marker>
     }
 }
 
-impl Asked {
-    /// Whether the response is for the sender of the marker.
-    fn is_of_requester(&self, response: &Marker) -> bool
-        ensures { result ≡ is_of_requester self.now.marker response.now }
-    {
-        response.port == self.marker.port && response.system == self.marker.system
-    }
-}
-
-/// The count and 1, at most 2^64 - 1.
-#[tactic(auto, unfolding(crate::specs::Counts::counted))]
-fn one_more(count: u64) -> u64
-    ensures { result ≡ counted (count + 1) }
-{
-    count.saturating_add(1)
-}
-
-/// One more marker waits for a response, or one fewer.
-fn owed_with(request: Option<Asked>, response: Option<Marker>, owed: u64) -> u64
-    ensures { result ≡ owed_with request response owed }
-{
-    match (request, response) {
-        (Some(_), _) => one_more(owed),
-        (None, Some(_)) => owed.saturating_sub(1),
-        (None, None) => owed,
-    }
-}
-
 /// The frame, if there is a response in it and it is to be shown.
 fn shown_if(is_shown: bool, now: &SlowFrame) -> Option<Shown>
     ensures { result ≡ (if is_shown then Some (record { number = now.now.number; nanoseconds = now.now.nanoseconds; partner = None }) else None) }
@@ -90,16 +62,6 @@ fn shown_if(is_shown: bool, now: &SlowFrame) -> Option<Shown>
 }
 
 impl Responding {
-    /// Whether nobody asked for the response.
-    fn is_unasked(&self, response: &Marker) -> bool
-        ensures { result ≡ is_unasked self.now.owed self.now.request response.now }
-    {
-        match self.request {
-            Some(asked) => self.owed == 0 || !asked.is_of_requester(response),
-            None => true,
-        }
-    }
-
     /// Whether the response comes late at this time, in nanoseconds.
     fn is_overdue(&self, time: u64, response: &Marker) -> bool
         ensures { result ≡ is_overdue time self.now.request response.now }
@@ -115,10 +77,10 @@ impl Responding {
 
     /// The frame, if nobody asked for the response in it.
     fn unasked_in(&self, now: &SlowFrame, response: Option<Marker>) -> Option<Shown>
-        ensures { result ≡ if_response_is (is_unasked self.now.owed self.now.request) now.now response }
+        ensures { result ≡ if_response_is (is_unasked self.now.waiting) now.now response }
     {
         match response {
-            Some(response) => shown_if(self.is_unasked(&response), now),
+            Some(response) => shown_if(self.waiting.is_unasked(&response), now),
             None => None,
         }
     }
@@ -144,7 +106,8 @@ impl Responding {
         let late = self.late_in(now, response);
         keep_first(&mut self.unasked, unasked);
         keep_first(&mut self.late, late);
-        self.owed = owed_with(request, response, self.owed);
+        self.waiting.ask(request);
+        self.waiting.respond(response);
         keep_asked(&mut self.request, request);
     }
 

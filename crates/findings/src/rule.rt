@@ -26,7 +26,7 @@ pub enum Rule {
     Destination,
     /// 10: a tag.
     Tag,
-    /// 11: no LACPDU for longer than the timeout that the partner asks for.
+    /// 11: no LACPDU for longer than the timeout that the partner asks for; behind one that says Expired, for longer than 90 seconds.
     Silence,
     /// 12: Defaulted or Expired for longer than 6 seconds.
     Unheard,
@@ -34,18 +34,19 @@ pub enum Rule {
     Desynchronized,
     /// 14: an Individual end with an aggregatable partner.
     Individual,
-    /// 15: keys differ within one pair of systems, in two LACPDUs in turn, from those of another link within 90 seconds.
+    /// 15: keys differ within one pair of systems: in two LACPDUs in turn, another link has had one of the two keys and not the
+    /// other, within 90 seconds.
     Keys,
     /// 16: two actors on one segment within 90 seconds.
     Segment,
     /// 17: distributing for longer than 3 seconds, and the partner is not collecting.
     Discarded,
-    /// 18: LACPDUs in one direction only, for longer than the timeout that the sender asks for.
+    /// 18: LACPDUs in one direction only, for longer than the timeout that the sender asks for; it does not name itself.
     OneWay,
     /// 19: a marker without a response within 3 seconds.
     Unanswered,
-    /// 20: a response from an end that has sent an LACPDU, while none of the markers that came since then is left without
-    /// one, or with another port or system than the latest of them.
+    /// 20: a response from an end that has sent an LACPDU, and none of the markers that came since then and wait for one has its
+    /// port, system and number. Once more than eight have waited together, none is found.
     Unasked,
     /// 21: a response that comes more than 3 seconds after the latest marker, which it responds to.
     Late,
@@ -290,7 +291,7 @@ impl Rule {
                 number: 28,
                 name: "more than a second earlier than the frame before it",
                 clause: "6.4.4",
-                advice: "Sort the packets by reordercap and read them again: rules 18 to 21 are left out, and no time is judged from a packet to an earlier one.",
+                advice: "If files were joined, sort the packets by reordercap and read them again; if a clock was set back, capture anew: rules 18 to 21 are left out, and no time is judged from a packet to an earlier one.",
             },
             Rule::Split => RuleRow {
                 number: 29,

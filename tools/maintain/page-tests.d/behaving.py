@@ -14,8 +14,10 @@ HOSTILE = '<img src=x onerror="window.taken = true"><script>window.taken = true<
 # The frame that is chosen, and the packet whose fields are shown.
 CHOSEN = "[document.activeElement.dataset.packet ?? '', document.querySelector('.chosen-frame:not([hidden]) h3')?.textContent.split(' ')[1] ?? '']"
 VERDICT = "[document.getElementById('verdict').textContent, document.getElementById('verdict').className]"
-TITLES = "[...document.querySelectorAll('#findings li')].map((it) => [...it.querySelectorAll('strong')].map((part) => part.textContent))"
-UNSHOWN = "This capture does not show why"
+TITLES = "[...document.querySelectorAll('#findings > li > strong')].map((it) => it.firstChild.textContent)"
+UNSHOWN, ONE = "This capture does not show why", "The link carries, both ways. It is one link: of a bundle capture all links, since keys and partners are compared between them."
+ALONE = "No cause is in this capture: ask both ends, and capture all links."
+OPEN = "document.querySelectorAll('#findings details').forEach((it) => { it.open = true; }), 1"
 # The fields of each frame that is drawn, by a click on it.
 FIELDS = """(async () => {
     const all = {};
@@ -65,6 +67,8 @@ def of_unable(tests: Tests, browser: Browser, page: str) -> None:
 def of_findings(tests: Tests, browser: Browser) -> None:
     browser.choose(UNEQUAL)
     stored = [it for it in read(f"{UNEQUAL.rpartition('.')[0]}.report.txt").splitlines() if it.startswith("finding ")]
+    browser.value(OPEN)
+    browser.settle()
     links = browser.value("[...document.querySelectorAll('#findings a')].map((it) => it.textContent)")
     tests.same("each finding leads to its packet", sorted(links), sorted("packet " + it.split(" packet ")[1].split()[0] for it in stored))
     packet = links[0].split()[1]
@@ -80,42 +84,40 @@ def of_findings(tests: Tests, browser: Browser) -> None:
 def of_verdicts(tests: Tests, browser: Browser, folder: str) -> None:
     """A fault is told from what often follows from it, and from what calls for nothing."""
     browser.choose(UNEQUAL)
-    tests.same("unequal keys are one fault, with its effects", browser.value(VERDICT), ["1 fault, 2 likely effects, 1 remark, at 9 places:", "bad"])
-    tests.same(
-        "the fault stands first, and says which system has which keys",
-        browser.value(TITLES),
-        [
-            ["Keys differ within one pair of systems", "02-00-00-00-02-00 has keys 20 and 21"],
-            ["Likely effect: synchronization lost"],
-            ["Likely effect: distributing while the partner is not collecting"],
-            ["Remark: a wait of less than 2 seconds before synchronization"],
-        ],
-    )
-    where = browser.value("document.querySelector('#findings li .quiet').textContent.split(', packet')[0]")
-    tests.same("a finding has its rule, and the system of its end", where, "rule 15, 6.3.6: 02-35-6b-bd-97-92 port 2 of system 02-00-00-00-01-00")
+    tests.same("unequal keys are one fault", browser.value(VERDICT), ["1 of 2 links carries. Keys differ within one pair of systems.", "bad"])
+    counts = browser.value("document.getElementById('counts').textContent")
+    tests.same("it is told with its effects", counts, "1 fault, 2 likely effects, 1 remark, at 9 places")
+    tests.same("the fault stands first", browser.value(TITLES), ["Keys differ within one pair of systems", "Remark: a wait of less than 2 seconds before synchronization"])
+    first = browser.value("document.querySelector('#findings .first').textContent")
+    tests.same("it says which system has which keys", first, "02-00-00-00-02-00 has keys 20 and 21, where 02-00-00-00-01-00 has 10")
+    effects = browser.value("[...document.querySelectorAll('#findings > li:first-child > details > summary')].at(-1).textContent")
+    tests.same("its effects are folded", effects, "Likely effects: distributing while the partner is not collecting; synchronization lost")
+    where = browser.value("[document.querySelector('#findings .rule').textContent, document.querySelector('#findings li > .quiet').textContent.split(', packet')[0]]")
+    tests.same("a finding has its rule, and the system of its end", where, [" (rule 15, 6.3.6)", "a1 02-35-6b-bd-97-92 port 2 of system 02-00-00-00-01-00"])
     browser.choose(os.path.join(CAPTURES, "open-vswitch.pcap"))
-    tests.same("a remark alone is no fault", browser.value(VERDICT), ["No fault found; 1 remark, at 1 place:", "good"])
+    tests.same("a remark alone is no fault", browser.value(VERDICT), [ONE, "good"])
     tests.same("it is not drawn as one", browser.value("document.querySelectorAll('#links svg .found:not(.quiet), #links svg .bad').length"), 0)
     cut = os.path.join(folder, "cut.pcap")
     with open(os.path.join(CAPTURES, "open-vswitch.pcap"), "rb") as it, open(cut, "wb") as out:
         out.write(it.read()[:-1])
     browser.choose(cut)
-    tests.same("of a capture that is cut short it is not said", browser.value(VERDICT), ["1 remark, at 1 place:", "bad"])
+    tests.same("of a capture that is cut short it is not said", browser.value(VERDICT), [ONE, "bad"])
     split = os.path.join(folder, "split.pcap")
     made.split(split)
     browser.choose(split)
-    said = ["Links of one system lead to two systems", "02-00-00-00-00-01 leads to 02-00-00-00-00-02 and 02-00-00-00-00-03"]
-    tests.same("links to two systems are one fault, which names both", [*browser.value(VERDICT), browser.value(TITLES)], ["1 fault, at 2 places:", "bad", [said]])
+    said = "Links of one system lead to two systems", "02-00-00-00-00-01 leads to 02-00-00-00-00-02 and 02-00-00-00-00-03"
+    named = [*browser.value(VERDICT), browser.value(TITLES), browser.value("document.querySelector('#findings .first').textContent")]
+    tests.same("links to two systems are one fault, which names both", named, [f"2 of 2 links carry. {said[0]}.", "bad", [said[0]], said[1]])
 
 
 def of_idle_links(tests: Tests, browser: Browser, folder: str) -> None:
     """Without a finding it is good news only where all links carry."""
-    path, unshown = os.path.join(folder, "links.pcap"), f"{UNSHOWN}: ask both ends, and capture all links."
+    path = os.path.join(folder, "links.pcap")
     cases: dict[str, tuple[list[int], list[str]]] = {
-        "a link that carries": ([made.UP], ["Nothing found.", "good"]),
-        "a link that does not": ([made.DOWN], [f"No fault found, but 1 of 1 link is not seen to carry. {unshown}", ""]),
-        "one of three": ([made.UP, made.DOWN, made.UP], [f"No fault found, but 1 of 3 links is not seen to carry. {unshown}", ""]),
-        "two of three": ([made.UP, made.DOWN, made.DOWN], [f"No fault found, but 2 of 3 links are not seen to carry. {unshown}", ""]),
+        "a link that carries": ([made.UP], [ONE, "good"]),
+        "a link that does not": ([made.DOWN], [f"0 of 1 link carries. {ALONE}", ""]),
+        "one of three": ([made.UP, made.DOWN, made.UP], [f"2 of 3 links carry. {ALONE}", ""]),
+        "two of three": ([made.UP, made.DOWN, made.DOWN], [f"1 of 3 links carries. {ALONE}", ""]),
     }
     for name, (states, wanted) in cases.items():
         made.links(path, states)
@@ -125,7 +127,7 @@ def of_idle_links(tests: Tests, browser: Browser, folder: str) -> None:
 
 def of_effects(tests: Tests, browser: Browser, folder: str) -> None:
     """What often follows from a fault, where there is no other: LACPDUs that do not arrive are one; of others the capture does not show why."""
-    alone, first = ["1 likely effect, at 1 place; no cause in this capture:", ""], "document.querySelector('#findings li').textContent"
+    alone, first = [f"0 of 1 link carries. {ALONE}", ""], "document.querySelector('#findings li').textContent"
     browser.choose(os.path.join(CAPTURES, "bonding.pcap"))
     tests.same("an effect without a fault has no cause in this capture", browser.value(VERDICT), alone)
     said = browser.value(first)
@@ -137,13 +139,13 @@ def of_effects(tests: Tests, browser: Browser, folder: str) -> None:
     tests.same("so has a link that the partner does not attach", [*browser.value(VERDICT), UNSHOWN in browser.value(first)], [*alone, True])
     made.attached(path, False)
     browser.choose(path)
-    tests.same("an end that hears nothing is a fault", browser.value(VERDICT), ["1 fault, 1 likely effect, at 2 places:", "bad"])
-    titles = [["Defaulted or expired for longer than 6 seconds"], ["Likely effect: attached for longer than 6 seconds while the partner is not synchronized"]]
+    tests.same("an end that hears nothing is a fault", browser.value(VERDICT), ["0 of 1 link carries. An end hears nobody for longer than 6 seconds.", "bad"])
+    titles = ["An end hears nobody for longer than 6 seconds"]
     said = browser.value("document.getElementById('findings').textContent")
     tests.same("it stands first, and explains the other", [browser.value(TITLES), UNSHOWN in said], [titles, False])
     made.astray(path)
     browser.choose(path)
-    tests.same("it follows from a fault of whoever is on its interface", browser.value(VERDICT), ["1 fault, 1 likely effect, at 3 places:", "bad"])
+    tests.same("it follows from a fault of whoever is on its interface", browser.value(VERDICT), ["0 of 2 links carry. A frame to another destination.", "bad"])
 
 
 def of_copies(tests: Tests, browser: Browser, folder: str) -> None:
@@ -151,9 +153,8 @@ def of_copies(tests: Tests, browser: Browser, folder: str) -> None:
     copied = os.path.join(folder, "copied.pcap")
     made.copied(copied)
     browser.choose(copied)
-    tests.same("each end is a place of a copied system", browser.value("document.getElementById('verdict').textContent"), "2 faults, at 5 places:")
-    titles = browser.value("[...document.querySelectorAll('#findings li strong:first-child')].map((it) => it.textContent)")
-    tests.same("it stands before what follows from it", titles, ["The partner's system is the end's own", "Two actors on one segment"])
+    tests.same("each end is a place of a copied system", browser.value("document.getElementById('counts').textContent"), "2 faults, at 5 places")
+    tests.same("it stands before what follows from it", browser.value(TITLES), ["The partner's system is the end's own", "Two actors on one segment"])
     ends = browser.value("[...document.querySelectorAll('#links svg .name')].map((it) => it.textContent)")
     alone = ["02-00-00-00-01-02 port 2", "the other end is not heard"]
     tests.same("a port that hears itself has no other end", ends, ["02-00-00-00-01-01 port 1", "02-00-00-00-09-01 port 1", *alone])
@@ -226,7 +227,7 @@ def of_silence(tests: Tests, browser: Browser, folder: str) -> None:
     made.pcap(path, [(0.0, bytes([255] * 6 + [2, 0, 0, 0, 0, 1]) + b"\x08\x06" + bytes(46))])
     browser.choose(path)
     said = browser.value("document.getElementById('verdict').textContent")
-    tests.same("without an LACPDU it asks whether LACP is on", [it in said for it in ("No frame", "passive at both", "active, not on", "mode=802.3ad")], [True] * 4)
+    tests.same("without an LACPDU it asks whether LACP is on", [it in said for it in ("No frame", "passive at both", "active, not on", "mode=802.3ad", "capture its members")], [True] * 5)
 
 
 def of_unread(tests: Tests, browser: Browser, folder: str) -> None:
@@ -236,10 +237,10 @@ def of_unread(tests: Tests, browser: Browser, folder: str) -> None:
     oam = [made.frame(one.source(), b"\x03" + bytes(109))]
     frames, how, path = "frames of the slow protocols could not be read", "capture whole frames (tcpdump -s 0)", os.path.join(folder, "short.pcap")
     cases = {
-        "no LACPDU": (whole, 60, [f"No LACPDU could be read: 2 of 2 {frames}: {how}.", "bad"]),
-        "one of three": ([*whole, made.frame(one.source(), b"\x01\x01\x01\x13" + bytes(106))], 124, [f"1 of 3 {frames}: {how}, unless they are of another protocol, as OAM.", "bad"]),
-        "a short one": ([*whole, whole[0][:60]], 124, [f"1 of 3 {frames}: see rule 7. 1 fault, at 1 place:", "bad"]),
-        "each": ([*whole, *oam], 124, ["Nothing found.", "good"]),
+        "no LACPDU": (whole, 50, [f"No LACPDU could be read: 2 of 2 {frames}: {how}.", "bad"]),
+        "one of three": ([*whole, made.frame(one.source(), b"\x01\x01\x01\x13" + bytes(106))], 124, [f"1 of 3 {frames}: {how}, unless they are of another protocol, as OAM. {ONE}", "bad"]),
+        "a short one": ([*whole, whole[0][:60]], 124, [f"1 of 3 {frames}: see rule 7. 1 of 1 link carries. A frame of another length.", "bad"]),
+        "each": ([*whole, *oam], 124, [ONE, "good"]),
     }
     for name, (packets, most, wanted) in cases.items():
         made.pcap(path, [(float(number), it) for number, it in enumerate(packets)], most)
@@ -254,7 +255,7 @@ def of_lasting(tests: Tests, browser: Browser, folder: str) -> None:
     """A capture says how long it lasts, and whether that is too short for time-outs."""
     one, other = made.Party(1, 7, 1, made.UP), made.Party(2, 7, 1, made.UP)
     frames, path = [made.frame(it.source(), made.lacpdu(it, one if it is other else other)) for it in (one, other)], os.path.join(folder, "long.pcap")
-    for last, more in (99, ", shorter than 100 s: time-outs may not show."), (100, "."):
+    for last, more in (92, ", shorter than 93 s: not each time-out may show."), (93, "."):
         made.pcap(path, [(second, frames[way]) for second in range(last + 1) for way in (0, 1)])
         browser.choose(path)
         said = browser.value("document.getElementById('lasts').textContent")

@@ -136,12 +136,12 @@ class Browser:
         self.call("Page.navigate", url=f"file://{os.path.abspath(path)}")
         self.wait("Boolean(window.lagtool)")
 
-    def begin(self, path: str) -> None:
-        """Gives a file to the page by its input."""
+    def begin(self, *paths: str) -> None:
+        """Gives files to the page by its input."""
         self.value("window.shown = window.replayed = null, 1")
         root = self.call("DOM.getDocument")["root"]["nodeId"]
         node = self.call("DOM.querySelector", nodeId=root, selector="#file")["nodeId"]
-        self.call("DOM.setFileInputFiles", nodeId=node, files=[os.path.abspath(path)])
+        self.call("DOM.setFileInputFiles", nodeId=node, files=[os.path.abspath(it) for it in paths])
 
     def choose(self, path: str, patience: float = PATIENCE) -> dict[str, Any]:
         """Gives a capture to the page by its input, and gives what is shown then."""

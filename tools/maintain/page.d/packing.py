@@ -13,11 +13,13 @@ from repository import TOP, Missing
 PARTS = os.path.join(TOP, "page")
 # The modules in the order in which each has what it imports.
 SCRIPTS = (
-    "module records shapes packets fields octets timeline viewing saving capture script report diagram playing payload page"
+    "module records causes summary shapes packets files status implied standing fields octets timeline viewing saving capture pasting script report diagram playing payload page"
 ).split()
 EXAMPLES = os.path.join(TOP, "examples")
 EXAMPLE = os.path.join(EXAMPLES, "captures", "unequal-keys.pcapng")
 IMPORT = re.compile(r'^import \{ ([\w, ]+) \} from "\./([\w.]+)";\n', re.M)
+# What a module declares for all of it: names are those of one scope.
+DECLARED = re.compile(r"^(?:export )?(?:async )?(?:class|const|function\*?) (\w+)", re.M)
 # Octets as a data block, lines of them so that tools take the file.
 BLOCK = re.compile(r'<script type="application/x-base64" id="module">([^<]*)</script>')
 WIDE = 120
@@ -32,13 +34,18 @@ def joined() -> str:
     """The modules as one: names are those of one scope, so imports and exports fall away."""
     texts: list[str] = []
     known: set[str] = set()
+    taken: set[str] = set()
     for name in SCRIPTS:
         text = text_of(f"{name}.js")
         for names, source in IMPORT.findall(text):
             unknown = [it for it in names.split(", ") if it not in known]
             if unknown or source.removesuffix(".js") not in SCRIPTS[: SCRIPTS.index(name)]:
                 raise Missing(f"page/{name}.js imports {', '.join(unknown) or source}, and no module before it has that")
-        known |= set(re.findall(r"^export (?:class|const|function) (\w+)", text, re.M))
+        own = set(DECLARED.findall(text))
+        if taken & own:
+            raise Missing(f"page/{name}.js declares what a module before it does: {', '.join(sorted(taken & own))}")
+        taken |= own
+        known |= set(re.findall(r"^export (?:async )?(?:class|const|function\*?) (\w+)", text, re.M))
         texts.append(re.sub(r"^export ", "", IMPORT.sub("", text), flags=re.M))
     return "\n".join(texts)
 

@@ -220,6 +220,29 @@ fn silence_is_longer_than_the_timeout_that_the_partner_asks_for(rt: HostRuntime)
     shows(&rt, &long, 90_501, &[(11, 2)]);
 }
 
+// 6.4.12: behind Expired, which lasts 3 seconds, comes Defaulted, and an end that is on defaults may send each 30 seconds.
+#[test]
+fn an_end_that_is_expired_may_be_silent_for_longer(rt: HostRuntime) {
+    let heard = a_to_b(FAST, FAST);
+    let mut expired = a_to_b(0x8f, 0x03);
+    expired.partner.state = info(B, 0x03).state;
+    let mut defaulted = a_to_b(0x47, 0x00);
+    defaulted.partner = Info::default();
+    let frames = [
+        at(0, heard),
+        at(1000, heard),
+        at(3000, expired),
+        at(5000, expired),
+        at(35_000, defaulted),
+        at(65_000, defaulted),
+    ];
+    let expected = [(12, 5), (13, 5), (18, 4)];
+    shows(&rt, &frames[..5], 36_000, &expected);
+    // Before it is Expired it may not.
+    let frames = [at(0, heard), at(3001, expired)];
+    shows(&rt, &frames, 3500, &[(11, 2), (18, 2)]);
+}
+
 // 6.4.13: one active end is enough for both to send.
 #[test]
 fn a_passive_end_is_silent_beside_an_active_one(rt: HostRuntime) {
@@ -359,6 +382,73 @@ fn keys_differ_within_a_pair_of_systems(rt: HostRuntime) {
     shows(&rt, &frames, 90_400, &[(15, 5)]);
     let frames = [slow(0), answer, other, slow(90_000), slow(90_401)];
     shows(&rt, &frames, 90_400, &[]);
+}
+
+// 6.3.6: two groups of A lead to two groups of B, one to one: the keys of their links differ at both ends.
+#[test]
+fn two_bundles_are_between_two_systems(rt: HostRuntime) {
+    let link = |milliseconds: u64, number: u16, own: u16, far: u16| {
+        let mut said = a_to_b(FAST, FAST);
+        said.actor.port.number = number;
+        said.partner.port.number = number;
+        said.actor.key = Key(own);
+        said.partner.key = Key(far);
+        let mut frame = at(milliseconds, said);
+        frame.interface = u32::from(number);
+        frame
+    };
+    let frames = |third: (u16, u16), fourth: (u16, u16)| {
+        let first = |milliseconds: u64| link(milliseconds, 1, 10, 10);
+        let second = |milliseconds: u64| link(milliseconds, 2, 10, 10);
+        let third = |milliseconds: u64| link(milliseconds, 3, third.0, third.1);
+        let fourth = |milliseconds: u64| link(milliseconds, 4, fourth.0, fourth.1);
+        [
+            first(0),
+            fourth(10),
+            second(20),
+            third(30),
+            first(1000),
+            fourth(1010),
+            second(1020),
+            third(1030),
+            first(2000),
+            fourth(2010),
+            second(2020),
+            third(2030),
+        ]
+    };
+    shows(&rt, &frames((20, 20), (20, 20)), 3000, &[]);
+    shows(&rt, &frames((20, 30), (20, 30)), 3000, &[]);
+    // One port of B is in the group of no other link. What comes between does not hide it.
+    let expected = [(15, 10), (15, 12)];
+    shows(&rt, &frames((20, 20), (20, 30)), 3000, &expected);
+    // The cables of one link of each group are crossed: every link is beside one that shares a key.
+    let expected = [(15, 9), (15, 10), (15, 11), (15, 12)];
+    shows(&rt, &frames((10, 20), (20, 10)), 3000, &expected);
+}
+
+// What an end has said before counts no more.
+#[test]
+fn a_key_that_is_set_right_is_no_fault(rt: HostRuntime) {
+    let link = |milliseconds: u64, number: u16, far: u16| {
+        let mut said = a_to_b(FAST, FAST);
+        said.actor.port.number = number;
+        said.partner.port.number = number;
+        said.partner.key = Key(far);
+        let mut frame = at(milliseconds, said);
+        frame.interface = u32::from(number);
+        frame
+    };
+    let frames = [
+        link(0, 1, 1),
+        link(100, 2, 2),
+        link(1000, 1, 1),
+        link(1100, 2, 1),
+        link(2000, 1, 1),
+        link(2100, 2, 1),
+        link(3000, 1, 1),
+    ];
+    shows(&rt, &frames, 3500, &[]);
 }
 
 // 6.3.6: both links of two systems carry, each in an aggregator of its own, since B gives them the keys 1 and 2.

@@ -93,6 +93,70 @@ fn a_response_that_nobody_asked_for_is_found(rt: HostRuntime) {
     shows(&rt, &[says, own, to_first], 1000, &[(20, 3)]);
 }
 
+/// The same frame of port 2 of system A, or for it.
+fn of_port_2(mut frame: SlowFrame) -> SlowFrame {
+    if let What::Marker(marker) = frame.what {
+        frame.what = What::Marker(Marker { port: 2, ..marker });
+    }
+    frame
+}
+
+// 6.5.4: markers of two links are under way at once on one interface, as at a mirror of both.
+#[test]
+fn markers_of_two_links_are_answered(rt: HostRuntime) {
+    let says = b_says();
+    let (first, second) = (asked(100, 7), of_port_2(asked(110, 3)));
+    let (to_first, to_second) = (answered(200, 7), of_port_2(answered(210, 3)));
+    shows(&rt, &[says, first, second, to_first, to_second], 1000, &[]);
+    shows(&rt, &[says, first, second, to_second, to_first], 1000, &[]);
+    // Each frame is captured twice.
+    let twice = [
+        says, first, first, second, second, to_first, to_first, to_second, to_second,
+    ];
+    shows(&rt, &twice, 1000, &[]);
+    let frames = [says, first, second, to_first, to_first];
+    shows(&rt, &frames, 1000, &[(20, 5)]);
+    // The first port's number in a response to the second one.
+    let frames = [says, first, second, answered(200, 3)];
+    shows(&rt, &frames, 1000, &[(20, 4)]);
+}
+
+// A marker beyond eight that wait finds no place: no response is judged from then on.
+#[test]
+fn of_more_than_eight_markers_nothing_is_said(rt: HostRuntime) {
+    let waits = |id: u32| asked(u64::from(id).wrapping_mul(10), id);
+    let (says, answer, other) = (b_says(), answered(200, 1), answered(210, 99));
+    let frames = [
+        says,
+        waits(1),
+        waits(2),
+        waits(3),
+        waits(4),
+        waits(5),
+        waits(6),
+        waits(7),
+        waits(8),
+        answer,
+        other,
+    ];
+    shows(&rt, &frames, 1000, &[(20, 11)]);
+    let frames = [
+        says,
+        waits(1),
+        waits(2),
+        waits(3),
+        waits(4),
+        waits(5),
+        waits(6),
+        waits(7),
+        waits(8),
+        waits(9),
+        answer,
+        other,
+    ];
+    shows(&rt, &frames, 1000, &[]);
+}
+
 #[test]
 fn a_response_that_comes_late_is_found(rt: HostRuntime) {
     let says = b_says();

@@ -1,0 +1,147 @@
+"""Tests of what is said before all else: the headline, a line a link, the first cause, and what is folded. Each capture has one cause."""
+
+from __future__ import annotations
+
+import os
+from typing import Callable
+
+import made
+from browser import Browser
+from stored import Tests
+
+LINES = "[...document.querySelectorAll('#lines > li')].map((it) => it.textContent)"
+HEADLINE = "document.getElementById('verdict').textContent"
+CAUSES = "[...document.querySelectorAll('#findings > li > strong')].map((it) => it.firstChild.textContent)"
+ADVICE = "[...document.querySelectorAll('#findings > li > span')].map((it) => it.textContent).join(' ')"
+HASH = "LACP is not your trouble. One flow has the speed of one link: the hash chooses it."
+SYSTEM = "02-00-00-00-00-0"
+
+
+def link(port: int, said: str) -> str:
+    """The line of a link of the systems 1 and 2, port to port."""
+    return f"{SYSTEM}1 port {port} - {SYSTEM}2 port {port}: {said}"
+
+
+def of_summaries(tests: Tests, browser: Browser, folder: str) -> None:
+    of_keys(tests, browser, folder)
+    of_ends(tests, browser, folder)
+    of_files(tests, browser, folder)
+    of_many(tests, browser, folder)
+    of_unreadable(tests, browser, folder)
+
+
+def said_of(browser: Browser, path: str) -> list[object]:
+    browser.choose(path)
+    said: list[object] = browser.value(f"[{HEADLINE}, {CAUSES}, {LINES}]")
+    return said
+
+
+def of_keys(tests: Tests, browser: Browser, folder: str) -> None:
+    """Two bundles between two systems are no fault; two groups at one end, crossed cables and one astray are told apart."""
+    path, up = os.path.join(folder, "keys.pcap"), "carries, both ways"
+    for keys in [(10, 10), (10, 10), (20, 20), (20, 20)], [(10, 20), (10, 20), (20, 10), (20, 10)]:
+        made.keyed(path, keys)
+        tests.same(f"two bundles, {keys}", said_of(browser, path), [f"4 links carry, both ways: {HASH}", [], [link(port, up) for port in range(1, 5)]])
+    made.keyed(path, [(10, 10), (10, 10), (10, 30)], (10, 10))
+    idle = link(3, f"does not carry: {SYSTEM}2 has key 30 there, and 10 on the links that carry")
+    tests.same("two groups at one end", said_of(browser, path), ["2 of 3 links carry. Keys differ within one pair of systems.", ["Keys differ within one pair of systems"], [idle, link(1, up), link(2, up)]])
+    made.keyed(path, [(10, 10), (10, 20), (20, 10), (20, 20), (10, 10), (20, 20)])
+    crossed = "cables of two bundles are crossed, or a port is in the group of another link"
+    astray = [link(port, f"carries apart, both ways: it joins key {keys}: a cable or a port's group is wrong") for port, keys in ((2, "10 to key 20"), (3, "20 to key 10"))]
+    wanted = [f"4 of 6 links carry. C{crossed[1:]}.", [f"C{crossed[1:]}"], [*astray, *(link(port, up) for port in (1, 4, 5, 6))]]
+    tests.same("crossed cables", said_of(browser, path), wanted)
+    tests.same("it says which far ends to swap", "Swap the far ends of ports 2-2 and ports 3-3;" in browser.value(ADVICE), True)
+    made.keyed(path, [(10, 10), (10, 10), (20, 20), (20, 20), (10, 20)])
+    said_of(browser, path)
+    tests.same("one cable astray", "Look where ports 5-5 ends: it joins a group to one that is another bundle's." in browser.value(ADVICE), True)
+
+
+def of_ends(tests: Tests, browser: Browser, folder: str) -> None:
+    """What an end does: dead, deaf, a stranger, started anew, too fast at its start; a clock that is set back; a loop; one link alone."""
+    path, up = os.path.join(folder, "ends.pcap"), "carries, both ways"
+    cases: dict[str, tuple[Callable[[str], None], str, list[str], list[str]]] = {
+        "an end that sends no more": (made.dead, "1 of 2 links carries. An end sends nothing more.", ["An end sends nothing more"],
+                                      [link(2, f"does not carry: {SYSTEM}1 port 2 sends nothing after 19.1 s"), link(1, up)]),
+        "a link that goes down": (made.gone, "1 of 2 links carries. Both ends of a link send nothing more.", ["Both ends of a link send nothing more"],
+                                  [link(2, "does not carry: nothing is sent on it after 19.1 s"), link(1, up)]),
+        "a link that comes and goes": (made.flaps, "1 of 1 link carries. A link is silent at both ends for a while.", ["A link is silent at both ends for a while"], [link(1, up)]),
+        "an end that hears nobody": (made.deaf, "0 of 1 link carries. An end hears nobody for longer than 6 seconds.", ["An end hears nobody for longer than 6 seconds"],
+                                     [link(1, f"does not carry: {SYSTEM}1 port 1 hears nobody")]),
+        "a stranger that hears nobody": (made.stranger, "1 of 2 links carries. A third system speaks on the link, and hears nobody.", ["A third system speaks on the link, and hears nobody"],
+                                         [f"{SYSTEM}3 port 5 - nobody: does not carry: nobody answers {SYSTEM}3 port 5", link(1, up)]),
+        "a clock that is set back": (made.set_back, "1 of 1 link carries. The clock was set back while it was captured.", ["The clock was set back while it was captured"], [link(1, up)]),
+        "an end that starts anew": (made.restarted, "1 of 1 link carries. An end was silent, and starts anew.",
+                                    ["An end was silent, and starts anew", "Remark: a wait of less than 2 seconds before synchronization"], [link(1, up)]),
+        "a partner that sends too seldom": (made.slow, "0 of 1 link carries. An end loses its partner again and again, which sends too seldom.",
+                                            ["An end loses its partner again and again, which sends too seldom"], [link(1, f"does not carry: {SYSTEM}1 port 1 hears nobody")]),
+        "unequal keys behind a fast start": (made.burst, "1 of 2 links carries. Keys differ within one pair of systems.", ["Keys differ within one pair of systems", "Remark: more than three LACPDUs in a second"],
+                                             [link(2, f"does not carry: {SYSTEM}2 has key 20 there, and 10 on the link that carries"), link(1, up)]),
+    }
+    for name, (make, headline, causes, lines) in cases.items():
+        make(path)
+        tests.same(name, said_of(browser, path), [headline, causes, lines])
+    made.dead(path)
+    browser.choose(path)
+    tests.same("lacp_rate is not blamed for a dead end", "lacp_rate" in browser.value("document.getElementById('findings').textContent"), False)
+    made.keyed(path, [(10, 10)])
+    one = "The link carries, both ways. It is one link: of a bundle capture all links, since keys and partners are compared between them."
+    tests.same("one link of a bundle", said_of(browser, path), [one, [], [link(1, up)]])
+    both = made.exchange(made.Party(1, 7, 1, made.FAST), made.Party(2, 8, 1, made.FAST), range(10))
+    made.pcap(path, both, 60)
+    tests.same("packets of 60 octets", [*said_of(browser, path)[:2], browser.value("document.getElementById('lasts').textContent").split(". ")[1]],
+               [one, [], "Its packets are cut behind 60 octets: both ends are in them, and what follows, as CollectorMaxDelay, is taken as 0."])
+
+
+def of_files(tests: Tests, browser: Browser, folder: str) -> None:
+    """Several files at once, names of interfaces, and comments."""
+    paths = [os.path.join(folder, it) for it in ("eth1.pcap", "eth2.pcap")]
+    for port, (path, key) in enumerate(zip(paths, (10, 20)), 1):
+        one, other = (made.Party(system, it, port, made.FAST) for system, it in ((1, 7), (2, key)))
+        made.pcap(path, made.exchange(one, other, (second + port / 10 for second in range(10))))
+    browser.begin(*paths)
+    shown = browser.shown()
+    ends = "({0}1 port {1} - {0}2 port {1}): carries apart, both ways: {0}2 has key {2} there, and {3} on the link that carries"
+    lines = [f"eth{port} {ends.format(SYSTEM, port, key, other)}" for port, key, other in ((1, 10, 20), (2, 20, 10))]
+    tests.same("two files are read as one", [shown["name"], *browser.value(f"[{CAUSES}, {LINES}]")], ["eth1.pcap, eth2.pcap", ["Keys differ within one pair of systems"], lines])
+    places = browser.value("[...document.querySelectorAll('#findings a')].map((it) => it.textContent)")
+    tests.same("a packet is named by its file", [it.split(" packet ")[0] for it in places], ["eth1.pcap", "eth1.pcap"])
+    broken = os.path.join(folder, "eth3.pcap.gz")
+    with open(broken, "wb") as out:
+        out.write(b"\x1f\x8b\x08" + bytes(40))
+    with open(paths[1], "rb+") as it:
+        it.truncate(os.path.getsize(paths[1]) - 7)
+    browser.begin(*paths, broken)
+    wanted = [2, f"cannot read eth2.pcap: octet {os.path.getsize(paths[1]) - 133}: cut short, or broken\ncannot read eth3.pcap.gz: neither pcap nor pcapng"]
+    tests.same("of several files those that cannot be read are named", [browser.shown()[it] for it in ("status", "said")], wanted)
+    path = os.path.join(folder, "named.pcapng")
+    made.named(path, ["eth0", "eth1"], "look <b>here")
+    browser.choose(path)
+    tests.same("an interface has its name", [it.split(" ")[0] for it in browser.value(LINES)], ["eth1", "eth0"])
+    browser.value("document.querySelectorAll('#links details').forEach((it) => { it.open = true; }), 1")
+    browser.settle()
+    tests.same("a comment stands at its packet", browser.value("[...document.querySelectorAll('.frames em')].map((it) => it.textContent)"), [" look <b>here"])
+
+
+def of_many(tests: Tests, browser: Browser, folder: str) -> None:
+    """Findings of many ends fit on two screens, and the cause is the first."""
+    path = os.path.join(folder, "crowded.pcap")
+    made.crowded(path, 24)
+    headline, causes, _ = said_of(browser, path)
+    tests.same("of many findings the cause comes first", [headline, causes],
+               ["0 of 24 links carry. Keys differ within one pair of systems, and 2 more causes.",
+                ["Keys differ within one pair of systems", "A frame with a tag", "More than three LACPDUs in a second", "Remark: a version other than 1"]])
+    found = browser.value("(() => { const [top, end] = ['verdict', 'legend'].map((it) => document.getElementById(it).getBoundingClientRect()); return end.top - top.top; })()")
+    tests.told("they fit on two screens", "" if found < 2 * 1080 else f"{found} pixels")
+
+
+def of_unreadable(tests: Tests, browser: Browser, folder: str) -> None:
+    """Behind a good capture a file that cannot be read says so, and nothing of the last is left."""
+    path = os.path.join(folder, "good.pcap")
+    made.keyed(path, [(10, 10), (10, 10)])
+    browser.choose(path)
+    browser.value("(() => { const it = new File(['x'], 'mine.pcap'); it.arrayBuffer = () => Promise.reject(new DOMException('The requested file could not be read', 'NotReadableError'));"
+                  " window.shown = null; const data = new DataTransfer(); const event = new ClipboardEvent('paste', { clipboardData: data, bubbles: true });"
+                  " Object.defineProperty(event, 'clipboardData', { value: { files: [it], getData: () => '' } }); document.body.dispatchEvent(event); })(), 1")
+    browser.shown()
+    said = browser.value(f"[{HEADLINE}, {LINES}.length, document.getElementById('said').textContent.slice(0, 35), document.getElementById('name').textContent]")
+    tests.same("a file that cannot be read", said, ["", 0, "The browser may not read this file,", "mine.pcap"])
