@@ -78,18 +78,18 @@ static void enter(struct lagd *lagd, const struct bundle *now) {
     if (other && lagd->settings.hook[0]) run_hook(lagd, lagd->settings.hook, before);
 }
 
-/* Looks at the ports, and tells what became of the bundle. What changes too often is told later. */
+/* Looks at the ports, and tells what became of the bundle. What changes too often is told later, but not that its device is down. */
 void look_at_bundle(struct lagd *lagd) {
     struct bundle_private *own = lagd->bundle_private;
     struct bundle now = lagd->bundle;
-    if (!lagd->has_started || own->lines == 0) return;
+    if (!lagd->has_started || (own->lines == 0 && !is_halted(lagd))) return;
     choose_aggregator(lagd, &now);
     now.state = state_of(lagd, now.carrying);
     if (own->told && now.state == lagd->bundle.state && now.carrying == lagd->bundle.carrying && now.aggregator == lagd->bundle.aggregator)
         return;
     if (lagd->bundle.changed_at == 0) lagd->bundle.changed_at = time(NULL);
     own->told = true;
-    own->lines--;
+    if (own->lines > 0) own->lines--;
     enter(lagd, &now);
 }
 

@@ -137,7 +137,7 @@ static void follow(struct lagd *lagd, struct link *link, const struct interface 
         if (lost) set_link(lagd, port, false);
     }
     if (lost || !carrier) forget_carrier(link);
-    up = carrier && is_restored(lagd, link);
+    up = carrier && !is_silent(lagd) && is_restored(lagd, link);
     if (up && !link->up) fit_queue(lagd, link, interface->name);
     if (up) take_speed(lagd, link, interface->name);
     if (up) follow_speed(lagd, link, interface->name);
@@ -150,6 +150,7 @@ static void take_present(struct lagd *lagd, const struct interface *interface) {
         lagd->changes->tap_named = true;
         look_at_carry(lagd);
         follow_tap(lagd, interface->carrier, interface->discipline);
+        follow_device(lagd, (interface->flags & IFF_UP) != 0);
     }
     for (uint16_t i = 0; i < lagd->link_count; i++) {
         struct link *link = &lagd->links[i];
@@ -275,6 +276,12 @@ void look_again(struct lagd *lagd) {
 /* Something could not be sent: a carrier may have gone. */
 void suspect_carriers(struct lagd *lagd) {
     lagd->changes->suspected = true;
+}
+
+/* Asks for the interface of each link. */
+void ask_links(struct lagd *lagd) {
+    for (uint16_t i = 0; i < lagd->link_count; i++)
+        if (lagd->links[i].socket >= 0 && !ask_for(lagd, lagd->links[i].index, 0)) lagd->changes->ask_again = true;
 }
 
 /* Looks at carriers, at each tick and where one is suspected: the kernel counts at once that one came or went, but tells of those that go

@@ -20,6 +20,7 @@ enum {
     WITHOUT_PARTNER, /* it distributes on defaults */
     PARTNER_WANTED,  /* so it does, but partner-required is given */
     RESTORING,       /* its carrier is back, and waits for wait-to-restore */
+    DEVICE_DOWN,     /* the device is down, so that LACP ended */
 };
 
 /* How the program ends. */
@@ -279,6 +280,7 @@ void take_messages(struct lagd *lagd, const void *messages, size_t length);
 void watch_changes(struct lagd *lagd);
 void look_again(struct lagd *lagd);
 void suspect_carriers(struct lagd *lagd);
+void ask_links(struct lagd *lagd);
 void watch_carriers(struct lagd *lagd, bool all);
 
 /* keys.c */
@@ -294,6 +296,7 @@ const char *speed_text(const struct speed *speed, char room[static 40]);
 /* system.c */
 void make_system(struct lagd *lagd);
 void set_link(struct lagd *lagd, uint16_t port, bool up);
+bool apply_hold(struct lagd *lagd, uint16_t port) MUST_USE;
 bool hold_port(struct lagd *lagd, uint16_t port, bool hold);
 void lose_link(struct lagd *lagd, struct link *link);
 void send_due(struct lagd *lagd);
@@ -302,9 +305,18 @@ void pass_tick(struct lagd *lagd);
 uint64_t ticks_passed(struct lagd *lagd);
 uint64_t seconds_passed(struct lagd *lagd);
 uint64_t milliseconds(struct lagd *lagd);
+void expect_lacpdu(struct link *link);
 void tell_end(struct lagd *lagd);
 bool end_is_told(struct lagd *lagd);
 bool end_system(struct lagd *lagd);
+
+/* halt.c */
+bool is_halted(struct lagd *lagd);
+bool is_silent(struct lagd *lagd);
+void follow_device(struct lagd *lagd, bool up);
+void start_halt(struct lagd *lagd);
+void halt_if_down(struct lagd *lagd);
+void pass_halt_tick(struct lagd *lagd);
 
 /* ports.c */
 void take_views(struct lagd *lagd);

@@ -19,6 +19,7 @@ struct ports_private *make_ports_private(void) {
 static uint8_t status_of(struct lagd *lagd, const struct link *link) {
     uint8_t status = link->view.port_status;
     if (link->socket < 0) return MISSING;
+    if (is_halted(lagd)) return DEVICE_DOWN;
     if (link->waits) return RESTORING;
     if (status != NIW_PORT_STATUS_DISTRIBUTING || !link->view.defaulted) return status;
     return lagd->settings.partner_required ? PARTNER_WANTED : WITHOUT_PARTNER;

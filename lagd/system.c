@@ -47,11 +47,15 @@ static uint32_t random_marker(void) {
     return random % INT32_MAX + 1;
 }
 
-/* Takes a port out of use, whatever its link does, or lets it be used again; answers whether that is done. */
+/* Holds a port that nothing may use, whatever its link does, or lets it go; answers whether that is done. */
+bool apply_hold(struct lagd *lagd, uint16_t port) {
+    return is_done(lagd, niw_hold(&lagd->own_system, port, lagd->links[port - 1].held || is_halted(lagd)), "niw_hold");
+}
+
+/* The file takes a port out of use, or lets it be used again; answers whether that is done. */
 bool hold_port(struct lagd *lagd, uint16_t port, bool hold) {
-    if (!is_done(lagd, niw_hold(&lagd->own_system, port, hold), "niw_hold")) return false;
     lagd->links[port - 1].held = hold;
-    return true;
+    return apply_hold(lagd, port);
 }
 
 /* Makes the system of the settings. */
@@ -117,7 +121,7 @@ void set_link(struct lagd *lagd, uint16_t port, bool up) {
     link->unsent = false;
     link->changed = true;
     if (!up) {
-        link->counts[LOSSES]++;
+        if (!is_silent(lagd)) link->counts[LOSSES]++;
         forget_partner(lagd, link);
     }
     if (!up) lose_data(lagd, port);
@@ -171,8 +175,15 @@ void pass_tick(struct lagd *lagd) {
     if (!is_done(lagd, niw_tick(&lagd->own_system), "niw_tick")) return;
     watch_churn(lagd);
     for (uint16_t i = 0; i < lagd->link_count; i++) pass_tick_of(&lagd->links[i]);
+    pass_halt_tick(lagd);
     pass_carry_tick(lagd);
     if (++lagd->system->ticks % SECOND == 0) pass_second(lagd);
+}
+
+/* A port is about to leave its aggregator: its peer has to be told, if it has one. */
+void expect_lacpdu(struct link *link) {
+    link->to_tell = link->up && link->view.mux_state >= NIW_MUX_ATTACHED;
+    link->sent_before_end = link->counters.lacpdus_sent;
 }
 
 /* Takes each port out of its aggregator, by a key that none has, and so tells the peers that they have to stop. */
@@ -180,11 +191,10 @@ void tell_end(struct lagd *lagd) {
     struct niw_change leave = {.key = free_key(lagd, 0, NULL)};
     for (uint16_t port = 1; port <= lagd->link_count; port++) {
         struct link *link = &lagd->links[port - 1];
-        bool has_partner = link->up && link->view.mux_state >= NIW_MUX_ATTACHED;
-        link->sent_before_end = link->counters.lacpdus_sent;
+        expect_lacpdu(link);
         leave.priority = link->settings.priority;
         leave.aggregatable = link->settings.aggregatable;
-        link->to_tell = is_done(lagd, niw_configure(&lagd->own_system, port, &leave).status, "niw_configure") && has_partner;
+        link->to_tell = is_done(lagd, niw_configure(&lagd->own_system, port, &leave).status, "niw_configure") && link->to_tell;
     }
     send_due(lagd);
 }
