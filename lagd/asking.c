@@ -237,11 +237,46 @@ static bool ask_daemon(struct lagd *lagd, unsigned daemon, const struct options 
     return watched ? own->daemons[daemon].fd >= 0 : own->daemons[daemon].answer != NULL;
 }
 
+/* Tells a daemon an order; answers what it said, without the line end. */
+static char *tell_order(struct lagd *lagd, const char *path, const char *what, const char *interface) {
+    char order[QUESTION_ROOM], *answer;
+    int fd;
+    if (snprintf(order, sizeof order, "%s %s\n", what, interface) >= (int)sizeof order || strchr(interface, '\n'))
+        stop(WRONG_WORD, "expected the name of an interface", interface);
+    fd = ask(lagd, path, order);
+    if (fd < 0) stop(REFUSED, path, strerror(errno));
+    answer = read_answer(lagd, fd, path);
+    close(fd);
+    if (answer) answer[strcspn(answer, "\n")] = 0;
+    return answer;
+}
+
+/* Has the one daemon of a folder change its bundle, and waits until that is done; answers how the program ends. */
+static int order_daemon(struct lagd *lagd, const struct options *options) {
+    struct asking_private *own = lagd->asking;
+    const char *what = options->order;
+    bool waits = true;
+    if (own->count == 0) refuse_all(lagd, options->folder);
+    if (own->count > 1) stop(WRONG_WORD, "more than one lagd is here: give the folder of one by --folder", options->folder);
+    while (waits) {
+        char *answer = tell_order(lagd, own->daemons[0].path, what, options->interface);
+        if (!answer) return REFUSED;
+        waits = strncmp(answer, "wait: ", 6) == 0;
+        if (!waits) print(lagd, answer, strlen(answer));
+        free(answer);
+        if (waits && strcmp(what, "remove") == 0) what = "removed"; /* another one may add it anew meanwhile */
+        if (waits) (void)poll(NULL, 0, NIW_TICK_MILLISECONDS);
+    }
+    puts("");
+    return fflush(stdout) == 0 ? DONE : REFUSED;
+}
+
 /* Asks the daemons, and prints what they answer; answers how the program ends. */
 int ask_daemons(struct lagd *lagd, const struct options *options) {
     struct asking_private *own = lagd->asking;
     unsigned answers = 0;
     find_sockets(lagd, options->folder, true);
+    if (options->action == ORDER) return order_daemon(lagd, options);
     for (unsigned i = 0; i < own->count; i++) answers += ask_daemon(lagd, i, options);
     if (answers == 0 && (options->action != METRICS || own->count == 0 || own->denied)) refuse_all(lagd, options->folder);
     if (options->action == WATCH) return print_changes_of_all(lagd);

@@ -150,9 +150,9 @@ void detach_stored(struct lagd *lagd, const char *kind, int index, int attached)
 
 /* programs.c: what the kernel runs for frames */
 struct fast_maps {
-    int rows, members, host;
+    int rows, members, host, places;
 };
-int load_program(struct lagd *lagd, const char *name, const struct fast_maps *maps, uint16_t port);
+int load_program(struct lagd *lagd, const char *name, const struct fast_maps *maps);
 const char *program_fault(void);
 
 /* fast.c */
@@ -160,6 +160,7 @@ bool is_fast(struct lagd *lagd);
 void start_fast(struct lagd *lagd);
 void end_fast(struct lagd *lagd);
 int open_fast_receiver(struct lagd *lagd, const struct link *link);
+void close_fast_receiver(struct lagd *lagd, const struct link *link);
 void note_taken(struct conversation *conversation, uint32_t segments);
 void pass_on(struct lagd *lagd);
 void withdraw(struct lagd *lagd);

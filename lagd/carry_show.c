@@ -117,6 +117,6 @@ void write_carry_metrics(struct lagd *lagd) {
         snprintf(name, sizeof name, "port_%s_total", MEMBER_COUNTERS[i].name);
         add_head(lagd, name, "counter", MEMBER_COUNTERS[i].help);
         for (uint16_t link = 0; link < lagd->link_count; link++)
-            add_port_value(lagd, name, &lagd->links[link], member_count(lagd, (uint16_t)(link + 1), i));
+            if (lagd->links[link].used) add_port_value(lagd, name, &lagd->links[link], member_count(lagd, (uint16_t)(link + 1), i));
     }
 }

@@ -86,13 +86,14 @@ static _Noreturn void refuse_link(struct lagd *lagd, const struct link *link) {
 /* Takes up an interface that has the name of a port. At the start, what is wrong with one ends the program. */
 static bool take_up(struct lagd *lagd, struct link *link, const struct interface *interface) {
     if (interface->type != ARPHRD_ETHER) {
-        if (!lagd->has_started) stop(WRONG_WORD, "not an Ethernet interface", link->name);
+        if (!lagd->has_started && !link->left_over) stop(WRONG_WORD, "not an Ethernet interface", link->name);
         return false;
     }
     memcpy(link->discipline, interface->discipline, sizeof link->discipline);
     if (interface->has_mac) memcpy(link->mac, interface->mac, sizeof link->mac);
     link->stacked = is_stacked(interface);
     if (!open_link(lagd, link, interface->index)) {
+        if (!lagd->has_started && link->left_over) return false;
         if (!lagd->has_started) refuse_link(lagd, link);
         lagd->changes->ask_again = true;
         return false;
@@ -271,6 +272,12 @@ void watch_changes(struct lagd *lagd) {
 /* An interface is to be taken up anew. */
 void look_again(struct lagd *lagd) {
     lagd->changes->ask_again = true;
+}
+
+/* An interface is to be taken up as soon as can be. */
+void ask_now(struct lagd *lagd) {
+    look_again(lagd);
+    watch_changes(lagd);
 }
 
 /* Something could not be sent: a carrier may have gone. */

@@ -26,7 +26,8 @@ struct lagd {
     struct niw_system own_system;
     struct settings settings; /* those that hold now */
     struct link links[NIW_MOST_PORTS];
-    uint16_t link_count;
+    uint16_t link_count; /* up to the last port that there is, or was; numbers between may be free */
+    uint16_t slot_count; /* the ports of the system: those of the bundle, and room for more */
     struct bundle bundle;
     int epoll_file; /* the epoll by which the daemon waits */
     bool has_started; /* whether the interfaces that are there were taken up */

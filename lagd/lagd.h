@@ -21,6 +21,7 @@ enum {
     PARTNER_WANTED,  /* so it does, but partner-required is given */
     RESTORING,       /* its carrier is back, and waits for wait-to-restore */
     DEVICE_DOWN,     /* the device is down, so that LACP ended */
+    LEAVES,          /* it leaves the bundle */
 };
 
 /* How the program ends. */
@@ -81,7 +82,12 @@ struct speed {
 
 /* An interface. Link i is port i + 1 of the system. */
 struct link {
-    const char *name;
+    const char *name;         /* empty where no port has this number */
+    bool used;                /* whether a port has it */
+    bool left_over;           /* whether it is of the last daemon, and not in the file of this one */
+    bool leaving;             /* whether it goes: its peer is told first */
+    uint64_t leaves_since;    /* the milliseconds since which it goes, or is held by a word */
+    uint64_t left_at;         /* those at which nothing was on its way any more, or 0 */
     struct niw_port settings; /* with the key that it has now */
     uint16_t key;             /* that is given to it */
     bool has_speed;           /* whether `speed` was read: with key-by-speed, as the link came up last */
@@ -142,18 +148,20 @@ struct bundle {
     enum bundle_state state;
     uint16_t aggregator; /* the one with most ports that carry, or 0 */
     uint16_t carrying;   /* how many ports of it carry */
+    uint16_t links;      /* how many ports the bundle has */
     time_t changed_at;   /* when the state changed, in seconds since 1970 */
     uint64_t counts[BUNDLE_STATES];
 };
 
 /* What the program is to do. */
-enum action { RUN, CHECK, SHOW, WATCH, METRICS };
+enum action { RUN, CHECK, SHOW, WATCH, METRICS, ORDER };
 
 struct options {
     enum action action;
     bool json;
     const char *folder; /* of status sockets */
     const char *file;   /* of the bundle, or NULL */
+    const char *order, *interface; /* of ORDER: what is to be done with which interface */
     struct settings settings;
 };
 
@@ -207,6 +215,7 @@ enum journaled tell_journal(struct lagd *lagd, int level, const char *text);
 
 /* options.c */
 struct options *read_options(struct lagd *lagd, int argc, char **argv);
+const char *read_port(struct lagd *lagd, char *text, struct settings *settings);
 
 /* possible.c */
 int check_machine(struct lagd *lagd, const struct options *options);
@@ -281,9 +290,11 @@ void watch_changes(struct lagd *lagd);
 void look_again(struct lagd *lagd);
 void suspect_carriers(struct lagd *lagd);
 void ask_links(struct lagd *lagd);
+void ask_now(struct lagd *lagd);
 void watch_carriers(struct lagd *lagd, bool all);
 
 /* keys.c */
+void choose_slots(struct lagd *lagd);
 void make_keys(struct lagd *lagd, uint16_t keys[static NIW_MOST_PORTS]);
 bool has_aggregator(struct lagd *lagd, uint16_t given);
 uint16_t free_key(struct lagd *lagd, uint16_t behind, const struct link *but);
@@ -309,6 +320,19 @@ void expect_lacpdu(struct link *link);
 void tell_end(struct lagd *lagd);
 bool end_is_told(struct lagd *lagd);
 bool end_system(struct lagd *lagd);
+
+/* membership.c */
+#define ORDER_ROOM 384
+uint16_t count_links(struct lagd *lagd);
+bool place_ports(struct lagd *lagd, struct settings *settings);
+void keep_left_ports(struct lagd *lagd);
+void leave_left_ports(struct lagd *lagd);
+void begin_link(struct lagd *lagd, uint16_t port);
+void join_port(struct lagd *lagd, uint16_t port, const struct port_settings *settings);
+void leave_port(struct lagd *lagd, uint16_t port);
+void stay_port(struct lagd *lagd, uint16_t port);
+void pass_leaving_tick(struct lagd *lagd);
+void answer_order(struct lagd *lagd, char *order, char answer[static ORDER_ROOM]);
 
 /* halt.c */
 bool is_halted(struct lagd *lagd);
@@ -375,6 +399,8 @@ void end_resuming(struct lagd *lagd);
 bool leave_state(struct lagd *lagd);
 
 /* status.c */
+/* A question has a name of an interface at most, with its words. */
+#define QUESTION_ROOM 256
 /* How the answer begins to who has no place. */
 #define REFUSAL "refused: "
 void open_status(struct lagd *lagd, const char *folder);
@@ -408,6 +434,7 @@ void fit_queue(struct lagd *lagd, const struct link *link, const char *interface
 /* members.c */
 bool open_member(struct lagd *lagd, struct link *link);
 void close_member(struct lagd *lagd, struct link *link);
+void forget_member(struct lagd *lagd, uint16_t port);
 bool reopen_member(struct lagd *lagd, struct link *link);
 bool follow_queues(struct lagd *lagd, struct link *link);
 void follow_address(struct lagd *lagd, struct link *link, const uint8_t *mac);

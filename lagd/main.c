@@ -213,6 +213,7 @@ static int run_daemon(struct lagd *lagd, const struct options *options) {
     lagd->has_started = true;
     resume_data(lagd, resumed);
     halt_if_down(lagd);
+    leave_left_ports(lagd);
     end_resuming(lagd);
     tell_changes(lagd);
     settle_carry(lagd);

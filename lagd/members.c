@@ -302,6 +302,14 @@ void close_member(struct lagd *lagd, struct link *link) {
     close_guard(lagd, link, &member->guard);
 }
 
+/* Another interface is to be this member: its counts begin anew. */
+void forget_member(struct lagd *lagd, uint16_t port) {
+    struct member *member = &lagd->members->members[port - 1];
+    memset(member->counts, 0, sizeof member->counts);
+    member->mtu = member->megabits = 0;
+    member->has_marker = false;
+}
+
 /* The program ends, by whatever it is refused, and no other one goes on: its members get what they had. */
 void put_back_members(struct lagd *lagd) {
     struct members_private *own = lagd->members;

@@ -136,7 +136,7 @@ static void tell_links(struct lagd *lagd, unsigned count) {
     if (known > 0 && lagd->inherited.others)
         (void)say(lagd, LOG_WARNING | ABOUT_HANDOVER, "the state that the last daemon left is not used: it belongs to other settings");
     else if (known > 0)
-        (void)say(lagd, LOG_NOTICE | ABOUT_HANDOVER, "%u of %u links go on where the last daemon left them", count, lagd->link_count);
+        (void)say(lagd, LOG_NOTICE | ABOUT_HANDOVER, "%u of %u links go on where the last daemon left them", count, count_links(lagd));
 }
 
 /* Once the interfaces are taken up: the ports that distributed do so again. The others come after them, so that none takes the place of one

@@ -329,6 +329,13 @@ const char *set_port(struct lagd *lagd, struct port_settings *port, const char *
     return NULL;
 }
 
+/* A port of which nothing is given. */
+struct port_settings unset_port(void) {
+    struct port_settings port = {.name = ""};
+    for (size_t i = 0; i < PORT_KEY_COUNT; i++) *value_at(&port, i) = AS_BUNDLE;
+    return port;
+}
+
 /* Adds a port, by the name of its interface; answers NULL, or what was expected. */
 const char *add_port(struct settings *settings, const char *name, size_t length) {
     struct port_settings *port = &settings->ports[settings->port_count];
@@ -337,9 +344,8 @@ const char *add_port(struct settings *settings, const char *name, size_t length)
         if (strlen(settings->ports[i].name) == length && memcmp(settings->ports[i].name, name, length) == 0)
             return "each interface once";
     if (settings->port_count == NIW_MOST_PORTS) return "at most 64 interfaces";
-    memset(port, 0, sizeof *port);
+    *port = unset_port();
     memcpy(port->name, name, length);
-    for (size_t i = 0; i < PORT_KEY_COUNT; i++) *value_at(port, i) = AS_BUNDLE;
     settings->port_count++;
     return NULL;
 }
@@ -381,9 +387,10 @@ struct lack lack_of(const struct settings *settings) {
     const char *data = key_of_data(settings);
     if (!line_of(settings, "key")) return (struct lack){"key=NUMBER in [Bundle]", NULL};
     if (!line_of(settings, "system")) return (struct lack){"system=auto or system=PRIORITY,MAC in [Bundle]", NULL};
-    if (settings->port_count == 0) return (struct lack){"a section [Port INTERFACE] for each interface, 1 to 64 of them", NULL};
+    if (settings->port_count == 0 && settings->system_auto)
+        return (struct lack){"system=PRIORITY,MAC beside no section [Port INTERFACE]: by auto it is the address of the first one", "system"};
     for (uint16_t i = 0; i < settings->port_count; i++)
-        if (strcmp(settings->ports[i].name, settings->carry) == 0)
+        if (settings->ports[i].name[0] && strcmp(settings->ports[i].name, settings->carry) == 0)
             return (struct lack){"carry=NAME that is not the interface of a port", "carry"};
     if (data && !settings->carry[0])
         return (struct lack){"carry=NAME beside plane, hash, hash-seed, flight, offload, fast, queues or answer-after", data};
@@ -396,8 +403,6 @@ struct lack lack_of(const struct settings *settings) {
     if (line_of(settings, "answer-after") && !settings->all_queues) return (struct lack){"queues=all beside answer-after", "answer-after"};
     if (settings->plane == PLANE_TEAM && settings->hash == HASH_ENCAP3_4)
         return (struct lack){"another hash than encap3+4 beside plane=team", "hash"};
-    if (settings->min_links > settings->port_count)
-        return (struct lack){"min-links that is at most the number of interfaces", "min-links"};
     if (settings->config.max_links && settings->min_links > settings->config.max_links)
         return (struct lack){"min-links that is at most max-links", "min-links"};
     if (settings->revert && !settings->config.max_links) return (struct lack){"max-links=N beside revert", "revert"};

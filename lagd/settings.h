@@ -109,6 +109,7 @@ const char *list_words(struct lagd *lagd, const char *(*word)(size_t index), siz
 const char *set_bundle(struct lagd *lagd, struct settings *settings, const char *name, const char *text, unsigned line);
 unsigned line_of(const struct settings *settings, const char *name);
 const char *set_port(struct lagd *lagd, struct port_settings *port, const char *name, const char *text);
+struct port_settings unset_port(void);
 const char *add_port(struct settings *settings, const char *name, size_t length);
 struct lack lack_of(const struct settings *settings);
 struct niw_port port_of(const struct settings *settings, uint16_t port);

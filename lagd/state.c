@@ -13,7 +13,7 @@
 #include "team.h"
 
 /* It rises with each change of the file, and of what programs of the kernel share with the daemon. */
-#define FORM_VERSION 1
+#define FORM_VERSION 2
 #define WAY_ROOM 96
 /* Their end, where the team driver carries. */
 #define OF_TEAM "/team"
@@ -74,6 +74,14 @@ static void write_link(FILE *file, const struct link *link) {
         carried, link->lacpdu_at, link->lacpdus_at[MOST_LACPDUS - 1], hex);
 }
 
+/* Writes which port has which number, but for those that go. */
+static void write_ports(struct lagd *lagd, FILE *file) {
+    for (uint16_t i = 0; i < lagd->link_count; i++) {
+        const struct link *link = &lagd->links[i];
+        if (link->used && !link->leaving) fprintf(file, "port %u %d %s\n", i + 1, link->socket >= 0 ? link->index : 0, link->name);
+    }
+}
+
 /* Writes the interface of each conversation: the one that it leaves, while it is held. */
 static void write_conversations(struct lagd *lagd, FILE *file) {
     for (uint16_t number = 0; number < CONVERSATIONS; number++) {
@@ -92,6 +100,7 @@ static void write_state(struct lagd *lagd, FILE *file) {
     fprintf(file, "bundle %u %u %lld\n", lagd->bundle.state, lagd->bundle.aggregator, (long long)lagd->bundle.changed_at);
     if (carries_data(lagd))
         fprintf(file, "tap %d %d %" PRIu32 " %u\n", tap_index(lagd), is_made(lagd), mtu_of_administrator(lagd), peer_answering(lagd));
+    write_ports(lagd, file);
     for (uint16_t i = 0; i < lagd->link_count; i++)
         if (lagd->links[i].socket >= 0) write_link(file, &lagd->links[i]);
     if (carries_data(lagd)) write_conversations(lagd, file);
@@ -162,6 +171,17 @@ static bool read_link(struct lagd *lagd, FILE *file) {
     return strcmp(mac, mac_text(link->mac, own)) == 0;
 }
 
+static bool read_port_number(struct lagd *lagd, FILE *file) {
+    struct inherited_port *port = &lagd->inherited.ports[lagd->inherited.port_count];
+    unsigned number;
+    if (lagd->inherited.port_count == NIW_MOST_PORTS || fscanf(file, "%u %d %127s", &number, &port->index, port->name) != 3) return false;
+    for (unsigned i = 0; i < lagd->inherited.port_count; i++)
+        if (lagd->inherited.ports[i].number == number || strcmp(lagd->inherited.ports[i].name, port->name) == 0) return false;
+    port->number = (uint16_t)number;
+    lagd->inherited.port_count++;
+    return number > 0 && number <= NIW_MOST_PORTS && port->index >= 0;
+}
+
 static bool read_conversation(struct lagd *lagd, FILE *file) {
     unsigned number;
     int index;
@@ -193,6 +213,7 @@ static bool read_rest(struct lagd *lagd, FILE *file) {
             read = fscanf(file, "%d %d %" SCNu32 " %u", &lagd->inherited.tap, &lagd->inherited.persists, &lagd->inherited.mtu,
                 &lagd->inherited.answering) == 4
                 && lagd->inherited.answering <= MUTE;
+        if (strcmp(word, "port") == 0) read = read_port_number(lagd, file);
         if (strcmp(word, "link") == 0) read = read_link(lagd, file);
         if (strcmp(word, "on") == 0) read = read_conversation(lagd, file);
         if (!read) return false;
@@ -210,6 +231,7 @@ static void keep_interfaces(struct lagd *lagd, bool team) {
         end_tap(lagd->inherited.tap);
     for (unsigned i = 0; i < lagd->inherited.link_count; i++) lagd->inherited.links[i].carried = false;
     memset(lagd->inherited.members, 0, sizeof lagd->inherited.members);
+    lagd->inherited.port_count = 0;
     lagd->inherited.bundle = (struct bundle){0};
     lagd->inherited.answering = NOT_ASKED;
     lagd->inherited.tap = lagd->inherited.persists = 0;

@@ -49,7 +49,8 @@ static uint32_t random_marker(void) {
 
 /* Holds a port that nothing may use, whatever its link does, or lets it go; answers whether that is done. */
 bool apply_hold(struct lagd *lagd, uint16_t port) {
-    return is_done(lagd, niw_hold(&lagd->own_system, port, lagd->links[port - 1].held || is_halted(lagd)), "niw_hold");
+    return is_done(lagd, niw_hold(&lagd->own_system, port, lagd->links[port - 1].held || lagd->links[port - 1].leaving || is_halted(lagd)),
+        "niw_hold");
 }
 
 /* The file takes a port out of use, or lets it be used again; answers whether that is done. */
@@ -65,23 +66,20 @@ void make_system(struct lagd *lagd) {
     clock_gettime(CLOCK_MONOTONIC, &lagd->system->began);
     lagd->settings.config.first_marker = first_marker_left(lagd);
     if (lagd->settings.config.first_marker == 0) lagd->settings.config.first_marker = random_marker();
+    choose_slots(lagd);
+    if (!place_ports(lagd, &lagd->settings)) stop(WRONG_WORD, "too many interfaces", lagd->settings.name);
+    keep_left_ports(lagd);
     lagd->link_count = lagd->settings.port_count;
-    for (uint16_t i = 0; i < lagd->link_count; i++) {
-        ports[i] = port_of(&lagd->settings, (uint16_t)(i + 1));
-        lagd->links[i].name = lagd->settings.ports[i].name;
-        lagd->links[i].settings = ports[i];
-        lagd->links[i].key = ports[i].key;
-        lagd->links[i].socket = lagd->links[i].lock = lagd->links[i].carrier_file = -1;
-        lagd->links[i].lines = MOST_LINES;
-        lagd->links[i].changed = true;
-        forget_partner(lagd, &lagd->links[i]);
+    for (uint16_t i = 0; i < NIW_MOST_PORTS; i++) {
+        begin_link(lagd, (uint16_t)(i + 1));
+        ports[i] = lagd->links[i].settings;
     }
     make_keys(lagd, keys);
-    if (!is_done(lagd, niw_new(&lagd->own_system, &lagd->settings.config, keys, lagd->aggregator_count, ports, lagd->link_count).status,
+    if (!is_done(lagd, niw_new(&lagd->own_system, &lagd->settings.config, keys, lagd->aggregator_count, ports, lagd->slot_count).status,
         "niw_new"))
         return;
     for (uint16_t port = 1; port <= lagd->link_count; port++)
-        if (wants_hold(&lagd->settings, port) && !hold_port(lagd, port, true)) return;
+        if (lagd->links[port - 1].held && !apply_hold(lagd, port)) return;
     take_views(lagd);
 }
 
@@ -176,6 +174,7 @@ void pass_tick(struct lagd *lagd) {
     watch_churn(lagd);
     for (uint16_t i = 0; i < lagd->link_count; i++) pass_tick_of(&lagd->links[i]);
     pass_halt_tick(lagd);
+    pass_leaving_tick(lagd);
     pass_carry_tick(lagd);
     if (++lagd->system->ticks % SECOND == 0) pass_second(lagd);
 }
@@ -210,7 +209,7 @@ bool end_is_told(struct lagd *lagd) {
 /* Says of each port that the daemon has ended, and frees the system; answers whether the library never refused a call. */
 bool end_system(struct lagd *lagd) {
     for (uint16_t i = 0; i < lagd->link_count; i++)
-        (void)say(lagd, LOG_NOTICE | ABOUT_END, "port %u %s: ended", i + 1, lagd->links[i].name);
+        if (lagd->links[i].used) (void)say(lagd, LOG_NOTICE | ABOUT_END, "port %u %s: ended", i + 1, lagd->links[i].name);
     end_bundle(lagd);
     return is_done(lagd, niw_free(&lagd->own_system), "niw_free") && !lagd->broken;
 }

@@ -64,7 +64,7 @@ static uint32_t least_mtu(struct lagd *lagd) {
     uint32_t least = 0;
     for (uint16_t i = 0; i < lagd->settings.port_count; i++) {
         struct interface member;
-        if (ask_interface(lagd, 0, lagd->settings.ports[i].name, &member) && member.mtu != 0 && (least == 0 || member.mtu < least))
+        if (lagd->settings.ports[i].name[0] && ask_interface(lagd, 0, lagd->settings.ports[i].name, &member) && member.mtu != 0 && (least == 0 || member.mtu < least))
             least = member.mtu;
     }
     return least == 0 ? ETH_DATA_LEN : least;
@@ -91,7 +91,8 @@ static bool has_own_ports(struct lagd *lagd, const struct team_now *now) {
         bool own = false;
         for (uint16_t i = 0; i < lagd->settings.port_count && !own; i++) {
             struct interface member;
-            own = ask_interface(lagd, 0, lagd->settings.ports[i].name, &member) && member.index == now->ports[at];
+            own = lagd->settings.ports[i].name[0] && ask_interface(lagd, 0, lagd->settings.ports[i].name, &member)
+                && member.index == now->ports[at];
         }
         all = all && own;
     }

@@ -112,6 +112,7 @@ class Member(TypedDict):
     """What is read here of a port in a status."""
 
     interface: str
+    port: int
     status: str
     partner: dict[str, object]
     data: dict[str, int]

@@ -41,7 +41,7 @@ HIGH = 200
 FORGETFUL = ("env", "NOTIFY_SOCKET=@nobody")
 UNPRIVILEGED = ("setpriv", "--bounding-set", "-all,+net_raw", "--inh-caps", "-all", "--")
 # How many tables the programs of the kernel share with the daemon.
-TABLES = 3
+TABLES = 4
 WAYS: dict[str, tuple[str, ...]] = {"plain": (), "offload": ("--offload",), "fast": ("--fast",)}
 
 
@@ -105,9 +105,9 @@ class Manager:
 class Kept(End):
     """An end whose daemon is started again; with a manager, that one keeps its files."""
 
-    def __init__(self, programs: Programs, space: str, options: Sequence[str], manager: Manager | None = None) -> None:
+    def __init__(self, programs: Programs, space: str, options: Sequence[str], manager: Manager | None = None, members: Sequence[str] = ()) -> None:
         self.programs, self.at, self.options, self.manager = programs, space, options, manager
-        self.members: Sequence[str] = ()
+        self.members = members
         self.launch()
 
     def given(self) -> tuple[Sequence[str], list[int]]:
