@@ -216,7 +216,8 @@ static void choose_active(struct lagd *lagd) {
     lagd->carry.active = now.carrying >= lagd->settings.min_links ? now.aggregator : 0;
     lagd->carry.port_count = 0;
     for (uint16_t i = 0; i < lagd->link_count; i++)
-        if (lagd->carry.active != 0 && lagd->links[i].view.aggregator == lagd->carry.active && carries(lagd, &lagd->links[i]))
+        if (lagd->carry.active != 0 && lagd->links[i].view.aggregator == lagd->carry.active && carries(lagd, &lagd->links[i])
+            && !lagd->links[i].emptying)
             lagd->carry.ports[lagd->carry.port_count++] = lagd->links[i].settings.number;
     if (before != 0 && lagd->carry.active != 0 && before != lagd->carry.active) lagd->carry.counts[SWITCHES]++;
     if ((before == 0) != (lagd->carry.active == 0))

@@ -143,6 +143,7 @@ int attach_program(int program, int index, bool egress);
 bool exchange_program(int attached, int program, int index);
 void *take_map(uint32_t size, uint32_t count, int map);
 void detach_program(int attached);
+uint32_t program_keeper(int attached);
 
 /* store.c */
 int attach_stored(struct lagd *lagd, const char *kind, int program, int index, bool egress);

@@ -89,6 +89,7 @@ static bool take_up(struct lagd *lagd, struct link *link, const struct interface
         if (!lagd->has_started && !link->left_over) stop(WRONG_WORD, "not an Ethernet interface", link->name);
         return false;
     }
+    if (stays_outside(lagd, link, interface->master)) return false;
     memcpy(link->discipline, interface->discipline, sizeof link->discipline);
     if (interface->has_mac) memcpy(link->mac, interface->mac, sizeof link->mac);
     link->stacked = is_stacked(interface);
@@ -99,6 +100,7 @@ static bool take_up(struct lagd *lagd, struct link *link, const struct interface
         return false;
     }
     link->kernel_losses = interface->losses;
+    link->puts_in = false;
     return true;
 }
 
@@ -147,6 +149,7 @@ static void follow(struct lagd *lagd, struct link *link, const struct interface 
 
 /* An interface is there. A port goes by its name, and the TAP device by its number. */
 static void take_present(struct lagd *lagd, const struct interface *interface) {
+    bool known = false;
     if (carries_data(lagd) && interface->index == tap_index(lagd)) {
         lagd->changes->tap_named = true;
         look_at_carry(lagd);
@@ -157,11 +160,16 @@ static void take_present(struct lagd *lagd, const struct interface *interface) {
         struct link *link = &lagd->links[i];
         bool named = is_named(interface, link->name), same = link->socket >= 0 && link->index == interface->index;
         if (link->socket >= 0 && (same != named || (same && !is_bound(link)))) lose_link(lagd, link);
-        if (same && link->socket >= 0 && !is_still_team_port(lagd, link, interface->master)) lose_link(lagd, link);
+        if (same && link->socket >= 0 && !is_still_team_port(lagd, link, interface->master)) {
+            tell_taken_out(lagd, link);
+            lose_link(lagd, link);
+        }
+        known = known || named;
         if (!named || (link->socket < 0 && !take_up(lagd, link, interface))) continue;
         link->present = true;
         follow(lagd, link, interface);
     }
+    if (!known) follow_port(lagd, interface);
 }
 
 static void take_absent(struct lagd *lagd, const struct interface *interface) {

@@ -22,6 +22,7 @@ enum {
     RESTORING,       /* its carrier is back, and waits for wait-to-restore */
     DEVICE_DOWN,     /* the device is down, so that LACP ended */
     LEAVES,          /* it leaves the bundle */
+    OUTSIDE,         /* others took it out of the device, or did not put it in */
 };
 
 /* How the program ends. */
@@ -85,8 +86,12 @@ struct link {
     const char *name;         /* empty where no port has this number */
     bool used;                /* whether a port has it */
     bool left_over;           /* whether it is of the last daemon, and not in the file of this one */
+    bool followed;            /* whether the device alone says that it is a port, and not the file */
+    bool puts_in;             /* whether the daemon itself is to put it into a device whose ports others choose */
+    bool outside;             /* whether others took it out of that */
     bool leaving;             /* whether it goes: its peer is told first */
-    uint64_t leaves_since;    /* the milliseconds since which it goes, or is held by a word */
+    bool emptying;            /* whether its conversations move to other ports, before it is held */
+    uint64_t leaves_since;    /* the milliseconds since which it is emptied, or held then */
     uint64_t left_at;         /* those at which nothing was on its way any more, or 0 */
     struct niw_port settings; /* with the key that it has now */
     uint16_t key;             /* that is given to it */
@@ -330,8 +335,13 @@ void leave_left_ports(struct lagd *lagd);
 void begin_link(struct lagd *lagd, uint16_t port);
 void join_port(struct lagd *lagd, uint16_t port, const struct port_settings *settings);
 void leave_port(struct lagd *lagd, uint16_t port);
+bool begin_hold(struct lagd *lagd, uint16_t port);
 void stay_port(struct lagd *lagd, uint16_t port);
 void pass_leaving_tick(struct lagd *lagd);
+struct interface;
+bool stays_outside(struct lagd *lagd, struct link *link, int master);
+void tell_taken_out(struct lagd *lagd, struct link *link);
+void follow_port(struct lagd *lagd, const struct interface *interface);
 void answer_order(struct lagd *lagd, char *order, char answer[static ORDER_ROOM]);
 
 /* halt.c */
@@ -435,6 +445,7 @@ void fit_queue(struct lagd *lagd, const struct link *link, const char *interface
 bool open_member(struct lagd *lagd, struct link *link);
 void close_member(struct lagd *lagd, struct link *link);
 void forget_member(struct lagd *lagd, uint16_t port);
+void drain_member(struct lagd *lagd, uint16_t port);
 bool reopen_member(struct lagd *lagd, struct link *link);
 bool follow_queues(struct lagd *lagd, struct link *link);
 void follow_address(struct lagd *lagd, struct link *link, const uint8_t *mac);
@@ -444,6 +455,8 @@ void follow_speed(struct lagd *lagd, const struct link *link, const char *interf
 
 /* moves.c */
 void ask_moves(struct lagd *lagd);
+bool can_empty(struct lagd *lagd, uint16_t port);
+bool empty_port(struct lagd *lagd, uint16_t port);
 
 /* carry_show.c */
 void write_carry_text(struct lagd *lagd);

@@ -15,6 +15,8 @@
 
 /* Of the frames that wait in a socket. */
 #define SOCKET_ROOM (8 << 20)
+/* How many batches of a member are taken before its port is held. */
+#define MOST_DRAINED 64
 
 /* What this file keeps for a daemon. */
 struct members_private {
@@ -516,6 +518,17 @@ static void take_packets(struct lagd *lagd, uint16_t port, const int *fd, bool o
     if (got == BATCH) lagd->carry.more_waits = true;
     for (int i = 0; i < got; i++) take_message(lagd, link, &own->messages[i], only_markers);
     flush_host(lagd);
+}
+
+/* Takes all that waits at a member, but for a flood, before its port is held: what came before that is collected. */
+void drain_member(struct lagd *lagd, uint16_t port) {
+    struct member *member = &lagd->members->members[port - 1];
+    if (!carries_data(lagd) || carries_by_team(lagd) || member->socket < 0) return;
+    for (unsigned turn = 0; turn < MOST_DRAINED && !lagd->broken; turn++) {
+        lagd->carry.more_waits = false;
+        take_data(lagd, port);
+        if (!lagd->carry.more_waits) return;
+    }
 }
 
 /* Takes what waits at a member. */

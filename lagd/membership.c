@@ -88,7 +88,7 @@ bool place_ports(struct lagd *lagd, struct settings *settings) {
     return true;
 }
 
-/* Ports of the last daemon that the file has no more go on, so that their peers can be told. */
+/* Ports of the last daemon that the file has no more go on, so that their peers can be told, or as long as they are in the device. */
 void keep_left_ports(struct lagd *lagd) {
     for (unsigned i = 0; i < lagd->inherited.port_count; i++) {
         const struct inherited_port *port = &lagd->inherited.ports[i];
@@ -96,7 +96,8 @@ void keep_left_ports(struct lagd *lagd) {
         if (port->number > lagd->slot_count || settings->name[0] || !has_carried(lagd, port)) continue;
         memcpy(settings->name, port->name, sizeof settings->name);
         if (port->number > lagd->settings.port_count) lagd->settings.port_count = port->number;
-        lagd->links[port->number - 1].left_over = true;
+        lagd->links[port->number - 1].left_over = !lagd->settings.follow;
+        lagd->links[port->number - 1].followed = lagd->settings.follow;
     }
 }
 
@@ -104,7 +105,7 @@ void keep_left_ports(struct lagd *lagd) {
 void begin_link(struct lagd *lagd, uint16_t port) {
     struct link *link = &lagd->links[port - 1];
     *link = (struct link){.name = lagd->settings.ports[port - 1].name, .settings = port_of(&lagd->settings, port), .socket = -1, .lock = -1,
-        .carrier_file = -1, .lines = MOST_LINES, .changed = true, .view = link->view, .left_over = link->left_over};
+        .carrier_file = -1, .lines = MOST_LINES, .changed = true, .view = link->view, .left_over = link->left_over, .followed = link->followed};
     link->key = link->settings.key;
     link->used = link->name[0] != 0;
     link->held = wants_hold(&lagd->settings, port);
@@ -126,8 +127,9 @@ void join_port(struct lagd *lagd, uint16_t port, const struct port_settings *set
     struct link *link = &lagd->links[port - 1];
     lagd->settings.ports[port - 1] = *settings;
     if (port > lagd->link_count) lagd->settings.port_count = lagd->link_count = port;
-    link->left_over = false;
+    link->left_over = link->followed = false;
     begin_link(lagd, port);
+    link->puts_in = true;
     forget_member(lagd, port);
     if (!configure(lagd, link)) return;
     (void)say(lagd, LOG_NOTICE | ABOUT_PORT, "port %u %s: it joins the bundle", port, link->name);
@@ -141,9 +143,38 @@ static void end_leaving(struct lagd *lagd, struct link *link) {
     if (link->socket >= 0) lose_link(lagd, link);
     (void)say(lagd, LOG_NOTICE | ABOUT_PORT, "port %u %s: it left the bundle", port, link->name);
     lagd->settings.ports[port - 1] = unset_port();
+    link->left_over = link->followed = false;
     begin_link(lagd, port);
     look_at_carry(lagd);
     look_at_bundle(lagd);
+}
+
+/* A port is to be out of use, or to be used again; answers whether that is done. First its conversations move to others, behind markers, so that
+ * nothing of ours is on its way there once the peer takes nothing more. */
+bool begin_hold(struct lagd *lagd, uint16_t port) {
+    struct link *link = &lagd->links[port - 1];
+    link->leaves_since = milliseconds(lagd);
+    link->left_at = 0;
+    link->emptying = (link->held || link->leaving) && carries_data(lagd) && !carries_by_team(lagd) && can_empty(lagd, port);
+    if (link->emptying) {
+        look_at_carry(lagd);
+        return true;
+    }
+    if (link->held || link->leaving) drain_member(lagd, port);
+    return apply_hold(lagd, port);
+}
+
+/* A port that is emptied is held, once it is empty, or after a while. */
+static void end_emptying(struct lagd *lagd, uint16_t port) {
+    struct link *link = &lagd->links[port - 1];
+    if (link->up && milliseconds(lagd) - link->leaves_since < MOST_WAIT && !empty_port(lagd, port)) return;
+    link->emptying = false;
+    link->leaves_since = milliseconds(lagd);
+    drain_member(lagd, port);
+    if (!apply_hold(lagd, port)) return;
+    send_due(lagd);
+    take_views(lagd);
+    look_at_carry(lagd);
 }
 
 /* A port goes: its peer is told, and its conversations leave it. One whose link is down is gone at once. */
@@ -151,14 +182,12 @@ void leave_port(struct lagd *lagd, uint16_t port) {
     struct link *link = &lagd->links[port - 1];
     if (link->leaving) return;
     link->leaving = true;
-    link->leaves_since = milliseconds(lagd);
-    link->left_at = 0;
     if (!link->up) {
         end_leaving(lagd, link);
         return;
     }
     (void)say(lagd, LOG_NOTICE | ABOUT_PORT, "port %u %s: it leaves the bundle", port, link->name);
-    if (!apply_hold(lagd, port)) return;
+    if (!begin_hold(lagd, port)) return;
     send_due(lagd);
     take_views(lagd);
     link->changed = true;
@@ -172,7 +201,7 @@ void stay_port(struct lagd *lagd, uint16_t port) {
     link->leaving = false;
     link->changed = true;
     (void)say(lagd, LOG_NOTICE | ABOUT_PORT, "port %u %s: it stays in the bundle", port, link->name);
-    if (!apply_hold(lagd, port)) return;
+    if (!begin_hold(lagd, port)) return;
     send_due(lagd);
     look_at_carry(lagd);
 }
@@ -195,12 +224,22 @@ static uint64_t most_wait(struct lagd *lagd) {
 static bool has_left(struct lagd *lagd, struct link *link) {
     uint64_t now = milliseconds(lagd);
     if (!link->up) return true;
+    if (link->emptying) return false;
     if (link->left_at == 0 && (is_quiet(lagd, link) || now - link->leaves_since >= most_wait(lagd))) link->left_at = now;
     return link->left_at != 0 && now - link->left_at >= LINGERS;
 }
 
+/* A port that the device alone had is one no more. */
+static void drop_followed(struct lagd *lagd) {
+    for (uint16_t i = 0; i < lagd->link_count; i++)
+        if (lagd->links[i].used && lagd->links[i].followed && lagd->links[i].outside && !lagd->links[i].leaving) leave_port(lagd, (uint16_t)(i + 1));
+}
+
 /* 100 ms passed. */
 void pass_leaving_tick(struct lagd *lagd) {
+    if (lagd->settings.follow) drop_followed(lagd);
+    for (uint16_t i = 0; i < lagd->link_count && !lagd->broken; i++)
+        if (lagd->links[i].emptying) end_emptying(lagd, (uint16_t)(i + 1));
     for (uint16_t i = 0; i < lagd->link_count && !lagd->broken; i++)
         if (lagd->links[i].leaving && has_left(lagd, &lagd->links[i])) end_leaving(lagd, &lagd->links[i]);
 }
@@ -209,6 +248,37 @@ void pass_leaving_tick(struct lagd *lagd) {
 void leave_left_ports(struct lagd *lagd) {
     for (uint16_t i = 0; i < lagd->link_count; i++)
         if (lagd->links[i].used && lagd->links[i].left_over) leave_port(lagd, (uint16_t)(i + 1));
+}
+
+/* Whether an interface is no port, as others choose the ports of the device and it is not in there. */
+bool stays_outside(struct lagd *lagd, struct link *link, int master) {
+    bool outside = lagd->settings.follow && carries_by_team(lagd) && master != tap_index(lagd) && !link->puts_in
+        && (lagd->has_started || !is_team_new(lagd));
+    link->changed = link->changed || link->outside != outside;
+    link->outside = outside;
+    return outside;
+}
+
+/* Others took a port out of the device: its peer is told, as far as the interface still sends. */
+void tell_taken_out(struct lagd *lagd, struct link *link) {
+    uint16_t port = link->settings.number;
+    if (!lagd->settings.follow || !lagd->has_started) return;
+    link->puts_in = false;
+    if (!is_done(lagd, niw_hold(&lagd->own_system, port, true), "niw_hold")) return;
+    send_due(lagd);
+    if (apply_hold(lagd, port)) link->changed = true;
+}
+
+/* The kernel told of an interface that is no port. Where it is in a device whose ports others choose, it becomes one. */
+void follow_port(struct lagd *lagd, const struct interface *interface) {
+    struct port_settings settings = unset_port();
+    uint16_t port = 1;
+    if (!lagd->settings.follow || !carries_by_team(lagd) || interface->master != tap_index(lagd) || interface->type != ARPHRD_ETHER) return;
+    while (port <= lagd->slot_count && lagd->links[port - 1].used) port++;
+    if (port > lagd->slot_count) return;
+    memcpy(settings.name, interface->name, sizeof interface->name);
+    join_port(lagd, port, &settings);
+    lagd->links[port - 1].followed = true;
 }
 
 /* What keeps an interface from being a port now, or NULL. */
@@ -250,8 +320,6 @@ static const char *add_by_words(struct lagd *lagd, char *text, uint16_t *port, c
 static bool hold_by_word(struct lagd *lagd, struct link *link, bool hold) {
     uint16_t port = link->settings.number;
     if (link->held != hold) {
-        link->leaves_since = milliseconds(lagd);
-        link->left_at = 0;
         (void)say(lagd, LOG_NOTICE | ABOUT_PORT, "port %u %s: it is %s", port, link->name, hold ? "held" : "used again");
         if (!hold_port(lagd, port, hold)) return true;
         lagd->settings.ports[port - 1].hold = hold;

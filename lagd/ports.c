@@ -18,7 +18,7 @@ struct ports_private *make_ports_private(void) {
 /* The status of a port, with what the library does not know of it. */
 static uint8_t status_of(struct lagd *lagd, const struct link *link) {
     uint8_t status = link->view.port_status;
-    if (link->socket < 0) return MISSING;
+    if (link->socket < 0) return link->outside ? OUTSIDE : MISSING;
     if (is_halted(lagd)) return DEVICE_DOWN;
     if (link->leaving) return LEAVES;
     if (link->waits) return RESTORING;

@@ -79,6 +79,10 @@ static bool take_port(struct lagd *lagd, uint16_t port, const struct settings *w
     const struct link *link = &lagd->links[port - 1];
     const char *name = wanted->ports[port - 1].name;
     bool was_leaving = link->leaving;
+    if (link->used && !name[0] && wanted->follow && link->socket >= 0) {
+        lagd->links[port - 1].followed = true;
+        return false;
+    }
     if (link->used && !name[0]) {
         leave_port(lagd, port);
         return !was_leaving;
@@ -90,6 +94,7 @@ static bool take_port(struct lagd *lagd, uint16_t port, const struct settings *w
         return true;
     }
     stay_port(lagd, port);
+    lagd->links[port - 1].followed = false;
     lagd->settings.ports[port - 1] = wanted->ports[port - 1];
     return change_all(lagd, port, wanted) || was_leaving;
 }
@@ -101,6 +106,7 @@ static unsigned take(struct lagd *lagd, const struct settings *wanted) {
     limit_links(lagd, wanted->config.max_links);
     change_policy(lagd, wanted);
     lagd->settings.partner_required = wanted->partner_required;
+    lagd->settings.follow = wanted->follow;
     lagd->settings.min_links = wanted->min_links;
     lagd->settings.marker_responses = wanted->marker_responses;
     lagd->settings.flight = wanted->flight;

@@ -142,8 +142,15 @@ bool save_state(struct lagd *lagd) {
 /* The peers are told of the end: no daemon goes on from here. */
 void end_state(struct lagd *lagd) {
     struct state_private *own = lagd->state;
+    int emptied;
     own->over = true;
-    (void)unlinkat(folder_file(lagd), own->name, 0);
+    if (unlinkat(folder_file(lagd), own->name, 0) == 0 || errno == ENOENT) return;
+    emptied = openat(folder_file(lagd), own->name, O_WRONLY | O_TRUNC | O_NOFOLLOW | O_CLOEXEC);
+    if (emptied >= 0)
+        close(emptied);
+    else
+        (void)say(lagd, LOG_ERR | ABOUT_HANDOVER, "its state cannot be removed: %s: remove %s, or start no daemon for as long as a partner is waited for",
+            strerror(errno), own->name);
 }
 
 static bool read_hex(const char *text, uint8_t *octets) {

@@ -49,14 +49,15 @@ static uint32_t random_marker(void) {
 
 /* Holds a port that nothing may use, whatever its link does, or lets it go; answers whether that is done. */
 bool apply_hold(struct lagd *lagd, uint16_t port) {
-    return is_done(lagd, niw_hold(&lagd->own_system, port, lagd->links[port - 1].held || lagd->links[port - 1].leaving || is_halted(lagd)),
-        "niw_hold");
+    const struct link *link = &lagd->links[port - 1];
+    bool hold = (link->held || link->leaving) && !link->emptying;
+    return is_done(lagd, niw_hold(&lagd->own_system, port, hold || is_halted(lagd)), "niw_hold");
 }
 
 /* The file takes a port out of use, or lets it be used again; answers whether that is done. */
 bool hold_port(struct lagd *lagd, uint16_t port, bool hold) {
     lagd->links[port - 1].held = hold;
-    return apply_hold(lagd, port);
+    return begin_hold(lagd, port);
 }
 
 /* Makes the system of the settings. */

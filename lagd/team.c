@@ -24,6 +24,7 @@
 struct team_private {
     bool opened;
     bool made; /* whether a daemon made the device, so that it goes at the end */
+    bool is_new; /* whether this one did */
     bool taken[NIW_MOST_PORTS]; /* whether the interface of a port is a port of the device */
     int lock, locked; /* by which no other lagd has the device, whatever members are there; and its index */
 };
@@ -45,6 +46,11 @@ bool is_team_port(struct lagd *lagd, uint16_t port) {
 /* Whether a daemon made the device. */
 bool has_made_team(struct lagd *lagd) {
     return lagd->team->made;
+}
+
+/* Whether this daemon made the device, so that nobody has put a port there yet. */
+bool is_team_new(struct lagd *lagd) {
+    return lagd->team->is_new;
 }
 
 static void need(bool done, const char *what) {
@@ -109,7 +115,7 @@ static void take_device(struct lagd *lagd, const struct interface *device, const
     need(read_team(lagd, device->index, &now), lagd->settings.carry);
     if (strcmp(now.mode, MODE) != 0 && strcmp(now.mode, NO_MODE) != 0)
         stop(REFUSED, lagd->settings.carry, "a team device of another mode is there");
-    if (!has_own_ports(lagd, &now) && !known) stop(REFUSED, lagd->settings.carry, "a team device with ports of others is there");
+    if (!lagd->settings.follow && !has_own_ports(lagd, &now) && !known) stop(REFUSED, lagd->settings.carry, "a team device with ports of others is there");
     lagd->team->made = known && lagd->inherited.persists;
     need(known || set_address(lagd, device->index, mac), lagd->settings.carry);
     use_team_device(lagd, device->index);
@@ -152,7 +158,7 @@ void open_team(struct lagd *lagd, const char *name, const uint8_t *mac) {
     } else {
         need(make_team_device(lagd, name, mac, least_mtu(lagd)) && ask_interface(lagd, 0, name, &device), name);
         lock_device(lagd, device.index); /* another one may have taken it at once */
-        own->made = true;
+        own->made = own->is_new = true;
         use_team_device(lagd, device.index);
     }
     need(read_team(lagd, tap_index(lagd), &now), "team");

@@ -54,7 +54,7 @@ def try_row(programs: Programs, ours: End, guest: int, rate: int, size: int, fit
     outcome = run_flows(programs, SECONDS, rate=OTHERS, devices=(BRIDGE, DEVICE))
     thread.join()
     what = f"{rate} packets a second of segments of {size} octets"
-    most = outcome.sent // 10 if fit else 0  # so many small frames are more than the other end takes
+    most = outcome.sent // 2 if fit and rate * OCTETS // size > 100000 else 0  # so many small frames are more than the other end takes
     check(outcome.lost() <= most and outcome.overtaken == outcome.twice == 0, f"{what}: {outcome.received:,} of {outcome.sent:,} frames of others come, gap {outcome.gap_ms} ms",
           outcome, ours.text())
     check((ours.carry()["unfit"] > before) != fit, f"{what} are {'sent' if fit else 'unfit'}", ours.text())
