@@ -208,17 +208,23 @@ static void release(struct lagd *lagd) {
     pass_on(lagd);
 }
 
+/* Notes the ports of the active aggregator that carry, those that are emptied or the others. */
+static void note_ports(struct lagd *lagd, bool emptying) {
+    lagd->carry.port_count = 0;
+    for (uint16_t i = 0; i < lagd->link_count; i++)
+        if (lagd->carry.active != 0 && lagd->links[i].view.aggregator == lagd->carry.active && carries(lagd, &lagd->links[i])
+            && lagd->links[i].emptying == emptying)
+            lagd->carry.ports[lagd->carry.port_count++] = lagd->links[i].settings.number;
+}
+
 /* The aggregator whose ports carry the data: that of the bundle, unless that is down. */
 static void choose_active(struct lagd *lagd) {
     struct bundle now = {0};
     uint16_t before = lagd->carry.active;
     choose_aggregator(lagd, &now);
     lagd->carry.active = now.carrying >= lagd->settings.min_links ? now.aggregator : 0;
-    lagd->carry.port_count = 0;
-    for (uint16_t i = 0; i < lagd->link_count; i++)
-        if (lagd->carry.active != 0 && lagd->links[i].view.aggregator == lagd->carry.active && carries(lagd, &lagd->links[i])
-            && !lagd->links[i].emptying)
-            lagd->carry.ports[lagd->carry.port_count++] = lagd->links[i].settings.number;
+    note_ports(lagd, false);
+    if (lagd->carry.port_count == 0) note_ports(lagd, true); /* while there is no other */
     if (before != 0 && lagd->carry.active != 0 && before != lagd->carry.active) lagd->carry.counts[SWITCHES]++;
     if ((before == 0) != (lagd->carry.active == 0))
         (void)say(lagd, LOG_NOTICE | ABOUT_CARRIER, "carry %s: carrier %s", lagd->settings.carry, lagd->carry.active ? "on" : "off");

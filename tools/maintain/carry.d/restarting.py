@@ -48,6 +48,8 @@ WAYS: dict[str, tuple[str, ...]] = {"plain": (), "offload": ("--offload",), "fas
 class Manager:
     """What a manager of services does: it keeps the files that a daemon stores, and hands them to the next one."""
 
+    copies = 1  # of each file that it hands over: systemd joins the same ones where the kernel can compare files
+
     def __init__(self, folder: str) -> None:
         self.path = os.path.join(folder, "manager")
         self.files: dict[str, int] = {}
@@ -84,11 +86,11 @@ class Manager:
 
     def before(self) -> list[str]:
         """What stands before the words of a daemon, so that it gets what is kept."""
-        names = ":".join(self.files)
+        names, files = list(self.files) * self.copies, list(self.files.values()) * self.copies
         text = f"export NOTIFY_SOCKET={self.path} FDSTORE={HIGH}; "
         if self.files:
-            text += f"export LISTEN_PID=$$ LISTEN_FDS={len(self.files)} LISTEN_FDNAMES={names}; "
-        moved = " ".join(f"{3 + place}<&{file}-" for place, file in enumerate(self.files.values()))
+            text += f"export LISTEN_PID=$$ LISTEN_FDS={len(names)} LISTEN_FDNAMES={':'.join(names)}; "
+        moved = " ".join([*(f"{3 + place}<&{file}" for place, file in enumerate(files)), *(f"{file}<&-" for file in self.files.values())])
         return ["bash", "-c", f'{text} exec "$@" {moved}', "bash"]
 
     def drop(self) -> None:
@@ -313,6 +315,24 @@ def handover_changes(programs: Programs) -> None:
     change_between(programs, WAYS["fast"])
 
 
+def handed_twice(programs: Programs) -> None:
+    """A manager hands over each file twice, as where the kernel cannot compare files: what is in use goes on."""
+    for name in "plain", "fast":
+        with managed(programs, WAYS[name]) as (kept, peer):
+            time.sleep(1)
+            manager, before = kept.manager, (seen(peer), device_number())
+            if not manager:
+                raise Failed("there is a manager")
+            manager.copies = 2
+            for turn in "first", "second":
+                outcome = flows_through(programs, lambda: kept.again(signal.SIGUSR1))
+                check_unseen(f"{name}, {turn} restart", kept, peer, before, outcome)
+                check(outcome.lost() <= IN_HAND, f"{name}, {turn} restart: {outcome.lost()} of {outcome.sent:,} frames are lost", outcome, kept.text(), kept.printed()[-2000:])
+            manager.settle()
+            check("tap" in " ".join(manager.files), f"{name}: the manager keeps what is in use", manager.files)
+            kept.ends("the daemon")
+
+
 def is_known(kept: Kept) -> bool:
     """Whether it is kept what a1 had."""
     index = inside(OURS, "cat", "/sys/class/net/a1/ifindex").stdout.strip()
@@ -474,4 +494,4 @@ def print_restarts(programs: Programs) -> None:
 
 
 PARTS = {it.__name__: it for it in (handover_plain, handover_offload, handover_fast, handover_alone, handover_changes, handover_released,
-                                   handover_elsewhere, handover_old_kernel, handover_unit)}
+                                   handover_elsewhere, handover_old_kernel, handover_unit, handed_twice)}
