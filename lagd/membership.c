@@ -284,11 +284,15 @@ void follow_port(struct lagd *lagd, const struct interface *interface) {
 /* What keeps an interface from being a port now, or NULL. */
 static const char *fault_of(struct lagd *lagd, const char *name) {
     struct interface interface;
+    int lock;
     if (strcmp(name, lagd->settings.carry) == 0) return "it is the device itself";
     if (!ask_interface(lagd, 0, name, &interface)) return "there is no such interface";
     if (interface.type != ARPHRD_ETHER) return "it is no Ethernet interface";
     for (uint16_t i = 0; i < lagd->link_count; i++)
         if (lagd->links[i].used && lagd->links[i].socket >= 0 && lagd->links[i].index == interface.index) return "it is a port by another name";
+    lock = lock_interface(lagd, interface.index);
+    if (lock < 0) return errno == EADDRINUSE ? "another lagd has it" : strerror(errno);
+    close_stored(lagd, "lock", interface.index, lock);
     return NULL;
 }
 

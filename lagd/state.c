@@ -74,11 +74,11 @@ static void write_link(FILE *file, const struct link *link) {
         carried, link->lacpdu_at, link->lacpdus_at[MOST_LACPDUS - 1], hex);
 }
 
-/* Writes which port has which number, but for those that go. */
+/* Writes which port has which number. */
 static void write_ports(struct lagd *lagd, FILE *file) {
     for (uint16_t i = 0; i < lagd->link_count; i++) {
         const struct link *link = &lagd->links[i];
-        if (link->used && !link->leaving) fprintf(file, "port %u %d %s\n", i + 1, link->socket >= 0 ? link->index : 0, link->name);
+        if (link->used) fprintf(file, "port %u %d %s\n", i + 1, link->socket >= 0 ? link->index : 0, link->name);
     }
 }
 
