@@ -339,6 +339,7 @@ bool begin_hold(struct lagd *lagd, uint16_t port);
 void stay_port(struct lagd *lagd, uint16_t port);
 void pass_leaving_tick(struct lagd *lagd);
 struct interface;
+bool may_put_in(struct lagd *lagd, const struct link *link);
 bool stays_outside(struct lagd *lagd, struct link *link, int master);
 void tell_taken_out(struct lagd *lagd, struct link *link);
 void follow_port(struct lagd *lagd, const struct interface *interface);

@@ -250,10 +250,15 @@ void leave_left_ports(struct lagd *lagd) {
         if (lagd->links[i].used && lagd->links[i].left_over) leave_port(lagd, (uint16_t)(i + 1));
 }
 
+/* Whether the daemon puts an interface into the device: where others choose its ports, only what the administrator asked for, and what a file has as
+ * the device is made. */
+bool may_put_in(struct lagd *lagd, const struct link *link) {
+    return !lagd->settings.follow || link->puts_in || (!lagd->has_started && is_team_new(lagd));
+}
+
 /* Whether an interface is no port, as others choose the ports of the device and it is not in there. */
 bool stays_outside(struct lagd *lagd, struct link *link, int master) {
-    bool outside = lagd->settings.follow && carries_by_team(lagd) && master != tap_index(lagd) && !link->puts_in
-        && (lagd->has_started || !is_team_new(lagd));
+    bool outside = carries_by_team(lagd) && master != tap_index(lagd) && !may_put_in(lagd, link);
     link->changed = link->changed || link->outside != outside;
     link->outside = outside;
     return outside;

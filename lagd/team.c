@@ -219,7 +219,7 @@ bool open_team_port(struct lagd *lagd, struct link *link) {
     if (!ask_interface(lagd, link->index, NULL, &port) || !read_tap_mac(lagd, mac)) return false;
     up = (port.flags & IFF_UP) != 0;
     errno = EBUSY;
-    if (port.master != 0 && port.master != tap_index(lagd)) return false;
+    if (port.master != tap_index(lagd) && (port.master != 0 || !may_put_in(lagd, link))) return false;
     done = port.master != 0 || make_port(lagd, link->index, up);
     own->taken[link - lagd->links] = done && (memcmp(port.mac, mac, sizeof mac) == 0 || give_address(lagd, link->index, mac));
     forget_port(lagd, link->settings.number);
