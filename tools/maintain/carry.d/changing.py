@@ -68,7 +68,7 @@ def flow_while(programs: Programs, end: End, names: list[str], what: str) -> Out
 
 def changes(programs: Programs) -> None:
     """Interfaces join and leave, of either end, under a load: others lose nothing."""
-    for way, options in {**WAYS, "queues=all": ("--fast", "--queues", "all")}.items():
+    for way, options in (*WAYS.items(), ("queues=all", ("--fast", "--queues", "all"))):
         with cables(programs, ()):
             for number in range(2, LINKS):
                 lay_direct(number)

@@ -29,7 +29,12 @@ def check_down(kept: Kept, peer: End, what: str) -> None:
     check(stopped, f"{what}: the peer stops {1000 * (time.monotonic() - begin):.0f} ms after {DEVICE} went down", peer.text(), kept.printed()[-1000:])
     seen: set[str] = set()
     sent = [kept.count(name, "lacpdus_sent") for name in ("a0", "a1")]
-    check(within(FORGETS, lambda: seen.update(said(kept)) or all(port["partner"]["defaulted"] for port in peer.told()["ports"])), f"{what}: and hears no more", peer.text())
+
+    def forgets() -> bool:
+        seen.update(said(kept))
+        return all(port["partner"]["defaulted"] for port in peer.told()["ports"])
+
+    check(within(FORGETS, forgets), f"{what}: and hears no more", peer.text())
     check(sent == [kept.count(name, "lacpdus_sent") for name in ("a0", "a1")], f"{what}: no port speaks", sent, kept.text())
     check(seen == {"down", "the device is down"}, f"{what}: the status says so, and nothing else", seen)
 
