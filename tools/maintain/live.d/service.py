@@ -305,6 +305,22 @@ def questions(part: Part) -> None:
     ours.ends("the daemon")
 
 
+def stuck_state(part: Part) -> None:
+    """A state that cannot be removed as the peers are told of the end has a line."""
+    place = os.path.join(part.folder, "run")
+    os.makedirs(place, exist_ok=True)
+    if command("mount", "-t", "tmpfs", "-o", "mode=755", "state", place).returncode:
+        raise Skipped("no file system can be mounted")
+    try:
+        ours = part.ours()
+        check(within(ENDS, lambda: any(name.endswith(".state") for name in os.listdir(place))), "a daemon keeps its state", os.listdir(place))
+        command("mount", "-o", "remount,ro", place)
+        ours.ends("the daemon")
+        check(".state" in ours.printed() and "its state cannot be removed: Read-only file system: remove " in ours.printed(), "a state that stays has a line", ours.printed())
+    finally:
+        command("umount", "-l", place)
+
+
 def running_settings(part: Part) -> None:
     """SIGHUP changes activity, timeout, max-links and which ports are held, without a link that goes down."""
     path = os.path.join(part.folder, "uplink.conf")
@@ -564,6 +580,7 @@ PARTS: dict[str, Callable[[Part], None]] = {
     "settings of a running bundle": running_settings,
     "ports that come and go": ports_change,
     "questions": questions,
+    "a state that stays": stuck_state,
     "watchers and metrics": watchers,
     "metrics of two daemons": metrics_of_two,
     "hooks": hooks,
