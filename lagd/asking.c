@@ -251,15 +251,28 @@ static char *tell_order(struct lagd *lagd, const char *path, const char *what, c
     return answer;
 }
 
+/* The socket of the one daemon of a folder: one that was killed may have left another there. */
+static const char *find_daemon(struct lagd *lagd, const char *folder) {
+    struct asking_private *own = lagd->asking;
+    const char *found = NULL;
+    for (unsigned i = 0; i < own->count; i++) {
+        int fd = ask(lagd, own->daemons[i].path, "");
+        if (fd < 0 && errno == EACCES) own->denied = own->daemons[i].path;
+        if (fd < 0) continue;
+        close(fd);
+        if (found) stop(WRONG_WORD, "more than one lagd is here: give the folder of one by --folder", folder);
+        found = own->daemons[i].path;
+    }
+    if (!found) refuse_all(lagd, folder);
+    return found;
+}
+
 /* Has the one daemon of a folder change its bundle, and waits until that is done; answers how the program ends. */
 static int order_daemon(struct lagd *lagd, const struct options *options) {
-    struct asking_private *own = lagd->asking;
-    const char *what = options->order;
+    const char *what = options->order, *path = find_daemon(lagd, options->folder);
     bool waits = true;
-    if (own->count == 0) refuse_all(lagd, options->folder);
-    if (own->count > 1) stop(WRONG_WORD, "more than one lagd is here: give the folder of one by --folder", options->folder);
     while (waits) {
-        char *answer = tell_order(lagd, own->daemons[0].path, what, options->interface);
+        char *answer = tell_order(lagd, path, what, options->interface);
         if (!answer) return REFUSED;
         waits = strncmp(answer, "wait: ", 6) == 0;
         if (!waits) print(lagd, answer, strlen(answer));

@@ -115,7 +115,7 @@ def fewer(programs: Programs) -> None:
                 outcome = run_flows(programs, 6, [(1, lambda: kept.again(signal.SIGUSR1))])
                 check_order(outcome, f"{way}: without a1", kept.text())
                 check(carried(kept) == {"a0": 1, "a2": 3}, f"{way}: the others keep their numbers", kept.text())
-                lines = [line for line in theirs.printed()[before:].splitlines() if " b0:" in line or " b2:" in line]
+                lines = [line for line in theirs.printed()[before:].splitlines() if " port " in line and (" b0:" in line or " b2:" in line)]
                 check(not lines, f"{way}: their peers saw nothing", *lines)
                 check("b1: the partner is not synchronized" in theirs.printed()[before:], f"{way}: that of a1 was told", theirs.printed()[before:])
                 check("a1: it left the bundle" in kept.printed() and len(kept.told()["ports"]) == 2, f"{way}: it left", kept.text(), kept.printed())
