@@ -44,8 +44,8 @@ void write_carry_text(struct lagd *lagd) {
     uint64_t waiting;
     if (!carries_data(lagd) || !count_all_held(lagd, &waiting)) return;
     take_fast_counts(lagd);
-    add(lagd, "  carry: %s, carrier %s, hash %s, flight %u ms, ", lagd->settings.carry, has_carrier(lagd) ? "on" : is_halted(lagd) ? "off, the device is down" : "off",
-        hash_text(lagd->settings.hash), lagd->settings.flight);
+    add(lagd, "  carry: %s, carrier %s, hash %s, flight %u ms, ", lagd->settings.carry,
+        has_carrier(lagd) ? "on" : is_halted(lagd) ? "off, the device is down" : "off", hash_text(lagd->settings.hash), lagd->settings.flight);
     if (!carries_by_team(lagd)) add(lagd, "markers %s, ", answering_text(lagd));
     add(lagd, "%s%s", way_text(&lagd->settings), lagd->settings.all_queues ? ", all queues" : "");
     for (unsigned i = 0; i < CARRY_COUNTS; i++)

@@ -74,8 +74,8 @@ static uint16_t key_for(struct lagd *lagd, uint16_t given, uint16_t number) {
     return given;
 }
 
-/* Makes the keys of the aggregators: in the order of ports, of which those that are to come have the key of the bundle, one of the key of each, and then as many of each further key that a speed may
- * have. */
+/* Makes the keys of the aggregators: in the order of ports, of which those that are to come have the key of the bundle, one of the key of each,
+ * and then as many of each further key that a speed may have. */
 void make_keys(struct lagd *lagd, uint16_t keys[static NIW_MOST_PORTS]) {
     struct keys_private *own = lagd->keys;
     for (uint16_t i = 0; i < lagd->slot_count; i++)

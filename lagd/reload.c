@@ -146,7 +146,8 @@ void reload(struct lagd *lagd, const char *file) {
     if (!read_again(lagd, file, &own->wanted)) {
         complain(lagd, "%s: the file is wrong, and nothing is changed", file);
     } else if (!place_ports(lagd, &own->wanted)) {
-        (void)say(lagd, LOG_WARNING | ABOUT_RESTART, "%s: more ports than there is room for: a restart of this bundle is needed, and nothing is changed", file);
+        (void)say(lagd, LOG_WARNING | ABOUT_RESTART,
+            "%s: more ports than there is room for: a restart of this bundle is needed, and nothing is changed", file);
     } else {
         unsigned changed = (rest = restart_for(lagd, &own->wanted), take(lagd, &own->wanted));
         (void)say(lagd, LOG_NOTICE | ABOUT_RELOAD, "%s: read again, %u ports changed", file, changed);

@@ -149,8 +149,8 @@ void end_state(struct lagd *lagd) {
     if (emptied >= 0)
         close(emptied);
     else
-        (void)say(lagd, LOG_ERR | ABOUT_HANDOVER, "its state cannot be removed: %s: remove %s, or start no daemon for as long as a partner is waited for",
-            strerror(errno), own->name);
+        (void)say(lagd, LOG_ERR | ABOUT_HANDOVER,
+            "its state cannot be removed: %s: remove %s, or start no daemon for as long as a partner is waited for", strerror(errno), own->name);
 }
 
 static bool read_hex(const char *text, uint8_t *octets) {
@@ -181,7 +181,8 @@ static bool read_link(struct lagd *lagd, FILE *file) {
 static bool read_port_number(struct lagd *lagd, FILE *file) {
     struct inherited_port *port = &lagd->inherited.ports[lagd->inherited.port_count];
     unsigned number;
-    if (lagd->inherited.port_count == NIW_MOST_PORTS || fscanf(file, "%u %d %127s", &number, &port->index, port->name) != 3) return false;
+    if (lagd->inherited.port_count == NIW_MOST_PORTS) return false;
+    if (fscanf(file, "%u %d %127s", &number, &port->index, port->name) != 3) return false;
     for (unsigned i = 0; i < lagd->inherited.port_count; i++)
         if (lagd->inherited.ports[i].number == number || strcmp(lagd->inherited.ports[i].name, port->name) == 0) return false;
     port->number = (uint16_t)number;

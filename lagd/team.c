@@ -70,7 +70,8 @@ static uint32_t least_mtu(struct lagd *lagd) {
     uint32_t least = 0;
     for (uint16_t i = 0; i < lagd->settings.port_count; i++) {
         struct interface member;
-        if (lagd->settings.ports[i].name[0] && ask_interface(lagd, 0, lagd->settings.ports[i].name, &member) && member.mtu != 0 && (least == 0 || member.mtu < least))
+        const char *name = lagd->settings.ports[i].name;
+        if (name[0] && ask_interface(lagd, 0, name, &member) && member.mtu != 0 && (least == 0 || member.mtu < least))
             least = member.mtu;
     }
     return least == 0 ? ETH_DATA_LEN : least;
@@ -115,7 +116,8 @@ static void take_device(struct lagd *lagd, const struct interface *device, const
     need(read_team(lagd, device->index, &now), lagd->settings.carry);
     if (strcmp(now.mode, MODE) != 0 && strcmp(now.mode, NO_MODE) != 0)
         stop(REFUSED, lagd->settings.carry, "a team device of another mode is there");
-    if (!lagd->settings.follow && !has_own_ports(lagd, &now) && !known) stop(REFUSED, lagd->settings.carry, "a team device with ports of others is there");
+    if (!lagd->settings.follow && !has_own_ports(lagd, &now) && !known)
+        stop(REFUSED, lagd->settings.carry, "a team device with ports of others is there");
     lagd->team->made = known && lagd->inherited.persists;
     need(known || set_address(lagd, device->index, mac), lagd->settings.carry);
     use_team_device(lagd, device->index);

@@ -77,7 +77,8 @@ def changes(programs: Programs) -> None:
                 if not within(COMES_UP, lambda: ours.links() == theirs.links() == 2 and ours.carry()["markers"] == "answered"):
                     raise Failed("two links carry", ours.text(), theirs.text())
                 outcome = flow_while(programs, ours, ["a2", "a3"], f"{way}, at the sending end")
-                check(outcome.lost() <= outcome.lost_here, f"{way}: {outcome.sent - outcome.received} of {outcome.sent:,} frames are lost, {outcome.refused} of them before the daemon", outcome, ours.text(), theirs.text())
+                what = f"{outcome.sent - outcome.received} of {outcome.sent:,} frames are lost, {outcome.refused} of them before the daemon"
+                check(outcome.lost() <= outcome.lost_here, f"{way}: {what}", outcome, ours.text(), theirs.text())
                 check(carried(ours) == {"a0": 1, "a1": 2} and ours.links() == 2, f"{way}: two ports are left", ours.text())
                 changed = [ours.count(name, "distributed") for name in ("a0", "a1")]
                 check(changed == [1, 1], f"{way}: they distribute since the start", changed, ours.printed())
