@@ -212,6 +212,7 @@ static int run_daemon(struct lagd *lagd, const struct options *options) {
     lagd->has_started = true;
     resume_data(lagd, resumed);
     end_resuming(lagd);
+    (void)save_state(lagd);
     tell_changes(lagd);
     settle_carry(lagd);
     notify_ready(lagd);

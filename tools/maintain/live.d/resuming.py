@@ -109,7 +109,7 @@ def begins_anew(part: Part) -> None:
     time.sleep(1.5)
     length = os.path.getsize(state_file(ours))
     rows: list[tuple[str, str, Callable[[], None]]] = [
-        ("of another version", "of another version", lambda: changed(state_file(ours), lambda text: text.replace("lagd 1\n", "lagd 2\n"))),
+        ("of another version", "of another version", lambda: changed(state_file(ours), lambda text: text.replace("lagd 2\n", "lagd 1\n"))),
         ("of another boot", "of another boot", lambda: changed(state_file(ours), lambda text: re.sub(r"boot \S+", "boot other", text))),
         ("of another system", "other settings", lambda: changed(state_file(ours), lambda text: re.sub(r"way \d+", "way 1", text))),
         ("no text of lagd", "no state of lagd", lambda: changed(state_file(ours), lambda text: "\0" * 100)),
