@@ -62,7 +62,6 @@ void go_on_in(struct lagd *lagd, uint16_t aggregator);
 bool ask_state(struct lagd *lagd, uint16_t aggregator, uint16_t number, struct niw_assignment *state) MUST_USE;
 bool ask_ports(struct lagd *lagd, uint16_t aggregator, uint16_t *ports) MUST_USE;
 bool is_held(const struct niw_assignment *state);
-bool is_home(struct lagd *lagd, const struct conversation *conversation, uint16_t number);
 bool is_busy(struct lagd *lagd, const struct conversation *conversation);
 void suspect_aggregator(struct lagd *lagd, uint32_t aggregator);
 void take_from_host(struct lagd *lagd, uint8_t *packet, size_t length);

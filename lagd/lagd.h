@@ -256,6 +256,8 @@ struct tpacket_auxdata aux_of(struct msghdr *message);
 void take_frame(struct lagd *lagd, struct link *link, const struct arrival *arrival);
 void take_frames(struct lagd *lagd, uint16_t port);
 void forget_partner(struct lagd *lagd, struct link *link);
+bool may_be_partner(const struct link *link, const uint8_t *frame, struct system_id *actor);
+void note_actor(struct lagd *lagd, struct link *link, const struct system_id *actor, const uint8_t *frame);
 void tell_strangers(struct lagd *lagd, struct link *link);
 
 /* markers.c */
@@ -276,7 +278,7 @@ bool answer_marker(struct lagd *lagd, struct link *link, const uint8_t *response
 void look_for_twins(struct lagd *lagd);
 
 /* probe.c */
-void note_response(struct lagd *lagd, const struct link *link, uint32_t id);
+void note_response(struct lagd *lagd, const struct link *link);
 
 /* restore.c */
 bool is_restored(struct lagd *lagd, struct link *link);
@@ -311,6 +313,7 @@ const char *speed_text(const struct speed *speed, char room[static 40]);
 
 /* system.c */
 void make_system(struct lagd *lagd);
+size_t resume_system(struct lagd *lagd, struct niw_saved *saved, size_t count);
 void set_link(struct lagd *lagd, uint16_t port, bool up);
 bool apply_hold(struct lagd *lagd, uint16_t port) MUST_USE;
 bool hold_port(struct lagd *lagd, uint16_t port, bool hold);
@@ -400,6 +403,7 @@ void recall_state(struct lagd *lagd);
 uint32_t first_marker_left(struct lagd *lagd);
 bool was_away_briefly(struct lagd *lagd);
 bool save_state(struct lagd *lagd);
+void keep_port(struct lagd *lagd, uint16_t number, uint16_t port);
 void end_state(struct lagd *lagd);
 
 /* resume.c */

@@ -215,6 +215,7 @@ static int run_daemon(struct lagd *lagd, const struct options *options) {
     halt_if_down(lagd);
     leave_left_ports(lagd);
     end_resuming(lagd);
+    (void)save_state(lagd);
     tell_changes(lagd);
     settle_carry(lagd);
     notify_ready(lagd);

@@ -1,5 +1,5 @@
-/* The state that a daemon leaves to the next one: a file beside the status socket, written each second and at the end. It goes with each
- * stop of which the peers are told. */
+/* The state that a daemon leaves to the next one: a file beside the status socket, written each second and at the end. A line is added to it
+ * before the first frame of a conversation goes on another link. It goes with each stop of which the peers are told. */
 #define _GNU_SOURCE
 #include <errno.h>
 #include <fcntl.h>
@@ -26,6 +26,8 @@
 
 /* What this file keeps for a daemon. */
 struct state_private {
+    int file; /* the state that was written last, or -1 */
+    int members[CONVERSATIONS]; /* the interface of each conversation that it has, or 0 */
     bool over; /* whether the peers are told of the end */
     bool failed; /* whether the last writing did, which has a line */
     char name[NAME_ROOM + 32], new_name[NAME_ROOM + 40];
@@ -33,7 +35,9 @@ struct state_private {
 };
 
 struct state_private *make_state_private(void) {
-    return make_room(sizeof(struct state_private));
+    struct state_private *made = make_room(sizeof *made);
+    made->file = -1;
+    return made;
 }
 
 uint64_t boottime(void) {
@@ -70,8 +74,8 @@ static void write_link(FILE *file, const struct link *link) {
         hex[2 * i] = "0123456789abcdef"[link->lacpdu[i] >> 4];
         hex[2 * i + 1] = "0123456789abcdef"[link->lacpdu[i] & 15];
     }
-    fprintf(file, "link %d %s %" PRIu32 " %d %" PRIu64 " %" PRIu64 " %s\n", link->index, mac_text(link->mac, mac), link->kernel_losses,
-        carried, link->lacpdu_at, link->lacpdus_at[MOST_LACPDUS - 1], hex);
+    fprintf(file, "link %d %s %" PRIu32 " %d %" PRIu64 " %" PRIu64 " %s %u\n", link->index, mac_text(link->mac, mac), link->kernel_losses,
+        carried, link->lacpdu_at, link->lacpdus_at[MOST_LACPDUS - 1], hex, link->view.aggregator);
 }
 
 /* Writes which port has which number. */
@@ -88,7 +92,9 @@ static void write_conversations(struct lagd *lagd, FILE *file) {
         struct niw_assignment state;
         uint16_t home = lagd->carry.conversations[number].home;
         if (home == 0 || !ask_state(lagd, home, number, &state) || state.what == NIW_CONVERSATION_FREE) continue;
-        if (state.port > 0 && state.port <= lagd->link_count) fprintf(file, "on %u %d\n", number, lagd->links[state.port - 1].index);
+        if (state.port == 0 || state.port > lagd->link_count) continue;
+        lagd->state->members[number] = lagd->links[state.port - 1].index;
+        fprintf(file, "on %u %d\n", number, lagd->state->members[number]);
     }
 }
 
@@ -103,24 +109,43 @@ static void write_state(struct lagd *lagd, FILE *file) {
     write_ports(lagd, file);
     for (uint16_t i = 0; i < lagd->link_count; i++)
         if (lagd->links[i].socket >= 0) write_link(file, &lagd->links[i]);
+    memset(lagd->state->members, 0, sizeof lagd->state->members);
     if (carries_data(lagd)) write_conversations(lagd, file);
     fputs("end\n", file);
+}
+
+/* The file of this descriptor, or none for -1, is the state that was written last. */
+static void keep_file(struct state_private *own, int file) {
+    if (own->file >= 0) close(own->file);
+    own->file = file;
 }
 
 /* Puts a whole file in the place of the last one; answers whether it did. */
 static bool replace_file(struct lagd *lagd) {
     struct state_private *own = lagd->state;
-    int fd = openat(folder_file(lagd), own->new_name, O_WRONLY | O_CREAT | O_TRUNC | O_NOFOLLOW | O_CLOEXEC, 0600);
-    FILE *file = fd < 0 ? NULL : fdopen(fd, "w");
+    int fd = openat(folder_file(lagd), own->new_name, O_WRONLY | O_CREAT | O_TRUNC | O_APPEND | O_NOFOLLOW | O_CLOEXEC, 0600);
+    FILE *file = fd < 0 ? NULL : fdopen(fd, "a");
     bool written;
     if (!file) {
         if (fd >= 0) close(fd);
         return false;
     }
     write_state(lagd, file);
-    written = !ferror(file);
-    written = fclose(file) == 0 && written && !lagd->broken;
+    written = fflush(file) == 0 && !ferror(file) && !lagd->broken;
+    keep_file(own, written ? fcntl(fd, F_DUPFD_CLOEXEC, 0) : -1);
+    written = fclose(file) == 0 && own->file >= 0;
     return written && renameat(folder_file(lagd), own->new_name, folder_file(lagd), own->name) == 0;
+}
+
+/* It could not be written: there is none. */
+static void lose_file(struct lagd *lagd) {
+    struct state_private *own = lagd->state;
+    if (!own->failed)
+        (void)say(lagd, LOG_WARNING | ABOUT_HANDOVER, "its state cannot be kept, so the next daemon starts anew: %s", strerror(errno));
+    own->failed = true;
+    keep_file(own, -1);
+    (void)unlinkat(folder_file(lagd), own->new_name, 0);
+    (void)unlinkat(folder_file(lagd), own->name, 0);
 }
 
 /* Writes the state; answers whether it did. Where that fails there is none. */
@@ -131,12 +156,20 @@ bool save_state(struct lagd *lagd) {
         own->failed = false;
         return true;
     }
-    if (!own->failed)
-        (void)say(lagd, LOG_WARNING | ABOUT_HANDOVER, "its state cannot be kept, so the next daemon starts anew: %s", strerror(errno));
-    own->failed = true;
-    (void)unlinkat(folder_file(lagd), own->new_name, 0);
-    (void)unlinkat(folder_file(lagd), own->name, 0);
+    lose_file(lagd);
     return false;
+}
+
+/* The next frame of a conversation goes on this port: a daemon that goes on from here has to know. */
+void keep_port(struct lagd *lagd, uint16_t number, uint16_t port) {
+    struct state_private *own = lagd->state;
+    int index = lagd->links[port - 1].index;
+    char line[32];
+    int length;
+    if (own->file < 0 || own->members[number] == index) return;
+    own->members[number] = index;
+    length = snprintf(line, sizeof line, "on %u %d\n", number, index);
+    if (write(own->file, line, (size_t)length) != length) lose_file(lagd);
 }
 
 /* The peers are told of the end: no daemon goes on from here. */
@@ -144,6 +177,7 @@ void end_state(struct lagd *lagd) {
     struct state_private *own = lagd->state;
     int emptied;
     own->over = true;
+    keep_file(own, -1);
     if (unlinkat(folder_file(lagd), own->name, 0) == 0 || errno == ENOENT) return;
     emptied = openat(folder_file(lagd), own->name, O_WRONLY | O_TRUNC | O_NOFOLLOW | O_CLOEXEC);
     if (emptied >= 0)
@@ -168,8 +202,8 @@ static bool read_link(struct lagd *lagd, FILE *file) {
     unsigned octets[6];
     int carried;
     if (lagd->inherited.link_count == NIW_MOST_PORTS) return false;
-    if (fscanf(file, "%d %31s %" SCNu32 " %d %" SCNu64 " %" SCNu64 " %" HEX_LENGTH "s", &link->index, mac, &link->losses, &carried,
-            &link->heard, &link->spoken, hex) != 7 || strlen(hex) != HEX_ROOM - 1 || !read_hex(hex, link->lacpdu))
+    if (fscanf(file, "%d %31s %" SCNu32 " %d %" SCNu64 " %" SCNu64 " %" HEX_LENGTH "s %" SCNu16, &link->index, mac, &link->losses, &carried,
+            &link->heard, &link->spoken, hex, &link->aggregator) != 8 || strlen(hex) != HEX_ROOM - 1 || !read_hex(hex, link->lacpdu))
         return false;
     if (sscanf(mac, "%2x:%2x:%2x:%2x:%2x:%2x", octets, octets + 1, octets + 2, octets + 3, octets + 4, octets + 5) != 6) return false;
     for (size_t i = 0; i < sizeof link->mac; i++) link->mac[i] = (uint8_t)octets[i];
@@ -196,6 +230,15 @@ static bool read_conversation(struct lagd *lagd, FILE *file) {
     if (fscanf(file, "%u %d", &number, &index) != 2 || number >= CONVERSATIONS || index <= 0) return false;
     lagd->inherited.members[number] = index;
     return true;
+}
+
+/* Reads the conversations that went to another link since the state was written. The last line may be cut off. */
+static void read_changes(struct lagd *lagd, FILE *file) {
+    unsigned number;
+    int index;
+    char end;
+    while (fscanf(file, " on %u %d%c", &number, &index, &end) == 3 && end == '\n' && number < CONVERSATIONS && index > 0)
+        lagd->inherited.members[number] = index;
 }
 
 static bool read_bundle(struct lagd *lagd, FILE *file) {
@@ -255,6 +298,7 @@ static const char *read_state(struct lagd *lagd, FILE *file) {
     if (fscanf(file, " boot %63s way %95s", boot, given) != 2) return "it is cut off";
     if (strcmp(boot, boot_id(lagd)) != 0) return "it is of another boot";
     if (!read_rest(lagd, file)) return "it is cut off, or wrong";
+    read_changes(lagd, file);
     if (strcmp(given, way(lagd)) != 0) keep_interfaces(lagd, is_way_of_team(given));
     return NULL;
 }

@@ -6,12 +6,13 @@
 
 /* Of a link. Times are milliseconds of CLOCK_BOOTTIME. */
 struct inherited_link {
-    int index;       /* of the interface */
-    uint8_t mac[6];  /* of the interface */
-    uint32_t losses; /* how often its carrier had gone */
-    bool carried;    /* whether the port distributed, and so has an LACPDU: */
-    uint64_t heard;  /* when that came */
-    uint64_t spoken; /* when the last one went */
+    int index;           /* of the interface */
+    uint8_t mac[6];      /* of the interface */
+    uint32_t losses;     /* how often its carrier had gone */
+    uint16_t aggregator; /* that the port was in */
+    bool carried;        /* whether the port distributed, and so has an LACPDU: */
+    uint64_t heard;      /* when that came */
+    uint64_t spoken;     /* when the last one went */
     uint8_t lacpdu[NIW_FRAME];
 };
 

@@ -10,6 +10,7 @@
 struct system_private {
     uint64_t ticks;
     struct timespec began;
+    uint16_t keys[NIW_MOST_PORTS]; /* of the aggregators */
 };
 
 struct system_private *make_system_private(void) {
@@ -60,10 +61,46 @@ bool hold_port(struct lagd *lagd, uint16_t port, bool hold) {
     return begin_hold(lagd, port);
 }
 
+/* Puts a system into the empty handle, whose ports have their settings and keys of now: a warm one, where some of them were saved. */
+static struct niw_made put_system(struct lagd *lagd, const struct niw_saved *saved, size_t count) {
+    const struct niw_config *config = &lagd->settings.config;
+    struct niw_port ports[NIW_MOST_PORTS];
+    for (uint16_t i = 0; i < lagd->slot_count; i++) ports[i] = lagd->links[i].settings;
+    if (count == 0) return niw_new(&lagd->own_system, config, lagd->system->keys, lagd->aggregator_count, ports, lagd->slot_count);
+    return niw_resume(&lagd->own_system, config, lagd->system->keys, lagd->aggregator_count, ports, lagd->slot_count, saved, count);
+}
+
+/* Holds the ports that are to be held. */
+static void hold_ports(struct lagd *lagd) {
+    for (uint16_t port = 1; port <= lagd->link_count; port++)
+        if (lagd->links[port - 1].held && !apply_hold(lagd, port)) return;
+}
+
+/* Drops a port from those that were saved; answers how many are left. One that is not among them leaves none. */
+static size_t drop_saved(struct niw_saved *saved, size_t count, uint64_t port) {
+    size_t at = 0;
+    while (at < count && saved[at].port != port) at++;
+    if (at == count) return 0;
+    memmove(saved + at, saved + at + 1, (count - at - 1) * sizeof *saved);
+    return count - 1;
+}
+
+/* Makes the system anew, with these ports as they were. One that the library refuses comes up as the others do. Answers how many are back. */
+size_t resume_system(struct lagd *lagd, struct niw_saved *saved, size_t count) {
+    struct niw_made made;
+    if (count == 0 || !is_done(lagd, niw_free(&lagd->own_system), "niw_free")) return 0;
+    for (;;) {
+        made = put_system(lagd, saved, count);
+        if (made.status != NIW_STALE && made.status != NIW_NOT_DISTRIBUTING) break;
+        count = drop_saved(saved, count, made.place);
+    }
+    if (!is_done(lagd, made.status, "niw_resume")) return 0;
+    hold_ports(lagd);
+    return count;
+}
+
 /* Makes the system of the settings. */
 void make_system(struct lagd *lagd) {
-    struct niw_port ports[NIW_MOST_PORTS];
-    uint16_t keys[NIW_MOST_PORTS];
     clock_gettime(CLOCK_MONOTONIC, &lagd->system->began);
     lagd->settings.config.first_marker = first_marker_left(lagd);
     if (lagd->settings.config.first_marker == 0) lagd->settings.config.first_marker = random_marker();
@@ -71,16 +108,10 @@ void make_system(struct lagd *lagd) {
     if (!place_ports(lagd, &lagd->settings)) stop(WRONG_WORD, "too many interfaces", lagd->settings.name);
     keep_left_ports(lagd);
     lagd->link_count = lagd->settings.port_count;
-    for (uint16_t i = 0; i < NIW_MOST_PORTS; i++) {
-        begin_link(lagd, (uint16_t)(i + 1));
-        ports[i] = lagd->links[i].settings;
-    }
-    make_keys(lagd, keys);
-    if (!is_done(lagd, niw_new(&lagd->own_system, &lagd->settings.config, keys, lagd->aggregator_count, ports, lagd->slot_count).status,
-        "niw_new"))
-        return;
-    for (uint16_t port = 1; port <= lagd->link_count; port++)
-        if (lagd->links[port - 1].held && !apply_hold(lagd, port)) return;
+    for (uint16_t port = 1; port <= NIW_MOST_PORTS; port++) begin_link(lagd, port);
+    make_keys(lagd, lagd->system->keys);
+    if (!is_done(lagd, put_system(lagd, NULL, 0).status, "niw_new")) return;
+    hold_ports(lagd);
     take_views(lagd);
 }
 

@@ -31,6 +31,12 @@ RESTARTS = 0.2
 WRITTEN = 1.2
 # How long the longest gap of a flow may be in milliseconds, where nothing is lost, on a machine that has other things to do.
 SHORT_GAP = 1000
+# Links of which one is slower than the other one by nearly a flight, in microseconds; when a daemon is killed, and how many seconds before that
+# each conversation is to move: a state is written each second.
+UNEQUAL = (0, 700000)
+LONG_FLIGHT = ("--flight", "800")
+KILLS = (3.0, 8.0, 13.0)
+MOVES_AHEAD = 0.2
 # What a daemon that is killed had in hand at most: what it had read and not sent.
 IN_HAND = 4 * 64
 # Frames a second of which no more wait than the kernel keeps for a host, 4096, while systemd starts the daemon.
@@ -140,12 +146,12 @@ class Kept(End):
 
 @contextlib.contextmanager
 def managed(programs: Programs, options: Sequence[str], *, space: str = OURS, has_manager: bool = True,
-            queues: int = 1) -> Iterator[tuple[Kept, End]]:
+            queues: int = 1, delays: Sequence[int] = ()) -> Iterator[tuple[Kept, End]]:
     """Two ends whose links all carry; the daemon of the first one is started again."""
     manager = Manager(programs.folder) if has_manager else None
     ends: list[End] = []
     try:
-        with cables(programs, (), queues):
+        with cables(programs, delays, queues):
             kept = Kept(programs, space, options, manager)
             ends += [kept, End(programs, THEIRS if space == OURS else OURS, options=options)]
             ip(space, "address", "add", ADDRESS, "dev", DEVICE)
@@ -205,6 +211,16 @@ def stay(programs: Programs) -> None:
         check(len(set(moved) - set(picked)) >= FLOWS and places(kept) == moved, f"{FLOWS} conversations that had moved stay", picked, moved, kept.text())
         carry = kept.carry()
         check(carry["moves"] == carry["forced"] == carry["markers_sent"] == 0, "with no marker and no move", kept.text())
+
+
+def killed_in_moves(programs: Programs) -> None:
+    """A daemon that was killed right behind moves goes on where each conversation was then: its frames are still on the slower link."""
+    with managed(programs, [*WAYS["plain"], *LONG_FLIGHT], delays=UNEQUAL) as (kept, _):
+        events: list[tuple[float, Callable[[], None]]] = []
+        for kill in KILLS:
+            events += [(kill - MOVES_AHEAD, move_all(kept)), (kill, partial(kept.again, signal.SIGKILL))]
+        outcome = run_flows(programs, KILLS[-1] + 3, events, rate=SLOW_RATE)
+        check_order(outcome, f"plain, killed {len(KILLS)} times behind moves", kept.text(), kept.printed()[-2000:])
 
 
 def another_hash(programs: Programs) -> None:
@@ -493,5 +509,5 @@ def print_restarts(programs: Programs) -> None:
     check(all(cells[2] == "0" for cells in rows if "handed over" in cells[0]), "a daemon that hands over loses no frame")
 
 
-PARTS = {it.__name__: it for it in (handover_plain, handover_offload, handover_fast, handover_alone, handover_changes, handover_released,
+PARTS = {it.__name__: it for it in (handover_plain, handover_offload, handover_fast, handover_alone, handover_changes, handover_released, killed_in_moves,
                                    handover_elsewhere, handover_old_kernel, handover_unit, handed_twice)}
