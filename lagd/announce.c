@@ -191,7 +191,7 @@ static void take_told(struct lagd *lagd, const struct nlmsghdr *message, void *i
 /* Has the kernel tell all that it has of a kind; answers whether it did. The head of an interface is longer than what other kinds want. */
 static bool ask_all(struct lagd *lagd, uint16_t what, uint8_t family) {
     union message question = message_of(what, NLM_F_DUMP, &(struct ifinfomsg){.ifi_family = family}, sizeof(struct ifinfomsg));
-    return ask_netlink(lagd, NETLINK_ROUTE, &question, take_told, NULL);
+    return ask_list(lagd, NETLINK_ROUTE, &question, take_told, NULL, 0);
 }
 
 /* Finds the device, and what stands above it, level by level. */

@@ -237,11 +237,59 @@ static bool ask_daemon(struct lagd *lagd, unsigned daemon, const struct options 
     return watched ? own->daemons[daemon].fd >= 0 : own->daemons[daemon].answer != NULL;
 }
 
+/* Tells a daemon an order; answers what it said, without the line end. */
+static char *tell_order(struct lagd *lagd, const char *path, const char *what, const char *interface) {
+    char order[QUESTION_ROOM], *answer;
+    int fd;
+    if (snprintf(order, sizeof order, "%s %s\n", what, interface) >= (int)sizeof order || strchr(interface, '\n'))
+        stop(WRONG_WORD, "expected the name of an interface", interface);
+    fd = ask(lagd, path, order);
+    if (fd < 0) stop(REFUSED, path, strerror(errno));
+    answer = read_answer(lagd, fd, path);
+    close(fd);
+    if (answer) answer[strcspn(answer, "\n")] = 0;
+    return answer;
+}
+
+/* The socket of the one daemon of a folder: one that was killed may have left another there. */
+static const char *find_daemon(struct lagd *lagd, const char *folder) {
+    struct asking_private *own = lagd->asking;
+    const char *found = NULL;
+    for (unsigned i = 0; i < own->count; i++) {
+        int fd = ask(lagd, own->daemons[i].path, "");
+        if (fd < 0 && errno == EACCES) own->denied = own->daemons[i].path;
+        if (fd < 0) continue;
+        close(fd);
+        if (found) stop(WRONG_WORD, "more than one lagd is here: give the folder of one by --folder", folder);
+        found = own->daemons[i].path;
+    }
+    if (!found) refuse_all(lagd, folder);
+    return found;
+}
+
+/* Has the one daemon of a folder change its bundle, and waits until that is done; answers how the program ends. */
+static int order_daemon(struct lagd *lagd, const struct options *options) {
+    const char *what = options->order, *path = find_daemon(lagd, options->folder);
+    bool waits = true;
+    while (waits) {
+        char *answer = tell_order(lagd, path, what, options->interface);
+        if (!answer) return REFUSED;
+        waits = strncmp(answer, "wait: ", 6) == 0;
+        if (!waits) print(lagd, answer, strlen(answer));
+        free(answer);
+        if (waits && strcmp(what, "remove") == 0) what = "removed"; /* another one may add it anew meanwhile */
+        if (waits) (void)poll(NULL, 0, NIW_TICK_MILLISECONDS);
+    }
+    puts("");
+    return fflush(stdout) == 0 ? DONE : REFUSED;
+}
+
 /* Asks the daemons, and prints what they answer; answers how the program ends. */
 int ask_daemons(struct lagd *lagd, const struct options *options) {
     struct asking_private *own = lagd->asking;
     unsigned answers = 0;
     find_sockets(lagd, options->folder, true);
+    if (options->action == ORDER) return order_daemon(lagd, options);
     for (unsigned i = 0; i < own->count; i++) answers += ask_daemon(lagd, i, options);
     if (answers == 0 && (options->action != METRICS || own->count == 0 || own->denied)) refuse_all(lagd, options->folder);
     if (options->action == WATCH) return print_changes_of_all(lagd);

@@ -40,6 +40,13 @@ int attach_program(int program, int index, bool egress) {
     return attached < 0 ? -1 : attached;
 }
 
+/* The number of what keeps a program at an interface, as the kernel has it; 0 for any other file. */
+uint32_t program_keeper(int attached) {
+    struct bpf_link_info told = {0};
+    uint32_t room = sizeof told;
+    return bpf_obj_get_info_by_fd(attached, &told, &room) == 0 ? told.id : 0;
+}
+
 /* What keeps a program at an interface runs it no more, whoever else has the file. */
 void detach_program(int attached) {
     (void)bpf_link_detach(attached);

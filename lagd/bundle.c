@@ -47,7 +47,8 @@ bool is_as_good_as_any(struct lagd *lagd, uint16_t aggregator) {
 /* How many links there may be. */
 static uint16_t most_links(struct lagd *lagd) {
     uint16_t limit = lagd->settings.config.max_links;
-    return limit > 0 && limit < lagd->link_count ? limit : lagd->link_count;
+    uint16_t links = count_links(lagd);
+    return limit > 0 && limit < links ? limit : links;
 }
 
 static enum bundle_state state_of(struct lagd *lagd, uint16_t carrying) {
@@ -72,24 +73,26 @@ static void enter(struct lagd *lagd, const struct bundle *now) {
     }
     (void)say(lagd, (now->state == BUNDLE_UP ? LOG_NOTICE : LOG_WARNING) | ABOUT_BUNDLE,
         "bundle %s: %s, %u of %u links carry, aggregator %u", lagd->settings.name, bundle_state_text(lagd->bundle.state),
-        lagd->bundle.carrying, lagd->link_count, lagd->bundle.aggregator);
+        lagd->bundle.carrying, lagd->bundle.links, lagd->bundle.aggregator);
     tell_watchers_of(lagd, NULL);
     notify_state(lagd);
     if (other && lagd->settings.hook[0]) run_hook(lagd, lagd->settings.hook, before);
 }
 
-/* Looks at the ports, and tells what became of the bundle. What changes too often is told later. */
+/* Looks at the ports, and tells what became of the bundle. What changes too often is told later, but not that its device is down. */
 void look_at_bundle(struct lagd *lagd) {
     struct bundle_private *own = lagd->bundle_private;
     struct bundle now = lagd->bundle;
-    if (!lagd->has_started || own->lines == 0) return;
+    if (!lagd->has_started || (own->lines == 0 && !is_halted(lagd))) return;
     choose_aggregator(lagd, &now);
     now.state = state_of(lagd, now.carrying);
-    if (own->told && now.state == lagd->bundle.state && now.carrying == lagd->bundle.carrying && now.aggregator == lagd->bundle.aggregator)
+    now.links = count_links(lagd);
+    if (own->told && now.state == lagd->bundle.state && now.links == lagd->bundle.links && now.carrying == lagd->bundle.carrying
+        && now.aggregator == lagd->bundle.aggregator)
         return;
     if (lagd->bundle.changed_at == 0) lagd->bundle.changed_at = time(NULL);
     own->told = true;
-    own->lines--;
+    if (own->lines > 0) own->lines--;
     enter(lagd, &now);
 }
 

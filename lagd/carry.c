@@ -46,13 +46,6 @@ bool is_held(const struct niw_assignment *state) {
     return state->what == NIW_CONVERSATION_WANTED || state->what == NIW_CONVERSATION_FLUSHING;
 }
 
-/* Whether the frames of a conversation may go in the active aggregator: none of it is on its way in another one. */
-bool is_home(struct lagd *lagd, const struct conversation *conversation, uint16_t number) {
-    struct niw_assignment state;
-    if (conversation->home == lagd->carry.active || conversation->home == 0) return true;
-    return ask_state(lagd, conversation->home, number, &state) && state.what == NIW_CONVERSATION_FREE;
-}
-
 /* Whether a conversation had a frame of late, in the active aggregator. */
 bool is_busy(struct lagd *lagd, const struct conversation *conversation) {
     bool is_recent = conversation->last != 0 && lagd->carry.time - conversation->last < BUSY;
@@ -73,14 +66,15 @@ enum offered { WAITS, LOST, GOES };
 
 static enum offered offer(struct lagd *lagd, struct conversation *conversation, uint16_t number) {
     struct niw_number answer;
-    if (!is_home(lagd, conversation, number) || lagd->carry.time < conversation->fast.not_before) return WAITS;
-    answer = niw_offer_conversation(&lagd->own_system, lagd->carry.active, number);
+    if (lagd->carry.time < conversation->fast.not_before) return WAITS;
+    answer = niw_offer_conversation_in_active_aggregator(&lagd->own_system, lagd->carry.active, number);
     if (answer.status == NIW_HELD) return WAITS;
     if (answer.status == NIW_NONE_DISTRIBUTING) return LOST;
-    if (!is_done(lagd, answer.status, "niw_offer_conversation")) return WAITS;
+    if (!is_done(lagd, answer.status, "niw_offer_conversation_in_active_aggregator")) return WAITS;
     conversation->home = lagd->carry.active;
     conversation->port = (uint16_t)answer.number;
     conversation->since = 0;
+    keep_port(lagd, number, conversation->port);
     return GOES;
 }
 
@@ -208,16 +202,23 @@ static void release(struct lagd *lagd) {
     pass_on(lagd);
 }
 
+/* Notes the ports of the active aggregator that carry, those that are emptied or the others. */
+static void note_ports(struct lagd *lagd, bool emptying) {
+    lagd->carry.port_count = 0;
+    for (uint16_t i = 0; i < lagd->link_count; i++)
+        if (lagd->carry.active != 0 && lagd->links[i].view.aggregator == lagd->carry.active && carries(lagd, &lagd->links[i])
+            && lagd->links[i].emptying == emptying)
+            lagd->carry.ports[lagd->carry.port_count++] = lagd->links[i].settings.number;
+}
+
 /* The aggregator whose ports carry the data: that of the bundle, unless that is down. */
 static void choose_active(struct lagd *lagd) {
     struct bundle now = {0};
     uint16_t before = lagd->carry.active;
     choose_aggregator(lagd, &now);
     lagd->carry.active = now.carrying >= lagd->settings.min_links ? now.aggregator : 0;
-    lagd->carry.port_count = 0;
-    for (uint16_t i = 0; i < lagd->link_count; i++)
-        if (lagd->carry.active != 0 && lagd->links[i].view.aggregator == lagd->carry.active && carries(lagd, &lagd->links[i]))
-            lagd->carry.ports[lagd->carry.port_count++] = lagd->links[i].settings.number;
+    note_ports(lagd, false);
+    if (lagd->carry.port_count == 0) note_ports(lagd, true); /* while there is no other */
     if (before != 0 && lagd->carry.active != 0 && before != lagd->carry.active) lagd->carry.counts[SWITCHES]++;
     if ((before == 0) != (lagd->carry.active == 0))
         (void)say(lagd, LOG_NOTICE | ABOUT_CARRIER, "carry %s: carrier %s", lagd->settings.carry, lagd->carry.active ? "on" : "off");

@@ -62,7 +62,6 @@ void go_on_in(struct lagd *lagd, uint16_t aggregator);
 bool ask_state(struct lagd *lagd, uint16_t aggregator, uint16_t number, struct niw_assignment *state) MUST_USE;
 bool ask_ports(struct lagd *lagd, uint16_t aggregator, uint16_t *ports) MUST_USE;
 bool is_held(const struct niw_assignment *state);
-bool is_home(struct lagd *lagd, const struct conversation *conversation, uint16_t number);
 bool is_busy(struct lagd *lagd, const struct conversation *conversation);
 void suspect_aggregator(struct lagd *lagd, uint32_t aggregator);
 void take_from_host(struct lagd *lagd, uint8_t *packet, size_t length);
@@ -143,6 +142,7 @@ int attach_program(int program, int index, bool egress);
 bool exchange_program(int attached, int program, int index);
 void *take_map(uint32_t size, uint32_t count, int map);
 void detach_program(int attached);
+uint32_t program_keeper(int attached);
 
 /* store.c */
 int attach_stored(struct lagd *lagd, const char *kind, int program, int index, bool egress);
@@ -150,9 +150,9 @@ void detach_stored(struct lagd *lagd, const char *kind, int index, int attached)
 
 /* programs.c: what the kernel runs for frames */
 struct fast_maps {
-    int rows, members, host;
+    int rows, members, host, places;
 };
-int load_program(struct lagd *lagd, const char *name, const struct fast_maps *maps, uint16_t port);
+int load_program(struct lagd *lagd, const char *name, const struct fast_maps *maps);
 const char *program_fault(void);
 
 /* fast.c */
@@ -160,6 +160,7 @@ bool is_fast(struct lagd *lagd);
 void start_fast(struct lagd *lagd);
 void end_fast(struct lagd *lagd);
 int open_fast_receiver(struct lagd *lagd, const struct link *link);
+void close_fast_receiver(struct lagd *lagd, const struct link *link);
 void note_taken(struct conversation *conversation, uint32_t segments);
 void pass_on(struct lagd *lagd);
 void withdraw(struct lagd *lagd);

@@ -44,8 +44,8 @@ void write_carry_text(struct lagd *lagd) {
     uint64_t waiting;
     if (!carries_data(lagd) || !count_all_held(lagd, &waiting)) return;
     take_fast_counts(lagd);
-    add(lagd, "  carry: %s, carrier %s, hash %s, flight %u ms, ", lagd->settings.carry, has_carrier(lagd) ? "on" : "off",
-        hash_text(lagd->settings.hash), lagd->settings.flight);
+    add(lagd, "  carry: %s, carrier %s, hash %s, flight %u ms, ", lagd->settings.carry,
+        has_carrier(lagd) ? "on" : is_halted(lagd) ? "off, the device is down" : "off", hash_text(lagd->settings.hash), lagd->settings.flight);
     if (!carries_by_team(lagd)) add(lagd, "markers %s, ", answering_text(lagd));
     add(lagd, "%s%s", way_text(&lagd->settings), lagd->settings.all_queues ? ", all queues" : "");
     for (unsigned i = 0; i < CARRY_COUNTS; i++)
@@ -72,7 +72,8 @@ void write_carry_json(struct lagd *lagd) {
     take_fast_counts(lagd);
     add(lagd, "\"carry\":{\"device\":");
     add_string(lagd, lagd->settings.carry);
-    add(lagd, ",\"carrier\":%s,\"aggregator\":%u,\"hash\":\"%s\",", has_carrier(lagd) ? "true" : "false", lagd->carry.active,
+    add(lagd, ",\"up\":%s,\"carrier\":%s,\"aggregator\":%u,\"hash\":\"%s\",", is_halted(lagd) ? "false" : "true",
+        has_carrier(lagd) ? "true" : "false", lagd->carry.active,
         hash_text(lagd->settings.hash));
     add(lagd, "\"flight\":%u,\"way\":\"%s\",", lagd->settings.flight, way_text(&lagd->settings));
     if (carries_by_team(lagd))
@@ -116,6 +117,6 @@ void write_carry_metrics(struct lagd *lagd) {
         snprintf(name, sizeof name, "port_%s_total", MEMBER_COUNTERS[i].name);
         add_head(lagd, name, "counter", MEMBER_COUNTERS[i].help);
         for (uint16_t link = 0; link < lagd->link_count; link++)
-            add_port_value(lagd, name, &lagd->links[link], member_count(lagd, (uint16_t)(link + 1), i));
+            if (lagd->links[link].used) add_port_value(lagd, name, &lagd->links[link], member_count(lagd, (uint16_t)(link + 1), i));
     }
 }

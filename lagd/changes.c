@@ -86,18 +86,21 @@ static _Noreturn void refuse_link(struct lagd *lagd, const struct link *link) {
 /* Takes up an interface that has the name of a port. At the start, what is wrong with one ends the program. */
 static bool take_up(struct lagd *lagd, struct link *link, const struct interface *interface) {
     if (interface->type != ARPHRD_ETHER) {
-        if (!lagd->has_started) stop(WRONG_WORD, "not an Ethernet interface", link->name);
+        if (!lagd->has_started && !link->left_over) stop(WRONG_WORD, "not an Ethernet interface", link->name);
         return false;
     }
+    if (stays_outside(lagd, link, interface->master)) return false;
     memcpy(link->discipline, interface->discipline, sizeof link->discipline);
     if (interface->has_mac) memcpy(link->mac, interface->mac, sizeof link->mac);
     link->stacked = is_stacked(interface);
     if (!open_link(lagd, link, interface->index)) {
+        if (!lagd->has_started && link->left_over) return false;
         if (!lagd->has_started) refuse_link(lagd, link);
         lagd->changes->ask_again = true;
         return false;
     }
     link->kernel_losses = interface->losses;
+    link->puts_in = false;
     return true;
 }
 
@@ -137,7 +140,7 @@ static void follow(struct lagd *lagd, struct link *link, const struct interface 
         if (lost) set_link(lagd, port, false);
     }
     if (lost || !carrier) forget_carrier(link);
-    up = carrier && is_restored(lagd, link);
+    up = carrier && !is_silent(lagd) && is_restored(lagd, link);
     if (up && !link->up) fit_queue(lagd, link, interface->name);
     if (up) take_speed(lagd, link, interface->name);
     if (up) follow_speed(lagd, link, interface->name);
@@ -146,20 +149,27 @@ static void follow(struct lagd *lagd, struct link *link, const struct interface 
 
 /* An interface is there. A port goes by its name, and the TAP device by its number. */
 static void take_present(struct lagd *lagd, const struct interface *interface) {
+    bool known = false;
     if (carries_data(lagd) && interface->index == tap_index(lagd)) {
         lagd->changes->tap_named = true;
         look_at_carry(lagd);
         follow_tap(lagd, interface->carrier, interface->discipline);
+        follow_device(lagd, (interface->flags & IFF_UP) != 0);
     }
     for (uint16_t i = 0; i < lagd->link_count; i++) {
         struct link *link = &lagd->links[i];
         bool named = is_named(interface, link->name), same = link->socket >= 0 && link->index == interface->index;
         if (link->socket >= 0 && (same != named || (same && !is_bound(link)))) lose_link(lagd, link);
-        if (same && link->socket >= 0 && !is_still_team_port(lagd, link, interface->master)) lose_link(lagd, link);
+        if (same && link->socket >= 0 && !is_still_team_port(lagd, link, interface->master)) {
+            tell_taken_out(lagd, link);
+            lose_link(lagd, link);
+        }
+        known = known || named;
         if (!named || (link->socket < 0 && !take_up(lagd, link, interface))) continue;
         link->present = true;
         follow(lagd, link, interface);
     }
+    if (!known) follow_port(lagd, interface);
 }
 
 static void take_absent(struct lagd *lagd, const struct interface *interface) {
@@ -272,9 +282,21 @@ void look_again(struct lagd *lagd) {
     lagd->changes->ask_again = true;
 }
 
+/* An interface is to be taken up as soon as can be. */
+void ask_now(struct lagd *lagd) {
+    look_again(lagd);
+    watch_changes(lagd);
+}
+
 /* Something could not be sent: a carrier may have gone. */
 void suspect_carriers(struct lagd *lagd) {
     lagd->changes->suspected = true;
+}
+
+/* Asks for the interface of each link. */
+void ask_links(struct lagd *lagd) {
+    for (uint16_t i = 0; i < lagd->link_count; i++)
+        if (lagd->links[i].socket >= 0 && !ask_for(lagd, lagd->links[i].index, 0)) lagd->changes->ask_again = true;
 }
 
 /* Looks at carriers, at each tick and where one is suspected: the kernel counts at once that one came or went, but tells of those that go

@@ -15,8 +15,8 @@
 /* The files that keep something for a daemon, and the fields by which it is found. */
 #define EACH_FILE(DO) \
     DO(announce, announce) DO(answers, answers) DO(asking, asking) DO(buckets, buckets) DO(bundle, bundle_private) \
-    DO(carry, carry_private) DO(changes, changes) DO(fast, fast) DO(flight, flight) DO(folder, folder) DO(gro, gro) DO(guard, guard) DO(held, held) \
-    DO(host, host) DO(journal, journal) DO(kept, kept) DO(keys, keys) DO(lines, lines) DO(locks, locks) DO(members, members) \
+    DO(carry, carry_private) DO(changes, changes) DO(fast, fast) DO(flight, flight) DO(folder, folder) DO(gro, gro) DO(guard, guard) \
+    DO(halt, halt) DO(held, held) DO(host, host) DO(journal, journal) DO(kept, kept) DO(keys, keys) DO(lines, lines) DO(locks, locks) DO(members, members) \
     DO(netlink, netlink) DO(options, options) DO(ports, ports) DO(probe, probe) DO(queues, queues) DO(reload, reload) \
     DO(resume, resume) DO(settings, settings_private) DO(spread, spread) DO(state, state) DO(status, status) DO(store, store) \
     DO(system, system) DO(tap, tap) DO(team, team) DO(team_netlink, team_netlink)
@@ -26,7 +26,8 @@ struct lagd {
     struct niw_system own_system;
     struct settings settings; /* those that hold now */
     struct link links[NIW_MOST_PORTS];
-    uint16_t link_count;
+    uint16_t link_count; /* up to the last port that there is, or was; numbers between may be free */
+    uint16_t slot_count; /* the ports of the system: those of the bundle, and room for more */
     struct bundle bundle;
     int epoll_file; /* the epoll by which the daemon waits */
     bool has_started; /* whether the interfaces that are there were taken up */

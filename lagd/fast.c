@@ -23,7 +23,8 @@ struct fast_private {
     struct fast_row *rows;
     struct fast_member *entries;
     struct fast_host *host;
-    int receivers[NIW_MOST_PORTS]; /* the programs of the members */
+    struct fast_place *places;
+    int receiver; /* the program of the members */
     int tap_at; /* the index of the TAP device */
     int sender, handover; /* what keeps its programs there */
     bool queue_holds; /* whether its queueing discipline may hold frames */
@@ -101,12 +102,12 @@ void start_fast(struct lagd *lagd) {
     own->rows = open_map(lagd, 0, sizeof *own->rows, CONVERSATIONS, &maps.rows);
     own->entries = open_map(lagd, 1, sizeof *own->entries, NIW_MOST_PORTS, &maps.members);
     own->host = open_map(lagd, 2, sizeof *own->host, 1, &maps.host);
+    own->places = open_map(lagd, 3, sizeof *own->places, PLACES, &maps.places);
     begin_counts(lagd);
     if (own->host->mac == 0) memcpy(&own->host->mac, lagd->settings.config.mac, ETH_ALEN);
-    for (uint16_t i = 0; i < lagd->link_count; i++)
-        own->receivers[i] = needed(load_program(lagd, "receiver", &maps, (uint16_t)(i + 1)));
-    own->handover = keep_program(lagd, "handover", needed(load_program(lagd, "handover", &maps, 0)), false);
-    own->sender = keep_program(lagd, "sender", needed(load_program(lagd, "sender", &maps, 0)), true);
+    own->receiver = needed(load_program(lagd, "receiver", &maps));
+    own->handover = keep_program(lagd, "handover", needed(load_program(lagd, "handover", &maps)), false);
+    own->sender = keep_program(lagd, "sender", needed(load_program(lagd, "sender", &maps)), true);
 }
 
 /* Nothing is passed on any more, from the first line on. */
@@ -123,9 +124,41 @@ void end_fast(struct lagd *lagd) {
     own->tap_at = 0;
 }
 
+/* The place of a member, and what stands there for it. */
+static uint64_t *place_at(struct lagd *lagd, const struct link *link) {
+    return &lagd->fast->places[member_place((uint32_t)link->index)].word;
+}
+
+static uint64_t place_word(const struct link *link) {
+    return (uint64_t)(uint32_t)link->index << 32 | link->settings.number;
+}
+
+/* Whether another member of now has the place of this one. */
+static bool is_place_taken(struct lagd *lagd, const struct link *link) {
+    for (uint16_t i = 0; i < lagd->link_count; i++) {
+        const struct link *other = &lagd->links[i];
+        if (other != link && other->socket >= 0 && member_place((uint32_t)other->index) == member_place((uint32_t)link->index)
+            && __atomic_load_n(place_at(lagd, other), __ATOMIC_SEQ_CST) == place_word(other))
+            return true;
+    }
+    return false;
+}
+
 /* Has what comes at a member go up by the kernel, as long as the answer is open; or -1, and errno. */
 int open_fast_receiver(struct lagd *lagd, const struct link *link) {
-    return attach_stored(lagd, "guard", lagd->fast->receivers[link->settings.number - 1], link->index, false);
+    int attached = -1;
+    errno = EBUSY;
+    if (is_place_taken(lagd, link)) return -1;
+    __atomic_store_n(place_at(lagd, link), place_word(link), __ATOMIC_SEQ_CST);
+    attached = attach_stored(lagd, "guard", lagd->fast->receiver, link->index, false);
+    return attached;
+}
+
+/* The interface is no member any more. */
+void close_fast_receiver(struct lagd *lagd, const struct link *link) {
+    uint64_t word = place_word(link);
+    if (!is_fast(lagd)) return;
+    (void)__atomic_compare_exchange_n(place_at(lagd, link), &word, 0, false, __ATOMIC_SEQ_CST, __ATOMIC_SEQ_CST);
 }
 
 static uint64_t word_of(struct lagd *lagd, uint16_t number) {

@@ -53,7 +53,7 @@ static void note_stranger(struct link *link, const struct system_id *system, con
 }
 
 /* An LACPDU of this system was taken. */
-static void note_actor(struct lagd *lagd, struct link *link, const struct system_id *actor, const uint8_t *frame) {
+void note_actor(struct lagd *lagd, struct link *link, const struct system_id *actor, const uint8_t *frame) {
     const uint8_t *source = frame + ETH_ALEN;
     memcpy(link->lacpdu, frame, sizeof link->lacpdu);
     link->lacpdu_at = boottime();
@@ -96,7 +96,13 @@ static void take_response(struct lagd *lagd, struct link *link, const struct arr
     last.frame = frame;
     last.length = sizeof frame;
     hand_over(lagd, link, &last, NULL);
-    note_response(lagd, link, id);
+    note_response(lagd, link);
+}
+
+/* Whether the actor of an LACPDU may be the partner of a link; writes which system it is. */
+bool may_be_partner(const struct link *link, const uint8_t *frame, struct system_id *actor) {
+    struct arrival arrival = {.frame = frame, .length = NIW_FRAME};
+    return actor_of(&arrival, actor) && (!link->pinned || is_same_system(actor, &link->partner));
 }
 
 /* Takes a frame. The slow protocols have one address, which no bridge passes on: a frame to any other one comes from anybody. Their
@@ -129,7 +135,7 @@ void take_frame(struct lagd *lagd, struct link *link, const struct arrival *arri
         return;
     }
     hand_over(lagd, link, arrival, is_lacpdu ? &actor : NULL);
-    if (is_response) note_response(lagd, link, response.transaction_id);
+    if (is_response) note_response(lagd, link);
 }
 
 /* What the kernel tells beside a frame; zeros where it does not. */

@@ -8,7 +8,10 @@ static bool is_of(unsigned kind, unsigned version) {
     return (kind == VIRTIO_NET_HDR_GSO_TCPV4 && version == 4) || (kind == VIRTIO_NET_HDR_GSO_TCPV6 && version == 6);
 }
 
-/* Reads how a packet of several segments is cut; answers whether it can be. */
+/* The least octets of a segment with its options of TCP: Linux sends none that is shorter (TCP_MIN_SND_MSS), but for the last one. */
+#define LEAST_SEGMENT 48
+
+/* Reads how a packet of several segments is cut; answers whether it can be, and an honest host would send it. */
 bool read_cut(const uint8_t *packet, size_t length, struct cut *cut) {
     size_t head = head_octets(), behind_ip;
     struct tcp_packet *whole = &cut->whole;
@@ -24,7 +27,8 @@ bool read_cut(const uint8_t *packet, size_t length, struct cut *cut) {
     behind_ip = whole->network + (version == 4 ? 4 * (packet[whole->network] & 15u) : IPV6_OCTETS);
     whole->payload = whole->transport + 4 * ((size_t)packet[whole->transport + TCP_LENGTH] >> 4);
     if (!is_of(told.gso_type & ~(unsigned)VIRTIO_NET_HDR_GSO_ECN, version) || behind_ip < whole->network + IPV4_OCTETS
-        || behind_ip > whole->transport || whole->payload < whole->transport + TCP_OCTETS || whole->payload >= length)
+        || behind_ip > whole->transport || whole->payload < whole->transport + TCP_OCTETS || whole->payload >= length
+        || cut->size + whole->payload - whole->transport < TCP_OCTETS + LEAST_SEGMENT)
         return false;
     cut->count = (uint32_t)((length - whole->payload + cut->size - 1) / cut->size);
     return true;

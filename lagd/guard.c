@@ -27,7 +27,7 @@ struct guard_private *make_guard_private(void) {
 
 /* The program that keeps data from the stack of a member is loaded once, while the daemon may. */
 void load_guard(struct lagd *lagd) {
-    lagd->guard->program = load_program(lagd, "dropper", NULL, 0);
+    lagd->guard->program = load_program(lagd, "dropper", NULL);
 }
 
 /* Asks the driver of an interface something, or for something. */
@@ -230,6 +230,7 @@ static void run_programs(struct lagd *lagd, const struct link *link, struct guar
 
 static void stop_programs(struct lagd *lagd, const struct link *link, struct guard *guard) {
     if (guard->opened >= 0) detach_stored(lagd, "guard", link->index, guard->opened);
+    if (guard->fast) close_fast_receiver(lagd, link);
     if (guard->classifier != NO_CLASSIFIER) drop_classifier(lagd, link->index);
     guard->opened = -1;
     guard->classifier = NO_CLASSIFIER;

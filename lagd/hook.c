@@ -53,7 +53,7 @@ void run_hook(struct lagd *lagd, const char *path, enum bundle_state before) {
     snprintf(name, sizeof name, "LAGD_BUNDLE=%s", lagd->settings.name);
     snprintf(state, sizeof state, "LAGD_STATE=%s", bundle_state_text(lagd->bundle.state));
     snprintf(previous, sizeof previous, "LAGD_PREVIOUS=%s", bundle_state_text(before));
-    snprintf(links_text, sizeof links_text, "LAGD_LINKS=%u", lagd->link_count);
+    snprintf(links_text, sizeof links_text, "LAGD_LINKS=%u", lagd->bundle.links);
     snprintf(carrying, sizeof carrying, "LAGD_CARRYING=%u", lagd->bundle.carrying);
     snprintf(aggregator, sizeof aggregator, "LAGD_AGGREGATOR=%u", lagd->bundle.aggregator);
     fault = start(path, environment);

@@ -8,16 +8,31 @@
 #include "daemon.h"
 #include "team.h"
 
-/* The most segments of a packet that are taken in a turn: more than one of a usual stream has. */
-#define MOST_CUT 1024
+/* The most segments of a packet that is cut at once: more than one of a usual stream has. */
+#define MOST_AT_ONCE 128
+/* How many segments of the others are taken in a turn, so that data of other conversations and LACP go on meanwhile. */
+#define MOST_CUT 256
+/* How many packets may wait to be cut, or behind such a one of their conversation; and how many of one conversation. */
+#define MOST_WAITING BATCH
+#define MOST_OF_ONE 16
+
+/* A packet that waits to be cut, or behind one. */
+struct uncut {
+    uint16_t number; /* of its conversation */
+    size_t length;
+    struct cut cut; /* of no segments where it is whole */
+    uint32_t next;  /* the segment that follows */
+};
 
 /* What this file keeps for a daemon. */
 struct host_private {
     int tap;
-    uint8_t *packets; /* for the packets of a batch */
+    uint8_t *packets;  /* for the packets of a batch */
     uint8_t *segments; /* for those into which one of them is cut */
-    struct cut cut; /* of that one */
-    uint32_t next; /* the segment of it that follows */
+    uint8_t *rooms;    /* for those that wait, from `first` on round and round */
+    struct uncut waiting[MOST_WAITING];
+    unsigned first, count;
+    unsigned of_one[CONVERSATIONS]; /* how many of each conversation wait */
 };
 
 struct host_private *make_host_private(void) {
@@ -44,38 +59,95 @@ void lose_tap(struct lagd *lagd) {
         "daemon ends", lagd->settings.carry);
 }
 
-/* Whether a packet waits where it is, of which some segments are taken. */
+/* Whether packets wait to be cut. */
 bool is_cutting(struct lagd *lagd) {
-    return lagd->host->next < lagd->host->cut.count && !lagd->broken;
+    return lagd->host->count > 0 && !lagd->broken;
 }
 
-/* Takes the segments of a packet, some at most; answers how many. Segments of few octets are many: the rest waits for the next turn. */
-static unsigned take_segments(struct lagd *lagd) {
+/* Takes segments of a packet from this one on, so many at most; answers how many. */
+static unsigned take_segments(struct lagd *lagd, const struct cut *cut, uint32_t from, unsigned most) {
     struct host_private *own = lagd->host;
     unsigned taken = 0;
-    for (; taken < MOST_CUT && is_cutting(lagd); taken++, own->next++) {
+    for (; taken < most && from + taken < cut->count && !lagd->broken; taken++) {
         uint8_t *packet = room_at(own->segments, taken % BATCH);
         if (taken > 0 && taken % BATCH == 0) flush_data(lagd);
-        take_from_host(lagd, packet, put_segment(&own->cut, own->next, packet));
+        take_from_host(lagd, packet, put_segment(cut, from + taken, packet));
     }
     flush_data(lagd);
     return taken;
 }
 
-/* Takes a packet whose segments and checksum the host left to a card; answers how many frames it has. A packet that cannot be cut has no
- * octets. */
-static unsigned take_whole(struct lagd *lagd, uint8_t *packet, size_t length) {
+/* Puts a packet behind those that wait; answers whether there was room. */
+static bool put_uncut(struct lagd *lagd, const uint8_t *packet, size_t length, uint16_t number) {
     struct host_private *own = lagd->host;
+    unsigned place = (own->first + own->count) % MOST_WAITING;
+    struct uncut *uncut = &own->waiting[place];
+    uint8_t *room = room_at(own->rooms, place);
+    if (own->count == MOST_WAITING || own->of_one[number] == MOST_OF_ONE) return false;
+    memcpy(room, packet, length);
+    *uncut = (struct uncut){.number = number, .length = length};
+    if (has_segments(room) && !read_cut(room, length, &uncut->cut)) uncut->cut.count = 0;
+    own->of_one[number]++;
+    own->count++;
+    return true;
+}
+
+/* Has a packet wait. Where there is no room for it, it is lost. */
+static unsigned wait_uncut(struct lagd *lagd, const uint8_t *packet, size_t length, uint16_t number) {
+    if (put_uncut(lagd, packet, length, number)) return 1;
+    lagd->carry.counts[FROM_HOST]++;
+    lagd->carry.counts[QUEUE_FULL]++;
+    return 1;
+}
+
+/* Takes a packet whose segments and checksum the host left to a card, but one of more segments than are cut at once; answers how many frames it
+ * has. A packet that cannot be cut has no octets. */
+static unsigned take_whole(struct lagd *lagd, uint8_t *packet, size_t length) {
+    struct cut cut;
     if (has_segments(packet)) {
         lagd->carry.counts[SEGMENTED]++;
-        own->next = 0;
-        if (read_cut(packet, length, &own->cut)) return take_segments(lagd);
-        own->cut.count = 0;
+        if (read_cut(packet, length, &cut)) return take_segments(lagd, &cut, 0, cut.count);
         length = 0;
     }
     finish_sum(packet, length);
     take_from_host(lagd, packet, length);
     return 1;
+}
+
+/* Takes of the packets that wait, the oldest ones first, so many segments at most. */
+static void take_uncut(struct lagd *lagd, unsigned most) {
+    struct host_private *own = lagd->host;
+    for (unsigned taken = 0; taken < most && is_cutting(lagd);) {
+        struct uncut *uncut = &own->waiting[own->first];
+        unsigned now;
+        if (uncut->cut.count > 0 && uncut->next == 0) lagd->carry.counts[SEGMENTED]++;
+        now = uncut->cut.count > 0 ? take_segments(lagd, &uncut->cut, uncut->next, most - taken)
+                                   : take_whole(lagd, room_at(own->rooms, own->first), uncut->length);
+        uncut->next += now;
+        taken += now;
+        if (uncut->next < uncut->cut.count) continue;
+        own->of_one[uncut->number]--;
+        own->first = (own->first + 1) % MOST_WAITING;
+        own->count--;
+    }
+}
+
+/* Whether a packet has more segments than are cut at once. */
+static bool is_long(const uint8_t *packet, size_t length) {
+    struct cut cut;
+    return has_segments(packet) && read_cut(packet, length, &cut) && cut.count > MOST_AT_ONCE;
+}
+
+/* Takes a packet of a host that leaves segments and checksums to a card: one of many segments waits, and those of its conversation behind it;
+ * answers how many frames it has. */
+static unsigned take_in_turn(struct lagd *lagd, uint8_t *packet, size_t length) {
+    size_t head = head_octets();
+    struct niw_number number;
+    if (length < head + ETH_HLEN || (!is_cutting(lagd) && !is_long(packet, length))) return take_whole(lagd, packet, length);
+    number = conversation_of(lagd, packet + head, length - head);
+    if (number.status != NIW_OK || (lagd->host->of_one[number.number % CONVERSATIONS] == 0 && !is_long(packet, length)))
+        return take_whole(lagd, packet, length);
+    return wait_uncut(lagd, packet, length, (uint16_t)(number.number % CONVERSATIONS));
 }
 
 /* Takes one packet of the TAP device; answers how many frames it has, or 0 where there is none. */
@@ -88,27 +160,24 @@ static unsigned take_next(struct lagd *lagd, uint8_t *packet) {
         lose_tap(lagd);
         return 0;
     }
-    if (length >= (ssize_t)head_octets() && !passes_segments(lagd)) return take_whole(lagd, packet, (size_t)length);
+    if (length >= (ssize_t)head_octets() && !passes_segments(lagd)) return take_in_turn(lagd, packet, (size_t)length);
     take_from_host(lagd, packet, length < 0 ? 0 : (size_t)length); /* one that cannot be read has no octets */
     return 1;
 }
 
-/* Takes the packets that wait in the TAP device, some at most, behind what is left of the last one. */
+/* Takes the packets that wait in the TAP device, some at most, and then of those that wait to be cut. */
 void take_host(struct lagd *lagd) {
     unsigned got = 0, left = BATCH;
-    if (is_cutting(lagd)) {
-        lagd->carry.taken += take_segments(lagd);
-        lagd->carry.more_waits = true;
-        return;
-    }
     for (; left > 0; got++) {
         unsigned frames = take_next(lagd, room_at(lagd->host->packets, got));
         if (frames == 0) break;
         lagd->carry.taken += frames;
         left -= frames < left ? frames : left;
     }
-    if (left == 0) lagd->carry.more_waits = true;
     flush_data(lagd);
+    take_uncut(lagd, MOST_CUT);
+    flush_data(lagd);
+    if (left == 0 || is_cutting(lagd)) lagd->carry.more_waits = true;
     note_read(lagd, got, left > 0);
     pass_on(lagd);
 }
@@ -149,6 +218,7 @@ void open_carry(struct lagd *lagd) {
     }
     own->packets = make_rooms();
     own->segments = make_rooms();
+    own->rooms = make_rooms();
     load_guard(lagd);
     start_spreading(lagd);
     start_answers(lagd);

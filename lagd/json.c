@@ -21,7 +21,7 @@ static void add_time(struct lagd *lagd, time_t time) {
 static void add_bundle(struct lagd *lagd) {
     add(lagd, "\"bundle\":");
     add_string(lagd, lagd->settings.name);
-    add(lagd, ",\"state\":\"%s\",\"links\":%u,\"carrying\":%u,\"aggregator\":%u", bundle_state_text(lagd->bundle.state), lagd->link_count,
+    add(lagd, ",\"state\":\"%s\",\"links\":%u,\"carrying\":%u,\"aggregator\":%u", bundle_state_text(lagd->bundle.state), lagd->bundle.links,
         lagd->bundle.carrying, lagd->bundle.aggregator);
     add_time(lagd, lagd->bundle.changed_at);
 }
@@ -111,8 +111,9 @@ void write_json(struct lagd *lagd) {
         seconds_passed(lagd));
     write_carry_json(lagd);
     add(lagd, "\"ports\":[");
-    for (uint16_t i = 0; i < lagd->link_count; i++) {
-        if (i) add(lagd, ",");
+    for (uint16_t i = 0, count = 0; i < lagd->link_count; i++) {
+        if (!lagd->links[i].used) continue;
+        if (count++ > 0) add(lagd, ",");
         add_member(lagd, &lagd->links[i]);
     }
     add(lagd, "]}\n");

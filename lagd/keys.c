@@ -24,8 +24,9 @@ struct speed_key {
 
 /* What this file keeps for a daemon. */
 struct keys_private {
-    struct speed_key known[NIW_MOST_PORTS];
+    struct speed_key known[2 * NIW_MOST_PORTS]; /* of each key of a port, and of the bundle */
     uint16_t known_count;
+    uint16_t speeds; /* how many speeds of one key have aggregators */
 };
 
 struct keys_private *make_keys_private(void) {
@@ -57,11 +58,12 @@ uint16_t free_key(struct lagd *lagd, uint16_t behind, const struct link *but) {
     return behind;
 }
 
-/* How many speeds of one key have aggregators. */
-static uint16_t most_speeds(struct lagd *lagd) {
-    uint16_t fit = (uint16_t)(NIW_MOST_PORTS / lagd->link_count);
-    if (!lagd->settings.key_by_speed) return 1;
-    return fit < MOST_SPEEDS ? fit : MOST_SPEEDS;
+/* Chooses how many speeds of one key have aggregators, by how many ports there are, and how many ports there may be. */
+void choose_slots(struct lagd *lagd) {
+    struct keys_private *own = lagd->keys;
+    uint16_t fit = (uint16_t)(NIW_MOST_PORTS / (lagd->settings.port_count > 0 ? lagd->settings.port_count : 1));
+    own->speeds = !lagd->settings.key_by_speed ? 1 : fit < MOST_SPEEDS ? fit : MOST_SPEEDS;
+    lagd->slot_count = (uint16_t)(NIW_MOST_PORTS / own->speeds);
 }
 
 /* A key of aggregators, for ports to which this one was given: the first one is that one itself. */
@@ -72,21 +74,21 @@ static uint16_t key_for(struct lagd *lagd, uint16_t given, uint16_t number) {
     return given;
 }
 
-/* Makes the keys of the aggregators: in the order of ports one of the key of each, and then as many of each further key that a speed may
- * have. */
+/* Makes the keys of the aggregators: in the order of ports, of which those that are to come have the key of the bundle, one of the key of each,
+ * and then as many of each further key that a speed may have. */
 void make_keys(struct lagd *lagd, uint16_t keys[static NIW_MOST_PORTS]) {
     struct keys_private *own = lagd->keys;
-    for (uint16_t i = 0; i < lagd->link_count; i++)
+    for (uint16_t i = 0; i < lagd->slot_count; i++)
         if (!has_aggregator(lagd, lagd->links[i].key))
             own->known[own->known_count++] = (struct speed_key){.given = lagd->links[i].key, .key = lagd->links[i].key};
     for (uint16_t i = 0, given = own->known_count; i < given; i++) {
-        for (uint16_t speed = 1; speed < most_speeds(lagd); speed++) {
+        for (uint16_t speed = 1; speed < own->speeds; speed++) {
             own->known[own->known_count] = (struct speed_key){.given = own->known[i].given, .key = free_key(lagd, own->known[i].key, NULL)};
             own->known_count++;
         }
     }
-    for (uint16_t speed = 0; speed < most_speeds(lagd); speed++)
-        for (uint16_t port = 0; port < lagd->link_count; port++)
+    for (uint16_t speed = 0; speed < own->speeds; speed++)
+        for (uint16_t port = 0; port < lagd->slot_count; port++)
             keys[lagd->aggregator_count++] = key_for(lagd, lagd->links[port].key, speed);
 }
 

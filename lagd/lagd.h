@@ -20,6 +20,9 @@ enum {
     WITHOUT_PARTNER, /* it distributes on defaults */
     PARTNER_WANTED,  /* so it does, but partner-required is given */
     RESTORING,       /* its carrier is back, and waits for wait-to-restore */
+    DEVICE_DOWN,     /* the device is down, so that LACP ended */
+    LEAVES,          /* it leaves the bundle */
+    OUTSIDE,         /* others took it out of the device, or did not put it in */
 };
 
 /* How the program ends. */
@@ -80,7 +83,16 @@ struct speed {
 
 /* An interface. Link i is port i + 1 of the system. */
 struct link {
-    const char *name;
+    const char *name;         /* empty where no port has this number */
+    bool used;                /* whether a port has it */
+    bool left_over;           /* whether it is of the last daemon, and not in the file of this one */
+    bool followed;            /* whether the device alone says that it is a port, and not the file */
+    bool puts_in;             /* whether the daemon itself is to put it into a device whose ports others choose */
+    bool outside;             /* whether others took it out of that */
+    bool leaving;             /* whether it goes: its peer is told first */
+    bool emptying;            /* whether its conversations move to other ports, before it is held */
+    uint64_t leaves_since;    /* the milliseconds since which it is emptied, or held then */
+    uint64_t left_at;         /* those at which nothing was on its way any more, or 0 */
     struct niw_port settings; /* with the key that it has now */
     uint16_t key;             /* that is given to it */
     bool has_speed;           /* whether `speed` was read: with key-by-speed, as the link came up last */
@@ -141,18 +153,20 @@ struct bundle {
     enum bundle_state state;
     uint16_t aggregator; /* the one with most ports that carry, or 0 */
     uint16_t carrying;   /* how many ports of it carry */
+    uint16_t links;      /* how many ports the bundle has */
     time_t changed_at;   /* when the state changed, in seconds since 1970 */
     uint64_t counts[BUNDLE_STATES];
 };
 
 /* What the program is to do. */
-enum action { RUN, CHECK, SHOW, WATCH, METRICS };
+enum action { RUN, CHECK, SHOW, WATCH, METRICS, ORDER };
 
 struct options {
     enum action action;
     bool json;
     const char *folder; /* of status sockets */
     const char *file;   /* of the bundle, or NULL */
+    const char *order, *interface; /* of ORDER: what is to be done with which interface */
     struct settings settings;
 };
 
@@ -206,6 +220,7 @@ enum journaled tell_journal(struct lagd *lagd, int level, const char *text);
 
 /* options.c */
 struct options *read_options(struct lagd *lagd, int argc, char **argv);
+const char *read_port(struct lagd *lagd, char *text, struct settings *settings);
 
 /* possible.c */
 int check_machine(struct lagd *lagd, const struct options *options);
@@ -241,6 +256,8 @@ struct tpacket_auxdata aux_of(struct msghdr *message);
 void take_frame(struct lagd *lagd, struct link *link, const struct arrival *arrival);
 void take_frames(struct lagd *lagd, uint16_t port);
 void forget_partner(struct lagd *lagd, struct link *link);
+bool may_be_partner(const struct link *link, const uint8_t *frame, struct system_id *actor);
+void note_actor(struct lagd *lagd, struct link *link, const struct system_id *actor, const uint8_t *frame);
 void tell_strangers(struct lagd *lagd, struct link *link);
 
 /* markers.c */
@@ -261,7 +278,7 @@ bool answer_marker(struct lagd *lagd, struct link *link, const uint8_t *response
 void look_for_twins(struct lagd *lagd);
 
 /* probe.c */
-void note_response(struct lagd *lagd, const struct link *link, uint32_t id);
+void note_response(struct lagd *lagd, const struct link *link);
 
 /* restore.c */
 bool is_restored(struct lagd *lagd, struct link *link);
@@ -279,9 +296,12 @@ void take_messages(struct lagd *lagd, const void *messages, size_t length);
 void watch_changes(struct lagd *lagd);
 void look_again(struct lagd *lagd);
 void suspect_carriers(struct lagd *lagd);
+void ask_links(struct lagd *lagd);
+void ask_now(struct lagd *lagd);
 void watch_carriers(struct lagd *lagd, bool all);
 
 /* keys.c */
+void choose_slots(struct lagd *lagd);
 void make_keys(struct lagd *lagd, uint16_t keys[static NIW_MOST_PORTS]);
 bool has_aggregator(struct lagd *lagd, uint16_t given);
 uint16_t free_key(struct lagd *lagd, uint16_t behind, const struct link *but);
@@ -293,7 +313,9 @@ const char *speed_text(const struct speed *speed, char room[static 40]);
 
 /* system.c */
 void make_system(struct lagd *lagd);
+size_t resume_system(struct lagd *lagd, struct niw_saved *saved, size_t count);
 void set_link(struct lagd *lagd, uint16_t port, bool up);
+bool apply_hold(struct lagd *lagd, uint16_t port) MUST_USE;
 bool hold_port(struct lagd *lagd, uint16_t port, bool hold);
 void lose_link(struct lagd *lagd, struct link *link);
 void send_due(struct lagd *lagd);
@@ -302,9 +324,37 @@ void pass_tick(struct lagd *lagd);
 uint64_t ticks_passed(struct lagd *lagd);
 uint64_t seconds_passed(struct lagd *lagd);
 uint64_t milliseconds(struct lagd *lagd);
+void expect_lacpdu(struct link *link);
 void tell_end(struct lagd *lagd);
 bool end_is_told(struct lagd *lagd);
 bool end_system(struct lagd *lagd);
+
+/* membership.c */
+#define ORDER_ROOM 384
+uint16_t count_links(struct lagd *lagd);
+bool place_ports(struct lagd *lagd, struct settings *settings);
+void keep_left_ports(struct lagd *lagd);
+void leave_left_ports(struct lagd *lagd);
+void begin_link(struct lagd *lagd, uint16_t port);
+void join_port(struct lagd *lagd, uint16_t port, const struct port_settings *settings);
+void leave_port(struct lagd *lagd, uint16_t port);
+bool begin_hold(struct lagd *lagd, uint16_t port);
+void stay_port(struct lagd *lagd, uint16_t port);
+void pass_leaving_tick(struct lagd *lagd);
+struct interface;
+bool may_put_in(struct lagd *lagd, const struct link *link);
+bool stays_outside(struct lagd *lagd, struct link *link, int master);
+void tell_taken_out(struct lagd *lagd, struct link *link);
+void follow_port(struct lagd *lagd, const struct interface *interface);
+void answer_order(struct lagd *lagd, char *order, char answer[static ORDER_ROOM]);
+
+/* halt.c */
+bool is_halted(struct lagd *lagd);
+bool is_silent(struct lagd *lagd);
+void follow_device(struct lagd *lagd, bool up);
+void start_halt(struct lagd *lagd);
+void halt_if_down(struct lagd *lagd);
+void pass_halt_tick(struct lagd *lagd);
 
 /* ports.c */
 void take_views(struct lagd *lagd);
@@ -353,6 +403,7 @@ void recall_state(struct lagd *lagd);
 uint32_t first_marker_left(struct lagd *lagd);
 bool was_away_briefly(struct lagd *lagd);
 bool save_state(struct lagd *lagd);
+void keep_port(struct lagd *lagd, uint16_t number, uint16_t port);
 void end_state(struct lagd *lagd);
 
 /* resume.c */
@@ -363,6 +414,8 @@ void end_resuming(struct lagd *lagd);
 bool leave_state(struct lagd *lagd);
 
 /* status.c */
+/* A question has a name of an interface at most, with its words. */
+#define QUESTION_ROOM 256
 /* How the answer begins to who has no place. */
 #define REFUSAL "refused: "
 void open_status(struct lagd *lagd, const char *folder);
@@ -396,6 +449,8 @@ void fit_queue(struct lagd *lagd, const struct link *link, const char *interface
 /* members.c */
 bool open_member(struct lagd *lagd, struct link *link);
 void close_member(struct lagd *lagd, struct link *link);
+void forget_member(struct lagd *lagd, uint16_t port);
+void drain_member(struct lagd *lagd, uint16_t port);
 bool reopen_member(struct lagd *lagd, struct link *link);
 bool follow_queues(struct lagd *lagd, struct link *link);
 void follow_address(struct lagd *lagd, struct link *link, const uint8_t *mac);
@@ -405,6 +460,8 @@ void follow_speed(struct lagd *lagd, const struct link *link, const char *interf
 
 /* moves.c */
 void ask_moves(struct lagd *lagd);
+bool can_empty(struct lagd *lagd, uint16_t port);
+bool empty_port(struct lagd *lagd, uint16_t port);
 
 /* carry_show.c */
 void write_carry_text(struct lagd *lagd);

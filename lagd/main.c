@@ -202,6 +202,7 @@ static int run_daemon(struct lagd *lagd, const struct options *options) {
     make_system(lagd);
     begin_resuming(lagd);
     open_carry(lagd);
+    start_halt(lagd);
     await_at_start(lagd, open_changes(lagd), CHANGES);
     open_status(lagd, options->folder);
     clock = open_clock();
@@ -211,7 +212,10 @@ static int run_daemon(struct lagd *lagd, const struct options *options) {
     resumed = resume(lagd);
     lagd->has_started = true;
     resume_data(lagd, resumed);
+    halt_if_down(lagd);
+    leave_left_ports(lagd);
     end_resuming(lagd);
+    (void)save_state(lagd);
     tell_changes(lagd);
     settle_carry(lagd);
     notify_ready(lagd);

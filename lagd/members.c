@@ -15,6 +15,8 @@
 
 /* Of the frames that wait in a socket. */
 #define SOCKET_ROOM (8 << 20)
+/* How many batches of a member are taken before its port is held. */
+#define MOST_DRAINED 64
 
 /* What this file keeps for a daemon. */
 struct members_private {
@@ -81,7 +83,9 @@ static bool filter(int fd, bool data) {
 static bool filter_marked(int fd, uint16_t port) {
     struct sock_filter code[] = {
         BPF_STMT(BPF_LD | BPF_W | BPF_ABS, (uint32_t)(SKF_AD_OFF + SKF_AD_MARK)),
-        BPF_JUMP(BPF_JMP | BPF_JEQ | BPF_K, port, 0, 1),
+        BPF_JUMP(BPF_JMP | BPF_JEQ | BPF_K, port, 0, 3),
+        BPF_STMT(BPF_LD | BPF_W | BPF_ABS, (uint32_t)(SKF_AD_OFF + SKF_AD_PROTOCOL)),
+        BPF_JUMP(BPF_JMP | BPF_JEQ | BPF_K, ETH_P_SLOW, 0, 1),
         BPF_STMT(BPF_RET | BPF_K, port > 0 ? UINT32_MAX : 0),
         BPF_STMT(BPF_RET | BPF_K, 0),
     };
@@ -125,12 +129,14 @@ static int open_data(struct lagd *lagd, int index, const struct guard *guard) {
 }
 
 /* A packet socket for the markers that the kernel hands up to the TAP device, behind the data of this port, or, with 0, for those that come
- * to a member while no data goes up; or -1, and errno. */
+ * to a member while no data goes up; or -1, and errno. A socket for all protocols has them before the filters and bridges of an administrator, which
+ * may take frames away there. */
 static int open_markers(struct lagd *lagd, const struct link *link, int index, uint16_t port) {
-    struct sockaddr_ll address = {.sll_family = AF_PACKET, .sll_protocol = htons(ETH_P_SLOW), .sll_ifindex = index};
+    struct sockaddr_ll address = {.sll_family = AF_PACKET, .sll_protocol = htons(port > 0 ? ETH_P_ALL : ETH_P_SLOW), .sll_ifindex = index};
     const char *kind = port > 0 ? "markers" : "direct";
     int fd = packet_socket(lagd, kind, link->index, index, SOCK_RAW);
     if (fd < 0) return -1;
+    (void)setsockopt(fd, SOL_PACKET, PACKET_IGNORE_OUTGOING, &(int){1}, sizeof(int));
     if ((port > 0 ? filter_marked(fd, port) : filter(fd, true)) && setsockopt(fd, SOL_PACKET, PACKET_AUXDATA, &(int){1}, sizeof(int)) == 0
         && bind(fd, (struct sockaddr *)&address, sizeof address) == 0)
         return fd;
@@ -296,6 +302,14 @@ void close_member(struct lagd *lagd, struct link *link) {
     count_loss(member);
     close_sockets(lagd, member);
     close_guard(lagd, link, &member->guard);
+}
+
+/* Another interface is to be this member: its counts begin anew. */
+void forget_member(struct lagd *lagd, uint16_t port) {
+    struct member *member = &lagd->members->members[port - 1];
+    memset(member->counts, 0, sizeof member->counts);
+    member->mtu = member->megabits = 0;
+    member->has_marker = false;
 }
 
 /* The program ends, by whatever it is refused, and no other one goes on: its members get what they had. */
@@ -504,6 +518,17 @@ static void take_packets(struct lagd *lagd, uint16_t port, const int *fd, bool o
     if (got == BATCH) lagd->carry.more_waits = true;
     for (int i = 0; i < got; i++) take_message(lagd, link, &own->messages[i], only_markers);
     flush_host(lagd);
+}
+
+/* Takes all that waits at a member, but for a flood, before its port is held: what came before that is collected. */
+void drain_member(struct lagd *lagd, uint16_t port) {
+    struct member *member = &lagd->members->members[port - 1];
+    if (!carries_data(lagd) || carries_by_team(lagd) || member->socket < 0) return;
+    for (unsigned turn = 0; turn < MOST_DRAINED && !lagd->broken; turn++) {
+        lagd->carry.more_waits = false;
+        take_data(lagd, port);
+        if (!lagd->carry.more_waits) return;
+    }
 }
 
 /* Takes what waits at a member. */

@@ -109,7 +109,7 @@ static const struct {
 /* All of it. */
 void write_metrics(struct lagd *lagd) {
     add_bundle_states(lagd);
-    add_bundle_value(lagd, "bundle_links", "gauge", "how many links the bundle has", lagd->link_count);
+    add_bundle_value(lagd, "bundle_links", "gauge", "how many links the bundle has", lagd->bundle.links);
     add_bundle_value(lagd, "bundle_links_carrying", "gauge", "how many of them carry", lagd->bundle.carrying);
     add_bundle_value(lagd, "bundle_min_links", "gauge", "with fewer the bundle is down", lagd->settings.min_links);
     add_bundle_value(lagd, "bundle_last_change_timestamp_seconds", "gauge", "when the state of the bundle changed last",
@@ -117,13 +117,14 @@ void write_metrics(struct lagd *lagd) {
     for (size_t gauge = 0; gauge < sizeof GAUGES / sizeof *GAUGES; gauge++) {
         add_head(lagd, GAUGES[gauge].name, "gauge", GAUGES[gauge].help);
         for (uint16_t i = 0; i < lagd->link_count; i++)
-            add_port_value(lagd, GAUGES[gauge].name, &lagd->links[i], GAUGES[gauge].value(lagd, &lagd->links[i]));
+            if (lagd->links[i].used) add_port_value(lagd, GAUGES[gauge].name, &lagd->links[i], GAUGES[gauge].value(lagd, &lagd->links[i]));
     }
     for (unsigned count = 0; count < ALL_COUNTS; count++) {
         char name[64];
         snprintf(name, sizeof name, "port_%s_total", count_name(count));
         add_head(lagd, name, "counter", count_help(count));
-        for (uint16_t i = 0; i < lagd->link_count; i++) add_port_value(lagd, name, &lagd->links[i], count_at(&lagd->links[i], count));
+        for (uint16_t i = 0; i < lagd->link_count; i++)
+            if (lagd->links[i].used) add_port_value(lagd, name, &lagd->links[i], count_at(&lagd->links[i], count));
     }
     write_carry_metrics(lagd);
 }

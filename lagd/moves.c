@@ -56,9 +56,48 @@ static bool level(struct lagd *lagd) {
     }
 }
 
+/* Whether the conversations of a port can move behind markers to others that carry. */
+bool can_empty(struct lagd *lagd, uint16_t port) {
+    unsigned others = 0;
+    for (uint16_t i = 0; i < lagd->carry.port_count; i++) others += lagd->carry.ports[i] != port;
+    return others > 0 && peer_answering(lagd) == ANSWERS && lagd->carry.active != 0 && lagd->links[port - 1].view.aggregator == lagd->carry.active;
+}
+
+/* The port that carries fewest conversations of a list, of those that carry. */
+static uint16_t emptiest(struct lagd *lagd, const unsigned *loads) {
+    uint16_t found = lagd->carry.ports[0];
+    for (uint16_t i = 1; i < lagd->carry.port_count; i++)
+        if (loads[lagd->carry.ports[i]] < loads[found]) found = lagd->carry.ports[i];
+    return found;
+}
+
+/* Moves the conversations of a port to others; answers whether none is left there, or can leave so. */
+bool empty_port(struct lagd *lagd, uint16_t port) {
+    unsigned loads[NIW_MOST_PORTS + 1] = {0};
+    uint64_t load, held;
+    if (!can_empty(lagd, port) || !ask_ports(lagd, lagd->carry.active, lagd->carry.port_of)) return true;
+    for (uint16_t number = 0; number < CONVERSATIONS; number++) loads[lagd->carry.port_of[number]]++;
+    for (uint16_t number = 0; number < CONVERSATIONS; number++) {
+        uint16_t other;
+        if (lagd->carry.port_of[number] != port) continue;
+        other = emptiest(lagd, loads);
+        if (move(lagd, number, other)) loads[other]++;
+    }
+    send_due(lagd);
+    return is_told(lagd, niw_load(&lagd->own_system, port), "niw_load", &load) && load == 0
+        && is_told(lagd, niw_held(&lagd->own_system, port), "niw_held", &held) && held == 0;
+}
+
+/* Whether a port is emptied, so that no other move is asked for. */
+static bool is_any_emptied(struct lagd *lagd) {
+    for (uint16_t i = 0; i < lagd->link_count; i++)
+        if (lagd->links[i].emptying) return true;
+    return false;
+}
+
 /* Moves what has to move, once a tick, towards a peer that answers markers: one marker of a port tells of all that leave it. */
 void balance(struct lagd *lagd) {
-    if (lagd->carry.port_count < 2 || peer_answering(lagd) != ANSWERS || !none_moves(lagd)
+    if (lagd->carry.port_count < 2 || peer_answering(lagd) != ANSWERS || is_any_emptied(lagd) || !none_moves(lagd)
         || !ask_ports(lagd, lagd->carry.active, lagd->carry.port_of))
         return;
     if (move_asked(lagd) || level(lagd)) send_due(lagd);

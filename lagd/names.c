@@ -16,7 +16,8 @@ static const char *const BIT_NAMES[8] = {"activity", "timeout", "aggregation", "
     "defaulted", "expired"};
 
 static const char *const OWN_STATUSES[] = {"the interface is missing", "it distributes without a partner",
-    "a partner is required, and it has none", "the link is back, and waits for wait-to-restore"};
+    "a partner is required, and it has none", "the link is back, and waits for wait-to-restore",
+    "the device is down", "it leaves the bundle", "it is not in the device"};
 
 const char *status_text(unsigned status) {
     return status >= MISSING ? OWN_STATUSES[status - MISSING] : niw_port_status_text(status);

@@ -15,6 +15,9 @@
 #define MOST_PARTS 65536
 /* MAX_ERRNO of the kernel. */
 #define LAST_ERROR 4095
+/* How often a list is asked for that changes while it is told, and the most octets of what is made of it. */
+#define MOST_TRIES 10
+#define MOST_LISTED 64
 
 union message message_of(uint16_t type, unsigned flags, const void *about, size_t length) {
     union message message = {.octets = {0}}; /* libmnl leaves what pads an attribute as it is */
@@ -62,14 +65,18 @@ struct netlink_private *make_netlink_private(void) {
     return make_room(sizeof(struct netlink_private));
 }
 
-/* Reads the answer up to its last message, which the kernel has sent once it took the question; answers its error, or 0. */
+/* Reads the answer up to its last message, which the kernel has sent once it took the question; answers its error, or 0. It is EINTR where what was
+ * asked for changed meanwhile, so that some of it may be missing. */
 static int read_answer(struct lagd *lagd, const struct mnl_socket *asked, message_reader read_one, void *into) {
     struct netlink_private *own = lagd->netlink;
+    bool interrupted = false;
     for (int turn = 0; turn < MOST_PARTS; turn++) {
         int left = (int)mnl_socket_recvfrom(asked, own->part, sizeof own->part);
         if (left < 0) return errno;
         for (const struct nlmsghdr *message = (void *)own->part; is_whole(message, left); message = mnl_nlmsg_next(message, &left)) {
-            if (message->nlmsg_type == NLMSG_ERROR || message->nlmsg_type == NLMSG_DONE) return -error_of(message);
+            interrupted = interrupted || (message->nlmsg_flags & NLM_F_DUMP_INTR) != 0;
+            if (message->nlmsg_type == NLMSG_ERROR || message->nlmsg_type == NLMSG_DONE)
+                return error_of(message) != 0 || !interrupted ? -error_of(message) : EINTR;
             if (read_one) read_one(lagd, message, into);
         }
     }
@@ -85,6 +92,21 @@ bool ask_netlink(struct lagd *lagd, int bus, const union message *question, mess
     (void)mnl_socket_close(asked);
     errno = fault;
     return fault == 0;
+}
+
+/* As ask_netlink, of a list of which the kernel may change something while it tells it: then it is asked again. `into` has `size` octets, which are as
+ * they were for each answer. */
+bool ask_list(struct lagd *lagd, int bus, const union message *question, message_reader read_one, void *into, size_t size) {
+    uint8_t before[MOST_LISTED];
+    bool told = false;
+    if (size > sizeof before) return ask_netlink(lagd, bus, question, read_one, into);
+    if (into) memcpy(before, into, size);
+    errno = EINTR;
+    for (int tries = 0; !told && errno == EINTR && tries < MOST_TRIES; tries++) {
+        if (into) memcpy(into, before, size);
+        told = ask_netlink(lagd, bus, question, read_one, into);
+    }
+    return told;
 }
 
 /* Reads the attributes of a message, behind so many octets. mnl_attr_parse would read up to three octets behind a message, too. */

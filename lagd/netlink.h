@@ -19,6 +19,7 @@ typedef void (*message_reader)(struct lagd *lagd, const struct nlmsghdr *message
 union message message_of(uint16_t type, unsigned flags, const void *about, size_t length);
 union message message_of_interface(uint16_t type, unsigned flags, int index);
 bool ask_netlink(struct lagd *lagd, int bus, const union message *question, message_reader read_one, void *into);
+bool ask_list(struct lagd *lagd, int bus, const union message *question, message_reader read_one, void *into, size_t size);
 bool is_whole(const struct nlmsghdr *message, int left);
 int error_of(const struct nlmsghdr *message);
 void read_attributes(const struct nlmsghdr *message, size_t before, mnl_attr_cb_t take, void *into);

@@ -43,6 +43,11 @@ static const struct option_text BEHIND_KEYS[] = {
     {'w', "watch", NULL, "prints each change of one, as it happens"},
     {'j', "json", NULL, "prints either as JSON, a line for each"},
     {'M', "metrics", NULL, "prints counts and states in the form of Prometheus"},
+    {'I', "add", "IFACE[:WORD,..]",
+        "has this interface join the bundle of the one lagd of the folder, until the next reload or\nrestart; root alone may, as the next three"},
+    {'E', "remove", "IFACE", "has it leave: its peer is told first; the program ends once it left"},
+    {'L', "hold", "IFACE", "has its data leave it, as before a cable is taken away, and ends once that is so"},
+    {'G', "release", "IFACE", "has it used again"},
     {'h', "help", NULL, NULL},
     {'V', "version", NULL, NULL},
 };
@@ -137,8 +142,23 @@ static void take_option(struct lagd *lagd, int letter, const char *text) {
 
 static void choose(struct lagd *lagd, enum action action) {
     struct options_private *own = lagd->options;
-    if (own->options.action != RUN) stop(WRONG_WORD, "usage", "one of --check, --status, --watch and --metrics; lagd --help tells more");
+    if (own->options.action != RUN)
+        stop(WRONG_WORD, "usage", "one of --check, --status, --watch, --metrics, --add, --remove, --hold and --release; lagd --help tells more");
     own->options.action = action;
+}
+
+/* One file is run, or looked at. */
+static void take_file(struct lagd *lagd, const char *file) {
+    struct options_private *own = lagd->options;
+    if (own->options.file) stop(WRONG_WORD, "usage", "one file, by --config or by --check; lagd --help tells more");
+    own->options.file = file;
+}
+
+/* An option by which a bundle is changed. */
+static void choose_order(struct lagd *lagd, const char *order, const char *interface) {
+    choose(lagd, ORDER);
+    lagd->options->options.order = order;
+    lagd->options->options.interface = interface;
 }
 
 static _Noreturn void end_printing(void) {
@@ -150,12 +170,16 @@ static void read_option(struct lagd *lagd, int option, const char *last) {
     struct options_private *own = lagd->options;
     const char letter[] = {'-', (char)optopt, 0};
     switch (option) {
-    case 'c': own->options.file = optarg; break;
-    case 'k': choose(lagd, CHECK); own->options.file = optarg; break;
+    case 'c': take_file(lagd, optarg); break;
+    case 'k': choose(lagd, CHECK); take_file(lagd, optarg); break;
     case 'f': own->options.folder = optarg; break;
     case 's': choose(lagd, SHOW); break;
     case 'w': choose(lagd, WATCH); break;
     case 'M': choose(lagd, METRICS); break;
+    case 'I': choose_order(lagd, "add", optarg); break;
+    case 'E': choose_order(lagd, "remove", optarg); break;
+    case 'L': choose_order(lagd, "hold", optarg); break;
+    case 'G': choose_order(lagd, "release", optarg); break;
     case 'j': own->options.json = true; break;
     case 'h': print_help(lagd); end_printing();
     case 'V': puts("lagd " VERSION); end_printing();
@@ -173,6 +197,17 @@ static const char *read_port_word(struct lagd *lagd, const char *word, struct po
             return set_port(lagd, port, PORT_WORDS[i].key, value ? value : word + begin);
     }
     return list_words(lagd, port_word, PORT_WORD_COUNT, " or ", "");
+}
+
+/* INTERFACE[:WORD,..], for the next port of settings, which ends the name there; answers NULL, or what was expected. */
+const char *read_port(struct lagd *lagd, char *text, struct settings *settings) {
+    size_t length = strcspn(text, ":");
+    char *rest = text[length] ? text + length + 1 : NULL;
+    const char *expected = add_port(settings, text, length);
+    text[length] = 0;
+    for (char *word; !expected && (word = strsep(&rest, ","));)
+        expected = read_port_word(lagd, word, &settings->ports[settings->port_count - 1]);
+    return expected;
 }
 
 /* INTERFACE[:WORD,..], for the next port. */

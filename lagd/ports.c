@@ -18,7 +18,9 @@ struct ports_private *make_ports_private(void) {
 /* The status of a port, with what the library does not know of it. */
 static uint8_t status_of(struct lagd *lagd, const struct link *link) {
     uint8_t status = link->view.port_status;
-    if (link->socket < 0) return MISSING;
+    if (link->socket < 0) return link->outside ? OUTSIDE : MISSING;
+    if (is_halted(lagd)) return DEVICE_DOWN;
+    if (link->leaving) return LEAVES;
     if (link->waits) return RESTORING;
     if (status != NIW_PORT_STATUS_DISTRIBUTING || !link->view.defaulted) return status;
     return lagd->settings.partner_required ? PARTNER_WANTED : WITHOUT_PARTNER;
@@ -104,7 +106,7 @@ static bool print_facts(struct lagd *lagd, const struct link *link, const struct
 bool print_change(struct lagd *lagd, struct link *link) {
     struct facts facts = facts_of(lagd, link);
     bool same = link->told && is_same(&facts, &link->printed), watched = link->watched && is_same(&facts, &link->shown);
-    if (!lagd->has_started) return false;
+    if (!lagd->has_started || !link->used) return false;
     if (!same && !watched) {
         link->changed_at = time(NULL);
         tell_watchers_of(lagd, link);

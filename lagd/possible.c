@@ -21,7 +21,7 @@ static void tell(struct lagd *lagd, const struct options *options, const char *k
 
 /* Whether the kernel has a program run at an interface, as Linux does from 6.6 on: then it misses the interface alone. 0, or errno. */
 int fault_of_programs(struct lagd *lagd) {
-    int program = load_program(lagd, "dropper", NULL, 0), fault = errno;
+    int program = load_program(lagd, "dropper", NULL), fault = errno;
     if (program < 0) return fault;
     fault = attach_program(program, NO_INDEX, false) < 0 && errno != ENODEV ? errno : 0;
     close(program);

@@ -14,7 +14,6 @@ struct probe_private {
     enum answering peer, told;
     bool asking; /* whether a marker waits for its response: one that answers none stays MUTE meanwhile */
     uint16_t asked_on; /* the port that had the last marker, or 0 */
-    uint32_t asked_id; /* its identifier */
     uint64_t asked_at, sent_at; /* the times when the marker went first, and last */
     struct system_id partner; /* of the active aggregator */
     uint16_t partner_key;
@@ -67,13 +66,10 @@ static void ask_peer(struct lagd *lagd) {
     struct probe_private *own = lagd->probe;
     uint8_t marker[NIW_FRAME];
     struct niw_sent asked = niw_probe(&lagd->own_system, lagd->carry.ports[0], marker, sizeof marker);
-    struct niw_pdu sent;
     if (!is_done(lagd, asked.status, "niw_probe") || !asked.is) return;
-    if (!is_done(lagd, niw_decode(marker + ETH_HLEN, sizeof marker - ETH_HLEN, &sent).status, "niw_decode")) return;
     own->asking = true;
     if (own->peer == NOT_ASKED) own->peer = ASKED;
     own->asked_on = lagd->carry.ports[0];
-    own->asked_id = sent.transaction_id;
     own->asked_at = own->sent_at = lagd->carry.time;
     take_marker(lagd, &lagd->links[own->asked_on - 1], marker);
 }
@@ -101,10 +97,12 @@ static void judge(struct lagd *lagd, enum answering now) {
             lagd->settings.flight);
 }
 
-/* The partner sent a response on a link: to the last marker that asked it, however late, or to another one. */
-void note_response(struct lagd *lagd, const struct link *link, uint32_t id) {
-    struct probe_private *own = lagd->probe;
-    if (own->asked_on != 0 && link == &lagd->links[own->asked_on - 1] && id == own->asked_id) judge(lagd, ANSWERS);
+/* The partner sent a response on a link: to the last marker there, however late, or to another one. */
+void note_response(struct lagd *lagd, const struct link *link) {
+    uint16_t port = link->settings.number;
+    uint64_t answers;
+    if (lagd->probe->asked_on != port || !is_told(lagd, niw_answers(&lagd->own_system, port), "niw_answers", &answers)) return;
+    if (answers == NIW_ANSWERS_ANSWERED) judge(lagd, ANSWERS);
 }
 
 /* No response came yet. A peer whose link went meanwhile is asked again. */

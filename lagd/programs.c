@@ -48,28 +48,27 @@ static void keep_last(char *log) {
 static bool share_maps(const struct programs *made, const struct fast_maps *maps) {
     if (maps)
         return bpf_map__reuse_fd(made->maps.rows, maps->rows) == 0 && bpf_map__reuse_fd(made->maps.members, maps->members) == 0
-            && bpf_map__reuse_fd(made->maps.hosts, maps->host) == 0;
+            && bpf_map__reuse_fd(made->maps.hosts, maps->host) == 0 && bpf_map__reuse_fd(made->maps.places, maps->places) == 0;
     return bpf_map__set_autocreate(made->maps.rows, false) == 0 && bpf_map__set_autocreate(made->maps.members, false) == 0
-        && bpf_map__set_autocreate(made->maps.hosts, false) == 0;
+        && bpf_map__set_autocreate(made->maps.hosts, false) == 0 && bpf_map__set_autocreate(made->maps.places, false) == 0;
 }
 
 /* Says which program is loaded, and what it has of the settings; answers whether all of it can be. */
-static bool prepare(struct lagd *lagd, const struct programs *made, const char *name, const struct fast_maps *maps, uint16_t port) {
+static bool prepare(struct lagd *lagd, const struct programs *made, const char *name, const struct fast_maps *maps) {
     struct bpf_program *program;
     bpf_object__for_each_program(program, made->obj) (void)bpf_program__set_autoload(program,
         strcmp(bpf_program__name(program), name) == 0);
     made->rodata->way = lagd->settings.hash;
     made->rodata->hash_seed = lagd->settings.hash_seed;
-    made->rodata->port = port;
     made->rodata->all_queues = lagd->settings.all_queues;
     return share_maps(made, maps);
 }
 
-static int load_with_log(struct lagd *lagd, const char *name, const struct fast_maps *maps, uint16_t port, char *log) {
+static int load_with_log(struct lagd *lagd, const char *name, const struct fast_maps *maps, char *log) {
     const struct bpf_object_open_opts options = {.sz = sizeof options, .kernel_log_buf = log, .kernel_log_size = LOG_ROOM};
     struct programs *made = programs__open_opts(&options);
     int loaded = -1, fault;
-    if (made && prepare(lagd, made, name, maps, port) && programs__load(made) == 0)
+    if (made && prepare(lagd, made, name, maps) && programs__load(made) == 0)
         loaded = fcntl(bpf_program__fd(bpf_object__find_program_by_name(made->obj, name)), F_DUPFD_CLOEXEC, 0);
     fault = errno;
     programs__destroy(made);
@@ -77,14 +76,13 @@ static int load_with_log(struct lagd *lagd, const char *name, const struct fast_
     return loaded;
 }
 
-/* Loads one program, with the tables that it has, if it has some, and the receiver for a port; answers its file, or -1, and errno, and a
- * reason. */
-int load_program(struct lagd *lagd, const char *name, const struct fast_maps *maps, uint16_t port) {
+/* Loads one program, with the tables that it has, if it has some; answers its file, or -1, and errno, and a reason. */
+int load_program(struct lagd *lagd, const char *name, const struct fast_maps *maps) {
     char *log = calloc(1, LOG_ROOM); /* the kernel fills what it needs of it */
     int loaded = -1, fault = ENOMEM;
     reason[0] = 0;
     (void)libbpf_set_print(keep_first);
-    if (log) loaded = load_with_log(lagd, name, maps, port, log);
+    if (log) loaded = load_with_log(lagd, name, maps, log);
     if (log) fault = errno;
     if (log && loaded < 0) keep_last(log);
     if (loaded < 0 && !reason[0]) keep_line(strerror(fault));

@@ -4,16 +4,8 @@
 
 #include "daemon.h"
 
-static bool has_same_ports(struct lagd *lagd, const struct settings *wanted) {
-    bool same = wanted->port_count == lagd->settings.port_count;
-    for (uint16_t i = 0; same && i < lagd->settings.port_count; i++)
-        same = strcmp(wanted->ports[i].name, lagd->settings.ports[i].name) == 0;
-    return same;
-}
-
 /* What cannot be changed without a restart, or NULL. */
 static const char *restart_for(struct lagd *lagd, const struct settings *wanted) {
-    if (!has_same_ports(lagd, wanted)) return "other interfaces";
     if (wanted->config.priority != lagd->settings.config.priority || memcmp(wanted->config.mac, lagd->settings.config.mac, 6) != 0)
         return "another system";
     if (wanted->key_by_speed != lagd->settings.key_by_speed) return "another key-by-speed";
@@ -22,9 +14,8 @@ static const char *restart_for(struct lagd *lagd, const struct settings *wanted)
     if (wanted->hash != lagd->settings.hash || wanted->hash_seed != lagd->settings.hash_seed) return "another hash or hash-seed";
     if (wanted->offload != lagd->settings.offload || wanted->fast != lagd->settings.fast) return "another offload or fast";
     if (wanted->all_queues != lagd->settings.all_queues) return "another queues";
-    for (uint16_t port = 1; port <= lagd->link_count; port++) {
-        if (!has_aggregator(lagd, port_of(wanted, port).key)) return "a key that no port had at the start";
-    }
+    for (uint16_t port = 1; port <= wanted->port_count; port++)
+        if (wanted->ports[port - 1].name[0] && !has_aggregator(lagd, port_of(wanted, port).key)) return "a key that no port had at the start";
     return NULL;
 }
 
@@ -83,14 +74,40 @@ static void change_policy(struct lagd *lagd, const struct settings *wanted) {
     }
 }
 
+/* A port is another one than it was: it goes, comes or changes. Answers whether anything differs. */
+static bool take_port(struct lagd *lagd, uint16_t port, const struct settings *wanted) {
+    const struct link *link = &lagd->links[port - 1];
+    const char *name = wanted->ports[port - 1].name;
+    bool was_leaving = link->leaving;
+    if (link->used && !name[0] && wanted->follow && link->socket >= 0) {
+        lagd->links[port - 1].followed = true;
+        return false;
+    }
+    if (link->used && !name[0]) {
+        leave_port(lagd, port);
+        return !was_leaving;
+    }
+    if (!name[0]) return false;
+    if (!link->used) {
+        if (!has_aggregator(lagd, port_of(wanted, port).key)) return false;
+        join_port(lagd, port, &wanted->ports[port - 1]);
+        return true;
+    }
+    stay_port(lagd, port);
+    lagd->links[port - 1].followed = false;
+    lagd->settings.ports[port - 1] = wanted->ports[port - 1];
+    return change_all(lagd, port, wanted) || was_leaving;
+}
+
 /* Takes what can be changed; answers how many ports have something else now. */
 static unsigned take(struct lagd *lagd, const struct settings *wanted) {
     unsigned changed = 0;
-    for (uint16_t port = 1; has_same_ports(lagd, wanted) && port <= lagd->link_count; port++) changed += change_all(lagd, port, wanted);
+    for (uint16_t port = 1; port <= lagd->slot_count; port++) changed += take_port(lagd, port, wanted);
     limit_links(lagd, wanted->config.max_links);
     change_policy(lagd, wanted);
     lagd->settings.partner_required = wanted->partner_required;
-    lagd->settings.min_links = wanted->min_links <= lagd->link_count ? wanted->min_links : lagd->link_count;
+    lagd->settings.follow = wanted->follow;
+    lagd->settings.min_links = wanted->min_links;
     lagd->settings.marker_responses = wanted->marker_responses;
     lagd->settings.flight = wanted->flight;
     lagd->settings.answer_after = wanted->answer_after;
@@ -128,6 +145,9 @@ void reload(struct lagd *lagd, const char *file) {
     notify_reloading();
     if (!read_again(lagd, file, &own->wanted)) {
         complain(lagd, "%s: the file is wrong, and nothing is changed", file);
+    } else if (!place_ports(lagd, &own->wanted)) {
+        (void)say(lagd, LOG_WARNING | ABOUT_RESTART,
+            "%s: more ports than there is room for: a restart of this bundle is needed, and nothing is changed", file);
     } else {
         unsigned changed = (rest = restart_for(lagd, &own->wanted), take(lagd, &own->wanted));
         (void)say(lagd, LOG_NOTICE | ABOUT_RELOAD, "%s: read again, %u ports changed", file, changed);

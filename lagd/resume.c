@@ -1,13 +1,10 @@
 /* How a daemon goes on where the last one was: the peer hears of no other state, and each conversation stays on its link. */
 #define _GNU_SOURCE
-#include <linux/if_packet.h>
 #include <string.h>
 
 #include "daemon.h"
 #include "team.h"
 
-/* The ticks until a port distributes: wait_while has 2 s (IEEE 802.1AX-2014, 6.4.4), and the next one attaches it. */
-#define TICKS 22
 /* For how long LACPDUs of an end hold, in milliseconds, by its or its peer's LACP_Timeout (IEEE 802.1AX-2014, 6.4.4). */
 #define SHORT_TIMEOUT 3000
 #define LONG_TIMEOUT 90000
@@ -41,41 +38,32 @@ static bool is_within(struct lagd *lagd, uint64_t then, uint64_t most) {
     return then <= own->began && own->began - then < most;
 }
 
-/* Whether a port goes on: its carrier did not go, and neither end has given the other one up. */
+/* Whether a port goes on: its carrier did not go, neither end has given the other one up, and its partner may be that. */
 static bool goes_on(struct lagd *lagd, const struct link *link) {
-    const struct inherited_link *was = link->up ? inherited_of(lagd, link) : NULL;
+    const struct inherited_link *was = link->up && !link->held ? inherited_of(lagd, link) : NULL;
+    struct system_id actor;
     return was && was->carried && was->losses == link->kernel_losses
         && is_within(lagd, was->heard, timeout_of(link->settings.short_timeout))
-        && is_within(lagd, was->spoken, timeout_of((was->lacpdu[ACTOR_STATE] & NIW_STATE_TIMEOUT) != 0));
+        && is_within(lagd, was->spoken, timeout_of((was->lacpdu[ACTOR_STATE] & NIW_STATE_TIMEOUT) != 0))
+        && may_be_partner(link, was->lacpdu, &actor);
 }
 
-/* How old the LACPDU of a link is, in ticks. */
-static unsigned age_of(struct lagd *lagd, const struct link *link) {
-    return (unsigned)((lagd->resume->began - inherited_of(lagd, link)->heard) / NIW_TICK_MILLISECONDS);
-}
-
-/* The last LACPDU of a link comes again, which is counted by the daemon that it came to. */
-static void hear_again(struct lagd *lagd, struct link *link) {
+/* What was saved of a link, as the library has it. */
+static struct niw_saved saved_of(struct lagd *lagd, const struct link *link) {
     const struct inherited_link *was = inherited_of(lagd, link);
-    struct arrival arrival = {was->lacpdu, NIW_FRAME, PACKET_MULTICAST, link->index, false};
-    struct niw_counters counters = link->counters;
-    uint64_t counts[COUNTS];
-    memcpy(counts, link->counts, sizeof counts);
-    take_frame(lagd, link, &arrival);
-    link->counters = counters;
-    memcpy(link->counts, counts, sizeof counts);
+    struct niw_saved saved = {.port = link->settings.number, .aggregator = was->aggregator};
+    saved.age = (uint32_t)((lagd->resume->began - was->heard) / NIW_TICK_MILLISECONDS);
+    memcpy(saved.frame, was->lacpdu, sizeof saved.frame);
+    return saved;
+}
+
+/* The partner of a link is that of the last daemon. */
+static void recall_partner(struct lagd *lagd, struct link *link) {
+    const struct inherited_link *was = inherited_of(lagd, link);
+    struct system_id actor;
+    if (may_be_partner(link, was->lacpdu, &actor)) note_actor(lagd, link, &actor, was->lacpdu);
     link->lacpdu_at = was->heard;
     link->lacpdus_at[MOST_LACPDUS - 1] = was->spoken;
-}
-
-/* What is due is not sent. */
-static void throw_due(struct lagd *lagd) {
-    uint8_t frame[NIW_FRAME];
-    for (uint16_t i = 0; i < lagd->link_count; i++)
-        for (struct niw_sent due = {.is = true}; due.is;) {
-            due = niw_transmit(&lagd->own_system, (uint16_t)(i + 1), frame, sizeof frame);
-            if (!is_done(lagd, due.status, "niw_transmit")) return;
-        }
 }
 
 static bool distributes(struct lagd *lagd, uint16_t port) {
@@ -83,29 +71,10 @@ static bool distributes(struct lagd *lagd, uint16_t port) {
     return is_done(lagd, answer.status, "niw_distributes") && answer.is;
 }
 
-/* Makes ports distribute in no time: nothing is sent until they do, and then their LACPDUs become as old as they are. */
-static void pass_time(struct lagd *lagd, const bool *chosen) {
-    unsigned oldest = 0, tick = 0;
-    for (bool all = false; tick < TICKS && !all; tick++) {
-        throw_due(lagd);
-        if (!is_done(lagd, niw_tick(&lagd->own_system), "niw_tick")) return;
-        all = true;
-        for (uint16_t i = 0; i < lagd->link_count; i++) all = all && (!chosen[i] || distributes(lagd, (uint16_t)(i + 1)));
-    }
+/* The links that are up, and do not go on, come up for the library, too. */
+static void set_other_links(struct lagd *lagd, const bool *back) {
     for (uint16_t i = 0; i < lagd->link_count; i++)
-        if (chosen[i] && age_of(lagd, &lagd->links[i]) > oldest) oldest = age_of(lagd, &lagd->links[i]);
-    for (unsigned age = oldest;; age--) {
-        for (uint16_t i = 0; i < lagd->link_count; i++)
-            if (chosen[i] && age_of(lagd, &lagd->links[i]) <= age) hear_again(lagd, &lagd->links[i]);
-        if (age == 0 || !is_done(lagd, niw_tick(&lagd->own_system), "niw_tick")) return;
-    }
-}
-
-/* The links that are up, and go on or do not, are up for the library, too. */
-static void set_links(struct lagd *lagd, const bool *chosen, bool go_on) {
-    for (uint16_t i = 0; i < lagd->link_count; i++)
-        if (lagd->links[i].up && chosen[i] == go_on
-            && !is_done(lagd, niw_set_link(&lagd->own_system, (uint16_t)(i + 1), true), "niw_set_link"))
+        if (lagd->links[i].up && !back[i] && !is_done(lagd, niw_set_link(&lagd->own_system, (uint16_t)(i + 1), true), "niw_set_link"))
             return;
 }
 
@@ -136,39 +105,35 @@ static void tell_links(struct lagd *lagd, unsigned count) {
     if (known > 0 && lagd->inherited.others)
         (void)say(lagd, LOG_WARNING | ABOUT_HANDOVER, "the state that the last daemon left is not used: it belongs to other settings");
     else if (known > 0)
-        (void)say(lagd, LOG_NOTICE | ABOUT_HANDOVER, "%u of %u links go on where the last daemon left them", count, lagd->link_count);
+        (void)say(lagd, LOG_NOTICE | ABOUT_HANDOVER, "%u of %u links go on where the last daemon left them", count, count_links(lagd));
 }
 
 /* Once the interfaces are taken up: the ports that distributed do so again. The others come after them, so that none takes the place of one
  * where links are limited. Answers how many ports went on. */
 unsigned resume(struct lagd *lagd) {
-    bool chosen[NIW_MOST_PORTS] = {false};
-    unsigned count = 0;
+    struct niw_saved saved[NIW_MOST_PORTS];
+    bool back[NIW_MOST_PORTS] = {false};
+    size_t count = 0;
     lagd->resume->began = boottime();
-    for (uint16_t i = 0; lagd->resuming && i < lagd->link_count; i++) count += chosen[i] = goes_on(lagd, &lagd->links[i]);
-    if (count > 0) set_links(lagd, chosen, true);
-    for (uint16_t i = 0; i < lagd->link_count; i++)
-        if (chosen[i]) hear_again(lagd, &lagd->links[i]);
-    if (count > 0) pass_time(lagd, chosen);
-    count = 0;
-    for (uint16_t i = 0; i < lagd->link_count; i++) count += chosen[i] && distributes(lagd, (uint16_t)(i + 1));
-    if (lagd->resuming) set_links(lagd, chosen, false);
+    for (uint16_t i = 0; lagd->resuming && i < lagd->link_count; i++)
+        if (goes_on(lagd, &lagd->links[i])) saved[count++] = saved_of(lagd, &lagd->links[i]);
+    count = resume_system(lagd, saved, count);
+    for (size_t i = 0; i < count; i++) {
+        back[saved[i].port - 1] = true;
+        recall_partner(lagd, &lagd->links[saved[i].port - 1]);
+    }
+    if (lagd->resuming) set_other_links(lagd, back);
     lagd->resuming = false;
     send_due(lagd);
-    tell_links(lagd, count);
-    return count;
+    tell_links(lagd, (unsigned)count);
+    return (unsigned)count;
 }
 
-/* A conversation stays on the interface that it was on: the library picks a port by itself first, on which nothing of it went. */
+/* A conversation stays on the interface that it was on. */
 static void stay(struct lagd *lagd, uint16_t number, uint16_t port) {
-    struct niw_number picked = niw_offer_conversation(&lagd->own_system, lagd->carry.active, number);
-    if (picked.status == NIW_OK && picked.number != port
-        && niw_move_conversation(&lagd->own_system, lagd->carry.active, number, port) == NIW_OK
-        && niw_force(&lagd->own_system, lagd->carry.active, number) == NIW_OK)
-        picked = niw_offer_conversation(&lagd->own_system, lagd->carry.active, number);
-    if (picked.status != NIW_OK) return;
+    if (niw_adopt(&lagd->own_system, lagd->carry.active, number, port) != NIW_OK) return;
     lagd->carry.conversations[number].home = lagd->carry.active;
-    lagd->carry.conversations[number].port = (uint16_t)picked.number;
+    lagd->carry.conversations[number].port = port;
     lagd->carry.conversations[number].last = lagd->carry.time;
 }
 

@@ -41,7 +41,7 @@ static bool is_ready(struct lagd *lagd, const struct link *link) {
 /* A port leaves its aggregator, and comes back to stand by. What is on its way there leaves it behind a marker. */
 static void give_way(struct lagd *lagd, struct link *last, const struct link *next) {
     if (!is_done(lagd, niw_hold(&lagd->own_system, last->settings.number, true), "niw_hold")) return;
-    if (!is_done(lagd, niw_hold(&lagd->own_system, last->settings.number, false), "niw_hold")) return;
+    if (!apply_hold(lagd, last->settings.number)) return;
     (void)say(lagd, LOG_NOTICE | ABOUT_PORT, "port %u %s: it makes way for port %u %s", last->settings.number, last->name,
         next->settings.number, next->name);
     look_at_carry(lagd);
@@ -81,12 +81,12 @@ void limit_links(struct lagd *lagd, uint16_t most) {
     if (!is_done(lagd, niw_set_max_links(&lagd->own_system, most), "niw_set_max_links")) return;
     lagd->settings.config.max_links = most;
     for (uint16_t i = 0; i < lagd->link_count; i++)
-        if (marked[i] && !is_done(lagd, niw_hold(&lagd->own_system, (uint16_t)(i + 1), lagd->links[i].held), "niw_hold")) return;
+        if (marked[i] && !apply_hold(lagd, (uint16_t)(i + 1))) return;
 }
 
 /* A second passed. One port gives way at most. */
 void pass_revert_second(struct lagd *lagd) {
-    if (!lagd->settings.revert) return;
+    if (!lagd->settings.revert || is_halted(lagd)) return;
     take_views(lagd);
     for (uint16_t aggregator = 1; aggregator <= lagd->aggregator_count; aggregator++) {
         struct link *next = next_of(lagd, aggregator), *last = next ? last_of(lagd, aggregator) : NULL;

@@ -9,7 +9,7 @@
 #ifdef HAVE_SYSTEMD
 static void notify_bundle(struct lagd *lagd, const char *head) {
     (void)sd_notifyf(0, "%sSTATUS=%s, %u of %u links carry", head, bundle_state_text(lagd->bundle.state), lagd->bundle.carrying,
-        lagd->link_count);
+        lagd->bundle.links);
 }
 
 /* The interfaces that are there were taken up, or the file was read again. */

@@ -144,6 +144,10 @@ static bool take_plane(const char *text, struct settings *settings) {
     return known;
 }
 
+static bool take_members(const char *text, struct settings *settings) {
+    return read_choice(text, "follow", "given", &settings->follow);
+}
+
 /* By what data goes. */
 const char *way_text(const struct settings *settings) {
     if (settings->plane == PLANE_TEAM) return "team";
@@ -220,6 +224,8 @@ static const struct bundle_key BUNDLE_KEYS[] = {
         "carries the data of a device of this name, which it makes, with the MAC address of the system"},
     {"plane", "tap or team", take_plane, 'P', "tap|team",
         "what that device is: a TAP device, as if not given, or one of the kernel's team driver,\nby which the kernel carries"},
+    {"members", "given or follow", take_members, 'B', "given|follow",
+        "with --plane team, who says which interfaces are ports: given here, or follow: whoever puts\nthem into the device or takes them out, as the network manager does"},
     {"hash", "layer2, layer2+3, layer3+4, encap3+4 or vlan+srcmac", take_hash, 'H', "layer2|layer2+3|layer3+4|encap3+4|vlan+srcmac",
         "what frames of one conversation have in common; layer2, if not given"},
     {"hash-seed", A_NUMBER, take_hash_seed, 'S', "N", "another number spreads conversations in another way, but by layer2; 0 if not given"},
@@ -329,6 +335,13 @@ const char *set_port(struct lagd *lagd, struct port_settings *port, const char *
     return NULL;
 }
 
+/* A port of which nothing is given. */
+struct port_settings unset_port(void) {
+    struct port_settings port = {.name = ""};
+    for (size_t i = 0; i < PORT_KEY_COUNT; i++) *value_at(&port, i) = AS_BUNDLE;
+    return port;
+}
+
 /* Adds a port, by the name of its interface; answers NULL, or what was expected. */
 const char *add_port(struct settings *settings, const char *name, size_t length) {
     struct port_settings *port = &settings->ports[settings->port_count];
@@ -337,9 +350,8 @@ const char *add_port(struct settings *settings, const char *name, size_t length)
         if (strlen(settings->ports[i].name) == length && memcmp(settings->ports[i].name, name, length) == 0)
             return "each interface once";
     if (settings->port_count == NIW_MOST_PORTS) return "at most 64 interfaces";
-    memset(port, 0, sizeof *port);
+    *port = unset_port();
     memcpy(port->name, name, length);
-    for (size_t i = 0; i < PORT_KEY_COUNT; i++) *value_at(port, i) = AS_BUNDLE;
     settings->port_count++;
     return NULL;
 }
@@ -365,6 +377,7 @@ static const char *key_of_data(const struct settings *settings) {
     if (line_of(settings, "hash")) return "hash";
     if (line_of(settings, "hash-seed")) return "hash-seed";
     if (line_of(settings, "plane")) return "plane";
+    if (line_of(settings, "members")) return "members";
     if (line_of(settings, "queues")) return "queues";
     if (line_of(settings, "answer-after")) return "answer-after";
     return line_of(settings, "flight") ? "flight" : NULL;
@@ -381,23 +394,23 @@ struct lack lack_of(const struct settings *settings) {
     const char *data = key_of_data(settings);
     if (!line_of(settings, "key")) return (struct lack){"key=NUMBER in [Bundle]", NULL};
     if (!line_of(settings, "system")) return (struct lack){"system=auto or system=PRIORITY,MAC in [Bundle]", NULL};
-    if (settings->port_count == 0) return (struct lack){"a section [Port INTERFACE] for each interface, 1 to 64 of them", NULL};
+    if (settings->port_count == 0 && settings->system_auto)
+        return (struct lack){"system=PRIORITY,MAC beside no section [Port INTERFACE]: by auto it is the address of the first one", "system"};
     for (uint16_t i = 0; i < settings->port_count; i++)
-        if (strcmp(settings->ports[i].name, settings->carry) == 0)
+        if (settings->ports[i].name[0] && strcmp(settings->ports[i].name, settings->carry) == 0)
             return (struct lack){"carry=NAME that is not the interface of a port", "carry"};
     if (data && !settings->carry[0])
-        return (struct lack){"carry=NAME beside plane, hash, hash-seed, flight, offload, fast, queues or answer-after", data};
+        return (struct lack){"carry=NAME beside plane, members, hash, hash-seed, flight, offload, fast, queues or answer-after", data};
     if (settings->hash_seed && settings->hash == HASH_LAYER2)
         return (struct lack){"another hash than layer2 beside hash-seed", "hash-seed"};
     if (settings->plane == PLANE_TEAM && (settings->offload || settings->fast))
         return (struct lack){"neither offload nor fast beside plane=team, by which the kernel carries all", "plane"};
+    if (settings->follow && settings->plane != PLANE_TEAM) return (struct lack){"plane=team beside members=follow", "members"};
     if (settings->plane == PLANE_TEAM && settings->all_queues)
         return (struct lack){"no queues=all beside plane=team, which leaves queues as they are", "queues"};
     if (line_of(settings, "answer-after") && !settings->all_queues) return (struct lack){"queues=all beside answer-after", "answer-after"};
     if (settings->plane == PLANE_TEAM && settings->hash == HASH_ENCAP3_4)
         return (struct lack){"another hash than encap3+4 beside plane=team", "hash"};
-    if (settings->min_links > settings->port_count)
-        return (struct lack){"min-links that is at most the number of interfaces", "min-links"};
     if (settings->config.max_links && settings->min_links > settings->config.max_links)
         return (struct lack){"min-links that is at most max-links", "min-links"};
     if (settings->revert && !settings->config.max_links) return (struct lack){"max-links=N beside revert", "revert"};

@@ -27,7 +27,7 @@ struct lagd;
  * what its card gave it within a few of them; this is more than ten programs on it have in turn, of 4 ms each. */
 #define USUAL_ANSWER_AFTER 50
 /* The most keys of a bundle. */
-#define MOST_BUNDLE_KEYS 24
+#define MOST_BUNDLE_KEYS 25
 /* The room of the name of a device that is made, with a zero: IFNAMSIZ of linux/if.h. */
 #define DEVICE_ROOM 16
 
@@ -75,6 +75,7 @@ struct settings {
     char hook[PATH_ROOM]; /* the program that is run where the bundle changes, or empty */
     char carry[DEVICE_ROOM]; /* the device whose data is carried, or empty */
     enum plane plane;        /* what that is */
+    bool follow;             /* whether its ports are those that the device has, whoever put them there */
     enum hash hash;          /* of that data */
     uint16_t hash_seed;      /* by which bundles with the same hash differ; not of layer2 */
     uint16_t flight;         /* how long a frame of it can be on its way, in milliseconds */
@@ -109,6 +110,7 @@ const char *list_words(struct lagd *lagd, const char *(*word)(size_t index), siz
 const char *set_bundle(struct lagd *lagd, struct settings *settings, const char *name, const char *text, unsigned line);
 unsigned line_of(const struct settings *settings, const char *name);
 const char *set_port(struct lagd *lagd, struct port_settings *port, const char *name, const char *text);
+struct port_settings unset_port(void);
 const char *add_port(struct settings *settings, const char *name, size_t length);
 struct lack lack_of(const struct settings *settings);
 struct niw_port port_of(const struct settings *settings, uint16_t port);

@@ -66,6 +66,14 @@ struct fast_member {
     uint64_t up_to; /* the interface to which frames go up, or 0 */
     uint64_t passed_up, uncollected, wrong_length;
 };
+/* Of which port a member is: above its interface, below the port. An interface has one place, which another one may have. */
+#define PLACES 4096
+struct fast_place {
+    uint64_t word;
+};
+static inline uint32_t member_place(uint32_t interface) {
+    return interface & (PLACES - 1);
+}
 struct fast_host {
     int64_t left;        /* frames that were left to the daemon, and not taken yet */
     uint64_t overflowed; /* frames that were lost, since there were too many of these */

@@ -21,7 +21,7 @@ static void add_policy(struct lagd *lagd) {
 static void add_bundle(struct lagd *lagd) {
     char mac[32];
     add(lagd, "---- %s ----\n", lagd->settings.name);
-    add(lagd, "  status: %s, %u of %u links carry\n", bundle_state_text(lagd->bundle.state), lagd->bundle.carrying, lagd->link_count);
+    add(lagd, "  status: %s, %u of %u links carry\n", bundle_state_text(lagd->bundle.state), lagd->bundle.carrying, lagd->bundle.links);
     add(lagd, "  sys_id: %s\n  sys_priority: %u\n", mac_text(lagd->settings.config.mac, mac), lagd->settings.config.priority);
     add(lagd, "  aggregation key: %u\n  lacp_time: %s\n", lagd->settings.key, lagd->settings.short_timeout ? "fast" : "slow");
     add(lagd, "  aggregator: %u\n  min_links: %u\n  max_links: %u\n", lagd->bundle.aggregator, lagd->settings.min_links,
@@ -87,5 +87,6 @@ static void add_member(struct lagd *lagd, const struct link *link) {
 void write_text(struct lagd *lagd) {
     add_bundle(lagd);
     write_carry_text(lagd);
-    for (uint16_t i = 0; i < lagd->link_count; i++) add_member(lagd, &lagd->links[i]);
+    for (uint16_t i = 0; i < lagd->link_count; i++)
+        if (lagd->links[i].used) add_member(lagd, &lagd->links[i]);
 }

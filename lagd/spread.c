@@ -44,7 +44,7 @@ void start_spreading(struct lagd *lagd) {
     if (!lagd->settings.all_queues) return;
     fault = fault_of_programs(lagd);
     if (fault != 0) stop(REFUSED, "queues=all: no program of an interface, which Linux has from 6.6 on", strerror(fault));
-    own->program = load_program(lagd, "chooser", NULL, 0);
+    own->program = load_program(lagd, "chooser", NULL);
     if (own->program < 0) stop(REFUSED, "queues=all: the kernel takes no program", program_fault());
 }
 

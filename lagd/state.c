@@ -1,5 +1,5 @@
-/* The state that a daemon leaves to the next one: a file beside the status socket, written each second and at the end. It goes with each
- * stop of which the peers are told. */
+/* The state that a daemon leaves to the next one: a file beside the status socket, written each second and at the end. A line is added to it
+ * before the first frame of a conversation goes on another link. It goes with each stop of which the peers are told. */
 #define _GNU_SOURCE
 #include <errno.h>
 #include <fcntl.h>
@@ -13,7 +13,7 @@
 #include "team.h"
 
 /* It rises with each change of the file, and of what programs of the kernel share with the daemon. */
-#define FORM_VERSION 1
+#define FORM_VERSION 2
 #define WAY_ROOM 96
 /* Their end, where the team driver carries. */
 #define OF_TEAM "/team"
@@ -26,6 +26,8 @@
 
 /* What this file keeps for a daemon. */
 struct state_private {
+    int file; /* the state that was written last, or -1 */
+    int members[CONVERSATIONS]; /* the interface of each conversation that it has, or 0 */
     bool over; /* whether the peers are told of the end */
     bool failed; /* whether the last writing did, which has a line */
     char name[NAME_ROOM + 32], new_name[NAME_ROOM + 40];
@@ -33,7 +35,9 @@ struct state_private {
 };
 
 struct state_private *make_state_private(void) {
-    return make_room(sizeof(struct state_private));
+    struct state_private *made = make_room(sizeof *made);
+    made->file = -1;
+    return made;
 }
 
 uint64_t boottime(void) {
@@ -70,8 +74,16 @@ static void write_link(FILE *file, const struct link *link) {
         hex[2 * i] = "0123456789abcdef"[link->lacpdu[i] >> 4];
         hex[2 * i + 1] = "0123456789abcdef"[link->lacpdu[i] & 15];
     }
-    fprintf(file, "link %d %s %" PRIu32 " %d %" PRIu64 " %" PRIu64 " %s\n", link->index, mac_text(link->mac, mac), link->kernel_losses,
-        carried, link->lacpdu_at, link->lacpdus_at[MOST_LACPDUS - 1], hex);
+    fprintf(file, "link %d %s %" PRIu32 " %d %" PRIu64 " %" PRIu64 " %s %u\n", link->index, mac_text(link->mac, mac), link->kernel_losses,
+        carried, link->lacpdu_at, link->lacpdus_at[MOST_LACPDUS - 1], hex, link->view.aggregator);
+}
+
+/* Writes which port has which number. */
+static void write_ports(struct lagd *lagd, FILE *file) {
+    for (uint16_t i = 0; i < lagd->link_count; i++) {
+        const struct link *link = &lagd->links[i];
+        if (link->used) fprintf(file, "port %u %d %s\n", i + 1, link->socket >= 0 ? link->index : 0, link->name);
+    }
 }
 
 /* Writes the interface of each conversation: the one that it leaves, while it is held. */
@@ -80,7 +92,9 @@ static void write_conversations(struct lagd *lagd, FILE *file) {
         struct niw_assignment state;
         uint16_t home = lagd->carry.conversations[number].home;
         if (home == 0 || !ask_state(lagd, home, number, &state) || state.what == NIW_CONVERSATION_FREE) continue;
-        if (state.port > 0 && state.port <= lagd->link_count) fprintf(file, "on %u %d\n", number, lagd->links[state.port - 1].index);
+        if (state.port == 0 || state.port > lagd->link_count) continue;
+        lagd->state->members[number] = lagd->links[state.port - 1].index;
+        fprintf(file, "on %u %d\n", number, lagd->state->members[number]);
     }
 }
 
@@ -92,26 +106,46 @@ static void write_state(struct lagd *lagd, FILE *file) {
     fprintf(file, "bundle %u %u %lld\n", lagd->bundle.state, lagd->bundle.aggregator, (long long)lagd->bundle.changed_at);
     if (carries_data(lagd))
         fprintf(file, "tap %d %d %" PRIu32 " %u\n", tap_index(lagd), is_made(lagd), mtu_of_administrator(lagd), peer_answering(lagd));
+    write_ports(lagd, file);
     for (uint16_t i = 0; i < lagd->link_count; i++)
         if (lagd->links[i].socket >= 0) write_link(file, &lagd->links[i]);
+    memset(lagd->state->members, 0, sizeof lagd->state->members);
     if (carries_data(lagd)) write_conversations(lagd, file);
     fputs("end\n", file);
+}
+
+/* The file of this descriptor, or none for -1, is the state that was written last. */
+static void keep_file(struct state_private *own, int file) {
+    if (own->file >= 0) close(own->file);
+    own->file = file;
 }
 
 /* Puts a whole file in the place of the last one; answers whether it did. */
 static bool replace_file(struct lagd *lagd) {
     struct state_private *own = lagd->state;
-    int fd = openat(folder_file(lagd), own->new_name, O_WRONLY | O_CREAT | O_TRUNC | O_NOFOLLOW | O_CLOEXEC, 0600);
-    FILE *file = fd < 0 ? NULL : fdopen(fd, "w");
+    int fd = openat(folder_file(lagd), own->new_name, O_WRONLY | O_CREAT | O_TRUNC | O_APPEND | O_NOFOLLOW | O_CLOEXEC, 0600);
+    FILE *file = fd < 0 ? NULL : fdopen(fd, "a");
     bool written;
     if (!file) {
         if (fd >= 0) close(fd);
         return false;
     }
     write_state(lagd, file);
-    written = !ferror(file);
-    written = fclose(file) == 0 && written && !lagd->broken;
+    written = fflush(file) == 0 && !ferror(file) && !lagd->broken;
+    keep_file(own, written ? fcntl(fd, F_DUPFD_CLOEXEC, 0) : -1);
+    written = fclose(file) == 0 && own->file >= 0;
     return written && renameat(folder_file(lagd), own->new_name, folder_file(lagd), own->name) == 0;
+}
+
+/* It could not be written: there is none. */
+static void lose_file(struct lagd *lagd) {
+    struct state_private *own = lagd->state;
+    if (!own->failed)
+        (void)say(lagd, LOG_WARNING | ABOUT_HANDOVER, "its state cannot be kept, so the next daemon starts anew: %s", strerror(errno));
+    own->failed = true;
+    keep_file(own, -1);
+    (void)unlinkat(folder_file(lagd), own->new_name, 0);
+    (void)unlinkat(folder_file(lagd), own->name, 0);
 }
 
 /* Writes the state; answers whether it did. Where that fails there is none. */
@@ -122,19 +156,35 @@ bool save_state(struct lagd *lagd) {
         own->failed = false;
         return true;
     }
-    if (!own->failed)
-        (void)say(lagd, LOG_WARNING | ABOUT_HANDOVER, "its state cannot be kept, so the next daemon starts anew: %s", strerror(errno));
-    own->failed = true;
-    (void)unlinkat(folder_file(lagd), own->new_name, 0);
-    (void)unlinkat(folder_file(lagd), own->name, 0);
+    lose_file(lagd);
     return false;
+}
+
+/* The next frame of a conversation goes on this port: a daemon that goes on from here has to know. */
+void keep_port(struct lagd *lagd, uint16_t number, uint16_t port) {
+    struct state_private *own = lagd->state;
+    int index = lagd->links[port - 1].index;
+    char line[32];
+    int length;
+    if (own->file < 0 || own->members[number] == index) return;
+    own->members[number] = index;
+    length = snprintf(line, sizeof line, "on %u %d\n", number, index);
+    if (write(own->file, line, (size_t)length) != length) lose_file(lagd);
 }
 
 /* The peers are told of the end: no daemon goes on from here. */
 void end_state(struct lagd *lagd) {
     struct state_private *own = lagd->state;
+    int emptied;
     own->over = true;
-    (void)unlinkat(folder_file(lagd), own->name, 0);
+    keep_file(own, -1);
+    if (unlinkat(folder_file(lagd), own->name, 0) == 0 || errno == ENOENT) return;
+    emptied = openat(folder_file(lagd), own->name, O_WRONLY | O_TRUNC | O_NOFOLLOW | O_CLOEXEC);
+    if (emptied >= 0)
+        close(emptied);
+    else
+        (void)say(lagd, LOG_ERR | ABOUT_HANDOVER,
+            "its state cannot be removed: %s: remove %s, or start no daemon for as long as a partner is waited for", strerror(errno), own->name);
 }
 
 static bool read_hex(const char *text, uint8_t *octets) {
@@ -152,8 +202,8 @@ static bool read_link(struct lagd *lagd, FILE *file) {
     unsigned octets[6];
     int carried;
     if (lagd->inherited.link_count == NIW_MOST_PORTS) return false;
-    if (fscanf(file, "%d %31s %" SCNu32 " %d %" SCNu64 " %" SCNu64 " %" HEX_LENGTH "s", &link->index, mac, &link->losses, &carried,
-            &link->heard, &link->spoken, hex) != 7 || strlen(hex) != HEX_ROOM - 1 || !read_hex(hex, link->lacpdu))
+    if (fscanf(file, "%d %31s %" SCNu32 " %d %" SCNu64 " %" SCNu64 " %" HEX_LENGTH "s %" SCNu16, &link->index, mac, &link->losses, &carried,
+            &link->heard, &link->spoken, hex, &link->aggregator) != 8 || strlen(hex) != HEX_ROOM - 1 || !read_hex(hex, link->lacpdu))
         return false;
     if (sscanf(mac, "%2x:%2x:%2x:%2x:%2x:%2x", octets, octets + 1, octets + 2, octets + 3, octets + 4, octets + 5) != 6) return false;
     for (size_t i = 0; i < sizeof link->mac; i++) link->mac[i] = (uint8_t)octets[i];
@@ -162,12 +212,33 @@ static bool read_link(struct lagd *lagd, FILE *file) {
     return strcmp(mac, mac_text(link->mac, own)) == 0;
 }
 
+static bool read_port_number(struct lagd *lagd, FILE *file) {
+    struct inherited_port *port = &lagd->inherited.ports[lagd->inherited.port_count];
+    unsigned number;
+    if (lagd->inherited.port_count == NIW_MOST_PORTS) return false;
+    if (fscanf(file, "%u %d %127s", &number, &port->index, port->name) != 3) return false;
+    for (unsigned i = 0; i < lagd->inherited.port_count; i++)
+        if (lagd->inherited.ports[i].number == number || strcmp(lagd->inherited.ports[i].name, port->name) == 0) return false;
+    port->number = (uint16_t)number;
+    lagd->inherited.port_count++;
+    return number > 0 && number <= NIW_MOST_PORTS && port->index >= 0;
+}
+
 static bool read_conversation(struct lagd *lagd, FILE *file) {
     unsigned number;
     int index;
     if (fscanf(file, "%u %d", &number, &index) != 2 || number >= CONVERSATIONS || index <= 0) return false;
     lagd->inherited.members[number] = index;
     return true;
+}
+
+/* Reads the conversations that went to another link since the state was written. The last line may be cut off. */
+static void read_changes(struct lagd *lagd, FILE *file) {
+    unsigned number;
+    int index;
+    char end;
+    while (fscanf(file, " on %u %d%c", &number, &index, &end) == 3 && end == '\n' && number < CONVERSATIONS && index > 0)
+        lagd->inherited.members[number] = index;
 }
 
 static bool read_bundle(struct lagd *lagd, FILE *file) {
@@ -193,6 +264,7 @@ static bool read_rest(struct lagd *lagd, FILE *file) {
             read = fscanf(file, "%d %d %" SCNu32 " %u", &lagd->inherited.tap, &lagd->inherited.persists, &lagd->inherited.mtu,
                 &lagd->inherited.answering) == 4
                 && lagd->inherited.answering <= MUTE;
+        if (strcmp(word, "port") == 0) read = read_port_number(lagd, file);
         if (strcmp(word, "link") == 0) read = read_link(lagd, file);
         if (strcmp(word, "on") == 0) read = read_conversation(lagd, file);
         if (!read) return false;
@@ -210,6 +282,7 @@ static void keep_interfaces(struct lagd *lagd, bool team) {
         end_tap(lagd->inherited.tap);
     for (unsigned i = 0; i < lagd->inherited.link_count; i++) lagd->inherited.links[i].carried = false;
     memset(lagd->inherited.members, 0, sizeof lagd->inherited.members);
+    lagd->inherited.port_count = 0;
     lagd->inherited.bundle = (struct bundle){0};
     lagd->inherited.answering = NOT_ASKED;
     lagd->inherited.tap = lagd->inherited.persists = 0;
@@ -225,6 +298,7 @@ static const char *read_state(struct lagd *lagd, FILE *file) {
     if (fscanf(file, " boot %63s way %95s", boot, given) != 2) return "it is cut off";
     if (strcmp(boot, boot_id(lagd)) != 0) return "it is of another boot";
     if (!read_rest(lagd, file)) return "it is cut off, or wrong";
+    read_changes(lagd, file);
     if (strcmp(given, way(lagd)) != 0) keep_interfaces(lagd, is_way_of_team(given));
     return NULL;
 }

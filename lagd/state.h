@@ -6,19 +6,29 @@
 
 /* Of a link. Times are milliseconds of CLOCK_BOOTTIME. */
 struct inherited_link {
-    int index;       /* of the interface */
-    uint8_t mac[6];  /* of the interface */
-    uint32_t losses; /* how often its carrier had gone */
-    bool carried;    /* whether the port distributed, and so has an LACPDU: */
-    uint64_t heard;  /* when that came */
-    uint64_t spoken; /* when the last one went */
+    int index;           /* of the interface */
+    uint8_t mac[6];      /* of the interface */
+    uint32_t losses;     /* how often its carrier had gone */
+    uint16_t aggregator; /* that the port was in */
+    bool carried;        /* whether the port distributed, and so has an LACPDU: */
+    uint64_t heard;      /* when that came */
+    uint64_t spoken;     /* when the last one went */
     uint8_t lacpdu[NIW_FRAME];
+};
+
+/* Of a port: its number, its interface, or 0 where that was missing, and its name. */
+struct inherited_port {
+    uint16_t number;
+    int index;
+    char name[NAME_ROOM];
 };
 
 struct inherited {
     bool others; /* whether it is of other settings, so that only the interfaces are told */
     unsigned link_count;
     struct inherited_link links[NIW_MOST_PORTS];
+    unsigned port_count;
+    struct inherited_port ports[NIW_MOST_PORTS];
     uint64_t written;             /* when it was written, in milliseconds of CLOCK_BOOTTIME */
     uint32_t marker;              /* the identifier of the next one */
     struct bundle bundle;         /* its state, aggregator and time of the last change */

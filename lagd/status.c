@@ -29,7 +29,7 @@ struct caller {
     unsigned ticks; /* that are left for the question */
     bool watches, json;
     size_t length;
-    char question[16];
+    char question[QUESTION_ROOM];
     char *rest; /* what is still to be sent of its answer, behind `sent` octets; or NULL */
     size_t sent, answer_length;
 };
@@ -104,12 +104,13 @@ static void take_caller(struct lagd *lagd, int fd) {
     *place = (struct caller){.fd = fd, .user = who.uid, .ticks = PATIENCE};
 }
 
-/* Takes connections, in the order in which they came. */
+/* Takes connections, in the order in which they came. Those for which there is no room now are taken at the next tick. */
 void take_callers(struct lagd *lagd) {
     struct status_private *own = lagd->status;
     while (own->left_in_tick > 0) {
         int fd = accept4(own->listener, NULL, NULL, SOCK_NONBLOCK | SOCK_CLOEXEC);
-        if (fd < 0) return;
+        if (fd < 0 && (errno == EAGAIN || errno == EINTR || errno == ECONNABORTED)) return;
+        if (fd < 0) break; /* without a file for it, it waits for the next tick */
         own->left_in_tick--;
         take_caller(lagd, fd);
     }
@@ -130,10 +131,34 @@ static void send_rest(struct lagd *lagd, struct caller *caller) {
         close_caller(caller);
 }
 
-/* Answers a question, a word of one line. */
+/* Whether a question is one that changes something. */
+static bool is_order(const char *asked) {
+    static const char *const orders[] = {"add ", "remove ", "removed ", "hold ", "release "};
+    for (size_t i = 0; i < sizeof orders / sizeof *orders; i++)
+        if (strncmp(asked, orders[i], strlen(orders[i])) == 0) return true;
+    return false;
+}
+
+/* Does what root asks for, and tells what became of it. */
+static void obey(struct lagd *lagd, struct caller *caller) {
+    char answer[ORDER_ROOM];
+    if (caller->user != 0) {
+        refuse(caller->fd, "root alone may change a bundle");
+    } else {
+        answer_order(lagd, caller->question, answer);
+        (void)send(caller->fd, answer, strlen(answer), MSG_NOSIGNAL | MSG_DONTWAIT);
+    }
+    close_caller(caller);
+}
+
+/* Answers a question, a word of one line, or an order. */
 static void answer_caller(struct lagd *lagd, struct caller *caller) {
     const char *asked = caller->question;
     unsigned watching = count_of(lagd, caller->user, true);
+    if (is_order(asked)) {
+        obey(lagd, caller);
+        return;
+    }
     caller->watches = strcmp(asked, "watch") == 0 || strcmp(asked, "watch-json") == 0;
     caller->json = strcmp(asked, "watch-json") == 0;
     if (caller->watches && watching >= MOST_WATCHERS) {

@@ -105,11 +105,29 @@ void return_stored(struct lagd *lagd, const char *kind, int number, int fd) {
     close(fd);
 }
 
+/* Whether a file keeps a program that one in use keeps, too: the manager may hand over the same file twice. */
+static bool is_twin(struct lagd *lagd, int fd) {
+    uint32_t number = program_keeper(fd);
+    for (size_t i = 0; number != 0 && i < lagd->store->count; i++)
+        if (lagd->store->stored[i].taken >= 0 && program_keeper(lagd->store->stored[i].taken) == number) return true;
+    return false;
+}
+
+/* The manager keeps again what is in use, where it was told to forget all files of a name. */
+static void put_again(struct lagd *lagd, const char *name) {
+    char text[NAME_OF_FILE + 32];
+    snprintf(text, sizeof text, "FDSTORE=1\nFDPOLL=0\nFDNAME=%s", name);
+    for (size_t i = 0; i < lagd->store->count; i++)
+        if (lagd->store->stored[i].taken >= 0 && strcmp(lagd->store->stored[i].name, name) == 0)
+            (void)sd_pid_notify_with_fds(0, 0, text, &lagd->store->stored[i].taken, 1);
+}
+
 static void drop_at(struct lagd *lagd, size_t place) {
     struct store_private *own = lagd->store;
     if (own->stored[place].fd < 0) return;
     (void)sd_notifyf(0, "FDSTOREREMOVE=1\nFDNAME=%s", own->stored[place].name);
-    detach_program(own->stored[place].fd);
+    put_again(lagd, own->stored[place].name);
+    if (!is_twin(lagd, own->stored[place].fd)) detach_program(own->stored[place].fd);
     close(own->stored[place].fd);
     own->stored[place].fd = -1;
 }

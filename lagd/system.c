@@ -10,6 +10,7 @@
 struct system_private {
     uint64_t ticks;
     struct timespec began;
+    uint16_t keys[NIW_MOST_PORTS]; /* of the aggregators */
 };
 
 struct system_private *make_system_private(void) {
@@ -47,37 +48,70 @@ static uint32_t random_marker(void) {
     return random % INT32_MAX + 1;
 }
 
-/* Takes a port out of use, whatever its link does, or lets it be used again; answers whether that is done. */
+/* Holds a port that nothing may use, whatever its link does, or lets it go; answers whether that is done. */
+bool apply_hold(struct lagd *lagd, uint16_t port) {
+    const struct link *link = &lagd->links[port - 1];
+    bool hold = (link->held || link->leaving) && !link->emptying;
+    return is_done(lagd, niw_hold(&lagd->own_system, port, hold || is_halted(lagd)), "niw_hold");
+}
+
+/* The file takes a port out of use, or lets it be used again; answers whether that is done. */
 bool hold_port(struct lagd *lagd, uint16_t port, bool hold) {
-    if (!is_done(lagd, niw_hold(&lagd->own_system, port, hold), "niw_hold")) return false;
     lagd->links[port - 1].held = hold;
-    return true;
+    return begin_hold(lagd, port);
+}
+
+/* Puts a system into the empty handle, whose ports have their settings and keys of now: a warm one, where some of them were saved. */
+static struct niw_made put_system(struct lagd *lagd, const struct niw_saved *saved, size_t count) {
+    const struct niw_config *config = &lagd->settings.config;
+    struct niw_port ports[NIW_MOST_PORTS];
+    for (uint16_t i = 0; i < lagd->slot_count; i++) ports[i] = lagd->links[i].settings;
+    if (count == 0) return niw_new(&lagd->own_system, config, lagd->system->keys, lagd->aggregator_count, ports, lagd->slot_count);
+    return niw_resume(&lagd->own_system, config, lagd->system->keys, lagd->aggregator_count, ports, lagd->slot_count, saved, count);
+}
+
+/* Holds the ports that are to be held. */
+static void hold_ports(struct lagd *lagd) {
+    for (uint16_t port = 1; port <= lagd->link_count; port++)
+        if (lagd->links[port - 1].held && !apply_hold(lagd, port)) return;
+}
+
+/* Drops a port from those that were saved; answers how many are left. One that is not among them leaves none. */
+static size_t drop_saved(struct niw_saved *saved, size_t count, uint64_t port) {
+    size_t at = 0;
+    while (at < count && saved[at].port != port) at++;
+    if (at == count) return 0;
+    memmove(saved + at, saved + at + 1, (count - at - 1) * sizeof *saved);
+    return count - 1;
+}
+
+/* Makes the system anew, with these ports as they were. One that the library refuses comes up as the others do. Answers how many are back. */
+size_t resume_system(struct lagd *lagd, struct niw_saved *saved, size_t count) {
+    struct niw_made made;
+    if (count == 0 || !is_done(lagd, niw_free(&lagd->own_system), "niw_free")) return 0;
+    for (;;) {
+        made = put_system(lagd, saved, count);
+        if (made.status != NIW_STALE && made.status != NIW_NOT_DISTRIBUTING) break;
+        count = drop_saved(saved, count, made.place);
+    }
+    if (!is_done(lagd, made.status, "niw_resume")) return 0;
+    hold_ports(lagd);
+    return count;
 }
 
 /* Makes the system of the settings. */
 void make_system(struct lagd *lagd) {
-    struct niw_port ports[NIW_MOST_PORTS];
-    uint16_t keys[NIW_MOST_PORTS];
     clock_gettime(CLOCK_MONOTONIC, &lagd->system->began);
     lagd->settings.config.first_marker = first_marker_left(lagd);
     if (lagd->settings.config.first_marker == 0) lagd->settings.config.first_marker = random_marker();
+    choose_slots(lagd);
+    if (!place_ports(lagd, &lagd->settings)) stop(WRONG_WORD, "too many interfaces", lagd->settings.name);
+    keep_left_ports(lagd);
     lagd->link_count = lagd->settings.port_count;
-    for (uint16_t i = 0; i < lagd->link_count; i++) {
-        ports[i] = port_of(&lagd->settings, (uint16_t)(i + 1));
-        lagd->links[i].name = lagd->settings.ports[i].name;
-        lagd->links[i].settings = ports[i];
-        lagd->links[i].key = ports[i].key;
-        lagd->links[i].socket = lagd->links[i].lock = lagd->links[i].carrier_file = -1;
-        lagd->links[i].lines = MOST_LINES;
-        lagd->links[i].changed = true;
-        forget_partner(lagd, &lagd->links[i]);
-    }
-    make_keys(lagd, keys);
-    if (!is_done(lagd, niw_new(&lagd->own_system, &lagd->settings.config, keys, lagd->aggregator_count, ports, lagd->link_count).status,
-        "niw_new"))
-        return;
-    for (uint16_t port = 1; port <= lagd->link_count; port++)
-        if (wants_hold(&lagd->settings, port) && !hold_port(lagd, port, true)) return;
+    for (uint16_t port = 1; port <= NIW_MOST_PORTS; port++) begin_link(lagd, port);
+    make_keys(lagd, lagd->system->keys);
+    if (!is_done(lagd, put_system(lagd, NULL, 0).status, "niw_new")) return;
+    hold_ports(lagd);
     take_views(lagd);
 }
 
@@ -117,7 +151,7 @@ void set_link(struct lagd *lagd, uint16_t port, bool up) {
     link->unsent = false;
     link->changed = true;
     if (!up) {
-        link->counts[LOSSES]++;
+        if (!is_silent(lagd)) link->counts[LOSSES]++;
         forget_partner(lagd, link);
     }
     if (!up) lose_data(lagd, port);
@@ -171,8 +205,16 @@ void pass_tick(struct lagd *lagd) {
     if (!is_done(lagd, niw_tick(&lagd->own_system), "niw_tick")) return;
     watch_churn(lagd);
     for (uint16_t i = 0; i < lagd->link_count; i++) pass_tick_of(&lagd->links[i]);
+    pass_halt_tick(lagd);
+    pass_leaving_tick(lagd);
     pass_carry_tick(lagd);
     if (++lagd->system->ticks % SECOND == 0) pass_second(lagd);
+}
+
+/* A port is about to leave its aggregator: its peer has to be told, if it has one. */
+void expect_lacpdu(struct link *link) {
+    link->to_tell = link->up && link->view.mux_state >= NIW_MUX_ATTACHED;
+    link->sent_before_end = link->counters.lacpdus_sent;
 }
 
 /* Takes each port out of its aggregator, by a key that none has, and so tells the peers that they have to stop. */
@@ -180,11 +222,10 @@ void tell_end(struct lagd *lagd) {
     struct niw_change leave = {.key = free_key(lagd, 0, NULL)};
     for (uint16_t port = 1; port <= lagd->link_count; port++) {
         struct link *link = &lagd->links[port - 1];
-        bool has_partner = link->up && link->view.mux_state >= NIW_MUX_ATTACHED;
-        link->sent_before_end = link->counters.lacpdus_sent;
+        expect_lacpdu(link);
         leave.priority = link->settings.priority;
         leave.aggregatable = link->settings.aggregatable;
-        link->to_tell = is_done(lagd, niw_configure(&lagd->own_system, port, &leave).status, "niw_configure") && has_partner;
+        link->to_tell = is_done(lagd, niw_configure(&lagd->own_system, port, &leave).status, "niw_configure") && link->to_tell;
     }
     send_due(lagd);
 }
@@ -200,7 +241,7 @@ bool end_is_told(struct lagd *lagd) {
 /* Says of each port that the daemon has ended, and frees the system; answers whether the library never refused a call. */
 bool end_system(struct lagd *lagd) {
     for (uint16_t i = 0; i < lagd->link_count; i++)
-        (void)say(lagd, LOG_NOTICE | ABOUT_END, "port %u %s: ended", i + 1, lagd->links[i].name);
+        if (lagd->links[i].used) (void)say(lagd, LOG_NOTICE | ABOUT_END, "port %u %s: ended", i + 1, lagd->links[i].name);
     end_bundle(lagd);
     return is_done(lagd, niw_free(&lagd->own_system), "niw_free") && !lagd->broken;
 }

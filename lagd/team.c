@@ -24,6 +24,7 @@
 struct team_private {
     bool opened;
     bool made; /* whether a daemon made the device, so that it goes at the end */
+    bool is_new; /* whether this one did */
     bool taken[NIW_MOST_PORTS]; /* whether the interface of a port is a port of the device */
     int lock, locked; /* by which no other lagd has the device, whatever members are there; and its index */
 };
@@ -47,6 +48,11 @@ bool has_made_team(struct lagd *lagd) {
     return lagd->team->made;
 }
 
+/* Whether this daemon made the device, so that nobody has put a port there yet. */
+bool is_team_new(struct lagd *lagd) {
+    return lagd->team->is_new;
+}
+
 static void need(bool done, const char *what) {
     if (!done) stop(REFUSED, what, strerror(errno));
 }
@@ -64,7 +70,8 @@ static uint32_t least_mtu(struct lagd *lagd) {
     uint32_t least = 0;
     for (uint16_t i = 0; i < lagd->settings.port_count; i++) {
         struct interface member;
-        if (ask_interface(lagd, 0, lagd->settings.ports[i].name, &member) && member.mtu != 0 && (least == 0 || member.mtu < least))
+        const char *name = lagd->settings.ports[i].name;
+        if (name[0] && ask_interface(lagd, 0, name, &member) && member.mtu != 0 && (least == 0 || member.mtu < least))
             least = member.mtu;
     }
     return least == 0 ? ETH_DATA_LEN : least;
@@ -91,7 +98,8 @@ static bool has_own_ports(struct lagd *lagd, const struct team_now *now) {
         bool own = false;
         for (uint16_t i = 0; i < lagd->settings.port_count && !own; i++) {
             struct interface member;
-            own = ask_interface(lagd, 0, lagd->settings.ports[i].name, &member) && member.index == now->ports[at];
+            own = lagd->settings.ports[i].name[0] && ask_interface(lagd, 0, lagd->settings.ports[i].name, &member)
+                && member.index == now->ports[at];
         }
         all = all && own;
     }
@@ -108,7 +116,8 @@ static void take_device(struct lagd *lagd, const struct interface *device, const
     need(read_team(lagd, device->index, &now), lagd->settings.carry);
     if (strcmp(now.mode, MODE) != 0 && strcmp(now.mode, NO_MODE) != 0)
         stop(REFUSED, lagd->settings.carry, "a team device of another mode is there");
-    if (!has_own_ports(lagd, &now) && !known) stop(REFUSED, lagd->settings.carry, "a team device with ports of others is there");
+    if (!lagd->settings.follow && !has_own_ports(lagd, &now) && !known)
+        stop(REFUSED, lagd->settings.carry, "a team device with ports of others is there");
     lagd->team->made = known && lagd->inherited.persists;
     need(known || set_address(lagd, device->index, mac), lagd->settings.carry);
     use_team_device(lagd, device->index);
@@ -151,7 +160,7 @@ void open_team(struct lagd *lagd, const char *name, const uint8_t *mac) {
     } else {
         need(make_team_device(lagd, name, mac, least_mtu(lagd)) && ask_interface(lagd, 0, name, &device), name);
         lock_device(lagd, device.index); /* another one may have taken it at once */
-        own->made = true;
+        own->made = own->is_new = true;
         use_team_device(lagd, device.index);
     }
     need(read_team(lagd, tap_index(lagd), &now), "team");
@@ -212,7 +221,7 @@ bool open_team_port(struct lagd *lagd, struct link *link) {
     if (!ask_interface(lagd, link->index, NULL, &port) || !read_tap_mac(lagd, mac)) return false;
     up = (port.flags & IFF_UP) != 0;
     errno = EBUSY;
-    if (port.master != 0 && port.master != tap_index(lagd)) return false;
+    if (port.master != tap_index(lagd) && (port.master != 0 || !may_put_in(lagd, link))) return false;
     done = port.master != 0 || make_port(lagd, link->index, up);
     own->taken[link - lagd->links] = done && (memcmp(port.mac, mac, sizeof mac) == 0 || give_address(lagd, link->index, mac));
     forget_port(lagd, link->settings.number);

@@ -43,6 +43,7 @@ size_t make_team_hash(struct lagd *lagd, struct sock_filter steps[static MOST_HA
 /* team.c */
 bool carries_by_team(struct lagd *lagd);
 bool has_made_team(struct lagd *lagd);
+bool is_team_new(struct lagd *lagd);
 bool has_team_mode(struct lagd *lagd);
 void open_team(struct lagd *lagd, const char *name, const uint8_t *mac);
 void end_team(struct lagd *lagd);

@@ -106,7 +106,7 @@ static void take_one(struct lagd *lagd, const struct nlmsghdr *message, void *in
 static struct disciplines read_disciplines(struct lagd *lagd, int index) {
     union message question = question_of(RTM_GETQDISC, NLM_F_DUMP, index, 0, 0);
     struct disciplines seen = {index, count_entries(index, "tx-"), true, true, 0};
-    if (!ask_netlink(lagd, NETLINK_ROUTE, &question, take_one, &seen)) seen.in_order = seen.changeable = false;
+    if (!ask_list(lagd, NETLINK_ROUTE, &question, take_one, &seen, sizeof seen)) seen.in_order = seen.changeable = false;
     return seen;
 }
 
@@ -196,7 +196,7 @@ static void take_filter(struct lagd *lagd, const struct nlmsghdr *message, void 
 static bool has_own_alone(struct lagd *lagd, int index, uint32_t direction) {
     union message question = question_of(RTM_GETTFILTER, NLM_F_DUMP, index, TC_H_MAKE(TC_H_CLSACT, direction), 0);
     bool alone = true;
-    return ask_netlink(lagd, NETLINK_ROUTE, &question, take_filter, &alone) && alone;
+    return ask_list(lagd, NETLINK_ROUTE, &question, take_filter, &alone, sizeof alone) && alone;
 }
 
 /* The classifier goes: with its place, if the daemon made that and nobody else uses it by now. */

@@ -25,7 +25,6 @@ struct frame {
 /* What the daemon sets before a program is loaded. */
 const volatile uint64_t way = HASH_LAYER2; /* of enum hash */
 const volatile uint64_t hash_seed = 0;
-const volatile uint64_t port = 0; /* of the receiver */
 const volatile uint64_t all_queues = 0; /* whether members keep their queues */
 
 struct {
@@ -51,6 +50,14 @@ struct {
     __type(key, uint32_t);
     __type(value, struct fast_host);
 } hosts SEC(".maps");
+
+struct {
+    __uint(type, BPF_MAP_TYPE_ARRAY);
+    __uint(map_flags, BPF_F_MMAPABLE);
+    __uint(max_entries, PLACES);
+    __type(key, uint32_t);
+    __type(value, struct fast_place);
+} places SEC(".maps");
 
 static __always_inline bool read_octets(const struct frame *frame, uint64_t at, void *octets, uint32_t count) {
     return bpf_skb_load_bytes(frame->skb, (uint32_t)at, octets, count) == 0;
@@ -179,15 +186,23 @@ static __always_inline bool is_local(struct __sk_buff *skb) {
 }
 
 /* A frame of the slow protocols: a marker goes up behind the data, marked with the port, while data goes up. All else goes on. */
-static __always_inline int take_control(struct __sk_buff *skb, const struct fast_member *member) {
+static __always_inline int take_control(struct __sk_buff *skb, const struct fast_member *member, uint32_t port) {
     const struct frame frame = {skb};
     uint8_t subtype;
     uint64_t up_to;
     if (!read_octets(&frame, SUBTYPE_AT, &subtype, sizeof subtype) || subtype != SUBTYPE_MARKER || !member) return GO_ON;
     up_to = now_in(&member->up_to);
     if (up_to == 0) return GO_ON;
-    skb->mark = (uint32_t)port;
+    skb->mark = port;
     return (int)bpf_redirect((uint32_t)up_to, BPF_F_INGRESS);
+}
+
+/* The port of the member where a frame came in, or 0. */
+static __always_inline uint32_t find_port(const struct __sk_buff *skb) {
+    const uint32_t key = member_place(skb->ifindex);
+    const struct fast_place *place = bpf_map_lookup_elem(&places, &key);
+    const uint64_t word = place ? now_in(&place->word) : 0;
+    return (uint32_t)(word >> 32) == skb->ifindex ? (uint32_t)word : 0;
 }
 
 /* Where frames come in at a member: a frame of data goes up, if it has a right length and its port collects. A tag of a VLAN stands beside
@@ -195,10 +210,10 @@ static __always_inline int take_control(struct __sk_buff *skb, const struct fast
 SEC("tc")
 int receiver(struct __sk_buff *skb) {
     const uint16_t type = bpf_ntohs((uint16_t)skb->protocol);
-    const uint32_t key = (uint32_t)port - 1;
+    const uint32_t port = find_port(skb), key = port - 1;
     struct fast_member *member = bpf_map_lookup_elem(&members, &key);
     uint64_t up_to;
-    if (!skb->vlan_present && type == ETH_P_SLOW) return take_control(skb, member);
+    if (!skb->vlan_present && type == ETH_P_SLOW) return take_control(skb, member, port);
     if (is_local(skb)) return GO_ON;
     if (!member) return LOSE;
     if (skb->gso_size == 0 && is_too_long(skb, 0, type, 0)) {

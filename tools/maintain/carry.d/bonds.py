@@ -112,12 +112,16 @@ class Member(TypedDict):
     """What is read here of a port in a status."""
 
     interface: str
+    port: int
+    status: str
+    partner: dict[str, object]
     data: dict[str, int]
 
 
 class Status(TypedDict):
     """What is read here of a status."""
 
+    state: str
     carrying: int
     carry: Carry
     ports: list[Member]
@@ -131,6 +135,8 @@ def counted_of_members(told: Status, name: str) -> int:
 class End(Daemon):
     """A daemon that carries the data of lag0."""
 
+    sets_up = True  # whether the device is set up as it is started
+
     def __init__(self, programs: Programs, space: str, *, program: str = "", options: Sequence[str] = (), links: int = 2,
                  before: Sequence[str] = (), names: Sequence[str] = (), files: Sequence[int] = ()) -> None:
         ours = space == OURS
@@ -140,7 +146,8 @@ class End(Daemon):
                          options=given, before=before, files=files)
         if not within(COMES_UP, lambda: inside(space, "ip", "link", "show", DEVICE).returncode == 0):
             raise Failed(f"there is a device {DEVICE}", self.printed())
-        ip(space, "link", "set", DEVICE, "up")
+        if self.sets_up:
+            ip(space, "link", "set", DEVICE, "up")
 
     def told(self) -> Status:
         """The whole status; a daemon that has just begun has none yet."""

@@ -269,3 +269,25 @@ def fast_unwaited(programs: Programs) -> None:
         check(within(4, lambda: ours.process.poll() is not None), "the daemon ends", ours.printed())
         check("fast: the kernel waits no longer for its programs" in ours.printed(), "with a line", ours.printed())
         check(within(2.5, lambda: not theirs.carry()["carrier"]), "and its peer is told", theirs.text())
+
+
+def drop_slow_frames() -> str:
+    """An administrator loses frames of the slow protocols that come in at the device of the other end; answers by what."""
+    rules = f"table netdev t {{ chain c {{ type filter hook ingress device {DEVICE} priority 0; ether type 0x8809 counter drop; }}; }}"
+    if shutil.which("nft") and inside(THEIRS, "nft", rules).returncode == 0:
+        return "nftables"
+    inside(THEIRS, "tc", "qdisc", "add", "dev", DEVICE, "clsact")
+    if inside(THEIRS, "tc", "filter", "add", "dev", DEVICE, "ingress", "pref", "1", "protocol", "0x8809", "matchall", "action", "drop").returncode:
+        raise Skipped("neither nft nor tc filters what comes in")
+    return "tc"
+
+
+def fast_filtered(programs: Programs) -> None:
+    """Filters of an administrator at the device of the other end, and a bridge above it, take none of its markers away."""
+    with fast_pair(programs, delays=()) as (_, ours, theirs):
+        by = drop_slow_frames()
+        outcome = run_flows(programs, 8, every(1, 7, move_all(ours)))
+        check(outcome.lost() == 0, f"{by} loses frames of the slow protocols at {DEVICE}: none of {outcome.sent:,} frames is lost", outcome, ours.text(), theirs.text())
+        check_order(outcome, f"{by} loses frames of the slow protocols", ours.text())
+        carry = ours.carry()
+        check(carry["markers"] == "answered" and carry["forced"] == 0 and carry["moves"] >= 6 * FLOWS, f"each of {carry['moves']} moves was answered", ours.text(), ours.printed())

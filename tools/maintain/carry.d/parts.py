@@ -13,9 +13,12 @@ from all_queues import PARTS as ALL_QUEUES
 from announced import announced
 from bonds import (COMES_BACK, COMES_UP, DEVICE, FLOWS, PEERS, RIGHTS, Cables, Carry, End, Event, Programs, ask_gro, cables, check_end,
                    check_order, check_whole, every, lay_direct, move_all, pair, run_flows)
-from fast_parts import (fast, fast_away, fast_ends, fast_hash, fast_overload, fast_refused, fast_requeued, fast_troubles, fast_unfit,
+from changing import PARTS as CHANGING
+from fast_parts import (fast, fast_away, fast_ends, fast_filtered, fast_hash, fast_overload, fast_refused, fast_requeued, fast_troubles, fast_unfit,
                         fast_unwaited, offload)
 from forged import PARTS as FORGED
+from guests import PARTS as GUESTS
+from halted import PARTS as HALTED
 from member_parts import PARTS as MEMBERS
 from models import model
 from restarting import PARTS as RESTARTS
@@ -315,9 +318,12 @@ def rights(programs: Programs) -> None:
 PARTS: dict[str, Callable[[Programs], None]] = {it.__name__: it for it in
     (rows, moves, cuts, silence, switches, away, restarts, stops, overload, hashes, mute, frames, rights, open_vswitch, offload,
      model, fast, fast_hash, fast_troubles, fast_overload, fast_refused, fast_requeued, fast_unfit, fast_unwaited, fast_away,
-     fast_ends, fast_outage, fast_start, fast_moved, fast_queues, gone, administered, long_frames,
+     fast_ends, fast_filtered, fast_outage, fast_start, fast_moved, fast_queues, gone, administered, long_frames,
      queues, segments, speed, announced)}
+PARTS.update(CHANGING)
 PARTS.update(FORGED)
+PARTS.update(GUESTS)
+PARTS.update(HALTED)
 PARTS.update(MEMBERS)
 PARTS.update(RESTORING)
 PARTS.update(ABOVE)

@@ -31,6 +31,12 @@ RESTARTS = 0.2
 WRITTEN = 1.2
 # How long the longest gap of a flow may be in milliseconds, where nothing is lost, on a machine that has other things to do.
 SHORT_GAP = 1000
+# Links of which one is slower than the other one by nearly a flight, in microseconds; when a daemon is killed, and how many seconds before that
+# each conversation is to move: a state is written each second.
+UNEQUAL = (0, 700000)
+LONG_FLIGHT = ("--flight", "800")
+KILLS = (3.0, 8.0, 13.0)
+MOVES_AHEAD = 0.2
 # What a daemon that is killed had in hand at most: what it had read and not sent.
 IN_HAND = 4 * 64
 # Frames a second of which no more wait than the kernel keeps for a host, 4096, while systemd starts the daemon.
@@ -41,12 +47,14 @@ HIGH = 200
 FORGETFUL = ("env", "NOTIFY_SOCKET=@nobody")
 UNPRIVILEGED = ("setpriv", "--bounding-set", "-all,+net_raw", "--inh-caps", "-all", "--")
 # How many tables the programs of the kernel share with the daemon.
-TABLES = 3
+TABLES = 4
 WAYS: dict[str, tuple[str, ...]] = {"plain": (), "offload": ("--offload",), "fast": ("--fast",)}
 
 
 class Manager:
     """What a manager of services does: it keeps the files that a daemon stores, and hands them to the next one."""
+
+    copies = 1  # of each file that it hands over: systemd joins the same ones where the kernel can compare files
 
     def __init__(self, folder: str) -> None:
         self.path = os.path.join(folder, "manager")
@@ -84,11 +92,11 @@ class Manager:
 
     def before(self) -> list[str]:
         """What stands before the words of a daemon, so that it gets what is kept."""
-        names = ":".join(self.files)
+        names, files = list(self.files) * self.copies, list(self.files.values()) * self.copies
         text = f"export NOTIFY_SOCKET={self.path} FDSTORE={HIGH}; "
         if self.files:
-            text += f"export LISTEN_PID=$$ LISTEN_FDS={len(self.files)} LISTEN_FDNAMES={names}; "
-        moved = " ".join(f"{3 + place}<&{file}-" for place, file in enumerate(self.files.values()))
+            text += f"export LISTEN_PID=$$ LISTEN_FDS={len(names)} LISTEN_FDNAMES={':'.join(names)}; "
+        moved = " ".join([*(f"{3 + place}<&{file}" for place, file in enumerate(files)), *(f"{file}<&-" for file in self.files.values())])
         return ["bash", "-c", f'{text} exec "$@" {moved}', "bash"]
 
     def drop(self) -> None:
@@ -105,9 +113,9 @@ class Manager:
 class Kept(End):
     """An end whose daemon is started again; with a manager, that one keeps its files."""
 
-    def __init__(self, programs: Programs, space: str, options: Sequence[str], manager: Manager | None = None) -> None:
+    def __init__(self, programs: Programs, space: str, options: Sequence[str], manager: Manager | None = None, members: Sequence[str] = ()) -> None:
         self.programs, self.at, self.options, self.manager = programs, space, options, manager
-        self.members: Sequence[str] = ()
+        self.members = members
         self.launch()
 
     def given(self) -> tuple[Sequence[str], list[int]]:
@@ -138,12 +146,12 @@ class Kept(End):
 
 @contextlib.contextmanager
 def managed(programs: Programs, options: Sequence[str], *, space: str = OURS, has_manager: bool = True,
-            queues: int = 1) -> Iterator[tuple[Kept, End]]:
+            queues: int = 1, delays: Sequence[int] = ()) -> Iterator[tuple[Kept, End]]:
     """Two ends whose links all carry; the daemon of the first one is started again."""
     manager = Manager(programs.folder) if has_manager else None
     ends: list[End] = []
     try:
-        with cables(programs, (), queues):
+        with cables(programs, delays, queues):
             kept = Kept(programs, space, options, manager)
             ends += [kept, End(programs, THEIRS if space == OURS else OURS, options=options)]
             ip(space, "address", "add", ADDRESS, "dev", DEVICE)
@@ -203,6 +211,16 @@ def stay(programs: Programs) -> None:
         check(len(set(moved) - set(picked)) >= FLOWS and places(kept) == moved, f"{FLOWS} conversations that had moved stay", picked, moved, kept.text())
         carry = kept.carry()
         check(carry["moves"] == carry["forced"] == carry["markers_sent"] == 0, "with no marker and no move", kept.text())
+
+
+def killed_in_moves(programs: Programs) -> None:
+    """A daemon that was killed right behind moves goes on where each conversation was then: its frames are still on the slower link."""
+    with managed(programs, [*WAYS["plain"], *LONG_FLIGHT], delays=UNEQUAL) as (kept, _):
+        events: list[tuple[float, Callable[[], None]]] = []
+        for kill in KILLS:
+            events += [(kill - MOVES_AHEAD, move_all(kept)), (kill, partial(kept.again, signal.SIGKILL))]
+        outcome = run_flows(programs, KILLS[-1] + 3, events, rate=SLOW_RATE)
+        check_order(outcome, f"plain, killed {len(KILLS)} times behind moves", kept.text(), kept.printed()[-2000:])
 
 
 def another_hash(programs: Programs) -> None:
@@ -311,6 +329,24 @@ def change_between(programs: Programs, words: Sequence[str]) -> None:
 def handover_changes(programs: Programs) -> None:
     change_between(programs, WAYS["plain"])
     change_between(programs, WAYS["fast"])
+
+
+def handed_twice(programs: Programs) -> None:
+    """A manager hands over each file twice, as where the kernel cannot compare files: what is in use goes on."""
+    for name in "plain", "fast":
+        with managed(programs, WAYS[name]) as (kept, peer):
+            time.sleep(1)
+            manager, before = kept.manager, (seen(peer), device_number())
+            if not manager:
+                raise Failed("there is a manager")
+            manager.copies = 2
+            for turn in "first", "second":
+                outcome = flows_through(programs, lambda: kept.again(signal.SIGUSR1))
+                check_unseen(f"{name}, {turn} restart", kept, peer, before, outcome)
+                check(outcome.lost() <= IN_HAND, f"{name}, {turn} restart: {outcome.lost()} of {outcome.sent:,} frames are lost", outcome, kept.text(), kept.printed()[-2000:])
+            manager.settle()
+            check("tap" in " ".join(manager.files), f"{name}: the manager keeps what is in use", manager.files)
+            kept.ends("the daemon")
 
 
 def is_known(kept: Kept) -> bool:
@@ -473,5 +509,5 @@ def print_restarts(programs: Programs) -> None:
     check(all(cells[2] == "0" for cells in rows if "handed over" in cells[0]), "a daemon that hands over loses no frame")
 
 
-PARTS = {it.__name__: it for it in (handover_plain, handover_offload, handover_fast, handover_alone, handover_changes, handover_released,
-                                   handover_elsewhere, handover_old_kernel, handover_unit)}
+PARTS = {it.__name__: it for it in (handover_plain, handover_offload, handover_fast, handover_alone, handover_changes, handover_released, killed_in_moves,
+                                   handover_elsewhere, handover_old_kernel, handover_unit, handed_twice)}

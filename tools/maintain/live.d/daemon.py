@@ -99,6 +99,12 @@ class Daemon:
         check(self.status() == 0, f"{signal.Signals(by).name} ends {name} with status 0", self.printed())
 
 
+def set_up(daemon: Daemon, device: str) -> None:
+    """Sets the device of a daemon up, as soon as it is there: LACP runs while it is. One that is refused has none."""
+    up = lambda: inside(daemon.space, "ip", "link", "set", device, "up").returncode == 0
+    within(ENDS, lambda: up() or daemon.process.poll() is not None)
+
+
 def not_built() -> NoReturn:
     """A program that no part of these wants."""
     raise Skipped("it is not built here")
@@ -125,6 +131,9 @@ class Part:
     def start(self, space: str, system: str, key: str, *names: str, **more: Any) -> Daemon:
         daemon = Daemon(self.program, self.folder, space, system, key, *names, **more)
         self.running.append(daemon)
+        options = list(more.get("options", ()))
+        if "--carry" in options:
+            set_up(daemon, options[options.index("--carry") + 1])
         return daemon
 
     def ours(self, *names: str, **more: Any) -> Daemon:

@@ -153,7 +153,7 @@ static void fuzz_state(const uint8_t *octets, size_t length) {
     snprintf(name, sizeof name, "%s/%lu.%s.state", folder, network_namespace(), lagd->settings.name);
     file = fopen(name, "we");
     if (!file) abort();
-    fprintf(file, "lagd 1\nboot %s\n", boot_id(lagd));
+    fprintf(file, "lagd 2\nboot %s\n", boot_id(lagd));
     (void)fwrite(octets, 1, length, file);
     fclose(file);
     lagd->inherited = (struct inherited){0};

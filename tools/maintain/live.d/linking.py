@@ -128,6 +128,18 @@ def build_segments(folder: str) -> str:
     return build(os.path.join(folder, "segments"), sources, [], *STRICT, f"-I{DAEMON}", *SANITIZED)
 
 
+def has_mnl() -> bool:
+    """Whether what speaks netlink is here (Debian: libmnl-dev)."""
+    return not command("pkg-config", "--exists", "libmnl").returncode
+
+
+def build_lists(folder: str) -> str:
+    """Builds what reads the lists of the kernel alone, with ASan and UBSan; answers the path of the program."""
+    sources = [*(f"{MAINTAIN}/live.d/{name}.c" for name in ("lists", "checks")), f"{DAEMON}/netlink.c"]
+    wraps = [f"-Wl,--wrap=mnl_socket_{name}" for name in ("sendto", "recvfrom")]
+    return build(os.path.join(folder, "lists"), sources, ["-lmnl"], *STRICT, f"-I{DAEMON}", *SANITIZED, *wraps)
+
+
 def build_policy(folder: str, libraries: Sequence[str]) -> str:
     """Builds what the daemon decides of data alone, with ASan and UBSan, over cables in memory; answers the path of the program. What it is
     not linked with it does not call."""

@@ -360,6 +360,17 @@ void run_hook(struct lagd *lagd, const char *path, enum bundle_state before) {
     (void)path;
     (void)before;
 }
+/* The device is up here, and no port comes or goes. */
+bool is_halted(struct lagd *lagd) {
+    (void)lagd;
+    return false;
+}
+
+uint16_t count_links(struct lagd *lagd) {
+    (void)lagd;
+    return PORTS;
+}
+
 void tell_watchers_of(struct lagd *lagd, const struct link *link) {
     (void)lagd;
     (void)link;
@@ -503,6 +514,32 @@ static void change_cable(uint16_t port) {
     events++;
 }
 
+/* A port is held, or let go, by the host. */
+static void hold(struct end *end, uint16_t port, bool held) {
+    struct link *link = &end->lagd.links[port - 1];
+    link->emptying = false;
+    CHECK(niw_hold(&end->lagd.own_system, port, held) == NIW_OK);
+    take_views(&end->lagd);
+    end->lagd.carry.changed = true;
+    send_due(&end->lagd);
+    settle_carry(&end->lagd);
+    events++;
+}
+
+/* A port is to be held: it is emptied first, where that can be, as lagd/membership.c does. */
+static void begin_to_hold(struct end *end, uint16_t port) {
+    struct link *link = &end->lagd.links[port - 1];
+    link->emptying = can_empty(&end->lagd, port);
+    end->lagd.carry.changed = true;
+    if (!link->emptying) hold(end, port, true);
+}
+
+/* The ports that are emptied are held then. */
+static void end_emptying(struct end *end) {
+    for (uint16_t port = 1; port <= PORTS; port++)
+        if (end->lagd.links[port - 1].emptying && empty_port(&end->lagd, port)) hold(end, port, true);
+}
+
 /* Some ticks passed, and are made up, as lagd/main.c does. */
 static void pass_time(struct end *end, unsigned ticks) {
     struct lagd *lagd = &end->lagd;
@@ -510,6 +547,7 @@ static void pass_time(struct end *end, unsigned ticks) {
         CHECK(niw_tick(&lagd->own_system) == NIW_OK);
         take_views(lagd);
         pass_carry_tick(lagd);
+        end_emptying(end);
         if (now / 1000 != (now - TICK) / 1000) allow_bundle_line(lagd);
         events++;
     }
@@ -550,6 +588,8 @@ static void happen(struct end *end) {
     if (what == 721) end->mute_until = 0;
     if (what == 722) end->short_until = now + below(300);
     if (what >= 730 && what < 733) end->wires[port].delay = 1 + below(weather.slow || below(3) == 0 ? SLOWEST : 20);
+    if (what == 750) begin_to_hold(end, port);
+    if (what == 751 || what == 752) hold(end, port, false);
     if (what == 740) end->stalled_until = now + below(STALL);
     if (what == 741) end->late_until = now + below(LATE);
     if (what >= 700) events++;
@@ -580,6 +620,8 @@ static void calm_down(void) {
         ends[0].wires[port].delay = ends[1].wires[port].delay = 5;
     }
     for (unsigned which = 0; which < 2; which++) ends[which].mute_until = ends[which].short_until = 0;
+    for (unsigned which = 0; which < 2; which++)
+        for (uint16_t port = 1; port <= PORTS; port++) hold(&ends[which], port, false);
     weather.mute = false;
     for (until = now + 12000; now < until;) step(true);
     for (unsigned which = 0; which < 2; which++) {

@@ -42,6 +42,7 @@ const char *const program = "programs";
 static struct fast_row *rows;
 static struct fast_member *members;
 static struct fast_host *host;
+static struct fast_place *places;
 static struct fast_maps maps;
 static struct tagging *tagging;
 static int sender;
@@ -195,6 +196,7 @@ static int receive(int tried, const char *to, uint16_t type, uint8_t subtype, si
 
 static void check_control(int receiver, uint32_t at) {
     clear(0);
+    context.ifindex = at;
     CHECK(receive(receiver, SLOW_GROUP, ETH_P_SLOW, SUBTYPE_MARKER, 60) == GO_ON && context.mark == 0);
     members[PORT - 1].up_to = at;
     CHECK(receive(receiver, SLOW_GROUP, ETH_P_SLOW, SUBTYPE_LACP, 60) == GO_ON && context.mark == 0);
@@ -217,9 +219,25 @@ static void check_data(int receiver, uint32_t at) {
     for (unsigned i = 0; i < NIW_MOST_PORTS; i++) CHECK(memcmp(&members[i], &(struct fast_member){0}, sizeof *members) == 0);
 }
 
+/* An interface that has no place, since another one has it, is no member. */
+static void check_place(int receiver, uint32_t at) {
+    uint64_t own = places[member_place(at)].word;
+    clear(0);
+    context.ifindex = at;
+    members[PORT - 1].up_to = at;
+    for (unsigned i = 0; i < 2; i++) {
+        places[member_place(at)].word = i == 0 ? 0 : (uint64_t)(at + PLACES) << 32 | PORT;
+        CHECK(receive(receiver, SLOW_GROUP, ETH_P_SLOW, SUBTYPE_MARKER, 60) == GO_ON && context.mark == 0);
+        CHECK(receive(receiver, "02:00:00:00:00:01", OTHER, 0, 60) == LOSE);
+    }
+    CHECK(members[PORT - 1].passed_up == 0 && members[PORT - 1].uncollected == 0 && members[PORT - 1].wrong_length == 0);
+    places[member_place(at)].word = own;
+}
+
 /* Frames to groups of the link are of the member alone, but for those of bridges. */
 static void check_groups(int tried, int verdict_of_data, uint32_t at) {
     clear(0);
+    context.ifindex = at;
     members[PORT - 1].up_to = at;
     for (unsigned group = 0; group <= 0x20; group++) {
         bool is_local = group <= 0x0f && group != 0x00 && group != 0x08 && group != 0x0d;
@@ -245,12 +263,12 @@ static void check_refusals(void) {
     CHECK(take_map(sizeof *rows, CONVERSATIONS, maps.rows) != NULL && take_map(sizeof *rows, CONVERSATIONS, maps.members) == NULL);
     CHECK(take_map(sizeof *rows + 8, CONVERSATIONS, maps.rows) == NULL && take_map(sizeof *rows, CONVERSATIONS, 0) == NULL);
     CHECK(make_map(8, CONVERSATIONS, &wrong.rows) != NULL);
-    CHECK(load_program(lagd, "sender", &wrong, 0) < 0 && errno == EACCES);
+    CHECK(load_program(lagd, "sender", &wrong) < 0 && errno == EACCES);
     CHECK(strstr(program_fault(), "outside of the allowed memory range") || strstr(program_fault(), "invalid access to map value"));
 }
 
 static int loaded(const char *name, const struct fast_maps *of) {
-    int fd = load_program(lagd, name, of, PORT);
+    int fd = load_program(lagd, name, of);
     if (fd < 0) printf("%s: failed: %s: %s\n", program, name, program_fault());
     CHECK(fd >= 0);
     return fd;
@@ -260,6 +278,7 @@ static int check_all(const char *name) {
     uint32_t at = if_nametoindex(name);
     int receiver = loaded("receiver", &maps), handover = loaded("handover", &maps), dropper = loaded("dropper", NULL);
     CHECK(at != 0);
+    places[member_place(at)].word = (uint64_t)at << 32 | PORT;
     check_left();
     check_overflow();
     check_passed(at);
@@ -267,6 +286,7 @@ static int check_all(const char *name) {
     check_beside(at);
     check_control(receiver, at);
     check_data(receiver, at);
+    check_place(receiver, at);
     check_groups(receiver, ELSEWHERE, at);
     check_groups(dropper, LOSE, at);
     check_dropper(dropper);
@@ -288,7 +308,8 @@ static bool load_all(void) {
     rows = make_map(sizeof *rows, CONVERSATIONS, &maps.rows);
     members = make_map(sizeof *members, NIW_MOST_PORTS, &maps.members);
     host = make_map(sizeof *host, 1, &maps.host);
-    sender = rows && members && host ? loaded("sender", &maps) : -1;
+    places = make_map(sizeof *places, PLACES, &maps.places);
+    sender = rows && members && host && places ? loaded("sender", &maps) : -1;
     tagging = tagging__open_and_load();
     return sender >= 0 && tagging && bpf_map_update_elem(bpf_map__fd(tagging->maps.sender), &first, &sender, BPF_ANY) == 0;
 }

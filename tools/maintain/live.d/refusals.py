@@ -13,7 +13,7 @@ from threading import Event, Thread
 from typing import Callable, Iterator
 
 from checking import Failed, Skipped, check, within
-from daemon import OTHER, SYSTEM, Daemon, Part
+from daemon import OTHER, SYSTEM, Daemon, Part, set_up
 from daemons import COMES_UP
 from linking import called, refusable
 from spaces import OURS, THEIRS, flap, inside, ip, make_pair, packet_socket
@@ -178,9 +178,10 @@ def provoke(trial: Trial) -> None:
     if trial.refused in AT_ONCE:
         trial.is_done(COMES_UP)
         return
+    for end in filter(None, (trial.theirs, trial.ours)):
+        set_up(end, trial.device)
     if not within(COMES_UP, lambda: trial.ours.distributes(*carrying) if trial.theirs else bool(trial.ours.ports())):
         raise Failed(f"{trial.refused}: the links carry", trial.ours.printed())
-    ip(OURS, "link", "set", trial.device, "up")
     sender = Thread(target=trial.send)
     sender.start()
     try:

@@ -109,7 +109,7 @@ def begins_anew(part: Part) -> None:
     time.sleep(1.5)
     length = os.path.getsize(state_file(ours))
     rows: list[tuple[str, str, Callable[[], None]]] = [
-        ("of another version", "of another version", lambda: changed(state_file(ours), lambda text: text.replace("lagd 1\n", "lagd 2\n"))),
+        ("of another version", "of another version", lambda: changed(state_file(ours), lambda text: re.sub(r"^lagd \d+", "lagd 99", text))),
         ("of another boot", "of another boot", lambda: changed(state_file(ours), lambda text: re.sub(r"boot \S+", "boot other", text))),
         ("of another system", "other settings", lambda: changed(state_file(ours), lambda text: re.sub(r"way \d+", "way 1", text))),
         ("no text of lagd", "no state of lagd", lambda: changed(state_file(ours), lambda text: "\0" * 100)),
@@ -165,7 +165,8 @@ def things_change(part: Part) -> None:
     time.sleep(TIMEOUT + 1)
     check(theirs.printed() == lines, "and the peer saw nothing of it", theirs.printed())
     ours = hand_over(part, ours, names=("a0",))
-    check("1 of 1 links go on" in ours.printed(), "a link that is no more in the settings is left", ours.printed())
+    check("2 of 2 links go on" in ours.printed(), "a link that is no more in the settings goes on first", ours.printed())
+    check(within(ENDS, lambda: "a1: it left the bundle" in ours.printed()) and list(ours.ports()) == ["a0"], "and leaves, once its peer was told", ours.printed(), theirs.printed())
     check(within(GOES_DOWN, lambda: not theirs.distributes("b1")) and theirs.distributes("b0"), "as the peer notices in its time", theirs.text())
     time.sleep(1.5)
     ours = hand_over(part, ours)

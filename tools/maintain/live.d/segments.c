@@ -14,6 +14,8 @@
 #define HEAD 10
 #define ROUNDS 3000
 #define MOST 70000
+/* The least octets of a segment with its options. */
+#define LEAST 48
 
 /* The daemon, as far as it is here. */
 static struct lagd tested, *lagd = &tested;
@@ -167,7 +169,7 @@ static void put_rooms(uint32_t count) {
 
 /* Packets that are cut go up together, whole or refused; one that was damaged on its way goes up by itself. */
 static void check_round(void) {
-    size_t size = 1 + below(1500), payload = 1 + below((uint32_t)(size * BATCH < 60000 ? size * BATCH : 60000));
+    size_t size = LEAST + below(1500 - LEAST), payload = 1 + below((uint32_t)(size * BATCH < 60000 ? size * BATCH : 60000));
     struct tcp_packet tcp;
     uint8_t *whole = make_whole(&tcp, below(3), size, payload), *octet;
     uint32_t count = cut_whole(whole, tcp.length), damaged = below(count);
@@ -211,6 +213,23 @@ static void check_differences(void) {
         CHECK(took == 3);
         check_taken(count);
         forget_taken();
+        free(whole);
+    }
+}
+
+/* Segments that are shorter with their options than Linux makes any are not cut. */
+static void check_short(void) {
+    for (unsigned round = 0; round < ROUNDS; round++) {
+        struct tcp_packet tcp;
+        uint8_t *whole = make_whole(&tcp, below(3), 1000, 3000);
+        size_t options = tcp.payload - tcp.transport - 20;
+        struct virtio_net_hdr told = head_of(whole);
+        struct cut cut;
+        for (unsigned more = 0; more < 2; more++) {
+            told.gso_size = (uint16_t)(LEAST - 1 - options + more);
+            memcpy(whole, &told, sizeof told);
+            CHECK(read_cut(whole, tcp.length, &cut) == (more == 1));
+        }
         free(whole);
     }
 }
@@ -259,7 +278,7 @@ static void check_sums(void) {
 static void check_rubbish(void) {
     for (unsigned round = 0; round < 20 * ROUNDS; round++) {
         struct tcp_packet tcp;
-        uint8_t *whole = make_whole(&tcp, below(4), 1 + below(400), 1 + below(900)), *packet;
+        uint8_t *whole = make_whole(&tcp, below(4), LEAST + below(400), 1 + below(900)), *packet;
         size_t length = HEAD + below((uint32_t)(tcp.length - HEAD) + 1);
         struct cut cut;
         packet = malloc(length);
@@ -282,6 +301,7 @@ int main(void) {
     for (unsigned i = 0; i < 2 * BATCH; i++) rooms[i] = malloc(MOST);
     for (unsigned round = 0; round < ROUNDS; round++) check_round();
     check_differences();
+    check_short();
     check_tags();
     check_refused();
     check_sums();

@@ -64,8 +64,9 @@ WRONG = {
     "[Bundle]\n" + "#" * 200 + "\n": "2: expected a line of at most 190 octets: ###",
     "[Bundle]\nkey=\x1b[31m\n": "2: expected a number from 0 to 65535: key=\\x1b[31m",
     FILE.replace("key=23\n", ""): " expected key=NUMBER in [Bundle]",
-    FILE.replace("min-links=1", "min-links=3"): "6: expected min-links that is at most the number of interfaces: min-links",
-    FILE.partition("[Port")[0]: " expected a section [Port INTERFACE] for each interface, 1 to 64 of them",
+    FILE.partition("[Port")[0].replace(f"32768,{SYSTEM}", "auto"): "4: expected system=PRIORITY,MAC beside no section [Port INTERFACE]: by auto it is the address of the first one: system",
+    FILE.replace("[Port a0]", "carry=lag0\nmembers=follow\n[Port a0]", 1): "9: expected plane=team beside members=follow: members",
+    "[Bundle]\nmembers=all\n": "2: expected given or follow: members=all",
     "".join(f"[Port a{port}]\n" for port in range(65)): "65: expected at most 64 interfaces: [Port a64]",
 }
 A_HOOK = "expected a path that begins with /, of at most 191 characters, of a program that may be run: hook="
@@ -86,7 +87,7 @@ CONTRADICTIONS = {
     FILE.replace("min-links=1", "hook=/nowhere/hook"): f"6: {A_HOOK}/nowhere/hook",
     FILE.replace("min-links=1", "hook=/etc/passwd"): f"6: {A_HOOK}/etc/passwd",
     FILE.replace("min-links=1", "hook=/etc"): f"6: {A_HOOK}/etc",
-    **{FILE.replace("min-links=1", f"{key}={value}"): "6: expected carry=NAME beside plane, hash, hash-seed, flight, offload, fast, queues "
+    **{FILE.replace("min-links=1", f"{key}={value}"): "6: expected carry=NAME beside plane, members, hash, hash-seed, flight, offload, fast, queues "
        f"or answer-after: {key}"
        for key, value in (("plane", "tap"), ("hash", "layer2"), ("hash-seed", "7"), ("flight", "500"), ("offload", "yes"), ("fast", "yes"),
                           ("queues", "one"), ("answer-after", "50"))},
@@ -238,7 +239,6 @@ def reloads(part: Part) -> None:
     check_after(FILE, "read again, 0 ports changed")
     both_up(ours, theirs, "without wait-to-restore both links distribute again")
     check_after(FILE.replace("key=23", "key=24"), "a key that no port had at the start: a restart of this bundle is needed")
-    check_after(FILE + "[Port a2]\n", "other interfaces: a restart of this bundle is needed")
     check_after(FILE.replace("32768", "1"), "another system: a restart of this bundle is needed")
     check_after(FILE + "max-links=7\n", "the file is wrong, and nothing is changed")
     check(ours.distributes("a0") and ours.lines("a0") == lines, "and the first port was never touched", ours.printed())
@@ -246,6 +246,79 @@ def reloads(part: Part) -> None:
     ours.process.send_signal(signal.SIGHUP)
     check(within(ENDS, lambda: "No such file" in ours.printed()), "a file that is gone changes nothing", ours.printed())
     ours.ends("the daemon")
+
+
+def ports_change(part: Part) -> None:
+    """SIGHUP takes ports out of a bundle and into it, down to none, and more than are there; each keeps its number, and the others are not touched."""
+    path = os.path.join(part.folder, "uplink.conf")
+    make_pair(2)
+    write(path, FILE)
+    ours, theirs = Filed(part, path), part.theirs("b0", "b1", "b2")
+    check(within(COMES_UP, lambda: ours.distributes("a0", "a1")), "the bundle of a file comes to distribute", ours.text())
+    head, numbers = FILE.partition("[Port")[0], lambda: {name: port["port"] for name, port in ours.ports().items()}
+
+    def reloaded(text: str, changed: int, ports: dict[str, int]) -> None:
+        write(path, text)
+        before = len(ours.printed())
+        ours.process.send_signal(signal.SIGHUP)
+        check(within(ENDS, lambda: f"read again, {changed} ports changed" in ours.printed()[before:]), f"{changed} ports change", ours.printed()[before:])
+        check(within(COMES_UP, lambda: numbers() == ports and ours.distributes(*ports)), f"the ports are {ports}", ours.text())
+
+    lines = ours.lines("a1")
+    reloaded(FILE.replace("[Port a0]\n", "[Port a0]\n[Port a2]\n"), 1, {"a0": 1, "a1": 2, "a2": 3})
+    reloaded(FILE.replace("[Port a0]\n", "[Port a2]\n"), 1, {"a1": 2, "a2": 3})
+    check(not theirs.distributes("b0") and "b0: the partner is not synchronized" in theirs.printed(), "the peer of one that leaves was told", theirs.printed())
+    check(ours.lines("a1") == lines, "the port behind it was not touched", ours.printed())
+    reloaded(head.replace("min-links=1", "min-links=7") + "[Port a1]\npriority=100\n", 1, {"a1": 2})
+    check("min_links: 7" in ours.text() and "status: down, 1 of 1 links carry" in ours.text(), "with more min-links than ports it is down", ours.text())
+    reloaded(head, 1, {})
+    reloaded(FILE, 2, {"a0": 1, "a1": 2})
+    ours.ends("the daemon")
+    write(path, head)
+    alone = Filed(part, path)
+    check(within(ENDS, lambda: "0 of 0 links carry" in alone.text()), "a daemon starts without a port", alone.printed())
+    alone.ends("the daemon")
+
+
+def questions(part: Part) -> None:
+    """One file at a time; and who asks for more than the daemon has files for keeps no processor."""
+    path, wrong = (os.path.join(part.folder, name) for name in ("uplink.conf", "wrong.conf"))
+    write(path, FILE)
+    write(wrong, "[Bundle]\nkeys=7\n")
+    for words in ("--check", wrong, "--config", path), ("--config", path, "--check", wrong), ("--check", wrong, "--check", path), ("--config", path, "--config", wrong):
+        found = part.refused(*words)
+        check(found[0] == 2 and "usage: one" in found[1], f"{words[0]} and {words[2]} are refused together", found)
+    ours = part.ours()
+    check(within(ENDS, lambda: bool(ours.ports())), "a daemon answers", ours.printed())
+    command("prlimit", "--pid", str(ours.process.pid), f"--nofile={len(os.listdir(f'/proc/{ours.process.pid}/fd'))}:")
+    askers = [socket.socket(socket.AF_UNIX, socket.SOCK_STREAM | socket.SOCK_NONBLOCK) for _ in range(8)]
+    for asker in askers:
+        asker.connect(ours.socket())
+    time.sleep(0.5)
+    before = ours.busy()
+    time.sleep(3)
+    check(ours.busy() - before < 1, f"without files for 8 askers it takes {100 * (ours.busy() - before) / 3:.0f} % of a processor", ours.printed())
+    for asker in askers:
+        asker.close()
+    command("prlimit", "--pid", str(ours.process.pid), "--nofile=1024:")
+    check(within(ENDS, lambda: bool(ours.ports())), "and answers again", ours.printed())
+    ours.ends("the daemon")
+
+
+def stuck_state(part: Part) -> None:
+    """A state that cannot be removed as the peers are told of the end has a line."""
+    place = os.path.join(part.folder, "run")
+    os.makedirs(place, exist_ok=True)
+    if command("mount", "-t", "tmpfs", "-o", "mode=755", "state", place).returncode:
+        raise Skipped("no file system can be mounted")
+    try:
+        ours = part.ours()
+        check(within(ENDS, lambda: any(name.endswith(".state") for name in os.listdir(place))), "a daemon keeps its state", os.listdir(place))
+        command("mount", "-o", "remount,ro", place)
+        ours.ends("the daemon")
+        check(".state" in ours.printed() and "its state cannot be removed: Read-only file system: remove " in ours.printed(), "a state that stays has a line", ours.printed())
+    finally:
+        command("umount", "-l", place)
 
 
 def running_settings(part: Part) -> None:
@@ -505,6 +578,9 @@ PARTS: dict[str, Callable[[Part], None]] = {
     "the address of an interface": own_address,
     "a reload": reloads,
     "settings of a running bundle": running_settings,
+    "ports that come and go": ports_change,
+    "questions": questions,
+    "a state that stays": stuck_state,
     "watchers and metrics": watchers,
     "metrics of two daemons": metrics_of_two,
     "hooks": hooks,

@@ -99,6 +99,49 @@ def taken_out(guest: Guest) -> str:
     return pings(guest)
 
 
+def device_down(guest: Guest) -> str:
+    """lag0 is set down: LACP ends, and begins again once it is up."""
+    guest.run("ip link set lag0 down; sleep 1")
+    told, far = status(guest), status(guest, "far")
+    said = {port["status"] for port in told.get("ports", [])}
+    check(told.get("state") == far.get("state") == "down" and said == {"the device is down"}, "with lag0 down both ends are down", told, far)
+    guest.run("ip link set lag0 up; ip address replace 192.0.2.1/24 dev lag0")
+    took = up_again(guest)
+    pings(guest)
+    return f"{took:.1f} s"
+
+
+def joins_and_leaves(guest: Guest) -> str:
+    """A member leaves and joins by orders, with data under way."""
+    def orders() -> None:
+        for order in "remove", "add":
+            ended = guest.run(f"lagd --folder /run/lagd/uplink --{order} eth2")
+            check(ended.status == 0, f"--{order} eth2 is done", ended.text)
+
+    outcomes = traffic(guest, SECONDS, orders)
+    text = orderly(guest, "a member leaves and joins", outcomes, 10**6)
+    up_again(guest)
+    pings(guest)
+    return text
+
+
+def followed(guest: Guest) -> str:
+    """With members=follow what others take out stays out, over a restart, too, and what they put in joins."""
+    use(guest, f"{TEAM}\nmembers=follow")
+    up_again(guest)
+    for _ in range(10):
+        guest.run("ip link set eth2 nomaster; sleep 2")
+        told = status(guest)
+        check(guest.run("ip -o link show eth2 | grep 'master lag0'").status != 0 and carrying(guest) == 1, "a member that is taken out stays out", told)
+        guest.run("ip link set eth2 down; ip link set eth2 master lag0; ip link set eth2 up")
+        up_again(guest)
+    guest.run("ip link set eth2 nomaster; systemctl restart lagd@uplink; sleep 2")
+    check(guest.run("ip -o link show eth2 | grep 'master lag0'").status != 0, "over a restart, too", journal(guest))
+    use(guest, TEAM)
+    up_again(guest)
+    return pings(guest)
+
+
 def changed(guest: Guest) -> str:
     """What others set in the driver is set back."""
     guest.run("teamnl lag0 setoption enabled false -p eth1; sleep 2")
@@ -208,6 +251,9 @@ ROWS: dict[str, Callable[[Guest], str]] = {
     "in a VLAN, and a bridge above": above,
     "another device takes a member": stays_down,
     "a member is taken out": taken_out,
+    "lag0 is set down and up: up again after": device_down,
+    "a member leaves and joins": joins_and_leaves,
+    "others choose the members": followed,
     "others change the driver": changed,
     "lag0 is deleted: up again after": device_goes,
     "the name is taken": name_is_taken,
