@@ -121,11 +121,16 @@ def test_each_bound_is_that_of_its_rounds_and_cables(monkeypatch: pytest.MonkeyP
     bounds = {rounds.is_known: rounds.KNOWN[kind][place], rounds.is_agreed: rounds.AGREED[kind][place], rounds.is_free: rounds.FREED[place]}
     last = {it: bound + late_by for it, bound in bounds.items()}
     played: list[int] = []
+
+    def last_rounds(made: object, world: object, most: int) -> object:
+        played.append(most)
+        return last.items()
+
     monkeypatch.setattr(rounds.Case, "world", lambda self, lag: None)
     monkeypatch.setattr(rounds.Case, "event", lambda self, world: None)
     monkeypatch.setattr(rounds.Case, "heal", lambda self, world: setattr(self, "rounds", kind))
     monkeypatch.setattr(rounds.Case, "kind", lambda self, world: place)
-    monkeypatch.setattr(rounds, "last_rounds", lambda made, world, most: [played.append(most), last.items()][1])
+    monkeypatch.setattr(rounds, "last_rounds", last_rounds)
     found = rounds.tried(None, 8, 2)
     assert found[:3] == (kind, place, bounds[rounds.is_agreed] + late_by + 1)
     wrong = ["an end runs on defaults", "cables do not agree", *(["conversations are held"] if kind == "healthy" else [])]
