@@ -20,7 +20,7 @@ BRIDGE, GUEST, OCTETS = "br0", "vm0", 64000
 # Frames a second of others, and for how many seconds.
 OTHERS, SECONDS = 2000, 5
 # How many packets of the guest a second, with segments of so many octets, and whether these are fit.
-ROWS = (20, 1, False), (200, 8, False), (200, 47, False), (100, 48, True), (400, 48, True), (400, 536, True)
+ROWS = (20, 1, False), (200, 8, False), (200, 47, False), (100, 48, True), (400, 48, True), (200, 536, True)
 
 
 def make_packet(size: int) -> bytes:
