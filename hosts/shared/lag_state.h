@@ -180,7 +180,7 @@ lag_state_scan_port(const char *line, struct lag_state_port *it, int64_t now, in
     int64_t age;
 
     memset(it, 0, sizeof *it);
-    if (sscanf(line, "port %15s %10" SCNu32 " %6u %6u %6u %15s %19" SCNu64 " %1u %1u %6u %18" SCNd64 " %248s", it->name, &it->ifindex,
+    if (sscanf(line, "port %15s %10" SCNu32 " %6u %6u %6u %15s %20" SCNu64 " %1u %1u %6u %18" SCNd64 " %248s", it->name, &it->ifindex,
                &number, &priority, &key, mac, &it->carrier_changes, &carried, &chosen, &aggregator, &age, frame) != 12
         || !number || number > UINT16_MAX || priority > UINT16_MAX || key > UINT16_MAX || carried > 1 || chosen > 1
         || aggregator > NIW_MOST_PORTS || !lag_get_octets(mac, it->mac, LAG_ADDRESS)) {
