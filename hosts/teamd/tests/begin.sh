@@ -17,6 +17,11 @@ bond() { # fast or slow
 config() { echo "{\"device\":\"team0\",\"runner\":{\"name\":\"lacp\",\"fast_rate\":${FAST:-true},\"tx_hash\":[\"l3\",\"l4\"]${1:+,$1}},\"ports\":{${2:-\"eth1\":{\},\"eth2\":{\}}}}"; }
 begin() { $T -g -d -r ${N:+-N} -t team0 -c "$(config "$@")" 2>/run/log; ip link set team0 up; }
 take() { $T -g -d -o ${N:+-N} -t team0 -c "$(config "$@")" 2>>/run/log; }
+# The same in the foreground, where what it says can be heard, until it says what becomes of its ports.
+take_aloud() {
+    $T -g -o -t team0 -c "$(config "$@")" >/run/log 2>&1 &
+    for _ in $(seq 30); do sleep 0.1; grep -q -E 'taken over|negotiates anew|Changed port state' /run/log && break; done; sleep 0.3
+}
 kill_it() { kill -9 "$(cat /run/teamd/team0.pid)"; }
 end() { $T -k -t team0; sleep 0.3; }
 item() { teamdctl team0 state item get "$1"; }
