@@ -8,7 +8,7 @@ import sys
 
 sys.path.insert(0, os.path.join(os.path.dirname(os.path.abspath(__file__)), ".."))
 
-from library import archive, one_object, proved
+from library import HEADER, archive, one_object, proved
 from repository import COMPILER, TOP, Missing, say
 
 PORTABLE = os.path.join(TOP, "c", "lag.c")
@@ -17,7 +17,7 @@ PORTABLE = os.path.join(TOP, "c", "lag.c")
 def portable(folder: str) -> list[str]:
     """The object of c/lag.c, which a C compiler makes."""
     made = os.path.join(folder, "portable.o")
-    ended = subprocess.run([*COMPILER, "-O2", "-fPIC", "-w", "-c", "-o", made, PORTABLE], capture_output=True, text=True)
+    ended = subprocess.run([*COMPILER, "-O2", "-fPIC", "-w", f"-I{os.path.dirname(HEADER)}", "-c", "-o", made, PORTABLE], capture_output=True, text=True)
     if ended.returncode:
         raise Missing(f"{PORTABLE} does not compile: {ended.stderr.strip()[-400:]}")
     return [made]
