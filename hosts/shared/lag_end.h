@@ -1,0 +1,218 @@
+/* One end of link aggregation whose ports come and go, over lag.h: for hosts that have ports, clocks and sockets of their own.
+ *
+ * A system of liblag has its ports for life. lag_end_remake makes it anew of the ports that there are now: each port that carried goes on where
+ * it was, and its peer notices nothing; a port that is new, or whose peer has to be told something new, negotiates.
+ *
+ * Functions in a header, so that the build of a host has no further source file. Their caller holds one lock for all ends. */
+#ifndef LAG_END_H
+#define LAG_END_H
+
+#include <stdbool.h>
+#include <stddef.h>
+#include <stdint.h>
+#include <stdlib.h>
+#include <string.h>
+
+#include "lag.h"
+
+/* The most responses to markers that a port sends in a second. */
+#define LAG_RESPONSES 10
+
+struct lag_end {
+    struct niw_system system;
+    int64_t ticked;       /* When the last tick was due, in ms of the caller's clock, which is not set back. */
+    uint32_t next_marker; /* Of the system that comes next; 0 is as 1. */
+};
+
+/* The last LACPDU that a port took. */
+struct lag_heard {
+    bool is;
+    int64_t at; /* In ms. */
+    uint8_t frame[NIW_FRAME];
+};
+
+/* A port, for lag_end_remake. */
+struct lag_port {
+    struct niw_port port;
+    bool up;
+    bool carried;                  /* It distributes and has a partner, or did for the program that ran before. */
+    uint16_t aggregator;           /* In which it did so, as niw_view tells it. */
+    const struct lag_heard *heard; /* May be NULL. */
+    void *owner;                   /* The caller's. */
+    bool begins;                   /* Answer: it carried, and has to begin anew. */
+    uint32_t why;                  /* Of `begins`: NIW_STALE or NIW_NOT_DISTRIBUTING; 0 of a port without an LACPDU or a link. */
+};
+
+/* How many responses to markers a port may send still. */
+struct lag_limit {
+    int64_t since;
+    unsigned left;
+};
+
+/* Whether the port may answer one more marker. */
+static inline bool
+lag_may_respond(struct lag_limit *limit, int64_t now)
+{
+    if (now - limit->since >= 1000 || now < limit->since || !limit->since) {
+        limit->since = now;
+        limit->left = LAG_RESPONSES;
+    }
+    return limit->left && limit->left--;
+}
+
+/* A frame of the slow protocols came, and was taken: notes it for lag_end_remake. Returns whether it tells anything new. */
+static inline bool
+lag_hear(struct lag_heard *heard, const uint8_t *frame, int64_t now)
+{
+    bool news = !heard->is || memcmp(heard->frame, frame, NIW_FRAME);
+
+    memcpy(heard->frame, frame, NIW_FRAME);
+    heard->at = now;
+    heard->is = true;
+    return news;
+}
+
+/* The most ticks that are made up of a time in which something was due: a caller that was stopped for longer takes the LACPDUs that waited, before
+ * their partners expire. */
+#define LAG_LATE_TICKS 10
+
+/* Makes the ticks up that passed. What is due then, niw_transmit tells. */
+static inline void
+lag_end_advance(struct lag_end *end, int64_t now)
+{
+    int64_t passed = (now - end->ticked) / NIW_TICK_MILLISECONDS;
+
+    if (end->system.live && passed > 0) {
+        struct niw_wait wait = niw_ticks_until_due(&end->system);
+        int64_t most = wait.ever && wait.ticks > LAG_LATE_TICKS ? wait.ticks : LAG_LATE_TICKS;
+
+        if (passed > most) {
+            passed = most;
+            end->ticked = now;
+        } else {
+            end->ticked += passed * NIW_TICK_MILLISECONDS;
+        }
+        niw_ticks(&end->system, (uint32_t) passed);
+    }
+}
+
+static inline void
+lag_end_free(struct lag_end *end)
+{
+    if (end->system.live) {
+        struct niw_marker next = niw_next_marker(&end->system);
+
+        end->next_marker = next.left ? next.id : 1;
+        niw_free(&end->system);
+    }
+}
+
+/* Why a port begins anew. */
+static inline const char *
+lag_why_text(uint32_t why)
+{
+    return why == NIW_STALE ? "its last LACPDU is too old" : why == NIW_NOT_DISTRIBUTING ? "its partner has to be told something new" : "its link is down, or no LACPDU came";
+}
+
+static inline int
+lag_port_order(const void *one, const void *other)
+{
+    return (int) ((const struct lag_port *) one)->port.number - (int) ((const struct lag_port *) other)->port.number;
+}
+
+/* The aggregator in which a port goes on: that which has the key of the first port of its group. */
+static inline uint16_t
+lag_aggregator_of(const struct lag_port *ports, size_t place)
+{
+    size_t first = 0;
+
+    while (!(ports[first].carried && ports[first].aggregator == ports[place].aggregator) && first < place) {
+        first++;
+    }
+    return (uint16_t) (first + 1);
+}
+
+/* Notes of each port that carried what it is to go on from; returns of how many. */
+static inline size_t
+lag_end_save(struct lag_port *ports, size_t count, struct niw_saved *saved, int64_t now)
+{
+    size_t kept = 0;
+
+    for (size_t i = 0; i < count; i++) {
+        struct lag_port *it = &ports[i];
+
+        it->why = 0;
+        it->begins = it->carried && !(it->up && it->heard && it->heard->is && it->heard->at <= now);
+        if (it->carried && !it->begins) {
+            int64_t age = (now - it->heard->at) / NIW_TICK_MILLISECONDS;
+
+            memset(&saved[kept], 0, sizeof saved[kept]);
+            saved[kept].port = it->port.number;
+#if NIW_VERSION >= 12
+            saved[kept].aggregator = lag_aggregator_of(ports, i);
+#endif
+            saved[kept].age = age < UINT32_MAX ? (uint32_t) age : UINT32_MAX;
+            memcpy(saved[kept++].frame, it->heard->frame, NIW_FRAME);
+        }
+    }
+    return kept;
+}
+
+/* Makes the system anew, of `count` ports, in the place of the one that is there; `end` has none then if `count` is 0 or the call is refused.
+ * `config` is as for niw_new, but its first_marker is seen to. The ports are sorted by their numbers, no two of which may be equal. There are as many aggregators as ports. */
+static inline struct niw_made
+lag_end_remake(struct lag_end *end, const struct niw_config *config, struct lag_port *ports, size_t count, int64_t now)
+{
+    struct niw_port own[NIW_MOST_PORTS];
+    struct niw_saved saved[NIW_MOST_PORTS];
+    uint16_t keys[NIW_MOST_PORTS];
+    struct niw_config with = *config;
+    struct niw_made made = { .status = NIW_OK };
+    size_t kept;
+
+    lag_end_free(end);
+    if (!count) {
+        return made;
+    }
+    if (count > NIW_MOST_PORTS) {
+        return (struct niw_made) { .status = NIW_BAD_CONFIG, .reason = NIW_REASON_PORTS };
+    }
+    qsort(ports, count, sizeof *ports, lag_port_order);
+    for (size_t i = 0; i < count; i++) {
+        own[i] = ports[i].port;
+        keys[i] = own[i].key;
+    }
+    with.first_marker = end->next_marker ? end->next_marker : 1;
+    kept = lag_end_save(ports, count, saved, now);
+    for (;;) {
+        size_t i = 0;
+
+        made = niw_resume(&end->system, &with, keys, count, own, count, saved, kept);
+        if (made.status != NIW_STALE && made.status != NIW_NOT_DISTRIBUTING) {
+            break;
+        }
+        /* One port can't go on: it begins anew, and the others go on. */
+        while (i < kept && saved[i].port != made.place) {
+            i++;
+        }
+        if (i == kept) {
+            break;
+        }
+        for (size_t j = 0; j < count; j++) {
+            if (own[j].number == made.place) {
+                ports[j].begins = true;
+                ports[j].why = made.status;
+            }
+        }
+        memmove(&saved[i], &saved[i + 1], (--kept - i) * sizeof *saved);
+    }
+    if (made.status == NIW_OK) {
+        end->ticked = now;
+        for (size_t i = 0; i < count; i++) {
+            niw_set_link(&end->system, own[i].number, ports[i].up);
+        }
+    }
+    return made;
+}
+
+#endif

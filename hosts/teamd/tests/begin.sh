@@ -1,0 +1,55 @@
+# What the scripts of the guests have in common: three cables to the namespace far, whose ends a bond of the kernel takes; teamd is $T.
+T=/mnt/$TEAMD
+F=/run/teamd/team0.lacp
+export TEAM_LOG_OUTPUT=stderr
+mkdir -p /run/netns; ip netns add far
+for n in 1 2 3; do ip link add eth$n address 52:54:00:00:0a:0$n type veth peer name far$n address 52:54:00:00:0b:0$n netns far; done
+# Of the questions of port-by-port answers: an interface that no team has.
+ip link add eth10 type veth peer name far10 netns far
+for n in 1 2 3; do ip -n far link set far$n up; done
+
+bond() { # fast or slow
+    ip -n far link add bond0 type bond mode 802.3ad miimon 100 lacp_rate "${1:-fast}"
+    for n in 1 2 3; do ip -n far link set far$n down; ip -n far link set far$n master bond0; done
+    ip -n far link set bond0 up; ip -n far addr add 192.0.2.2/24 dev bond0
+}
+# A configuration: more of the runner, and the ports.
+config() { echo "{\"device\":\"team0\",\"runner\":{\"name\":\"lacp\",\"fast_rate\":${FAST:-true},\"tx_hash\":[\"l3\",\"l4\"]${1:+,$1}},\"ports\":{${2:-\"eth1\":{\},\"eth2\":{\}}}}"; }
+begin() { $T -g -d -r ${N:+-N} -t team0 -c "$(config "$@")" 2>/run/log; ip link set team0 up; }
+take() { $T -g -d -o ${N:+-N} -t team0 -c "$(config "$@")" 2>>/run/log; }
+# The same in the foreground, where what it says can be heard, until it says what becomes of its ports.
+take_aloud() {
+    $T -g -o -t team0 -c "$(config "$@")" >/run/log 2>&1 &
+    for _ in $(seq 30); do sleep 0.1; grep -q -E 'taken over|negotiates anew|Changed port state' /run/log && break; done; sleep 0.3
+}
+kill_it() { kill -9 "$(cat /run/teamd/team0.pid)"; }
+end() { $T -k -t team0; sleep 0.3; }
+item() { teamdctl team0 state item get "$1"; }
+# Each port of the team: its state, and whether frames pass on it; then the carrier.
+state() {
+    for p in ${*:-eth1 eth2}; do printf '%s %s %s, ' "$p" "$(item ports.$p.runner.state)" "$(teamnl team0 -p $p getoption enabled)"; done
+    echo "carrier $(cat /sys/class/net/team0/carrier)"
+}
+BOTH="eth1 current true, eth2 current true, carrier 1"
+# Whether something is so: its name, what is wanted, and what there is.
+is() { if [ "$2" = "$3" ]; then echo "passed: $1"; else echo "FAILED: $1"; echo "  wanted: $2"; echo "  is:     $3"; fi; }
+# Waits until the state is this one, for so many seconds at most.
+until_state() { for _ in $(seq $((10 * $2))); do [ "$(state $3)" = "$1" ] && return; sleep 0.1; done; }
+peers_ports() { ip netns exec far grep 'Number of ports' /proc/net/bonding/bond0 | tr -dc 0-9; }
+# Numbered frames both ways, 250 a second each, while a command runs after 2 s; LOST is how many were lost to and from the peer.
+trip() { # NAME SECONDS COMMAND..
+    name=$1; seconds=$2; shift 2
+    ip link set team0 promisc on; ip -n far link set bond0 promisc on
+    ip netns exec far /mnt/flows receive bond0 16 $((seconds + 3)) >/run/to.received 2>&1 & a=$!
+    /mnt/flows receive team0 16 $((seconds + 3)) >/run/from.received 2>&1 & b=$!
+    sleep 0.5
+    ip netns exec far /mnt/flows send bond0 250 16 $seconds ports >/run/from.sent 2>&1 & c=$!
+    /mnt/flows send team0 250 16 $seconds ports >/run/to.sent 2>&1 & d=$!
+    sleep 2; eval "$*" >/run/trip.out 2>&1; wait $a $b $c $d
+    LOST=$(for w in to from; do
+        sent=$(sed 's/.*"sent":\([0-9]*\).*/\1/' /run/$w.sent) got=$(sed 's/.*"received":\([0-9]*\).*/\1/' /run/$w.received)
+        echo $((sent - got))
+    done | paste -s -d' ')
+    GAP=$(sed 's/.*"gap_ms":\([0-9]*\).*/\1/' /run/to.received /run/from.received | sort -n | tail -1)
+    echo "row: $name | $LOST of $((250 * seconds)) | $GAP ms"
+}

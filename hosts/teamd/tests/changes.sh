@@ -1,0 +1,34 @@
+# What changes while teamd runs, and what teamd.conf(5) has for lacp.
+bond; begin; until_state "$BOTH" 10; sleep 1
+ip link set team0 down; sleep 1; is "the device goes down: the peer stops at once" 0 "$(ip netns exec far sed -n 's/.*port state: //p' /proc/net/bonding/bond0 | awk '{n += int($1 / 32) % 2} END {print n + 0}')"
+sleep 3; ip link set team0 up; until_state "$BOTH" 10; is "it comes up: both carry" "$BOTH" "$(state)"
+teamdctl team0 port config update eth1 '{"lacp_prio": 7, "lacp_key": 5}' 2>/dev/null; teamdctl team0 port config update eth2 '{"lacp_key": 5}' 2>/dev/null; sleep 2
+is "another key and priority reach the peer" "5 7" "$(ip netns exec far sed -n '/far1/,/far2/{s/^ *oper key: //p;s/^ *port priority: //p}' /proc/net/bonding/bond0 | tail -2 | paste -s -d' ')"
+until_state "$BOTH" 10; is "both carry with them" "$BOTH" "$(state)"
+ip link set team0 address 52:54:00:00:0c:77; sleep 1; until_state "$BOTH" 10; is "another address of the device: both carry" "$BOTH" "$(state)"
+is "the peer has it" "52:54:00:00:0c:77" "$(ip netns exec far sed -n 's/.*Partner Mac Address: //p' /proc/net/bonding/bond0)"
+ip link set eth1 down; sleep 1; is "a link goes down: the other one carries" "eth1 disabled false, eth2 current true, carrier 1" "$(state)"; ip link set eth1 up; end
+begin '"min_ports":2' '"eth1":{}'; until_state "eth1 current false, carrier 0" 3 eth1; sleep 4; is "min_ports 2, one port" 0 "$(cat /sys/class/net/team0/carrier)"
+teamdctl team0 port add eth2; until_state "$BOTH" 10; is "min_ports 2, two ports" "$BOTH" "$(state)"; end
+begin '"active":false'; until_state "$BOTH" 10; is "a passive team carries with an active peer" "$BOTH" "$(state)"; is "it tells that it is passive" 0 "$(($(item ports.eth1.runner.actor_lacpdu_info.state) & 1))"; end
+FAST=false; begin '"sys_prio":7'; FAST=true; until_state "$BOTH" 10; is "sys_prio" 7 "$(item ports.eth1.runner.actor_lacpdu_info.system_priority)"; is "long timeouts" 0 "$(($(item ports.eth1.runner.actor_lacpdu_info.state) & 2))"; end
+for p in lacp_prio lacp_prio_stable bandwidth count port_config; do begin "\"agg_select_policy\":\"$p\"" '"eth1":{"prio":1,"sticky":true},"eth2":{"prio":2}'; until_state "$BOTH" 10; is "agg_select_policy $p" "$BOTH $p" "$(state) $(item runner.select_policy)"; end; done
+$T -d -r -t team0 -c "$(config '"agg_select_policy":"nosuch"')" 2>/dev/null; is "a policy that does not exist is refused" 1 $?
+$T -d -r -t team0 -c "$(config '"sys_prio":65536')" 2>/dev/null; is "a sys_prio of 65536 is refused" 1 $?
+begin '' '"eth1":{"link_watch":{"name":"ethtool","delay_up":3000}},"eth2":{}'; sleep 2.5; is "delay_up is waited for" disabled "$(item ports.eth1.runner.state)"; until_state "$BOTH" 12; is "and then the port carries" "$BOTH" "$(state)"; end
+k=0; for i in 70001 65537 65538; do k=$((k + 1)); ip link add w$k index $i type veth peer name farw$k netns far; ip -n far link set farw$k master bond0; done
+begin '' '"eth1":{},"w1":{},"w2":{},"w3":{}'; sleep 7
+ports() { for p in w1 w2 w3; do printf '%s ' "$(item ports.$p.runner.actor_lacpdu_info.port)"; done; }
+was=$(ports); is "each ifIndex above 65535 has a port number of its own" 3 "$(echo $was | tr ' ' '\n' | awk '$1 > 0 && $1 < 65536' | sort -u | wc -l)"
+kill_it; take '' '"eth1":{},"w1":{},"w2":{},"w3":{}'; sleep 1; is "which stay when another teamd follows" "$was" "$(ports)"; end
+begin '' '"eth1":{},"eth2":{},"eth3":{}'; sleep 5; pid=$(cat /run/teamd/team0.pid); files=$(ls /proc/$pid/fd | wc -l)
+trip "out and in 50 times" 25 'for k in $(seq 50); do teamdctl team0 port remove eth3 && sleep 0.1; teamdctl team0 port add eth3; sleep 0.1; done'
+is "no file is left open after 50 times out and in" "$files" "$(ls /proc/$pid/fd | wc -l)"; is "no command failed" "" "$(cat /run/trip.out)"
+sleep 5; is "all three carry" "eth1 current true, eth2 current true, eth3 current true, carrier 1" "$(state eth1 eth2 eth3)"; end
+# Three teams on one segment.
+for n in 1 2 3; do ip link add e$n type veth peer name h$n; ip link set h$n up promisc on; tc qdisc add dev h$n clsact; done
+for n in 1 2 3; do for m in 1 2 3; do [ $n = $m ] || tc filter add dev h$n ingress matchall action mirred egress mirror dev h$m; done; done
+for n in 1 2 3; do $T -d -r -t team$n -c "{\"runner\":{\"name\":\"lacp\",\"fast_rate\":true},\"ports\":{\"e$n\":{}}}" 2>/dev/null; ip link set team$n up; done; sleep 3
+python3 /run/tests/count.py 8 e1 e2 e3 >/run/count; most=$(sed 's/.*: //' /run/count); echo "row: three teams on one segment | $(cat /run/count)"
+is "three teams on one segment send one to nine LACPDUs in a second" yes "$([ "$most" -ge 1 ] && [ "$most" -le 9 ] && echo yes || echo $most)"
+for n in 1 2 3; do $T -k -t team$n; done

@@ -1,0 +1,142 @@
+"""Sources and packages of Debian, fetched by apt from where this machine has its packages, into a cache folder. Nothing is installed."""
+
+from __future__ import annotations
+
+import glob
+import os
+import re
+import shutil
+import subprocess
+from typing import NamedTuple
+
+from repository import Missing, say, want
+
+# The releases whose sources are looked through, beside those of the machine's own packages.
+RELEASES = "stable", "testing", "unstable"
+
+
+# The lists of apt that are looked at: those of packages of Debian.
+MAIN = "Created-By: Packages", "Component: main", "Origin: Debian"
+
+
+def keys_of(entry: str) -> str:
+    """The keys by which an entry of apt's sources is signed, as FILE:NUMBER names it; "" for those that apt trusts anyway."""
+    path, _, number = entry.rpartition(":")
+    try:
+        with open(path, encoding="utf-8") as it:
+            text = it.read()
+    except OSError:
+        return ""
+    if path.endswith(".sources"):
+        parts, pattern = re.split(r"\n(?:[ \t]*\n)+", text.strip()), r"^Signed-By:[ \t]*(\S+)$"
+    else:
+        parts, pattern = text.splitlines(), r"signed-by=([^\] ,]+)"
+    found = re.search(pattern, parts[int(number) - 1] if number.isdigit() and 0 < int(number) <= len(parts) else "", re.M | re.I)
+    return found.group(1) if found else ""
+
+
+class Source(NamedTuple):
+    """The sources of a version: the archive of its authors, and the description of Debian's whole source package, or "" if some of it is not to be had."""
+
+    name: str
+    version: str
+    original: str
+    described: str
+
+
+class Sources:
+    """What apt finds, with lists and archives of our own."""
+
+    def __init__(self, cache: str, may_fetch: bool) -> None:
+        self.cache, self.may_fetch, self.known = cache, may_fetch, False
+        for folder in "apt/lists/partial", "apt/sources.d", "apt/archives/partial", "sources":
+            os.makedirs(f"{cache}/{folder}", exist_ok=True)
+
+    def apt(self, name: str, *words: str, sources: bool = True, cwd: str | None = None) -> subprocess.CompletedProcess[str]:
+        """One of apt's commands; over the lists of sources, or over those of the packages of the machine."""
+        own = {"Dir::State::Lists": "lists", "Dir::Etc::SourceParts": "sources.d", "Dir::Cache": "."} if sources else {}
+        options = [f"{key}={self.cache}/apt/{place}" for key, place in own.items()] + ["APT::Sandbox::User=root"]
+        options += ["Dir::Etc::SourceList=/dev/null"] if sources else []
+        want(name)
+        return subprocess.run([name, *(word for it in options for word in ("-o", it)), *words], stdin=subprocess.DEVNULL, capture_output=True, text=True, cwd=cwd)
+
+    def learn(self) -> None:
+        """Fetches the lists of sources, once a run: of each place from which the machine has packages of Debian."""
+        if self.known or not self.may_fetch:
+            return
+        told = self.apt("apt-get", "indextargets", "--format", "$(REPO_URI) $(CODENAME) $(SOURCESENTRY)", *MAIN, sources=False)
+        rows = [line.split() for line in told.stdout.splitlines() if len(line.split()) == 3]
+        places = dict.fromkeys((uri, keys_of(entry), release) for uri, codename, entry in rows for release in (codename, *RELEASES))
+        if not places:
+            raise Missing("apt names no place that has packages of Debian: see its sources.list(5)")
+        with open(f"{self.cache}/apt/sources.d/all.sources", "w", encoding="utf-8") as it:
+            for uri, keys, release in places:
+                it.write(f"Types: deb-src\nURIs: {uri}\nSuites: {release}\nComponents: main\n" + (f"Signed-By: {keys}\n" if keys else "") + "\n")
+        # A place that has no such release fails alone.
+        self.apt("apt-get", "update")
+        self.known = True
+
+    def versions(self, name: str) -> list[str]:
+        """The versions of a source package that are listed, the newest first."""
+        self.learn()
+        told = self.apt("apt-cache", "showsrc", "--only-source", name).stdout.splitlines()
+        found = list(dict.fromkeys(line.split()[1] for line in told if line.startswith("Version: ")))
+        for at in range(len(found)):
+            for other in range(at + 1, len(found)):
+                if not subprocess.run(["dpkg", "--compare-versions", found[at], "lt", found[other]]).returncode:
+                    found[at], found[other] = found[other], found[at]
+        return found
+
+    def files(self, name: str, version: str) -> Source:
+        """Fetches what there is of a version; apt compares the sums."""
+        place = f"{self.cache}/sources/{name}_{version}"
+        os.makedirs(place, exist_ok=True)
+        told = self.apt("apt-get", "source", "--download-only", f"{name}={version}", cwd=place) if self.may_fetch else None
+        described = glob.glob(f"{place}/*.dsc")
+        original = [it for it in glob.glob(f"{place}/*.orig.tar.*") if not it.endswith(".asc")]
+        whole = told is None or told.returncode == 0
+        packaging = glob.glob(f"{place}/*.debian.tar.*")
+        return Source(name, version, original[0] if original else "", described[0] if whole and described and packaging else "")
+
+    def of(self, name: str, version: str | None, wants_packaging: bool) -> Source:
+        """The newest version that is there as it is wanted."""
+        missing = []
+        known = [os.path.basename(it).split("_", 1)[1] for it in glob.glob(f"{self.cache}/sources/{name}_*")]
+        for it in [version] if version else (self.versions(name) if self.may_fetch else sorted(known, reverse=True)):
+            source = self.files(name, it)
+            if source.original and (source.described or not wants_packaging):
+                say(f"{name} {it}: " + ("with Debian's packaging" if source.described else "the archive of its authors; Debian's packaging is not to be had"))
+                return source
+            missing.append(it)
+        raise Missing(f"apt has no whole sources of {name}" + (f" (listed: {', '.join(missing)})" if missing else ""))
+
+    def package(self, name: str) -> str:
+        """The file of the machine's own version of a package, fetched; "" where apt has none."""
+        place = f"{self.cache}/packages"
+        os.makedirs(place, exist_ok=True)
+        if self.may_fetch:
+            for old in glob.glob(f"{place}/{name}_*.deb"):
+                os.remove(old)
+            self.apt("apt-get", "download", name, sources=False, cwd=place)
+        found = glob.glob(f"{place}/{name}_*.deb")
+        return found[0] if found else ""
+
+    def candidate(self, name: str) -> str:
+        """The version of a package that this machine would install from its sources, as it is without ours."""
+        told = self.apt("apt-cache", "madison", name, sources=False).stdout.splitlines()
+        return told[0].split("|")[1].strip() if told else ""
+
+
+def unpacked(source: Source, folder: str, with_packaging: bool) -> str:
+    """A fresh tree of the sources."""
+    shutil.rmtree(folder, ignore_errors=True)
+    if with_packaging:
+        words = ["dpkg-source", "--no-check", "-x", source.described, folder]
+    else:
+        os.makedirs(folder)
+        words = ["tar", "-x", "-f", source.original, "-C", folder, "--strip-components=1"]
+    want(words[0])
+    ended = subprocess.run(words, stdin=subprocess.DEVNULL, capture_output=True, text=True)
+    if ended.returncode:
+        raise Missing(f"{source.name} is not unpacked: {ended.stderr.strip()[-400:]}")
+    return folder

@@ -1,0 +1,77 @@
+"""teamd of libteam: its lacp runner is exchanged, and the package libteam-utils of this machine is packed again with the new program."""
+
+from __future__ import annotations
+
+import os
+import re
+import shutil
+import subprocess
+
+from building import HOSTS, Host, Order, before, done, exchange
+from fetched import Source, Sources, unpacked
+from repository import Missing, want
+
+PACKAGE, PROGRAM = "libteam-utils", "usr/bin/teamd"
+# What its configure looks for (Debian: these packages).
+WANTED = {"libnl-3.0": "libnl-3-dev", "libnl-cli-3.0": "libnl-cli-3-dev", "libnl-genl-3.0": "libnl-genl-3-dev", "libnl-route-3.0": "libnl-route-3-dev", "libdaemon": "libdaemon-dev", "jansson": "libjansson-dev", "dbus-1": "libdbus-1-dev"}
+FLAGS = "-O2 -g -fstack-protector-strong -D_FORTIFY_SOURCE=2 -fPIE"
+
+
+def build(source: Source, archives: list[str], folder: str, jobs: int) -> str:
+    want("autoreconf", "libtoolize", "make", "pkg-config")
+    lacking = [package for name, package in WANTED.items() if subprocess.run(["pkg-config", "--exists", name]).returncode]
+    if lacking:
+        raise Missing(f"libteam is built with packages that are not here: {' '.join(lacking)}")
+    tree, log = unpacked(source, folder, False), f"{folder}.log"
+    if os.path.exists(log):
+        os.remove(log)
+    if archives:
+        exchange(os.path.join(HOSTS, "teamd", "teamd_runner_lacp.c"), f"{tree}/teamd/teamd_runner_lacp.c")
+        done(["patch", "-p1", "-i", os.path.join(HOSTS, "teamd", "leave-ports.patch")], tree, log)
+    done(["autoreconf", "-f", "-i"], tree, log)
+    flags = os.environ.get("CFLAGS", FLAGS)
+    done(["./configure", "--prefix=/usr", "--sysconfdir=/etc", "--localstatedir=/var", "--disable-zmq", f"CFLAGS={flags}", "LDFLAGS=-pie -Wl,-z,relro,-z,now"], tree, log)
+    done(["make", f"-j{jobs}", f"LIBS={' '.join(archives)}"], tree, log)
+    return tree
+
+
+def control_of(tree: str, source: Source, version: str) -> None:
+    """Gives the package its version, and says what it has; stops the tool where it is of other sources."""
+    path = f"{tree}/DEBIAN/control"
+    with open(path, encoding="utf-8") as it:
+        control = it.read()
+    packed = re.search(r"^Version: (.*)$", control, re.M)
+    if not packed or packed.group(1).split("+niw")[0] != source.version:
+        raise Missing(f"the {PACKAGE} that apt has is not of the sources {source.version}: --version names others")
+    control = re.sub(r"^Version: .*$", f"Version: {version}", control, flags=re.M)
+    with open(path, "w", encoding="utf-8") as out:
+        out.write(control.rstrip("\n") + "\n .\n The lacp runner of this build is that of Niwhopera.\n")
+
+
+def pack(sources: Sources, order: Order) -> list[str]:
+    """The package of the machine with another program and version."""
+    want("dpkg-deb", "strip", "md5sum")
+    given = sources.package(PACKAGE)
+    if not given:
+        raise Missing(f"apt has no package {PACKAGE}, of which all but teamd is taken")
+    built = build(order.source, order.archives, order.folder, order.jobs)
+    tree, log = f"{built}.package", f"{built}.log"
+    shutil.rmtree(tree, ignore_errors=True)
+    done(["dpkg-deb", "-R", given, tree], "/", log)
+    control_of(tree, order.source, order.version)
+    done(["strip", "-o", f"{tree}/{PROGRAM}", f"{built}/teamd/.libs/teamd"], "/", log)
+    shutil.copy(os.path.join(HOSTS, "teamd", "README.md"), f"{tree}/usr/share/doc/{PACKAGE}/README.Niwhopera.md")
+    files = sorted(os.path.relpath(os.path.join(at, name), tree) for at, _, names in os.walk(tree) for name in names if not os.path.islink(os.path.join(at, name)))
+    sums = subprocess.run(["md5sum", "--", *(it for it in files if not it.startswith("DEBIAN/"))], cwd=tree, capture_output=True, text=True)
+    with open(f"{tree}/DEBIAN/md5sums", "w", encoding="utf-8") as out:
+        out.write(sums.stdout)
+    made = f"{order.out}/{PACKAGE}_{order.version}_{architecture()}.deb"
+    done(["dpkg-deb", "--root-owner-group", "-b", tree, made], "/", log)
+    return [made]
+
+
+def architecture() -> str:
+    return subprocess.run(["dpkg", "--print-architecture"], capture_output=True, text=True).stdout.strip()
+
+
+HOST = Host("libteam", False, build, pack, before((PACKAGE,)))

@@ -1,0 +1,78 @@
+"""The hosts as tools/host builds them, once a run."""
+
+from __future__ import annotations
+
+import glob
+import os
+import subprocess
+
+from checking import Failed
+from fetched import Sources
+from linked import library
+from repository import COMPILER, MAINTAIN, TOOLS, TOP
+
+HOSTS = os.path.join(TOP, "hosts")
+UNDEFINED = "-O1 -g -fno-omit-frame-pointer -fsanitize=undefined -fno-sanitize-recover=undefined"
+
+
+class Built:
+    """What is built, and where."""
+
+    def __init__(self, sources: Sources, folder: str, beside: bool) -> None:
+        self.sources, self.folder, self.beside = sources, folder, beside
+        self.trees: dict[str, str] = {}
+
+    def cache(self) -> list[str]:
+        return ["--cache", self.sources.cache, *([] if self.sources.may_fetch else ["--no-fetch"])]
+
+    def tool(self, *words: str, **environment: str) -> str:
+        """What tools/host prints."""
+        ended = subprocess.run([os.path.join(TOOLS, "host"), *words, *self.cache()], capture_output=True, text=True, env={**os.environ, **environment})
+        if ended.returncode:
+            raise Failed(f"tools/host {' '.join(words)}", ended.stderr)
+        return ended.stdout.strip()
+
+    def tree(self, name: str, own: bool = False) -> str:
+        """The folder of the build of a host."""
+        key = f"{name} {own}"
+        if key not in self.trees:
+            self.trees[key] = self.tool(name, *(["--own"] if own else ["--program"])).splitlines()[-1]
+        return self.trees[key]
+
+    def archives(self) -> list[str]:
+        return library(f"{self.sources.cache}/library")
+
+    def shared(self) -> str:
+        """The library for Python."""
+        made = f"{self.folder}/liblag.so.0"
+        if not os.path.exists(made):
+            self.compile("-shared", "-o", made, "-Wl,--whole-archive", *self.archives(), "-Wl,--no-whole-archive")
+        return made
+
+    def flows(self) -> str:
+        made = f"{self.folder}/flows"
+        if not os.path.exists(made):
+            self.compile("-O2", "-o", made, os.path.join(MAINTAIN, "carry.d", "flows.c"))
+        return made
+
+    def compile(self, *words: str) -> None:
+        ended = subprocess.run([*COMPILER, *words], capture_output=True, text=True)
+        if ended.returncode:
+            raise Failed(f"{COMPILER[0]} {' '.join(words)[:100]}", ended.stderr[-1500:])
+
+    def unpacked(self, *names: str) -> str:
+        """The folder in which packages of the machine are unpacked."""
+        place = f"{self.sources.cache}/unpacked/{names[0]}"
+        os.makedirs(place, exist_ok=True)
+        for name in names:
+            package = self.sources.package(name)
+            if not package:
+                raise Failed(f"apt has the package {name}")
+            subprocess.run(["dpkg-deb", "-x", package, place], check=True)
+        return place
+
+    def found(self, pattern: str) -> str:
+        at = glob.glob(pattern, recursive=True)
+        if not at:
+            raise Failed(f"there is {pattern}")
+        return at[0]

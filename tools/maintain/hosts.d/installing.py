@@ -1,0 +1,42 @@
+"""The packages of hosts: installed over those of this machine and taken back, in an overlay of its tree."""
+
+from __future__ import annotations
+
+import os
+import re
+import subprocess
+
+from built import Built
+from checking import Failed, check
+
+PROGRAMS = {"teamd": "/usr/bin/teamd", "openvswitch": "/usr/lib/openvswitch-switch/ovs-vswitchd"}
+# Over a tree whose changes are in memory; no service is started.
+OVERLAY = """set -e; D="$1"; mount -t tmpfs overlay "$D"; mkdir "$D/upper" "$D/work" "$D/tree"
+mount -t overlay overlay -o "lowerdir=/,upperdir=$D/upper,workdir=$D/work" "$D/tree"
+mount -t proc proc "$D/tree/proc"; mount --bind /dev "$D/tree/dev"; mount -t tmpfs run "$D/tree/run"
+mkdir -p "$D/tree/packages"; mount --bind "$2" "$D/tree/packages"
+printf '#!/bin/sh\\nexit 101\\n' >"$D/tree/usr/sbin/policy-rc.d"; chmod +x "$D/tree/usr/sbin/policy-rc.d"
+exec chroot "$D/tree" sh -c "$3"
+"""
+STEPS = """export DEBIAN_FRONTEND=noninteractive; sums() {{ md5sum {program} | cut -d' ' -f1; for p in {names}; do dpkg-query -W -f '${{Version}} ' $p; dpkg -V $p | grep -v '^??5?????? c ' || true; done; echo; }}
+install() {{ apt-get install -y --no-install-recommends "$@" >/run/log 2>&1 || tail -5 /run/log; }}
+install {names}; echo "before $(sums)"; install /packages/*.deb; echo "new $(sums)"; {program} --version 2>&1 | head -1
+install --reinstall --allow-downgrades {old}; echo "back $(sums)"
+"""
+
+
+def there_and_back(built: Built) -> None:
+    for name, program in PROGRAMS.items():
+        out, place = f"{built.folder}/packages-{name}", f"{built.folder}/overlay-{name}"
+        os.makedirs(place)
+        told = built.tool(name, "--out", out)
+        old = re.search(r"--allow-downgrades (.*)$", told, re.M)
+        if not old:
+            raise Failed("tools/host says how to go back", told)
+        names = " ".join(it.split("=")[0] for it in old.group(1).split())
+        steps = STEPS.format(program=program, names=names, old=old.group(1))
+        ended = subprocess.run(["unshare", "-m", "sh", "-c", OVERLAY, "sh", place, out, steps], capture_output=True, text=True)
+        said = dict(re.findall(r"^(before|new|back) (.*(?:\n[^bn].*)*?)$", ended.stdout, re.M))
+        print(ended.stdout.strip())
+        check(said.get("new") and "+niw" in said["new"] and said.get("new") != said.get("before"), f"{name}: the packages are installed", ended.stdout[-1200:], ended.stderr[-600:])
+        check(said.get("before") and said.get("before") == said.get("back"), f"{name}: those of before come back", ended.stdout[-1200:])
