@@ -178,7 +178,7 @@ UNTIL_BOTH = figures_of(PRINTED, r'^PRINTS = "both ends distribute after (\d+) t
 PROMISED = "|{} rounds, {} s|{} rounds, {} s|"
 
 QUOTES: tuple[Quote, ...] = (
-    Quote(README, "`cc examples/c/two_ends.c -llag && ./a.out` prints `both ends distribute after {} ticks of {} ms`", UNTIL_BOTH),
+    Quote(README, "`out/bin/two_ends` prints `both ends distribute after {} ticks of {} ms`", UNTIL_BOTH),
     Quote(README, "within {} s if both ends of each cable are active, {} s if one is", lambda pages: late_rounds(pages)[-2:]),
     Quote(README, "[{} software peers](docs/PEERS.md)", peers_tried),
     Quote(README, "[beside {} peers](docs/PEERS.md#beside-each-other)", peers_tried),
