@@ -8,7 +8,6 @@ import math
 import os
 from typing import Optional, Sequence
 
-
 from . import pics
 from .files import check_writable
 from .groups import TESTS

@@ -54,7 +54,7 @@ class Proof:
         self.running: set[subprocess.Popen[bytes]] = set()
         self.shown, self.is_stopped, self.began = "", False, time.time()
         self.jobs = min(lanes(), JOBS)
-        self.lock = threading.Lock()
+        self.lock, self.starting = threading.Lock(), threading.Lock()
 
     def __enter__(self) -> Proof:
         os.makedirs(os.path.dirname(self.log), exist_ok=True)
@@ -68,8 +68,8 @@ class Proof:
 
     def stop(self) -> None:
         """Ends what runs, with what that started, and begins nothing more."""
-        self.is_stopped = True
-        running = list(self.running)
+        with self.starting:
+            self.is_stopped, running = True, list(self.running)
         for ends in signal.SIGTERM, signal.SIGKILL:
             for it in running:
                 with contextlib.suppress(ProcessLookupError, subprocess.TimeoutExpired):
@@ -97,12 +97,14 @@ class Proof:
 
     def prove(self, crate: str, words: list[str]) -> None:
         """Proves and builds one crate, in a process group of its own."""
-        if self.is_stopped:
-            return
         with open(self.log, "a", encoding="utf-8") as log:
             folder, nothing = os.path.join(CRATES, crate), subprocess.DEVNULL
-            with subprocess.Popen(words, cwd=folder, stdin=nothing, stdout=log, stderr=log, start_new_session=True) as ran:
+            with self.starting:
+                if self.is_stopped:
+                    return
+                ran = subprocess.Popen(words, cwd=folder, stdin=nothing, stdout=log, stderr=log, start_new_session=True)
                 self.running.add(ran)
+            ran.wait()
             self.running.remove(ran)
         if self.is_stopped:
             return

@@ -36,6 +36,7 @@ static uint8_t pool[1 << 22];
 #endif
 /* The next so many requests for memory are granted, and one is refused; none while it is negative. */
 static long granted = -1;
+static bool is_granted;
 
 static uint32_t any(uint32_t below) {
     state ^= state << 13;
@@ -66,6 +67,9 @@ void *__real_malloc(size_t size);
 void *__real_realloc(void *at, size_t size);
 void *__wrap_malloc(size_t size);
 void *__wrap_realloc(void *at, size_t size);
+
+/* Memory may be refused from here on. A list that is long is copied where octets stand the other way, and that asks for memory, too. */
+static void refuse(bool has_short_lists) { granted = has_short_lists && !is_granted && seldom(3) ? (long)any(6) : -1; }
 
 static bool is_refused(size_t size) {
     if (granted < 0) return false;
@@ -207,7 +211,7 @@ static void carry(int from, uint16_t port) {
 
 int main(int argc, char **argv) {
     const unsigned long count = argc > 1 ? strtoul(argv[1], NULL, 10) : 20000;
-    const bool is_granted = argc > 2;
+    is_granted = argc > 2;
 #ifdef NIW_POOL
     niw_give_memory(pool + 1, sizeof pool - 1);
 #endif
@@ -215,9 +219,7 @@ int main(int argc, char **argv) {
         for (int which = 0; which < 2; which++) {
             if (!systems[which].live && seldom(4)) make(which);
         }
-        granted = seldom(20) && !is_granted ? (long)any(6) : -1;
         one_call(any(CALLS));
-        granted = -1;
         if (seldom(3)) {
             mix(niw_tick(&systems[0]));
             mix(niw_tick(&systems[1]));

@@ -2,6 +2,8 @@
 
 from __future__ import annotations
 
+import re
+
 from repository import Missing
 from sources import Export, Field, Structs
 
@@ -9,6 +11,8 @@ from sources import Export, Field, Structs
 SELDOM = {"new": 3, "free": 60, "restart": 60, "set_link": 12, "hold": 12, "set_mode": 20, "configure": 30, "set_max_links": 20, "ticks": 8,
           "queue_free": 8, "force_port": 8}
 OFTEN = {"tick": 6, "receive": 10, "offer": 3, "offer_conversation": 6, "move_conversation": 3, "queue_put": 6}
+# What asks for memory.
+ALLOCATE = ("new", "resume", "queue_new")
 # Parameters that are scalars, by their names.
 SCALARS = {
     "port": "port_of()", "agg": "agg_of()", "conv": "conv_of()", "now": "agg_of()", "up": "!seldom(4)", "hold": "seldom(3)", "active": "!seldom(3)",
@@ -76,6 +80,11 @@ def parameter(it: Field, count: Field | None, name: str) -> tuple[list[str], lis
     return [f"size_t {number} = {many};"], [f"seldom(64) ? NULL : {place}", number], [f"{mix}({place}, {number});"] if mix else []
 
 
+def declared_sizes(rows: list[str]) -> set[str]:
+    """The sizes of lists that these declare."""
+    return set(re.findall(r"^size_t (\w+) = ", "\n".join(rows), re.M))
+
+
 def call(it: Export, structs: Structs) -> str:
     """The block that calls a function once."""
     declared: list[str] = []
@@ -101,8 +110,9 @@ def call(it: Export, structs: Structs) -> str:
     fills = {"new": ["fill_config();"], "resume": ["fill_config();", "fill_saved();"]}.get(it.name, [])
     fills += ["fill_lists();"] if any(field.name in ("ports", "carried", "changed", "busy") for field in it.given) and not fills else []
     once = [f"if (!seldom({SELDOM[it.name]})) break;"] if it.name in SELDOM else []
-    # More memory is asked for lists that are long, where octets stand the other way.
-    rows = [*once, *fills, *declared, f"{it.answer} told = niw_{it.name}({', '.join(given)});", told, *mixed, "break;"]
+    lists = " && ".join(f"{name} <= 64" for name in given if name in declared_sizes(declared)) or "true"
+    arms = ([f"refuse({lists});"], ["granted = -1;"]) if it.name in ALLOCATE else ([], [])
+    rows = [*once, *fills, *declared, *arms[0], f"{it.answer} told = niw_{it.name}({', '.join(given)});", *arms[1], told, *mixed, "break;"]
     return "\n".join(f"        {row}" for row in rows)
 
 

@@ -56,7 +56,9 @@ def test_a_proof_that_is_stopped_leaves_no_process(ends: signal.Signals, status:
     rt.write_text(f"#!/bin/sh\nsleep 300 &\necho $! >> {began}\nwait\n", encoding="utf-8")
     rt.chmod(0o755)
     words = [sys.executable, os.path.join(loading.TOOLS, "lagtool"), "--prove"]
-    with subprocess.Popen(words, env={**os.environ, "RT": str(rt)}, stderr=subprocess.PIPE) as proof:
+    # What is started behind `&` ignores SIGINT.
+    hears = lambda: signal.signal(signal.SIGINT, signal.SIG_DFL)
+    with subprocess.Popen(words, env={**os.environ, "RT": str(rt)}, stderr=subprocess.PIPE, preexec_fn=hears) as proof:
         for _ in range(300):
             if began.exists() and began.read_text():
                 break
