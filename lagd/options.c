@@ -161,6 +161,15 @@ static void choose_order(struct lagd *lagd, const char *order, const char *inter
     lagd->options->options.interface = interface;
 }
 
+/* A text that the library of c/lag.c has, and the native one has not. */
+extern const char niw_lag_c[] __attribute__((weak));
+
+static void print_version(void) {
+    const char *portable = niw_lag_c;
+    puts("lagd " VERSION);
+    printf("with %s%s\n", portable ? "liblag of " : "native liblag, for lag.h of ", portable ? portable : VERSION);
+}
+
 static _Noreturn void end_printing(void) {
     exit(fflush(stdout) ? REFUSED : DONE);
 }
@@ -182,7 +191,7 @@ static void read_option(struct lagd *lagd, int option, const char *last) {
     case 'G': choose_order(lagd, "release", optarg); break;
     case 'j': own->options.json = true; break;
     case 'h': print_help(lagd); end_printing();
-    case 'V': puts("lagd " VERSION); end_printing();
+    case 'V': print_version(); end_printing();
     case '?': case ':': stop(WRONG_WORD, "not an option, or its word is missing", optopt ? letter : last);
     default: take_option(lagd, option, optarg); break;
     }

@@ -1,8 +1,9 @@
 """Links the C library: one object for programs that are linked with it, and one for programs that load it.
 
 Both come from liblagffi.a, which `rt lib` makes, and the C part of the toolchain; of another processor than x86-64 from what rattle
-compiles for it, and dist.d/runtime, since the toolchain has no C there. They show the functions of lag.h and nothing else, so a program may
-have functions of any other name. tools/dist packs them, and tools/maintain/python-tests loads the second one.
+compiles for it, and dist.d/runtime, since the toolchain has no C there. Where there is no toolchain they come from c/lag.c. They show the functions
+of lag.h and nothing else, so a program may have functions of any other name; what comes from c/lag.c shows one text more, which says so.
+tools/library makes both in a folder, tools/dist packs them, and tools/maintain/python-tests loads the second one.
 """
 
 from __future__ import annotations
@@ -12,7 +13,7 @@ import re
 import subprocess
 
 from processors import AMD64, Processor, compile_crate
-from repository import COMPILER, CRATES, RT, TOOLS, Missing, runtime, want
+from repository import COMPILER, CRATES, RT, TOOLS, TOP, Missing, runtime, want
 
 HEADER = os.path.join(CRATES, "lagffi", "include", "lag.h")
 ARCHIVE = os.path.join(CRATES, "lagffi", "out", "liblagffi.a")
@@ -28,6 +29,9 @@ RENAMED = {
     "lagffi_offer_in_carrier": "lagffi_offer_in_active_aggregator",
     "lagffi_offer_conversation_in_carrier": "lagffi_offer_conversation_in_active_aggregator",
 }
+# The library as one file of C, and the text that it alone shows.
+PORTABLE = os.path.join(TOP, "c", "lag.c")
+PORTABLE_SHOWS = "niw_lag_c"
 # What Debian builds programs with, beside -O2.
 HARDENING = ["-fstack-protector-strong", "-D_FORTIFY_SOURCE=2", "-Wl,-z,relro,-z,now,-z,noexecstack"]
 
@@ -95,6 +99,14 @@ def one_object(folder: str, parts: list[str], processor: Processor = AMD64) -> s
     return made
 
 
+def portable(folder: str, *words: str, processor: Processor = AMD64) -> str:
+    """The same object, lag.o, of c/lag.c: it wants a C compiler alone."""
+    made = os.path.join(folder, "lag.o")
+    # As the native one it imports what docs/ABI.md lists, and no more.
+    printed(*compiler(processor), "-O2", "-fPIC", "-fno-stack-protector", "-U_FORTIFY_SOURCE", *words, f"-I{os.path.dirname(HEADER)}", "-c", "-o", made, PORTABLE)
+    return made
+
+
 def archive(folder: str, lag: str) -> str:
     """liblag.a, which links alone. Equal objects give equal octets."""
     made = os.path.join(folder, "liblag.a")
@@ -104,13 +116,14 @@ def archive(folder: str, lag: str) -> str:
     return made
 
 
-def version_script(folder: str) -> str:
-    """The file that tells the linker what the library shows, and in which version; a version has those before it in it."""
+def version_script(folder: str, *more: str) -> str:
+    """The file that tells the linker what the library shows, and in which version; a version has those before it in it. The first has these
+    names, too."""
     made, text, before = os.path.join(folder, "liblag.map"), "", ""
     with open(SYMBOLS, encoding="utf-8") as it:
         rows = re.findall(r"^ (lagffi_\w+)@LAG_(\d+) ", it.read(), re.M)
     for number in sorted({int(number) for _, number in rows}):
-        names = "".join(f"    {name};\n" for name, its in rows if int(its) == number)
+        names = "".join(f"    {name};\n" for name in [*(name for name, its in rows if int(its) == number), *([] if before else more)])
         text += f"LAG_{number} {{\nglobal:\n{names}" + ("" if before else "local:\n    *;\n") + f"}}{before};\n"
         before = f" LAG_{number}"
     with open(made, "w", encoding="utf-8") as out:
@@ -118,10 +131,10 @@ def version_script(folder: str) -> str:
     return made
 
 
-def shared(folder: str, lag: str, processor: Processor = AMD64) -> str:
+def shared(folder: str, lag: str, processor: Processor = AMD64, is_portable: bool = False) -> str:
     """The library for programs that load it."""
     made = os.path.join(folder, SONAME)
-    script = version_script(folder)
+    script = version_script(folder, *([PORTABLE_SHOWS] if is_portable else []))
     words = [f"-Wl,-soname,{SONAME}", "-Wl,--build-id=sha1", f"-Wl,--version-script={script}", "-Wl,--no-undefined", "-Wl,-z,text"]
     words += [f"-Wl,--defsym={old}={new}" for old, new in RENAMED.items()]
     printed(*compiler(processor), "-shared", "-O2", *HARDENING, *words, "-o", made, lag)

@@ -56,6 +56,15 @@ FOR_EACH_X86 = "--cpu=x86-64"
 AMD64 = Processor("amd64", "x86_64", "", (FOR_EACH_X86,))
 ARM64 = Processor("arm64", "aarch64", "aarch64-linux-gnu-", ("--target", "aarch64-unknown-linux-gnu"))
 PROCESSORS = {it.name: it for it in (AMD64, ARM64)}
+# Other processors, on which c/lag.c is tried: what their compiler begins with in Debian, and their emulator.
+EMULATED = {
+    "arm of 32 bits": ("arm-linux-gnueabi", "arm"),
+    "i386": ("i686-linux-gnu", "i386"),
+    "arm64": ("aarch64-linux-gnu", "aarch64"),
+    "riscv64": ("riscv64-linux-gnu", "riscv64"),
+    "s390x, big-endian": ("s390x-linux-gnu", "s390x"),
+    "powerpc of 32 bits, big-endian": ("powerpc-linux-gnu", "ppc"),
+}
 # What an arm64 build wants besides, with its package of Debian.
 CROSS = {"aarch64-linux-gnu-gcc": "gcc-aarch64-linux-gnu", "qemu-aarch64": "qemu-user"}
 LIBRARIES = {
@@ -65,6 +74,11 @@ LIBRARIES = {
     "libbpf": "libbpf-dev:arm64",
     "libsystemd": "libsystemd-dev:arm64",
 }
+
+
+def emulator(name: str) -> str | None:
+    """The command that runs programs of a processor, if it is here."""
+    return shutil.which(f"qemu-{name}") or shutil.which(f"qemu-{name}-static")
 
 
 def want_tools(processor: Processor) -> None:

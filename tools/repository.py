@@ -21,7 +21,7 @@ TOP = os.path.dirname(TOOLS)
 CRATES = os.path.join(TOP, "crates")
 # Where tools keep what they fetch: rt wants no links of folders in the repository.
 CACHE = os.environ.get("XDG_CACHE_HOME") or os.path.expanduser("~/.cache")
-# The program that tools/lagtool makes where it is missing; and that which tools run: it, or one that LAGTOOL names.
+# The program that tools/lagtool --prove makes; and that which tools run: it, or one that LAGTOOL names.
 MADE = os.path.join(CRATES, "lagtool", "out", "lagtool")
 PROGRAM = os.environ.get("LAGTOOL", MADE)
 RT = os.environ.get("RT", "rt")
@@ -112,10 +112,10 @@ def below(*names: str) -> list[str]:
 
 def make_program() -> None:
     """Makes the proved program, where it is missing or older than its sources and LAGTOOL names none, and looks that it works."""
-    made = os.path.join(TOOLS, "lagtool") if PROGRAM == MADE else PROGRAM
-    # The module of docs/try.html, which answers where there is no rt, has no `check`.
-    if subprocess.run([made, "check", os.devnull], stdout=subprocess.DEVNULL).returncode:
-        raise Missing(f"{made} check fails, as the lines above say")
+    if PROGRAM == MADE and subprocess.run([os.path.join(TOOLS, "lagtool"), "--prove"]).returncode:
+        raise Missing("the program is not proved, as the lines above say")
+    if subprocess.run([PROGRAM, "check", os.devnull], stdout=subprocess.DEVNULL).returncode:
+        raise Missing(f"{PROGRAM} check fails, as the lines above say")
 
 
 def hear_signals() -> None:

@@ -11,6 +11,9 @@ import sys
 import time
 from typing import Callable, Optional, Sequence
 
+from niwhopera import __version__
+from niwhopera._library import library_text
+
 from . import capture, files, junit, known, matrix, pics, report
 from .bench import Bench
 from .files import read_text, tell, undisturbed, written
@@ -187,6 +190,9 @@ def listed(given: argparse.Namespace) -> int:
 def main(words: Optional[Sequence[str]] = None) -> int:
     """Runs the command; answers its status."""
     given = reader().parse_args(words)
+    if given.version:
+        print(f"lagconform {__version__}", library_text(), sep="\n")
+        return 0
     try:
         if given.list:
             return listed(given)

@@ -8,8 +8,6 @@ import math
 import os
 from typing import Optional, Sequence
 
-from niwhopera import __version__
-
 from . import pics
 from .files import check_writable
 from .groups import TESTS
@@ -67,7 +65,7 @@ def reader() -> argparse.ArgumentParser:
     """The words of the command line."""
     it = argparse.ArgumentParser(prog="lagconform", description=ABOUT, formatter_class=argparse.RawDescriptionHelpFormatter)
     it.add_argument("interfaces", nargs="*", metavar="INTERFACE", help="the interface of a link; one or two, and three or four for the tests of three links")
-    it.add_argument("--version", action="version", version=f"%(prog)s {__version__}")
+    it.add_argument("--version", action="store_true", help="print the version, and which library runs")
     add_reports(it)
     add_device(it)
     add_tests(it)

@@ -18,7 +18,7 @@ from functools import partial
 from textwrap import fill
 from typing import Any, BinaryIO, Callable, Iterable, Iterator, NamedTuple, Optional
 
-from ._library import functions
+from ._library import functions, library_text
 from ._line_words import Fault, flag, hexadecimal, kind, link, long_number, mac, number, numbers, ticks
 from ._numbers import SHORTEST_FRAME, VERSION_TEXT, ConversationState, PortStatus, ReceivedKind, SentKind, State, Status, WireFault
 from .errors import BadConfig, BadPayload, LagError
@@ -28,7 +28,6 @@ from .system import System
 from .values import Carried, Config, Info, PortConfig, SystemId
 
 _NAME = "niwhopera.lines"
-_VERSION = f"{_NAME} {VERSION_TEXT}\n"
 # The most octets of a line before its newline, a carriage return counted.
 LONGEST_LINE = 65536
 # A limit of links that is refused as 0 is: `Config` has none of 0.
@@ -418,6 +417,10 @@ no such word of the command line; standard error says why.
 """
 
 
+def _version() -> str:
+    return f"{_NAME} {VERSION_TEXT}\n{library_text()}\n"
+
+
 class Stopped(Exception):
     """Why the program stops before its input ends."""
 
@@ -451,7 +454,7 @@ def serve(source: BinaryIO, sink: BinaryIO) -> None:
 
 def _run(words: list[str]) -> None:
     """Does what the words of the command line ask for: the first one decides."""
-    texts = {"--help": _help(), "-h": _help(), "--version": _VERSION, "-V": _VERSION}
+    texts = {"--help": _help, "-h": _help, "--version": _version, "-V": _version}
     # Python has no stream where the file was closed before it began.
     if sys.stdout is None:
         raise Stopped("cannot write")
@@ -461,7 +464,7 @@ def _run(words: list[str]) -> None:
         functions()
         serve(sys.stdin.buffer, sys.stdout.buffer)
     elif words[0] in texts:
-        _write(sys.stdout.buffer, texts[words[0]])
+        _write(sys.stdout.buffer, texts[words[0]]())
     else:
         raise Stopped(f'no such word: "{words[0]}"')
 

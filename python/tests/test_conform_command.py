@@ -397,3 +397,9 @@ def test_pages_have_the_time_of_a_run_and_which_tests_are_long() -> None:
         ("PEERS.md", f"tests of more than {LONG} s,"),
     ):
         assert wanted in (page_of(name) or wanted)
+
+
+def test_the_version_says_which_library_runs(capsys: pytest.CaptureFixture[str]) -> None:
+    assert command.main(["--version"]) == 0
+    first, second = capsys.readouterr().out.splitlines()
+    assert first.startswith("lagconform ") and second.startswith(("with native liblag, ", "with liblag of lag.c, "))

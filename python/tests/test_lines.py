@@ -204,7 +204,10 @@ def test_the_help_names_each_request(words: list[str]) -> None:
 
 
 def test_the_version() -> None:
-    assert ended("--version") == ended("-V") == (0, f"niwhopera.lines {niwhopera.__version__}\n", "")
+    status, text, fault = told = ended("--version")
+    first, second = text.splitlines()
+    assert told == ended("-V") and (status, fault) == (0, "") and first == f"niwhopera.lines {niwhopera.__version__}"
+    assert re.fullmatch(rf"with (native liblag|liblag of lag\.c), .*, (for lag\.h of )?{re.escape(niwhopera.__version__)}", second)
 
 
 @pytest.mark.parametrize("words", [["help"], ["extra", "--help"], [""]])

@@ -5,12 +5,14 @@ from __future__ import annotations
 import copy
 import dataclasses
 import gc
+import os
 import threading
 import warnings
 from typing import Any, Callable
 
 import niwhopera
 import pytest
+from niwhopera import _library
 from frame_view import Side, lacpdu, marker
 from niwhopera import (
     PORT_STATUS_TEXTS,
@@ -239,3 +241,11 @@ def test_every_export_of_the_module_is_documented() -> None:
     for kind in (System, niwhopera.HeldFrames):
         for name in dir(kind):
             assert name.startswith("_") or getattr(kind, name).__doc__, name
+
+
+@pytest.mark.parametrize("given, is_built, wanted", [("/x/liblag.so.0", True, "/x/liblag.so.0"), ("", True, "/out/lib/liblag.so.0"), ("", False, "liblag.so.0")])
+def test_a_library_that_is_named_goes_before_that_of_make_and_of_the_system(given: str, is_built: bool, wanted: str, monkeypatch: pytest.MonkeyPatch) -> None:
+    monkeypatch.setenv("NIWHOPERA_LIBRARY", given)
+    monkeypatch.setattr(os.path, "exists", lambda _: is_built)
+    name = _library._name()
+    assert name.endswith(wanted) and os.path.isabs(name) == (wanted != "liblag.so.0")

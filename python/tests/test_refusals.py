@@ -103,7 +103,7 @@ class World:
         pick = self.chance.choice
         config = lag.NiwConfig(1, (ctypes.c_uint8 * 6)(), 0, 0, pick((256, 255)))
         yield from (pick((self.empty, self.ends[0])), config, (ctypes.c_uint16 * 1)(), 1, (lag.NiwPort * 1)(lag.NiwPort(1)), 1)
-        yield from ((lag.NiwSaved * 1)(lag.NiwSaved(1, pick((0, 900)))), 1)
+        yield from ((lag.NiwSaved * 1)(lag.NiwSaved(port=1, age=pick((0, 900)))), 1)
 
     def ticking(self) -> Iterator[Any]:
         """Arguments of some ticks, or of too many."""

@@ -210,6 +210,7 @@ def parts(processor: Processor = AMD64) -> Parts:
     found = [File(to, read(file), True) for to, file in programs.items()]
     found += [File("include/lag.h", read(library.HEADER)), File("lib/liblag.a", read(archive))]
     found += [File(f"lib/{library.SONAME}", read(shared)), File("lib/liblag.so", b"", link=library.SONAME)]
+    found += [File("share/liblag/lag.c", read(library.PORTABLE)), File("share/liblag/lag.h", read(library.HEADER))]
     made = {"lib/pkgconfig/lag.pc": pkg_config("${pcfiledir}/../..", "lib"), "share/doc/niwhopera/BUILD": verdict(), **manuals(ask)}
     for to, file in programs.items():
         name = os.path.basename(to)

@@ -16,7 +16,7 @@ import emulating
 import imported
 from counting import Count, ran
 from library import RENAMED
-from processors import AMD64, PROCESSORS, Processor
+from processors import AMD64, EMULATED, PROCESSORS, Processor, emulator
 from repository import WARNINGS, Missing, want
 
 # A program over the library: one port whose link comes up, and the LACPDU that it sends within a second.
@@ -172,6 +172,24 @@ def try_library(count: Count, root: str, pkg_config: str, given: Mapping[str, st
                     try_on_oldest(count, f"a program by {compiler} with {kind}", [made], {"LD_LIBRARY_PATH": load}, PRINTS)
 
 
+def try_source(count: Count, root: str) -> None:
+    """Builds the program of the library as one file of C, and runs it on each processor whose compiler and emulator are here."""
+    folder = os.path.join(root, "share", "liblag")
+    here: dict[str, tuple[str, list[str]]] = {"this processor": ("cc", [])}
+    elsewhere = {name: (f"{prefix}-gcc", [emulator(emulated) or ""]) for name, (prefix, emulated) in EMULATED.items()}
+    with tempfile.TemporaryDirectory() as made:
+        source, program = os.path.join(made, "try.c"), os.path.join(made, "try")
+        with open(source, "w", encoding="utf-8") as it:
+            it.write(PROGRAM)
+        for name, (compiler, runs) in {**here, **elsewhere}.items():
+            if not shutil.which(compiler) or not all(runs):
+                print(f"skipped: lag.c on {name}: there is no {compiler}, or no emulator of it")
+                continue
+            built = ran([compiler, "-O2", "-static", f"-I{folder}", "-o", program, source, os.path.join(folder, "lag.c")])
+            ended = built if built.returncode else ran([*runs, program])
+            count.add(f"lag.c on {name}", "" if ended.stdout == PRINTS else ended.stderr[:400] or f"status {ended.returncode}, {ended.stdout!r}")
+
+
 def try_on_oldest(count: Count, what: str, words: list[str], more: Mapping[str, str], prints: str) -> None:
     """A program runs on the oldest processor of x86-64, or says why not."""
     if not shutil.which("qemu-x86_64"):
@@ -268,6 +286,7 @@ def tried(count: Count, file: str) -> None:
         if processor.is_here:
             try_programs_on_oldest(count, root)
             try_glibc(count, root)
+        try_source(count, root)
         try_exports(count, root)
         imported.tried(count, os.path.join(library, "liblag.a"), processor.name)
         try_manuals(count, root)

@@ -40,7 +40,8 @@ function* steps(lagtool) {
 function misused() {
     const late = given.find((it) => OPTIONS.includes(it));
     if (late && name in JOBS) return `options stand before the subcommand: lagtool ${late} ${name} ..`;
-    return JOBS[name] === given.length ? "" : `without the toolchain: [OPTION..] ${Object.keys(JOBS).join(", ")}, and their words; options: ${OPTIONS.join(" ")}`;
+    if (name === "check") return "the module of docs/try.html has no check: tools/lagtool --prove, with the toolchain, makes the program";
+    return JOBS[name] === given.length ? "" : `[OPTION..] ${Object.keys(JOBS).join(", ")}, and their words; options: ${OPTIONS.join(" ")}`;
 }
 
 /* What the program says of a file that cannot be read. */
@@ -49,21 +50,31 @@ function unread(error) {
     return `${file}: ${given[0] === "-" ? "reading failed" : ERRORS[error.code] ?? text}`;
 }
 
+/* Writes to standard output, and waits until it is taken. */
+function put(text) {
+    return new Promise((done, refuse) => process.stdout.write(text, (error) => error ? refuse(Object.assign(error, { isWrite: true })) : done()));
+}
+
 /* The exit status, after all is written. */
 async function answered() {
     const wrong = misused();
     if (wrong) throw new Error(wrong);
     const answer = steps(await Lagtool.of(Buffer.from(PAGE.exec(readFileSync(at("docs/try.html"), "latin1"))[1], "base64")));
     let step = answer.next();
-    for (; !step.done; step = answer.next()) process.stdout.write(step.value.printed);
+    for (; !step.done; step = answer.next()) await put(step.value.printed);
     const [first, ...more] = step.value.said.split("\n").filter(Boolean);
-    if (first) console.error(`lagtool: ${first.replace(/^cannot read: /, `cannot read ${given[0]}: `)}`);
+    if (first) console.error(`lagtool: ${first.replace(/^cannot read(?: script$|(?=: ))/, `cannot read ${given[0]}`)}`);
     if (options.includes("--explain")) more.forEach((it) => console.error(`lagtool: ${it.replace(/^script(?=:)/, file)}`));
     return step.value.status;
 }
 
-process.stdout.on("error", () => process.exit(141)); // nobody reads on
+process.stdout.on("error", () => {}); // put() tells it
 answered().catch((error) => {
+    if (error.isWrite && error.code === "EPIPE") return 141; // nobody reads on
+    if (error.isWrite) {
+        console.error("lagtool: cannot write");
+        return 2;
+    }
     console.error(`lagtool: ${error.syscall ? `cannot read ${given[0]}` : error.message}`);
     if (error.syscall && options.includes("--explain")) console.error(`lagtool: ${unread(error)}`);
     return 2;

@@ -2,7 +2,9 @@
 
 from __future__ import annotations
 
+import contextlib
 import os
+import signal
 import subprocess
 import sys
 import threading
@@ -12,9 +14,10 @@ from concurrent.futures import ThreadPoolExecutor
 from lanes import lanes
 from repository import CRATES, RT, Missing, below, crates, say
 
-LASTS = "its proof goes on behind, 12 to 30 minutes on 4 processors, less after an earlier check"
 # The most jobs that rt takes for a check of its own accord.
 JOBS = 4
+# For how many seconds what is stopped may end by itself.
+PATIENCE = 5
 
 
 def spoken(seconds: float) -> str:
@@ -51,7 +54,7 @@ class Proof:
         self.running: set[subprocess.Popen[bytes]] = set()
         self.shown, self.is_stopped, self.began = "", False, time.time()
         self.jobs = min(lanes(), JOBS)
-        self.lock = threading.Lock()
+        self.lock, self.starting = threading.Lock(), threading.Lock()
 
     def __enter__(self) -> Proof:
         os.makedirs(os.path.dirname(self.log), exist_ok=True)
@@ -64,19 +67,28 @@ class Proof:
             print("\r\033[K", end="", file=sys.stderr, flush=True)
 
     def stop(self) -> None:
-        """Ends what runs, and begins nothing more."""
-        self.is_stopped = True
-        for it in list(self.running):
-            it.terminate()
+        """Ends what runs, with what that started, and begins nothing more."""
+        with self.starting:
+            self.is_stopped, running = True, list(self.running)
+        for ends in signal.SIGTERM, signal.SIGKILL:
+            for it in running:
+                with contextlib.suppress(ProcessLookupError, subprocess.TimeoutExpired):
+                    os.killpg(it.pid, ends)
+                    it.wait(PATIENCE)
 
     def make(self) -> None:
         """Proves all; stops where that fails."""
         lists, rest = apart(self.name)
         longest: list[str] = max(lists, key=lambda names: sum(self.sizes[it] for it in names), default=[])
         with ThreadPoolExecutor(lanes()) as pool:
-            for proved in [pool.submit(self.prove_each, it, self.jobs if it is longest else 1) for it in lists]:
-                proved.result()
-        self.prove_each([*rest, self.name], self.jobs)
+            try:
+                for proved in [pool.submit(self.prove_each, it, self.jobs if it is longest else 1) for it in lists]:
+                    proved.result()
+                pool.submit(self.prove_each, [*rest, self.name], self.jobs).result()
+            except BaseException:
+                # The pool ends once its threads do, and those once what they wait for does.
+                self.stop()
+                raise
 
     def prove_each(self, names: list[str], jobs: int) -> None:
         for name in names:
@@ -84,13 +96,15 @@ class Proof:
             self.prove(name, [RT, *words, "--jobs", str(jobs), *(["--", "--help"] if name == self.name else [])])
 
     def prove(self, crate: str, words: list[str]) -> None:
-        """Proves and builds one crate. A run without proof beside it, which is soon done, goes first."""
-        if self.is_stopped:
-            return
+        """Proves and builds one crate, in a process group of its own."""
         with open(self.log, "a", encoding="utf-8") as log:
             folder, nothing = os.path.join(CRATES, crate), subprocess.DEVNULL
-            with subprocess.Popen(["nice", "-n", "10", *words], cwd=folder, stdin=nothing, stdout=log, stderr=log) as ran:
+            with self.starting:
+                if self.is_stopped:
+                    return
+                ran = subprocess.Popen(words, cwd=folder, stdin=nothing, stdout=log, stderr=log, start_new_session=True)
                 self.running.add(ran)
+            ran.wait()
             self.running.remove(ran)
         if self.is_stopped:
             return

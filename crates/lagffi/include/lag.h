@@ -74,6 +74,11 @@ struct niw_queue {
  * and aggregators, and conversations of each aggregator. A test compares it with what they ask for. */
 #define NIW_MEMORY(ports, aggregators, conversations) \
     ((size_t)4096 + (size_t)128 * (ports) + ((size_t)24 * (conversations) + 8) * (aggregators))
+#ifdef NIW_POOL
+/* Of lag.c alone, and compiled by -DNIW_POOL: the memory that it takes in the place of malloc's, octets that the program keeps for it. NIW_MEMORY says how much
+ * of it a system takes. No handle holds anything at this call. */
+void niw_give_memory(void *at, size_t octets);
+#endif
 
 /* The names and numbers of the next three enums, and the texts of niw_status_text and niw_reason_text, are written by
  * tools/maintain/interface from the enums of the sources. The comments behind the names are by hand. */

@@ -152,7 +152,7 @@ def wrong_words(part: Part) -> None:
     texts = [command(part.program, word) for word in ("--help", "-h", "--version", "-V")]
     told = all(text.returncode == 0 and not text.stderr for text in texts)
     check(told and all("--status" in text.stdout for text in texts[:2]), "--help tells the options", texts[0].stderr)
-    check(told and all(re.fullmatch(r"lagd \d+\.\d+\.\d+\n", text.stdout) for text in texts[2:]), "--version names the version")
+    check(told and all(re.fullmatch(r"lagd (\d+\.\d+\.\d+)\nwith .*liblag.* \1\n", text.stdout) for text in texts[2:]), "--version names the version, and the library")
     status, line = part.refused("--status")
     check(status == 1 and re.search(r"^lagd: no lagd answers in: .+\n\Z", line, re.M), "--status says where no daemon runs", line)
 

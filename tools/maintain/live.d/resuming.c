@@ -77,7 +77,7 @@ void check_resume(void) {
         CHECK(frame[32] == (i ? 0x3d : 0x3f) && frame[52] == (i ? 0x3d : 0x3f)); /* Actor_State and Partner_State (6.4.2.3) */
         CHECK(!niw_transmit(&warm, ports[i].number, frame, sizeof frame).is);
     }
-    CHECK(niw_current_while(&warm, 3).number == 30 && niw_current_while(&warm, 5).number == 900);
+    CHECK(niw_current_while(&warm, 3).number == 30 - 29 && niw_current_while(&warm, 5).number == 900 - 899);
     check_adopted(&warm);
     CHECK(niw_free(&warm) == NIW_OK);
 }

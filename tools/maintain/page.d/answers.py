@@ -118,7 +118,7 @@ def of_module(octets: bytes, jobs: list[Job], folder: str) -> list[Answer]:
 def compared(octets: bytes, lagtool: str, folder: str, seed: int, count: int) -> tuple[int, list[str]]:
     """How many answers are equal, and which are not."""
     if not os.access(lagtool, os.X_OK):
-        raise Missing(f"there is no program {lagtool}: tools/lagtool makes it, and LAGTOOL may name it")
+        raise Missing(f"there is no program {lagtool}: tools/lagtool --prove makes it, and LAGTOOL may name it")
     jobs = all_jobs(seed, count)
     other = []
     for number, (job, came) in enumerate(zip(jobs, of_module(octets, jobs, folder), strict=True)):

@@ -1,4 +1,4 @@
-"""Makes the module of the page, of crates/lagpage: by clang, from what rattle lowers for x86-64."""
+"""Makes the module of the page, of crates/lagpage: by clang, from what rattle lowers for x86-64. tools/maintain/lag-c makes that of crates/lagffi."""
 
 from __future__ import annotations
 
@@ -41,13 +41,28 @@ def keeping(folder: str) -> str:
     return made
 
 
-def lowered(folder: str) -> str:
-    """The module as rattle lowers it for x86-64, once lagpage is proved."""
-    compile_crate("lagpage", os.path.join(folder, "lagpage.a"), [FOR_EACH_X86], keeping(folder))
-    kept = os.path.join(folder, "module.bc")
+def lowered(folder: str, crate: str) -> str:
+    """The text of the module as rattle lowers a crate for x86-64, once that is proved."""
+    compile_crate(crate, os.path.join(folder, f"{crate}.a"), [FOR_EACH_X86], keeping(folder))
+    kept, made = os.path.join(folder, "module.bc"), os.path.join(folder, "from.ll")
     if not os.path.exists(kept):
         raise Missing("rattle called clang with no module: this toolchain lowers in another way")
-    return kept
+    show = ["-S", "-emit-llvm", "-Xclang", "-disable-llvm-passes", "-Wno-unused-command-line-argument"]
+    done(["clang", "--target=x86_64-unknown-linux-gnu", "-x", "ir", kept, *show, "-o", made], clang())
+    with open(made, encoding="utf-8") as it:
+        return it.read()
+
+
+def clang() -> str:
+    """The toolchain's clang, which is its linker of modules, too."""
+    return os.path.join(kit(), "toolchain", "bin", "clang")
+
+
+def compiled(text: str, made: str, words: list[str]) -> None:
+    """Compiles a module in LLVM's text to an object for WebAssembly."""
+    with open(f"{made}.ll", "w", encoding="utf-8") as out:
+        out.write(text)
+    done(["clang", *words, "-c", "-x", "ir", f"{made}.ll", "-o", made], clang())
 
 
 def retargeted(text: str) -> str:
@@ -65,22 +80,15 @@ def retargeted(text: str) -> str:
 def made(folder: str) -> bytes:
     """The octets of the module."""
     want("wasm-opt")
-    clang = os.path.join(kit(), "toolchain", "bin", "clang")
-    names = ("from.ll", "to.ll", "lagpage.o", "heap.o", "builtins.o", "wide.wasm", "page.wasm")
+    names = ("lagpage.o", "heap.o", "builtins.o", "wide.wasm", "page.wasm")
     at = {name: os.path.join(folder, name) for name in names}
-    show = ["-S", "-emit-llvm", "-Xclang", "-disable-llvm-passes", "-Wno-unused-command-line-argument"]
-    done(["clang", "--target=x86_64-unknown-linux-gnu", "-x", "ir", lowered(folder), *show, "-o", at["from.ll"]], clang)
-    with open(at["from.ll"], encoding="utf-8") as it:
-        text = retargeted(it.read())
-    with open(at["to.ll"], "w", encoding="utf-8") as out:
-        out.write(text)
-    done(["clang", *WORDS, "-c", "-x", "ir", at["to.ll"], "-o", at["lagpage.o"]], clang)
+    compiled(retargeted(lowered(folder, "lagpage")), at["lagpage.o"], WORDS)
     for name in ("heap", "builtins"):
         source = os.path.join(TOP, "page", f"{name}.c")
-        done(["clang", *WORDS, "-ffreestanding", "-fno-builtin", "-c", source, "-o", at[f"{name}.o"]], clang)
+        done(["clang", *WORDS, "-ffreestanding", "-fno-builtin", "-c", source, "-o", at[f"{name}.o"]], clang())
     link = ["wasm-ld", "-mwasm64", "--no-entry", "--stack-first", "-z", f"stack-size={STACK}", "--gc-sections", "--strip-all"]
     objects = [at[it] for it in ("lagpage.o", "heap.o", "builtins.o")]
-    done([*link, *(f"--export={name}" for name in EXPORTS), "-o", at["wide.wasm"], *objects], clang)
+    done([*link, *(f"--export={name}" for name in EXPORTS), "-o", at["wide.wasm"], *objects], clang())
     done(["wasm-opt", *LOWER, at["wide.wasm"], "-o", at["page.wasm"]])
     with open(at["page.wasm"], "rb") as module:
         return module.read()

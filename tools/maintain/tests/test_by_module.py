@@ -1,4 +1,4 @@
-"""What tools/lagtool answers where there is neither the program nor rt: what examples/ stores, where there is node."""
+"""What tools/lagtool answers where there is no proved program: what examples/ stores, where there is node."""
 
 from __future__ import annotations
 
@@ -6,6 +6,7 @@ import os
 import pathlib
 import shutil
 import subprocess
+import sys
 
 import pytest
 
@@ -79,8 +80,53 @@ def test_an_option_behind_the_subcommand_is_told_its_place() -> None:
     assert (status, printed) == (2, "") and "--json" in said
 
 
-def test_where_there_is_no_node_a_line_leads_to_the_browser(monkeypatch: pytest.MonkeyPatch) -> None:
+@needs_node
+def test_what_cannot_be_written_is_told() -> None:
+    flapping, script = os.path.join(CAPTURES, "flapping.pcap"), os.path.join(EXAMPLES, SCRIPTS[0])
+    for words in (["vectors"], ["capture", flapping], ["replay", script], ["decode", "01" * 110]):
+        with open("/dev/full", "wb") as full:
+            ended = subprocess.run(["node", ANSWER, *words], stdout=full, stderr=subprocess.PIPE)
+        assert (ended.returncode, ended.stderr) == (2, b"lagtool: cannot write\n"), words
+
+
+@needs_node
+def test_where_nobody_reads_on_nothing_is_said() -> None:
+    reads, writes = os.pipe()
+    os.close(reads)
+    ended = subprocess.run(["node", ANSWER, "vectors"], stdout=writes, stderr=subprocess.PIPE)
+    os.close(writes)
+    assert (ended.returncode, ended.stderr) == (141, b"")
+
+
+@needs_node
+def test_a_script_that_is_not_utf_8_is_told_by_its_file(tmp_path: pathlib.Path) -> None:
+    script = tmp_path / "port.toml"
+    script.write_bytes(b"# \xff\n")
+    assert answer("replay", str(script)) == (2, "", f"lagtool: cannot read {script}\n")
+    assert answer("replay", "-", given=b"# \xff\n") == (2, "", "lagtool: cannot read -\n")
+    status, printed, said = answer("--explain", "replay", str(script))
+    assert (status, printed) == (2, "") and said.startswith(f"lagtool: cannot read {script}\nlagtool: {script}:1:3: ")
+
+
+def test_where_there_is_no_node_a_line_leads_on(monkeypatch: pytest.MonkeyPatch) -> None:
     lagtool = loading.program("lagtool")
     monkeypatch.setattr(lagtool.shutil, "which", lambda _: None)
     with pytest.raises(Missing, match="docs/try.html answers in a browser"):
         lagtool.by_module(["vectors"])
+    monkeypatch.setattr(lagtool.shutil, "which", lambda name: None if name == "node" else f"/usr/bin/{name}")
+    with pytest.raises(Missing, match="lagtool --prove makes the proved program"):
+        lagtool.by_module(["vectors"])
+
+
+@pytest.mark.parametrize("has_rt", [False, True])
+def test_an_answer_waits_for_no_proof(has_rt: bool, monkeypatch: pytest.MonkeyPatch) -> None:
+    lagtool = loading.program("lagtool")
+    ran: list[list[str]] = []
+    monkeypatch.setattr(lagtool, "stands", lambda: False)
+    monkeypatch.setattr(lagtool, "prove", lambda: pytest.fail("it proves"))
+    monkeypatch.setattr(lagtool.shutil, "which", lambda name: f"/usr/bin/{name}" if name == "node" or has_rt else None)
+    monkeypatch.setattr(lagtool.os, "execv", lambda program, words: ran.append([program, *words]) or sys.exit(0))
+    monkeypatch.setattr(sys, "argv", ["lagtool", "vectors"])
+    with pytest.raises(SystemExit):
+        lagtool.main()
+    assert [(program, words[-1]) for program, *words in ran] == [("/usr/bin/node", "vectors")]

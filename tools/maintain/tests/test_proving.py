@@ -2,6 +2,12 @@
 
 from __future__ import annotations
 
+import os
+import pathlib
+import signal
+import subprocess
+import sys
+import time
 from typing import Any
 
 import pytest
@@ -33,3 +39,35 @@ def test_nothing_is_said_once_all_is_proved(capsys: pytest.CaptureFixture[str]) 
     proof.proved.update(proof.all)
     proof.show("the proof goes on")
     assert capsys.readouterr().err == ""
+
+
+def is_there(process: int) -> bool:
+    """Whether a process runs."""
+    try:
+        with open(f"/proc/{process}/stat", encoding="utf-8") as it:
+            return it.read().rpartition(")")[2].split()[0] != "Z"
+    except FileNotFoundError:
+        return False
+
+
+@pytest.mark.parametrize("ends, status", [(signal.SIGINT, 130), (signal.SIGTERM, 143)])
+def test_a_proof_that_is_stopped_leaves_no_process(ends: signal.Signals, status: int, tmp_path: pathlib.Path) -> None:
+    rt, began = tmp_path / "rt", tmp_path / "began"
+    rt.write_text(f"#!/bin/sh\nsleep 300 &\necho $! >> {began}\nwait\n", encoding="utf-8")
+    rt.chmod(0o755)
+    words = [sys.executable, os.path.join(loading.TOOLS, "lagtool"), "--prove"]
+    # What is started behind `&` ignores SIGINT.
+    hears = lambda: signal.signal(signal.SIGINT, signal.SIG_DFL)
+    with subprocess.Popen(words, env={**os.environ, "RT": str(rt)}, stderr=subprocess.PIPE, preexec_fn=hears) as proof:
+        for _ in range(300):
+            if began.exists() and began.read_text():
+                break
+            time.sleep(0.1)
+        proof.send_signal(ends)
+        try:
+            proof.communicate(timeout=30)
+        finally:
+            proof.kill()
+    assert proof.returncode == status
+    started = [int(it) for it in began.read_text().split()]
+    assert started and not [it for it in started if is_there(it)]

@@ -1,0 +1,66 @@
+# Builds, from a clone, with a C compiler and Python alone:
+#
+#     make          the C library, the programs of examples/c, and the daemon where what it wants is here
+#     make check    runs the tests that want no toolchain: 'N passed, M failed'
+#     make clean
+#
+# out/lib has lag.h, liblag.a and liblag.so.0, which Python takes from there; out/bin has the programs. LAG_FOLDER names a folder that has these files of
+# the library, as tools/library makes them, proved and native: it is taken then, and so is that of the package liblag-dev, if its lag.h is this one. Else the
+# library is that of c/lag.c (docs/ASSURANCE.md). CC and CFLAGS are those of make.
+CC ?= cc
+CFLAGS ?= -O2
+PYTHON ?= python3
+PKG_CONFIG ?= pkg-config
+HEADER := crates/lagffi/include/lag.h
+EXAMPLES := $(filter-out no_libc minimal,$(patsubst examples/c/%.c,%,$(wildcard examples/c/*.c)))
+# What the daemon wants besides: the package of each, for Debian.
+WANTED := pkg-config clang bpftool libbpf-dev libinih-dev libmnl-dev libcap-ng-dev
+
+packaged := $(shell $(PKG_CONFIG) --variable=libdir lag 2>/dev/null)
+packaged_header := $(shell $(PKG_CONFIG) --variable=includedir lag 2>/dev/null)
+ifndef LAG_FOLDER
+ifneq ($(packaged),)
+LAG_FOLDER := $(shell cmp -s $(packaged_header)/lag.h $(HEADER) && echo $(packaged))
+endif
+endif
+has = $(shell $(PKG_CONFIG) --exists $(1) 2>/dev/null && echo $(1))
+daemon := $(if $(filter 6,$(words $(call has,inih) $(call has,libmnl) $(call has,libcap-ng) $(call has,libbpf) $(shell command -v clang) \
+	$(shell PATH=$$PATH:/usr/sbin command -v bpftool))),daemon,no-daemon)
+
+all: library examples $(daemon)
+
+library: out/lib/liblag.so.0
+
+ifneq ($(LAG_FOLDER),)
+out/lib/liblag.so.0: $(LAG_FOLDER)/liblag.so.0 $(LAG_FOLDER)/liblag.a $(HEADER)
+	mkdir -p out/lib
+	cp $(HEADER) $(LAG_FOLDER)/liblag.a out/lib/
+	ln -sf liblag.so.0 out/lib/liblag.so
+	cp $(LAG_FOLDER)/liblag.so.0 $@.new && mv $@.new $@
+else
+out/lib/liblag.so.0: c/lag.c $(HEADER) tools/library tools/library.py
+	CC="$(CC)" CFLAGS="$(CFLAGS)" $(PYTHON) tools/library --from-c out/lib
+endif
+
+examples: $(addprefix out/bin/,$(EXAMPLES))
+
+out/bin/%: examples/c/%.c out/lib/liblag.so.0 | out/bin
+	$(CC) $(CFLAGS) -Iout/lib -o $@ $< out/lib/liblag.a
+
+out/bin:
+	mkdir -p $@
+
+daemon: out/lib/liblag.so.0 | out/bin
+	PATH=$$PATH:/usr/sbin $(MAKE) -C lagd CC="$(CC)" CRATE=../crates/lagffi LIBRARY=../out/lib/liblag.a RUNTIME=
+	cp lagd/out/lagd out/bin/lagd.new && mv out/bin/lagd.new out/bin/lagd
+
+no-daemon:
+	@echo "out/bin has no lagd: it wants $(WANTED) (Debian: apt install $(WANTED))"
+
+check: all
+	CC="$(CC)" $(PYTHON) tools/maintain/clone-tests
+
+clean:
+	rm -rf out/lib out/bin lagd/out
+
+.PHONY: all library examples daemon no-daemon check clean
