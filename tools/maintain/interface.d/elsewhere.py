@@ -17,7 +17,7 @@ RELEASED = {
     "crates/lagtool/src/tests.rt": '"--version"], &["lagtool ',
     "examples/rust/Cargo.toml": 'name = "two_ends"\nversion = "',
     "examples/rust/Cargo.lock": 'name = "two_ends"\nversion = "',
-    "README.md": "\n## State\n\n",
+    "README.md": "This is ",
 }
 
 

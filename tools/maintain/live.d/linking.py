@@ -113,7 +113,8 @@ def build_held(folder: str, libraries: Sequence[str]) -> str:
 def build_markers(folder: str, libraries: Sequence[str]) -> str:
     """Builds what the daemon makes of Marker PDUs alone, with ASan and UBSan; answers the path of the program."""
     sources = [*(f"{MAINTAIN}/live.d/{name}.c" for name in ("markers", "checks")), *(f"{DAEMON}/{name}.c" for name in ("markers", "probe"))]
-    return build(os.path.join(folder, "markers"), sources, libraries, *STRICT, f"-I{DAEMON}", *SANITIZED, "-Wl,--wrap=lagffi_probe")
+    wraps = [f"-Wl,--wrap=lagffi_{name}" for name in ("probe", "answers")]
+    return build(os.path.join(folder, "markers"), sources, libraries, *STRICT, f"-I{DAEMON}", *SANITIZED, *wraps)
 
 
 def build_flights(folder: str) -> str:

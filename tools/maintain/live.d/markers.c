@@ -23,6 +23,7 @@ static uint64_t now = 5 * MINUTE;
 static unsigned lines; /* that were said */
 static uint32_t last_id = FIRST_ID - 1;
 static unsigned sent, again;
+static bool answered; /* whether the response to the last marker came */
 
 static const uint8_t OWN[6] = {2, 0, 0, 0, 0, 0xaa}, PARTNER[6] = {2, 0, 0, 0, 0, 0xbb}, STRANGER[6] = {2, 0, 0, 0, 0, 0xcc};
 
@@ -41,6 +42,11 @@ bool is_done(struct lagd *lagd, uint32_t status, const char *call) {
     if (status == NIW_OK) return true;
     printf("markers: %s: %s\n", call, niw_status_text(status));
     exit(1);
+}
+
+bool is_told(struct lagd *lagd, struct niw_number answer, const char *call, uint64_t *number) {
+    *number = answer.number;
+    return is_done(lagd, answer.status, call);
 }
 
 bool say(struct lagd *lagd, int level, const char *format, ...) {
@@ -83,7 +89,16 @@ struct niw_sent __wrap_lagffi_probe(struct niw_system *handle, uint16_t port, ui
     (void)handle;
     (void)room;
     write_frame(frame, OWN, NIW_MARKER_INFORMATION, port, ++last_id);
+    answered = false;
     return (struct niw_sent){.is = true, .what = NIW_SENT_MARKER, .octets = NIW_FRAME};
+}
+
+/* As the library notes it of this port. */
+struct niw_number __wrap_lagffi_answers(struct niw_system *handle, uint16_t port);
+struct niw_number __wrap_lagffi_answers(struct niw_system *handle, uint16_t port) {
+    (void)handle;
+    (void)port;
+    return (struct niw_number){.number = answered ? NIW_ANSWERS_ANSWERED : NIW_ANSWERS_ASKED};
 }
 
 /* A response comes on port 1; answers whether it is taken. */
@@ -97,7 +112,8 @@ static bool respond(const uint8_t *source, uint16_t port, uint32_t id) {
         note_odd_marker(&lagd->links[0], &arrival, FOREIGN_RESPONSES);
         return false;
     }
-    note_response(lagd, &lagd->links[0], response.transaction_id);
+    answered = answered || (port == 1 && id == last_id);
+    note_response(lagd, &lagd->links[0]);
     return true;
 }
 

@@ -233,6 +233,12 @@ void notify_state(struct lagd *lagd) {
     CHECK(lagd->bundle.state == BUNDLE_DOWN || any_distributes(lagd));
 }
 
+void keep_port(struct lagd *lagd, uint16_t number, uint16_t port) {
+    (void)lagd;
+    (void)number;
+    (void)port;
+}
+
 /* the library, */
 bool is_done(struct lagd *lagd, uint32_t status, const char *call) {
     (void)lagd;
