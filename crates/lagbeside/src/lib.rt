@@ -10,7 +10,8 @@ ghost use Rattle.lagbeside.specs.Serving.{CarriesBeside, ComesUp, ComesUpAlone, 
 //    ports hear, and whatever is asked of the system in between
 // contract: `a_served_port_stays_up` (`StaysUp`)
 // premises: its link stays up, it is not configured, and no restart; each LACPDU that it processes is of one party and in sync with it; at
-//    most 29 ticks between two, 899 with Long Timeout. Settings come in no run (`IsAside` has the five calls of a data plane)
+//    most 29 ticks between two, 899 with Long Timeout. Settings come in no run; the five calls of a data plane come between, as far as they
+//    leave the system sound and its ports as they are (`IsAside`)
 /// A port that is served and SELECTED stays so, and in COLLECTING_DISTRIBUTING, whatever comes on other ports: its link stays up,
 /// it is not configured anew, each LACPDU that it processes is of one party and in sync with it, and at most 29 ticks go between
 /// two of them (899 with Long Timeout) (6.4.12 to 6.4.15).
@@ -20,7 +21,8 @@ pub fn a_served_port_stays_up<F: Fn(u16, usize) -> usize>()
 
 // promise: such a port carries after 20 ticks
 // contract: `a_served_port_comes_up` (`ComesUp`)
-// premises: the same; from the first of these ticks on no other port of its aggregator begins to wait (`NoneBegins`)
+// premises: the same; from the first of these ticks on no other port of its aggregator begins to wait (`NoneBegins`); no port has more ticks
+//    of wait_while left than it starts with (`WaitsAreBounded`)
 /// A port that is served and SELECTED is in COLLECTING_DISTRIBUTING after 20 ticks in which no other port began to wait in its
 /// aggregator (6.4.14, 6.4.15).
 pub fn a_served_port_comes_up<F: Fn(u16, usize) -> usize>()
@@ -40,7 +42,7 @@ pub fn any_peer_brings_a_port_up<F: Fn(u16, usize) -> usize>()
 
 // promise: the only port of its key carries after 20 ticks of its service
 // contract: `the_only_port_of_a_key_comes_up` (`ComesUpAlone`)
-// premises: as for `a_served_port_stays_up`; nothing of what other ports hear
+// premises: as for `a_served_port_stays_up`, and `WaitsAreBounded`; nothing of what other ports hear
 /// The only port of its key waits for no other: it carries after 20 ticks of its service, whatever comes on other ports.
 pub fn the_only_port_of_a_key_comes_up<F: Fn(u16, usize) -> usize>()
     ensures { (algorithm : F) → ComesUpAlone (F.post algorithm) }

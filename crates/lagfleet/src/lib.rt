@@ -10,7 +10,8 @@ ghost use Rattle.lagfleet.specs.Fleet.{IsFleetInvariant};
 // promise: **any number of `System`s**: the first five rows of lagnetwork hold after any calls, those of hosts, settings and takeovers
 //    among them, octets received, whatever the algorithms return; LACPDUs may overtake data
 // contract: `fleet` (`one_partner`, `agree`, `in_order`, `each_in_order`, `names_far_end`, `took_synchronized`, `one_device`, `not_with_itself`)
-// premises: those of the law of two systems; a system that takes over has the configuration and meets `IsNetworkSuccessor`
+// premises: those of the law of two systems; no slow protocols frame is offered by number; a system that takes over has the configuration
+//    and meets `IsNetworkSuccessor`
 /// After every list of calls of any number of systems, each with an algorithm of its own, whatever the algorithms return: those of
 /// `HostCall`, settings, and takeovers by a system that goes on where another was, as after a warm start. LACPDUs may overtake data
 /// (6.2.4, 6.3.6, 6.4.14, 6.5; profile).
@@ -50,7 +51,7 @@ ghost use Rattle.lagfleet.specs.BesideAnyPeer.{EachCallBesideAnyPeer, HoldsBesid
 
 // promise: **one `System` beside any peers**, which may lie, overtake and send what others sent, however they are wired: ports that
 //    distribute in one aggregator name one partner; a distributing port, not on defaults, took last an LACPDU that said IN_SYNC, and names
-//    its Actor; what the peers hand up of an unforced conversation is in order; each call is such an event
+//    its Actor; what the peers hand up of an unforced conversation is in order; each call of `drive` but a restart and a force is such an event
 // contract: `beside_any_peer` (`one_partner`, `took_synchronized`, `in_order`, `each_call`)
 // premises: a Marker Response on a cable answers the marker that came there first; no port has two cables; a link is said to be down only
 //    while its cable is cut; a restart loses what is on the cables; a takeover as above (`IsSceneSuccessor`)
