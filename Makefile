@@ -32,15 +32,21 @@ all: library examples $(daemon)
 library: out/lib/liblag.so.0
 
 ifneq ($(LAG_FOLDER),)
-out/lib/liblag.so.0: $(LAG_FOLDER)/liblag.so.0 $(LAG_FOLDER)/liblag.a $(HEADER)
+out/lib/liblag.so.0: $(LAG_FOLDER)/liblag.so.0 $(LAG_FOLDER)/liblag.a $(HEADER) out/lib/taken-from
 	mkdir -p out/lib
 	cp $(HEADER) $(LAG_FOLDER)/liblag.a out/lib/
 	ln -sf liblag.so.0 out/lib/liblag.so
 	cp $(LAG_FOLDER)/liblag.so.0 $@.new && mv $@.new $@
 else
-out/lib/liblag.so.0: c/lag.c $(HEADER) tools/library tools/library.py
+out/lib/liblag.so.0: c/lag.c $(HEADER) tools/library tools/library.py out/lib/taken-from
 	CC="$(CC)" CFLAGS="$(CFLAGS)" $(PYTHON) tools/library --from-c out/lib
 endif
+
+# The folder that the library is taken from, or none: another one makes it anew.
+out/lib/taken-from: FORCE
+	@mkdir -p out/lib; echo "$(LAG_FOLDER)" | cmp -s - $@ || echo "$(LAG_FOLDER)" > $@
+
+FORCE:
 
 examples: $(addprefix out/bin/,$(EXAMPLES))
 
@@ -63,4 +69,4 @@ check: all
 clean:
 	rm -rf out/lib out/bin lagd/out
 
-.PHONY: all library examples daemon no-daemon check clean
+.PHONY: FORCE all library examples daemon no-daemon check clean

@@ -47,10 +47,10 @@ static bool has_carried(struct lagd *lagd, const struct inherited_port *port) {
     return false;
 }
 
-/* Marks the numbers that a new port does not get: those of ports that are there, or are still to leave. */
-static void mark_taken(struct lagd *lagd, bool *taken) {
+/* Marks the numbers that a new port does not get: those of ports that are there, or, where so asked, are still to leave. */
+static void mark_taken(struct lagd *lagd, bool *taken, bool with_left) {
     for (uint16_t i = 0; lagd->has_started && i < lagd->link_count; i++) taken[i] = lagd->links[i].used;
-    for (unsigned i = 0; !lagd->has_started && i < lagd->inherited.port_count; i++)
+    for (unsigned i = 0; with_left && !lagd->has_started && i < lagd->inherited.port_count; i++)
         if (lagd->inherited.ports[i].number <= lagd->slot_count && has_carried(lagd, &lagd->inherited.ports[i]))
             taken[lagd->inherited.ports[i].number - 1] = true;
 }
@@ -64,14 +64,11 @@ static uint16_t take_number(struct lagd *lagd, bool *taken) {
     return number;
 }
 
-/* Puts the ports of settings into the places of their numbers. One that is there, or was in the last daemon, keeps its number, and a new one has the
- * lowest that is free. Answers whether each found one. */
-bool place_ports(struct lagd *lagd, struct settings *settings) {
-    struct port_settings given[NIW_MOST_PORTS];
-    uint16_t numbers[NIW_MOST_PORTS], count = settings->port_count;
+/* Numbers these ports. One that is there, or was in the last daemon, keeps its number, and a new one has the lowest that is free. Answers whether each
+ * found one. */
+static bool number_ports(struct lagd *lagd, const struct port_settings *given, uint16_t count, uint16_t *numbers, bool with_left) {
     bool taken[NIW_MOST_PORTS] = {false};
-    memcpy(given, settings->ports, sizeof given);
-    mark_taken(lagd, taken);
+    mark_taken(lagd, taken, with_left);
     for (uint16_t i = 0; i < count; i++) {
         numbers[i] = number_of(lagd, given[i].name);
         if (numbers[i] > lagd->slot_count) numbers[i] = 0;
@@ -79,6 +76,16 @@ bool place_ports(struct lagd *lagd, struct settings *settings) {
     }
     for (uint16_t i = 0; i < count; i++)
         if (numbers[i] == 0 && (numbers[i] = take_number(lagd, taken)) == 0) return false;
+    return true;
+}
+
+/* Puts the ports of settings into the places of their numbers; answers whether each found one. Where there is no room beside ports that the last
+ * daemon left, these give way at the start. */
+bool place_ports(struct lagd *lagd, struct settings *settings) {
+    struct port_settings given[NIW_MOST_PORTS];
+    uint16_t numbers[NIW_MOST_PORTS], count = settings->port_count;
+    memcpy(given, settings->ports, sizeof given);
+    if (!number_ports(lagd, given, count, numbers, true) && (lagd->has_started || !number_ports(lagd, given, count, numbers, false))) return false;
     for (uint16_t i = 0; i < NIW_MOST_PORTS; i++) settings->ports[i] = unset_port();
     settings->port_count = 0;
     for (uint16_t i = 0; i < count; i++) {

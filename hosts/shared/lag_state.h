@@ -166,7 +166,9 @@ lag_state_write(const char *path, const struct lag_state *state)
         err = -errno;
     }
     if (err) {
+        /* An older state would tell of ports what is so no more. */
         unlink(fresh);
+        unlink(path);
     }
     return err;
 }

@@ -56,6 +56,7 @@ struct lacp {
 	bool changed;		/* the group that carries has to be chosen again */
 	bool dirty;		/* the file is older than what it tells */
 	bool stays;		/* teamd ends, and leaves the ports in the device */
+	bool unsaved;		/* the last state was not written */
 	struct {
 		bool active;
 		bool fast_rate;
@@ -342,7 +343,7 @@ static int look(struct lacp *lacp)
 	uint16_t numbers[NIW_MOST_PORTS];
 	struct teamd_port *tdport;
 	size_t count;
-	int carry = 0, err;
+	int carry = 0, failed = 0, err;
 
 	if (!lacp->end.system.live) {
 		save(lacp);
@@ -369,11 +370,14 @@ static int look(struct lacp *lacp)
 			continue;
 		err = teamd_port_check_enable(lacp->ctx, tdport, it, !it);
 		if (err && !TEAMD_ENOENT(err))
-			return err;
+			failed = err; /* the other ports, and the peers, do not wait for this one */
 	}
 	save(lacp);
 	err = set_carrier(lacp, carry >= lacp->cfg.min_ports);
-	return err ? err : send_due(lacp);
+	if (err)
+		failed = err;
+	err = send_due(lacp);
+	return err ? err : failed;
 }
 
 static void state_path(const struct lacp *lacp, char *path, size_t room)
@@ -432,8 +436,9 @@ static void save(struct lacp *lacp)
 	}
 	state_path(lacp, path, sizeof(path));
 	err = lag_state_write(path, &state);
-	if (err)
-		teamd_log_dbg(lacp->ctx, "No state saved: %s", strerror(-err));
+	if (err && !lacp->unsaved)
+		teamd_log_warn("No state saved, so nothing is taken over from here: %s", strerror(-err));
+	lacp->unsaved = err != 0;
 }
 
 /* Reads the file. One of another device tells nothing. */
@@ -818,7 +823,7 @@ static void port_fini(struct teamd_context *ctx, struct teamd_port *tdport, void
 		return;
 	if (ctx->no_quit_destroy && !lacp->stays && is_in_device(port)) {
 		/* teamd ends and leaves the ports as they are, which the next one takes over. */
-		lacp->stays = lacp->dirty = true;
+		lacp->stays = true;
 		teamd_loop_callback_disable(ctx, TICK_NAME, lacp);
 	}
 	if (!lacp->stays) {

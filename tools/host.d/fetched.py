@@ -7,14 +7,12 @@ import os
 import re
 import shutil
 import subprocess
-from typing import NamedTuple
+from typing import Iterable, NamedTuple
 
 from repository import Missing, say, want
 
 # The releases whose sources are looked through, beside those of the machine's own packages.
 RELEASES = "stable", "testing", "unstable"
-
-
 # The lists of apt that are looked at: those of packages of Debian.
 MAIN = "Created-By: Packages", "Component: main", "Origin: Debian"
 
@@ -33,6 +31,17 @@ def keys_of(entry: str) -> str:
         parts, pattern = text.splitlines(), r"signed-by=([^\] ,]+)"
     found = re.search(pattern, parts[int(number) - 1] if number.isdigit() and 0 < int(number) <= len(parts) else "", re.M | re.I)
     return found.group(1) if found else ""
+
+
+def newest_first(versions: Iterable[str]) -> list[str]:
+    """Versions of a package, as dpkg compares them."""
+    found = list(versions)
+    for at in range(len(found)):
+        for other in range(at + 1, len(found)):
+            if not subprocess.run(["dpkg", "--compare-versions", found[at], "lt", found[other]]).returncode:
+                found[at], found[other] = found[other], found[at]
+    return found
+
 
 
 class Source(NamedTuple):
@@ -80,12 +89,7 @@ class Sources:
         """The versions of a source package that are listed, the newest first."""
         self.learn()
         told = self.apt("apt-cache", "showsrc", "--only-source", name).stdout.splitlines()
-        found = list(dict.fromkeys(line.split()[1] for line in told if line.startswith("Version: ")))
-        for at in range(len(found)):
-            for other in range(at + 1, len(found)):
-                if not subprocess.run(["dpkg", "--compare-versions", found[at], "lt", found[other]]).returncode:
-                    found[at], found[other] = found[other], found[at]
-        return found
+        return newest_first(dict.fromkeys(line.split()[1] for line in told if line.startswith("Version: ")))
 
     def files(self, name: str, version: str) -> Source:
         """Fetches what there is of a version; apt compares the sums."""
@@ -102,7 +106,7 @@ class Sources:
         """The newest version that is there as it is wanted."""
         missing = []
         known = [os.path.basename(it).split("_", 1)[1] for it in glob.glob(f"{self.cache}/sources/{name}_*")]
-        for it in [version] if version else (self.versions(name) if self.may_fetch else sorted(known, reverse=True)):
+        for it in [version] if version else (self.versions(name) if self.may_fetch else newest_first(known)):
             source = self.files(name, it)
             if source.original and (source.described or not wants_packaging):
                 say(f"{name} {it}: " + ("with Debian's packaging" if source.described else "the archive of its authors; Debian's packaging is not to be had"))
