@@ -3,9 +3,7 @@ ghost use Rattle.std.specs.Prelude.{◌<◌};
 use crate::comparing::{same, same_in_row};
 use crate::hosts::playing::{Row, config, heard, modulo, play};
 use dataplane::{ResumeFault, SavedPort, adopt, resume};
-use lagsystem::{
-    AggId, Assignment, BadConfig, Choice, Config, NoMemory, System, SystemFault,
-};
+use lagsystem::{AggId, Assignment, BadConfig, Choice, Config, NoMemory, System, SystemFault};
 use std::alloc::Global;
 use std::process::Abort;
 use std::test::Fail;
@@ -147,7 +145,12 @@ fn are_back<F: Fn(u16, usize) -> usize + Drop>(
     for one in ports {
         let chosen = Choice::Selected(AggId(one.aggregator));
         same(rt, "aggregator", &system.choice(one.port), &Some(chosen));
-        same(rt, "distributes", &system.distributes(one.port), &Some(true));
+        same(
+            rt,
+            "distributes",
+            &system.distributes(one.port),
+            &Some(true),
+        );
         let left = system.current_while(one.port).map(u32::from);
         same(rt, "current_while", &left, &Some(900 - one.age));
     }
@@ -162,7 +165,12 @@ fn is_new<F: Fn(u16, usize) -> usize + Drop>(
 ) {
     same(rt, "is_up", &system.is_up(port), &Some(false));
     same(rt, "state", &system.state(port), &fresh.state(port));
-    same(rt, "receive", &system.receive_state(port), &fresh.receive_state(port));
+    same(
+        rt,
+        "receive",
+        &system.receive_state(port),
+        &fresh.receive_state(port),
+    );
     same(rt, "party", &system.party(port), &fresh.party(port));
     same(rt, "partner", &system.partner(port), &fresh.partner(port));
     same(rt, "choice", &system.choice(port), &fresh.choice(port));
@@ -210,7 +218,12 @@ fn the_second_port_of_a_group_takes_the_empty_aggregator(rt: HostRuntime) -> Res
         return Ok(());
     };
     are_back(&rt, &system, &ports);
-    same(&rt, "adopted in 2", &adopt(&mut system, AggId(2), 14, 3), &Ok(()));
+    same(
+        &rt,
+        "adopted in 2",
+        &adopt(&mut system, AggId(2), 14, 3),
+        &Ok(()),
+    );
     Ok(())
 }
 

@@ -54,6 +54,17 @@ fn a_port_waits_for_another_that_begins_anew_for_ever(rt: HostRuntime) -> Result
         rt.alloc(),
         &[1, 2],
         1,
-        &[&starts(), &again, &again, &again, &again, &again, &again, &again, &again, &comes_up()],
+        &[
+            &starts(),
+            &again,
+            &again,
+            &again,
+            &again,
+            &again,
+            &again,
+            &again,
+            &again,
+            &comes_up(),
+        ],
     )
 }
