@@ -4,33 +4,15 @@ from __future__ import annotations
 
 import glob
 import os
-import re
 import shutil
 import subprocess
 from typing import Iterable, NamedTuple
 
+import mirrors
 from repository import Missing, say, want
 
 # The releases whose sources are looked through, beside those of the machine's own packages.
 RELEASES = "stable", "testing", "unstable"
-# The lists of apt that are looked at: those of packages of Debian.
-MAIN = "Created-By: Packages", "Component: main", "Origin: Debian"
-
-
-def keys_of(entry: str) -> str:
-    """The keys by which an entry of apt's sources is signed, as FILE:NUMBER names it; "" for those that apt trusts anyway."""
-    path, _, number = entry.rpartition(":")
-    try:
-        with open(path, encoding="utf-8") as it:
-            text = it.read()
-    except OSError:
-        return ""
-    if path.endswith(".sources"):
-        parts, pattern = re.split(r"\n(?:[ \t]*\n)+", text.strip()), r"^Signed-By:[ \t]*(\S+)$"
-    else:
-        parts, pattern = text.splitlines(), r"signed-by=([^\] ,]+)"
-    found = re.search(pattern, parts[int(number) - 1] if number.isdigit() and 0 < int(number) <= len(parts) else "", re.M | re.I)
-    return found.group(1) if found else ""
 
 
 def newest_first(versions: Iterable[str]) -> list[str]:
@@ -41,7 +23,6 @@ def newest_first(versions: Iterable[str]) -> list[str]:
             if not subprocess.run(["dpkg", "--compare-versions", found[at], "lt", found[other]]).returncode:
                 found[at], found[other] = found[other], found[at]
     return found
-
 
 
 class Source(NamedTuple):
@@ -73,11 +54,7 @@ class Sources:
         """Fetches the lists of sources, once a run: of each place from which the machine has packages of Debian."""
         if self.known or not self.may_fetch:
             return
-        told = self.apt("apt-get", "indextargets", "--format", "$(REPO_URI) $(CODENAME) $(SOURCESENTRY)", *MAIN, sources=False)
-        rows = [line.split() for line in told.stdout.splitlines() if len(line.split()) == 3]
-        places = dict.fromkeys((uri, keys_of(entry), release) for uri, codename, entry in rows for release in (codename, *RELEASES))
-        if not places:
-            raise Missing("apt names no place that has packages of Debian: see its sources.list(5)")
+        places = dict.fromkeys((it.uri, it.keys, release) for it in mirrors.places() for release in (it.release, *RELEASES))
         with open(f"{self.cache}/apt/sources.d/all.sources", "w", encoding="utf-8") as it:
             for uri, keys, release in places:
                 it.write(f"Types: deb-src\nURIs: {uri}\nSuites: {release}\nComponents: main\n" + (f"Signed-By: {keys}\n" if keys else "") + "\n")

@@ -7,11 +7,10 @@ import re
 import shutil
 import tarfile
 
+import mirrors
 from building import log_run, say
 from repository import Missing
 
-MIRROR = "http://deb.debian.org/debian"
-KEYS = "/usr/share/keyrings/debian-archive-keyring.gpg"
 # A mirror may lack the sources of an older suite.
 SUITES = ["bookworm", "trixie", "sid"]
 BUILT = "lib/.libs/libopenvswitch.a"
@@ -27,14 +26,14 @@ JOBS = f"-j{os.cpu_count() or 1}"
 
 
 def fetch(cache: str, folder: str) -> str:
-    """Fetches the source package of the first suite that has it; answers its file."""
+    """Fetches the source package of the first suite that has it, from where the machine has its packages; answers its file."""
+    place = mirrors.main_place()
     for suite in SUITES:
         state = f"{folder}/apt-{suite}"
         os.makedirs(f"{state}/lists/partial", exist_ok=True)
         os.makedirs(f"{state}/cache/archives/partial", exist_ok=True)
         with open(f"{state}/sources.list", "w") as it:
-            signed = f" [signed-by={KEYS}]" if os.path.isfile(KEYS) else ""
-            it.write(f"deb-src{signed} {MIRROR} {suite} main\n")
+            it.write(place.line("deb-src", suite))
         options = [f"Dir::Etc::sourcelist={state}/sources.list", "Dir::Etc::sourceparts=/nonexistent", "Debug::NoLocking=1"]
         options += [f"Dir::State::Lists={state}/lists", f"Dir::Cache={state}/cache"]
         words = ["apt-get"] + [word for it in options for word in ("-o", it)]

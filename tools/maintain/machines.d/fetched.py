@@ -10,13 +10,13 @@ import shutil
 import subprocess
 from typing import Iterable, NamedTuple
 
+import mirrors
 from checking import Failed, Skipped
 from fetching import Packages
 from filing import FILE, Entry, archive
 
 KEYRING = "/usr/share/keyrings/debian-archive-keyring.gpg"
 RELEASE, BACKPORTS, NEWEST = "bookworm", "bookworm-backports", "trixie-backports"
-SOURCES = "".join(f"deb [arch=amd64 signed-by={KEYRING}] http://deb.debian.org/debian {it} main\n" for it in (RELEASE, BACKPORTS, NEWEST))
 # The kernels, with the release of Debian that has each.
 KERNELS = {"6.1": RELEASE, "6.12": BACKPORTS, "newest": NEWEST}
 # From qemu 8.0 on there is igb, so it is that of the backports.
@@ -56,8 +56,9 @@ class Kernel(NamedTuple):
 
 
 def packages_in(cache: str, may_fetch: bool) -> Packages:
-    """Packages of Debian, in this folder."""
-    return Packages(cache, may_fetch, SOURCES)
+    """Packages of Debian, in this folder, from where the machine has its own."""
+    place = mirrors.main_place()._replace(keys=KEYRING)
+    return Packages(cache, may_fetch, "".join(place.line("deb", it, "arch=amd64") for it in (RELEASE, BACKPORTS, NEWEST)))
 
 
 def done(*words: str, **environment: str) -> str:
