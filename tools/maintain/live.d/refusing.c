@@ -41,6 +41,8 @@ static bool is_refused(const char *name) {
 
 REFUSING(struct niw_made, new, (SYSTEM, const struct niw_config *config, const uint16_t *keys, size_t key_count, const struct niw_port *ports,
     size_t port_count), (handle, config, keys, key_count, ports, port_count))
+REFUSING(struct niw_made, resume, (SYSTEM, const struct niw_config *config, const uint16_t *keys, size_t key_count, const struct niw_port *ports,
+    size_t port_count, const struct niw_saved *saved, size_t saved_count), (handle, config, keys, key_count, ports, port_count, saved, saved_count))
 REFUSING(uint32_t, free, (SYSTEM), (handle))
 REFUSING(struct niw_received, receive, (SYSTEM, uint16_t port, const uint8_t *frame, size_t length, uint8_t *response, size_t room),
     (handle, port, frame, length, response, room))
@@ -70,6 +72,9 @@ REFUSING(struct niw_assignment, conversation_state, (SYSTEM, uint16_t agg, uint1
 REFUSING(struct niw_number, conversation_ports, (SYSTEM, uint16_t agg, uint16_t *ports, size_t port_count, bool *changed, size_t changed_count),
     (handle, agg, ports, port_count, changed, changed_count))
 REFUSING(struct niw_number, offer_conversation, (SYSTEM, uint16_t agg, uint16_t conv), (handle, agg, conv))
+REFUSING(struct niw_number, offer_conversation_in_active_aggregator, (SYSTEM, uint16_t agg, uint16_t conv), (handle, agg, conv))
+REFUSING(uint32_t, adopt, (SYSTEM, uint16_t agg, uint16_t conv, uint16_t port), (handle, agg, conv, port))
+REFUSING(struct niw_number, answers, (SYSTEM, uint16_t port), (handle, port))
 REFUSING(uint32_t, move_conversation, (SYSTEM, uint16_t agg, uint16_t conv, uint16_t port), (handle, agg, conv, port))
 REFUSING(uint32_t, leave_conversation, (SYSTEM, uint16_t agg, uint16_t conv), (handle, agg, conv))
 REFUSING(uint32_t, rest, (SYSTEM, uint16_t agg, uint16_t conv), (handle, agg, conv))

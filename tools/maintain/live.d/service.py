@@ -314,7 +314,11 @@ def stuck_state(part: Part) -> None:
     try:
         ours = part.ours()
         check(within(ENDS, lambda: any(name.endswith(".state") for name in os.listdir(place))), "a daemon keeps its state", os.listdir(place))
-        command("mount", "-o", "remount,ro", place)
+        state = next(os.path.join(place, name) for name in os.listdir(place) if name.endswith(".state"))
+        # Where the daemon is: a file that is a place for a file system is not removed, and this one is not written.
+        there = "nsenter", "-t", str(ours.process.pid), "-m", "mount"
+        command(*there, "--bind", state, state)
+        command(*there, "-o", "remount,ro,bind", state)
         ours.ends("the daemon")
         check(".state" in ours.printed() and "its state cannot be removed: Read-only file system: remove " in ours.printed(), "a state that stays has a line", ours.printed())
     finally:
