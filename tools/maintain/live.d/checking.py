@@ -28,7 +28,7 @@ def check(holds: object, what: str, *told: object) -> None:
 def command(*words: str, **more: Any) -> subprocess.CompletedProcess[str]:
     """Runs a command; one that is not here, or does not end in time, fails as any other."""
     try:
-        return subprocess.run(words, capture_output=True, text=True, **more)
+        return subprocess.run(words, capture_output=True, text=True, errors="surrogateescape", **more)
     except (FileNotFoundError, subprocess.TimeoutExpired) as why:
         return subprocess.CompletedProcess(words, 127, "", str(why))
 
