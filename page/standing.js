@@ -97,7 +97,7 @@ const RULES = new Map([
 ]);
 
 /* What explains the rest comes first: facts by name, rules by number. */
-const RANKS = ["no-lacp", "no-root", 30, "own-address", "never-heard", 29, 15, "apart", "link-down", "speeds", 5, "passive-unheard", 14, 12, 22, 17, 2, 3, 4];
+const RANKS = ["no-lacp", "no-root", 30, "own-address", "never-heard", 29, 15, "apart", "link-down", "speeds", 5, "passive-unheard", 14, 12, 22, 17, 2, 3, 4, "too-few"];
 /* What calls for nothing by itself. */
 const ASIDE = ["aggregators", "same-partner-port", "one-system", "note", "said"];
 

@@ -178,6 +178,9 @@ function partyOfShow(said, side) {
     };
 }
 
+/* That fewer links of a bundle of lagd carry than it wants: it passes no data. */
+const tooFew = (name, carrying, least) => ({ name: "too-few", text: `${name} is down: ${carrying} of its links carry, and it wants ${least} (min-links)` });
+
 /* Ticks of 100 ms behind which the next LACPDU is overdue: its period is 1 s or 30 s. */
 const overdueIn = (actor) => actor.state & 2 ? 30 - 15 : 900 - 350;
 
@@ -206,9 +209,11 @@ function showOf(text) {
     const bundles = text.split(/^(?=---- .* ----\s*$)/m).filter((it) => it.startsWith("----") && !it.includes(" statistics ----")).map((part) => {
         const [head, ...parts] = part.split(/^(?=(?:member|slave): )/m), said = valuesIn(head), active = numberOf(said.get("aggregator"));
         const ports = parts.map((it) => memberOfShow(it, active));
-        return { name: /^---- (.*) ----/.exec(head)[1], ports, isCut: !ports.length || ports.some((it) => !it.isWhole), isOff: said.get("status") === "off" };
+        const name = /^---- (.*) ----/.exec(head)[1], carrying = /^down, ([1-9]\d*) of /.exec(said.get("status") ?? "")?.[1], isOff = said.get("status") === "off";
+        const notes = [...isOff ? [{ name: "no-lacp", text: `${name}: LACP is off` }] : [], ...carrying ? [tooFew(name, carrying, said.get("min_links"))] : []];
+        return { name, ports, isCut: !ports.length || ports.some((it) => !it.isWhole), notes };
     });
-    return { form: "show", bundles, notes: bundles.filter((it) => it.isOff).map((it) => ({ name: "no-lacp", text: `${it.name}: LACP is off` })) };
+    return { form: "show", bundles, notes: bundles.flatMap((it) => it.notes) };
 }
 
 /* ---- lagd --status --json: a line for each daemon ---- */
@@ -223,7 +228,10 @@ function memberOfLagd(bundle, port) {
     });
 }
 
-const lagdJson = (lines) => ({ form: "lagd", bundles: lines.map((it) => ({ name: it.bundle, ports: it.ports.map((port) => memberOfLagd(it, port)), isCut: false })), notes: [] });
+const lagdJson = (lines) => ({
+    form: "lagd", bundles: lines.map((it) => ({ name: it.bundle, ports: it.ports.map((port) => memberOfLagd(it, port)), isCut: false })),
+    notes: lines.filter((it) => it.state === "down" && it.carrying > 0).map((it) => tooFew(it.bundle, it.carrying, it.min_links)),
+});
 
 /* ---- Any of them ---- */
 
