@@ -152,7 +152,12 @@ fn are_back<F: Fn(u16, usize) -> usize + Drop>(
             &Some(true),
         );
         let left = system.current_while(one.port).map(u32::from);
-        same(rt, "current_while", &left, &Some(900 - one.age));
+        same(
+            rt,
+            "current_while",
+            &left,
+            &Some(900_u32.saturating_sub(one.age)),
+        );
     }
 }
 
