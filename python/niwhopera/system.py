@@ -56,7 +56,7 @@ class System(Handle):
 
     @classmethod
     def resume(cls, config: Config, saved: Iterable[SavedPort]) -> System:
-        """A warm start: a system whose saved ports distribute in their aggregators, tell their peers nothing new, and have what is left of
+        """A warm start: a system whose saved ports distribute in their aggregators, as their peers know them, and have what is left of
         their timeouts. The first marker of the configuration is `next_marker` of the system before it, or higher. Raises `NotResumed` of the
         port whose LACPDU is as old as the port's timeout, STALE, or that does not come to distribute as it was saved, NOT_DISTRIBUTING;
         `BadConfig`, `NoMemory`."""

@@ -57,10 +57,10 @@ abbrev pub same_modes : StateBits → StateBits → Bool
 same_modes a b = beq a.activity b.activity && beq a.timeout b.timeout
 
 -- The port distributes, and its Actor_State says so; the peer that sent this LACPDU knows it by the parameters that it has, with its
--- Activity and Timeout; and the recorded partner is that peer, in the state that it told. So an LACPDU of the port tells the peer nothing
--- new.
-abbrev pub tells_nothing_new : Machines → Lacpdu → Bool
-tells_nothing_new p heard =
+-- Activity and Timeout; and the recorded partner is that peer, in the state that it told. What the peer knew of its Synchronization,
+-- Collecting and Distributing is not asked: it may have taken later LACPDUs without an answer (6.4.2.3).
+abbrev pub know_each_other : Machines → Lacpdu → Bool
+know_each_other p heard =
     (same_mux_state CollectingDistributing p.mux && is_in_service (bits_of (actor_state p)))
     && ((same_party (party_of heard.partner) p.party && same_modes (bits_of heard.partner.state) (bits_of (actor_state p)))
     && (same_party (party_of p.partner) (party_of heard.actor) && (p.partner.state.0 == heard.actor.state.0)))
@@ -81,7 +81,7 @@ has_rest age p = p.current_while + age == timeout p.short
 
 -- So it is with the LACPDU that was saved; the port is in the aggregator that it was in, and its timeout ends when it would have ended.
 abbrev pub is_as_saved : SavedPort → Lacpdu → Machines → Bool
-is_as_saved saved heard p = tells_nothing_new p heard && (is_in saved.aggregator p && has_rest saved.age p)
+is_as_saved saved heard p = know_each_other p heard && (is_in saved.aggregator p && has_rest saved.age p)
 
 -- so is the port
 pub record IsBack (s : SystemState) (saved : SavedPort) : Type 0 where

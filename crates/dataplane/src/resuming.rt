@@ -14,7 +14,7 @@ ghost use Rattle.dataplane.specs.Resuming.{IsBack, IsFirstWithout, IsNotWarmed, 
 ghost use Rattle.dataplane.specs.Resuming.{is_at_start, is_in, is_in_service, is_left_at, is_left_with, is_stale};
 ghost use Rattle.lagtypes.specs.Choices.{is_unselected};
 ghost use Rattle.lagtypes.specs.States.{bits_of};
-ghost use Rattle.dataplane.specs.Resuming.{same_modes, tells_nothing_new, timeout};
+ghost use Rattle.dataplane.specs.Resuming.{know_each_other, same_modes, timeout};
 
 use crate::warming::{is_saved, warm_up};
 use lagsystem::{Choice, Config, Key, MuxState, PortConfig, ReceiveState, System, SystemFault};
@@ -125,9 +125,9 @@ fn same_modes(one: State, other: State) -> bool
     one.is_active() == other.is_active() && one.is_short() == other.is_short()
 }
 
-/// Whether the port distributes, and tells a peer that sent this LACPDU nothing new.
-fn tells_nothing_new(port: &Port, heard: &Lacpdu) -> bool
-    ensures { result ≡ tells_nothing_new port.now heard.now }
+/// Whether the port distributes, and it and the peer that sent this LACPDU know each other.
+fn know_each_other(port: &Port, heard: &Lacpdu) -> bool
+    ensures { result ≡ know_each_other port.now heard.now }
 {
     let partner = port.partner();
     if !port.distributes() || !is_in_service(port.state().named()) {
@@ -166,7 +166,7 @@ fn has_rest(port: &Port, age: u32) -> bool
 fn is_as_saved(saved: &SavedPort, heard: &Lacpdu, port: &Port) -> bool
     ensures { result ≡ is_as_saved saved.now heard.now port.now }
 {
-    tells_nothing_new(port, heard) && is_in(port, saved.aggregator) && has_rest(port, saved.age)
+    know_each_other(port, heard) && is_in(port, saved.aggregator) && has_rest(port, saved.age)
 }
 
 /// Whether the port is back.
@@ -305,9 +305,9 @@ fn warmed<F: Fn(u16, usize) -> usize + Drop>(
 //    first port that is stale or not so, or the reason of `new`
 // contract: `resume` (`resumed`: `IsResumed`; `refused`: `MayRefuse`)
 /// Makes a system that looks to its peers as the one before it did. `config` has the next marker of that one, or a higher one, as its
-/// first marker. The links of the saved ports are up, these ports distribute, each in its aggregator, and the next LACPDU of each tells its
-/// peer nothing new; each has what is left of its timeout, and every conversation is free. Nothing is to be sent before. Refused in this
-/// order: `Stale`; `New`; `NotDistributing` (6.4; profile).
+/// first marker. The links of the saved ports are up; these ports distribute, each in its aggregator, and each and its peer know each other:
+/// the peer has its parameters, Activity and Timeout, and it has the peer's. Each has what is left of its timeout, and every conversation is
+/// free. Nothing is to be sent before. Refused in this order: `Stale`; `New`; `NotDistributing` (6.4; profile).
 pub fn resume<F: Fn(u16, usize) -> usize + Drop>(
     alloc: Global,
     config: Config,

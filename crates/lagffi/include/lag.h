@@ -812,10 +812,10 @@ static inline struct niw_number niw_distributing(struct niw_system *handle, uint
     return (handle && numbers) ? lagffi_distributing(handle, agg, numbers, room) : niw_null_number();
 }
 
-/* A warm start: puts a system into an empty handle whose saved ports distribute in their aggregators, tell their peers nothing new, and
- * have what is left of their timeouts. `saved` has the aggregator and the last LACPDU of each port that distributed in the system before
- * it. `first_marker` is niw_next_marker of that one, or higher. The ports send nothing between the two systems; every conversation is
- * free. `place` of the answer has the port that is refused. */
+/* A warm start: puts a system into an empty handle whose saved ports distribute in their aggregators, as their peers know them, and have
+ * what is left of their timeouts. `saved` has the aggregator and the last LACPDU of each port that distributed in the system before it.
+ * `first_marker` is niw_next_marker of that one, or higher. The ports send nothing between the two systems; every conversation is free.
+ * `place` of the answer has the port that is refused. */
 static inline struct niw_made niw_resume(struct niw_system *handle, const struct niw_config *config, const uint16_t *keys,
     size_t key_count, const struct niw_port *ports, size_t port_count, const struct niw_saved *saved, size_t saved_count) {
     struct niw_made refused = NIW_ZEROS;

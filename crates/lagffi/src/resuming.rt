@@ -63,10 +63,10 @@ fn resumed(
 // promise: `lagffi_resume` puts the system of a warm start into an empty handle; else the handle stays as it was, with 14 if it holds one,
 //    what `lagffi_new` refuses, or the port that `resume` refuses
 // contract: `lagffi_resume` (`resumed`: `IsResumedOf`, `MayNotResume`; `live`)
-/// A warm start: puts a system into an empty handle whose saved ports distribute in their aggregators, tell their peers nothing new, and
-/// have what is left of their timeouts. `saved` has the aggregator and the last LACPDU of each port that distributed in the system before
-/// it. `first_marker` is niw_next_marker of that one, or higher. The ports send nothing between the two systems; every conversation is
-/// free. `place` of the answer has the port that is refused.
+/// A warm start: puts a system into an empty handle whose saved ports distribute in their aggregators, as their peers know them, and have
+/// what is left of their timeouts. `saved` has the aggregator and the last LACPDU of each port that distributed in the system before it.
+/// `first_marker` is niw_next_marker of that one, or higher. The ports send nothing between the two systems; every conversation is free.
+/// `place` of the answer has the port that is refused.
 /// Refuses: NIW_HAS_SYSTEM, NIW_BAD_CONFIG, NIW_NO_MEMORY, NIW_STALE, NIW_NOT_DISTRIBUTING.
 #[unsafe(no_mangle)]
 pub extern "C" fn lagffi_resume(
