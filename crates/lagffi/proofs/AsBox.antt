@@ -7,7 +7,7 @@ use Rattle.std_heap.specs.contracts.GlobalAllocator.TheImpl.{ghosts, dict}
 use Rattle.std_heap.proofs.Global.TheLaws as heap
 use Rattle.lagffi.specs.contracts.stored.Stored as Stored
 use Rattle.lagffi.proofs.stored.Stored.TheLaws as kept
-use Rattle.lagffi.specs.contracts.handle.parts.Parts as Parts
+use Rattle.boxparts.specs.contracts.parts.Parts as Parts
 use Rattle.lagffi.specs.contracts.handle.held.Held as Held
 
 abbrev pub E : Bx

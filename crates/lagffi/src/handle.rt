@@ -2,7 +2,6 @@ ghost use Rattle.std.specs.Prelude.{◌≡◌, IfSome, MatchOption, None, Some, 
 ghost use Rattle.lagffi.specs.Holding.{held_value};
 
 mod held;
-mod parts;
 mod queue;
 
 use crate::stored::Stored;

@@ -8,7 +8,7 @@ use Rattle.std_heap.specs.contracts.GlobalAllocator.TheImpl.{ghosts, dict}
 use Rattle.std_heap.proofs.Global.TheLaws as heap
 use Rattle.lagpage.specs.contracts.pieces.Pieces as Pieces
 use Rattle.lagpage.proofs.pieces.Pieces.TheLaws as kept
-use Rattle.lagpage.specs.contracts.handle.parts.Parts as Parts
+use Rattle.boxparts.specs.contracts.parts.Parts as Parts
 use Rattle.lagpage.specs.contracts.handle.held.Held as Held
 
 abbrev pub E : Bx

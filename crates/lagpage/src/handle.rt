@@ -1,7 +1,6 @@
 ghost use Rattle.std.specs.Prelude.{◌≡◌, MatchOption, None, Some, is_some};
 
 mod held;
-mod parts;
 
 use crate::pieces::Pieces;
 pub(crate) use held::Held;

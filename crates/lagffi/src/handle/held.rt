@@ -4,9 +4,9 @@ ghost use Rattle.lagffi.specs.declared.stored.Stored.{Stored};
 
 mod block;
 
-use super::parts::Parts;
 use crate::stored::Stored;
 pub(crate) use block::Block;
+use boxparts::Parts;
 use std::alloc::Global;
 use std::marker::Model;
 use std::ptr::null_mut;

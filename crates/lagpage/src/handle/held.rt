@@ -2,8 +2,8 @@ ghost use Rattle.std.specs.Prelude.{◌≡◌, IsTrue, None, Option, Some, is_so
 ghost use Rattle.lagpage.specs.Owned.{held_owns, kept_coded};
 ghost use Rattle.lagpage.specs.declared.pieces.Pieces.{Pieces};
 
-use super::parts::Parts;
 use crate::pieces::Pieces;
+use boxparts::Parts;
 use std::alloc::Global;
 use std::marker::Model;
 use std::ptr::null_mut;

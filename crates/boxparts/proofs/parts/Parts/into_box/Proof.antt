@@ -1,7 +1,10 @@
 -- `into_box` hands what the parts own to `from_raw`.
-use Rattle.lagffi.proofs.Common.{List, [], ◌++◌, ◌∷◌, ap, refl, subst, sym, Goes-blank, token, box_owns, B, Bx, D, P, R, args, box_ty, box_typed}
-use Rattle.lagffi.proofs.Common.{word, box_in, box_out}
-use mathlib.Core.Path.{◌≡◌}
+use mathlib.Core.List.{List, [], ◌++◌, ◌∷◌}
+use mathlib.Core.Path.{ap, refl, subst, sym, ◌≡◌}
+use Rattle.std.proofs.alloc.Calls.{Goes-blank, token}
+use Rattle.std_alloc.specs.Box.Ownership.{box_owns}
+use Rattle.std_alloc.proofs.BoxSteps.Form.{B, Bx, D, P, R, args, box_ty, box_typed, word}
+use Rattle.std_alloc.proofs.BoxSteps.Steps.{box_in, box_out}
 use lib.Dec.{T}
 use seplogic.Ra.Ura.{Ura}
 use mir.Syntax.{Fn, Body, place, copy, assign, rv_opd, seq, return}
@@ -33,14 +36,14 @@ use denote.Triple.Spec.{triple_of}
 use denote.Triple.Statement.{Triple, Contract}
 use denote.Triple.Table.{entered}
 use denote.Triple.Walked.{says, Stays, stay_dropped, walk_of, ends_at, walk_Meets}
-use Rattle.lagffi.specs.contracts.handle.parts.Parts as parts
+use Rattle.boxparts.specs.contracts.parts.Parts as parts
 use Rattle.std_alloc.specs.contracts.boxed.Box.from_raw as Fr
 use Rattle.std_alloc.proofs.boxed.Box.from_raw.Symbol as raw_sym
 use Rattle.std_alloc.proofs.boxed.Box.from_raw.Met as raw_met
-use Rattle.lagffi.specs.contracts.handle.parts.Parts.into_box as F
-use Rattle.lagffi.specs.contracts.handle.parts.Parts.into_box.Key.{name as #self}
-use Rattle.lagffi.proofs.handle.parts.Parts.into_box.Statement as stated
-use Rattle.lagffi.proofs.handle.parts.Parts.into_box.Code as code
+use Rattle.boxparts.specs.contracts.parts.Parts.into_box as F
+use Rattle.boxparts.specs.contracts.parts.Parts.into_box.Key.{name as #self}
+use Rattle.boxparts.proofs.parts.Parts.into_box.Statement as stated
+use Rattle.boxparts.proofs.parts.Parts.into_box.Code as code
 
 abbrev rest : Body
 rest = seq (assign (place 0 []) (rv_opd (copy (place 4 [])))) return

@@ -5,10 +5,12 @@ use std::alloc::Allocator;
 use std::marker::Model;
 
 /// A box as its pointer and its allocator. It may not be dropped, so that its block is handed on.
-pub(crate) struct Parts<T, A: Allocator> {
-    pub(super) ptr: *mut T,
-    pub(super) alloc: A,
-    pub(super) ghost value: { T },
+pub struct Parts<T, A: Allocator> {
+    /// Where the value lies.
+    pub ptr: *mut T,
+    /// What its block came from.
+    pub alloc: A,
+    pub ghost value: { T },
 }
 
 impl<T, A: Allocator> Model for Parts<T, A> {
@@ -17,7 +19,7 @@ impl<T, A: Allocator> Model for Parts<T, A> {
 
 impl<T, A: Allocator> Parts<T, A> {
     /// Takes a box apart.
-    pub(super) fn of(b: Box<T, A>) -> Parts<T, A>
+    pub fn of(b: Box<T, A>) -> Parts<T, A>
     where
         T: Drop,
         ensures { result.value ≡ b.value }
@@ -27,7 +29,7 @@ impl<T, A: Allocator> Parts<T, A> {
     }
 
     /// Makes the box again.
-    pub(super) fn into_box(self) -> Box<T, A>
+    pub fn into_box(self) -> Box<T, A>
         ensures { result.value ≡ self.value }
     {
         let Parts { ptr, alloc } = self;

@@ -38,14 +38,14 @@ use denote.Triple.Spec.{triple_of}
 use denote.Triple.Statement.{Triple, Contract}
 use denote.Triple.Table.{entered}
 use denote.Triple.Walked.{says, Stays, stay_dropped, walk_of, ends_at, walk_Meets}
-use Rattle.lagpage.specs.contracts.handle.parts.Parts as parts
+use Rattle.boxparts.specs.contracts.parts.Parts as parts
 use Rattle.std_alloc.specs.contracts.boxed.Box.into_raw_with_allocator as Ra
 use Rattle.std_alloc.proofs.boxed.Box.into_raw_with_allocator.Symbol as raw_sym
 use Rattle.std_alloc.proofs.boxed.Box.into_raw_with_allocator.Met as raw_met
-use Rattle.lagpage.specs.contracts.handle.parts.Parts.of as F
-use Rattle.lagpage.specs.contracts.handle.parts.Parts.of.Key.{name as #self}
-use Rattle.lagpage.proofs.handle.parts.Parts.of.Statement as stated
-use Rattle.lagpage.proofs.handle.parts.Parts.of.Code as code
+use Rattle.boxparts.specs.contracts.parts.Parts.of as F
+use Rattle.boxparts.specs.contracts.parts.Parts.of.Key.{name as #self}
+use Rattle.boxparts.proofs.parts.Parts.of.Statement as stated
+use Rattle.boxparts.proofs.parts.Parts.of.Code as code
 
 module _ (E : Bx) (dx : Dict) where
   abbrev args : Args
