@@ -1,9 +1,11 @@
 -- Order, whatever is at the other ends.
-use Rattle.lagmodel.proofs.Common.{Bool, List, None, Option, Some, [], eqb, eqb-true, false, inl, inr, refl, subst, sym, ℕ, ◌∙◌, ◌∷◌, ◌≡◌, cases_Bool}
-use Rattle.lagmodel.proofs.Common.{true≢false, none-some, Answers, Calls, Comes, ComesAll, Cuts, EachCallIsOne, Forces, Gone, HandsUp, Happening}
-use Rattle.lagmodel.proofs.Common.{HoldsWithAnyPeer, IsNoResponse, Joins, Moves, OrderHolds, OvertakesBack, OvertakesOut, Restarts, Says, Scene}
-use Rattle.lagmodel.proofs.Common.{Takes, TookInSync, first_scene, only, scene_after, Members, OnePartner, AllAllowed, Move, view_after_all}
-use Rattle.lagmodel.proofs.Common.{IsSystemSetup, Lacp, Marker, ModelCall, Response, SystemSetup, Control, Data, Message, One}
+use Rattle.lagmodel.proofs.Common.{Bool, List, None, Option, Some, [], ap, eqb, eqb-true, false, inl, inr, refl, subst, sym, true, ℕ, ◌++◌, ◌∙◌, ◌∷◌}
+use Rattle.lagmodel.proofs.Common.{◌≡◌, cases_Bool, true≢false, none-some, option_to_list, Answers, Calls, Comes, ComesAll, Cuts, EachCallIsOne}
+use Rattle.lagmodel.proofs.Common.{Forces, Gone, HandsUp, Happening, HoldsWithAnyPeer, IsNoResponse, Joins, Moves, OrderHolds, OvertakesBack}
+use Rattle.lagmodel.proofs.Common.{OvertakesOut, Restarts, Says, Scene, SerialsCountFromZero, Takes, TookInSync, first_scene, only, scene_after}
+use Rattle.lagmodel.proofs.Common.{scene_after_acts, Members, OnePartner, Act, AllAllowed, Move, act, acts, view_after, view_after_all, IsSystemSetup}
+use Rattle.lagmodel.proofs.Common.{Lacp, Marker, ModelCall, Response, SystemSetup, View, Control, Data, Message, One, on_cable_after, sent_after}
+use Rattle.lagmodel.proofs.Common.{taken_after}
 use Rattle.lagmodel.proofs.Overtaken.{lanes_out_overtaken, lanes_back_overtaken}
 use Rattle.lagmodel.proofs.Base.{cond_false}
 use Rattle.lagmodel.proofs.Lines.{answers, ResponseBelow}
@@ -15,6 +17,7 @@ use Rattle.lagmodel.proofs.Stamps.{AllHeard, heard_first, heard_own}
 use Rattle.lagmodel.proofs.Worlds.{members_own}
 use Rattle.lagmodel.proofs.LaneMoves.{Within, lanes_own, lanes_back_plain, lanes_back_response, lanes_out_taken, lanes_back_taken, lanes_handed}
 use Rattle.lagmodel.proofs.LaneMoves.{lanes_forced, lanes_cut, lanes_joined, lanes_restarted, lanes_first}
+use Rattle.lagmodel.proofs.Counting.{IsCount, counted_act, none_sent}
 
 pub record Kept (u : SystemSetup) (ends : ℕ → Option ℕ) (w : Scene) : Type 0 where
   pub lanes : Lanes One ends w.view.flows w.out w.back w.whole w.sent w.collected w.forced
@@ -129,14 +132,102 @@ took_from_any_peer u ends es w f one z p a h d n =
       ],
     )
 
-all_moves : (u : SystemSetup) (ends : ℕ → Option ℕ) (call : ModelCall) (stamp : ℕ) (accepts : Move → Bool) (ms : List Move) (old : Scene)
-    → AllAllowed u call old.view ms
-    → (moves : List (Move × Bool)) × (new : Scene) × Moves u ends call stamp moves old new × (new.view ≡ view_after_all u ms old.view)
-all_moves u ends call stamp accepts [] old a = ([], old, refl, refl)
-all_moves u ends call stamp accepts (m ∷ ms) old a =
-    let r = all_moves u ends call stamp accepts ms (scene_after u ends stamp (m, accepts m) old) a.1 in
-    ((m, accepts m) ∷ r.0, r.1, (a.0, r.2), r.3)
+-- ---- each lawful call is a happening that leaves what its visible acts leave
+
+-- the view on the way does not matter
+view_over : (ends : ℕ → Option ℕ) (stamp : ℕ) (accepts : Act → Bool) (seen : List Act) (v on_the_way : View) (w : Scene)
+    → scene_after_acts ends stamp accepts seen v (record w { view = on_the_way }) ≡ scene_after_acts ends stamp accepts seen v w
+view_over ends stamp accepts [] v on_the_way w = refl
+view_over ends stamp accepts (a ∷ more) v on_the_way w = view_over ends stamp accepts more v on_the_way (record w {
+  out = on_cable_after One ends w.whole (λ p. 0) w.sent (accepts a) (Some a) w.out;
+  sent = sent_after (Some a) w.sent;
+  taken = taken_after stamp (Some a) w.taken;
+})
+
+-- whether the cable accepts what a move sends, if it sends anything
+abbrev pub accepted : (Act → Bool) → Option Act → Bool
+accepted accepts None = true
+accepted accepts (Some a) = accepts a
+
+module _ (u : SystemSetup) (ends : ℕ → Option ℕ) (call : ModelCall) (stamp : ℕ) (accepts : Act → Bool) where
+  -- the scene after a move that ended in the view v and showed this
+  abbrev shown : Option Act → View → Scene → Scene
+  shown o v w = record w {
+    view = v;
+    out = on_cable_after One ends w.whole (λ p. 0) w.sent (accepted accepts o) o w.out;
+    sent = sent_after o w.sent;
+    taken = taken_after stamp o w.taken;
+  }
+
+  one_shown : (o : Option Act) (seen : List Act) (v on_the_way : View) (w : Scene)
+      → scene_after_acts ends stamp accepts seen v (shown o on_the_way w) ≡ scene_after_acts ends stamp accepts (option_to_list o ++ seen) v w
+  one_shown None seen v on_the_way w = view_over ends stamp accepts seen v on_the_way w
+  one_shown (Some a) seen v on_the_way w = view_over ends stamp accepts seen v on_the_way (record w {
+    out = on_cable_after One ends w.whole (λ p. 0) w.sent (accepts a) (Some a) w.out;
+    sent = sent_after (Some a) w.sent;
+    taken = taken_after stamp (Some a) w.taken;
+  })
+
+  all_moves : (ms : List Move) (w : Scene) → AllAllowed u call w.view ms → (moves : List (Move × Bool))
+      × Moves u ends call stamp moves w (scene_after_acts ends stamp accepts (acts u ms w.view) (view_after_all u ms w.view) w)
+  all_moves [] w h = ([], refl)
+  all_moves (m ∷ ms) w h =
+      let o = act u m w.view in
+      let r = all_moves ms (shown o (view_after u m w.view) w) h.1 in (
+        (m, accepted accepts o) ∷ r.0,
+        (
+          h.0,
+          subst (Moves u ends call stamp r.0 (shown o (view_after u m w.view) w))
+              (one_shown o (acts u ms (view_after u m w.view)) (view_after_all u ms (view_after u m w.view)) (view_after u m w.view) w) r.1,
+        ),
+      )
 
 pub each_call_is_one : EachCallIsOne
 each_call_is_one u ends call stamp accepts seen old v h fits =
-    let r = all_moves u ends call stamp accepts h.0 old h.1 in (r.0, r.1, (fits, r.2), r.3 ∙ sym h.3)
+    let r = all_moves u ends call stamp accepts h.0 old h.1 in (
+      r.0,
+      (
+        fits,
+        subst (λ (seen : List Act). Moves u ends call stamp r.0 old (scene_after_acts ends stamp accepts seen v old)) h.2
+            (subst (λ (v : View). Moves u ends call stamp r.0 old (scene_after_acts ends stamp accepts (acts u h.0 old.view) v old)) (sym h.3)
+            r.1),
+      ),
+    )
+
+-- ---- serials count from zero
+
+counted_moves : (u : SystemSetup) (ends : ℕ → Option ℕ) (call : ModelCall) (stamp : ℕ) (ms : List (Move × Bool)) (old new : Scene)
+    → SerialsCountFromZero old → Moves u ends call stamp ms old new → SerialsCountFromZero new
+counted_moves u ends call stamp [] old new h z = subst SerialsCountFromZero (sym z) h
+counted_moves u ends call stamp (m ∷ ms) old new h z =
+    counted_moves u ends call stamp ms (scene_after u ends stamp m old) new (λ g k. counted_act (act u m.0 old.view) old.sent h g k) z.1
+
+-- what changes no serial that was sent
+unsent : (old new : Scene) → new.sent ≡ old.sent → SerialsCountFromZero old → SerialsCountFromZero new
+unsent old new e h g k = subst (λ (sent : ℕ → ℕ → List ℕ). IsCount (sent g k)) (sym e) (h g k)
+
+pub counted_comes : (u : SystemSetup) (ends : ℕ → Option ℕ) (e : Happening) (old new : Scene) → SerialsCountFromZero old
+    → Comes u ends e old new → SerialsCountFromZero new
+counted_comes u ends (Calls call stamp moves) old new h z = counted_moves u ends call stamp moves old new h z.1
+counted_comes u ends (Gone c m ms) old new h z = unsent old new (ap (λ (w : Scene). w.sent) z.1) h
+counted_comes u ends (Says c kept m) old new h z = unsent old new (ap (λ (w : Scene). w.sent) z.1) h
+counted_comes u ends (Answers c kept mac p n stamp ms) old new h z = unsent old new (ap (λ (w : Scene). w.sent) z.1) h
+counted_comes u ends (HandsUp c g k n ms) old new h z = unsent old new (ap (λ (w : Scene). w.sent) z.1) h
+counted_comes u ends (Takes c m ms) old new h z = unsent old new (ap (λ (w : Scene). w.sent) z.1) h
+counted_comes u ends (OvertakesOut c ms) old new h z = unsent old new (ap (λ (w : Scene). w.sent) z.1) h
+counted_comes u ends (OvertakesBack c ms) old new h z = unsent old new (ap (λ (w : Scene). w.sent) z.1) h
+counted_comes u ends (Cuts c) old new h z = unsent old new (ap (λ (w : Scene). w.sent) z) h
+counted_comes u ends (Joins c) old new h z = unsent old new (ap (λ (w : Scene). w.sent) z) h
+counted_comes u ends Restarts old new h z = unsent old new (ap (λ (w : Scene). w.sent) z) h
+counted_comes u ends (Forces g k) old new h z = unsent old new (ap (λ (w : Scene). w.sent) z) h
+
+pub none_counted : (u : SystemSetup) → SerialsCountFromZero (first_scene u)
+none_counted u g k i lt = absurd (none_sent i lt)
+
+counted_all : (u : SystemSetup) (ends : ℕ → Option ℕ) (es : List Happening) (old new : Scene) → SerialsCountFromZero old
+    → ComesAll u ends es old new → SerialsCountFromZero new
+counted_all u ends [] old new h z = subst SerialsCountFromZero (sym z) h
+counted_all u ends (e ∷ es) old new h z = counted_all u ends es z.0 new (counted_comes u ends e old z.0 h z.1) z.2
+
+pub counts_with_any_peer : HoldsWithAnyPeer SerialsCountFromZero
+counts_with_any_peer u ends es w f one z = counted_all u ends es (first_scene u) w (none_counted u) z

@@ -1,8 +1,8 @@
 -- A run in which a port comes to distribute, and a frame arrives at a peer of any kind.
 use Rattle.lagmodel.proofs.Common.{Bool, List, None, Option, Some, [], ap, cond, eqb, eqb-true, false, inl, inr, refl, subst, sym, true, ℕ, ◌++◌, ◌∙◌}
 use Rattle.lagmodel.proofs.Common.{◌∷◌, ◌≡◌, none-some, ArrivesAtAnyPeer, Calls, Fits, Gone, HandsUp, Says, Scene, first_scene, scene_after}
-use Rattle.lagmodel.proofs.Common.{with_back, Distribute, Flow, Join, Move, Port, Send, Take, port_after, ControlMessage, Force, Lacp, Offer, Receive}
-use Rattle.lagmodel.proofs.Common.{Set_link, SystemSetup, first_port, first_view, Control, Message, One, at_cable, at_two}
+use Rattle.lagmodel.proofs.Common.{with_back, Distribute, Flow, Join, Move, Port, Send, Take, port_after, ControlMessage, Force, Lacp, Offer}
+use Rattle.lagmodel.proofs.Common.{PortFacts, Receive, Set_link, SystemSetup, first_port, first_view, Control, Message, One, at_cable, at_two}
 use Rattle.lagmodel.proofs.Base.{chosen}
 use Rattle.lagmodel.proofs.Witness.{fixed₀, ne₁, outside_first, outside_kept, party_of, pdu₃, setup_of}
 
@@ -39,6 +39,10 @@ s₄ = scene_after u₀ ends₀ 0 (Flow (Send 1 48 1), true) s₃
 
 abbrev s₅ : Scene
 s₅ = record s₄ { out = at_cable s₄.out 1 []; collected = at_two s₄.collected 1 48 (s₄.collected 1 48 ++ 0 ∷ []) }
+
+-- port 1 at the end
+abbrev a₀ : PortFacts
+a₀ = port_after Distribute (port_after (Join 1) (port_after (Take pdu₃ true) (first_port (party_of 1))))
 
 parts : (p q : ℕ) (a b : ControlMessage) → Receive p (Some a) ≡ Receive q (Some b) → (p ≡ q) × (a ≡ b)
 parts p q a b e = (cc, cc)
@@ -85,6 +89,8 @@ arrives_at_any_peer = (
   ends₀,
   Says 1 true m₀ ∷ Calls (Receive 1 (Some (Lacp pdu₃))) 0 joins₀ ∷ Gone 1 m₀ [] ∷ Calls Offer 0 sends₀ ∷ HandsUp 1 1 48 0 [] ∷ [],
   s₅,
+  a₀,
+  record { pdu = pdu₃; stamp = 0 },
   fixed₀.setup One,
   λ c d p h i. there c p h ∙ sym (there d p i),
   (
@@ -119,6 +125,12 @@ arrives_at_any_peer = (
       ),
     ),
   ),
+  refl,
+  refl,
+  refl,
+  refl,
+  refl,
+  refl,
   refl,
   refl,
   refl,

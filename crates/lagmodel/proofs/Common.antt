@@ -9,7 +9,7 @@ pub use Rattle.lagtypes.specs.declared.party.Party.{Party}
 pub use Rattle.lagtypes.specs.Group.{Pair, SamePair, end_of, individual, pair_of}
 pub use Rattle.lagmodel.specs.AnyPeer.{Answers, ArrivesAtAnyPeer, Calls, Comes, ComesAll, Cuts, EachCallIsOne, Fits, Forces, Gone, HandsUp, Happening}
 pub use Rattle.lagmodel.specs.AnyPeer.{HoldsWithAnyPeer, IsNoResponse, Joins, Moves, OrderHolds, OvertakesBack, OvertakesOut, Restarts, Says, Scene}
-pub use Rattle.lagmodel.specs.AnyPeer.{Takes, TookInSync, first_scene, only, scene_after, with_back}
+pub use Rattle.lagmodel.specs.AnyPeer.{SerialsCountFromZero, Takes, TookInSync, first_scene, only, scene_after, scene_after_acts, with_back}
 pub use Rattle.lagmodel.specs.Bridge.{AreNumbered, BecomeByMoves, find_number, ports_of, world_after_call}
 pub use Rattle.lagmodel.specs.Law.{BelowNext, CollectedThenInFlight, CountsFromZero, EndsAgree, FlushedByMarker, InOrder, IsSubsequence}
 pub use Rattle.lagmodel.specs.Law.{LastLacpduSaysInSync, LawfulRun, Members, OnItsCable, OnePartner, SomethingArrives, UpToDateLacpdusNameSender}

@@ -7,7 +7,7 @@ use Rattle.lagmodel.proofs.Common.{world_after_all}
 use Rattle.std.proofs.lemmas.List.{get_or_append_left, get_or_push}
 use Rattle.lagmodel.proofs.Lanes.{two_cases}
 
-abbrev IsCount : List ℕ → Type 0
+abbrev pub IsCount : List ℕ → Type 0
 IsCount xs = (i : ℕ) → i < length xs → get_or xs i 0 ≡ i
 
 one_more : (xs : List ℕ) → IsCount xs → IsCount (xs ++ length xs ∷ [])
@@ -17,7 +17,7 @@ one_more xs h i lt = elim (cases_lt i (length xs)) [
       ∙ sym same)
 ]
 
-counted_act : (o : Option Act) (sent : ℕ → ℕ → List ℕ) → ((g k : ℕ) → IsCount (sent g k)) → (g k : ℕ) → IsCount (sent_after o sent g k)
+pub counted_act : (o : Option Act) (sent : ℕ → ℕ → List ℕ) → ((g k : ℕ) → IsCount (sent g k)) → (g k : ℕ) → IsCount (sent_after o sent g k)
 counted_act None sent h g k = h g k
 counted_act (Some (Sends p pdu)) sent h g k = h g k
 counted_act (Some (Took p pdu)) sent h g k = h g k
@@ -72,7 +72,7 @@ counted_senses : (x : WorldSetup) (s : Side) (port : Option ℕ) (up : Bool) (ol
 counted_senses x s None up old new h z = absurd z
 counted_senses x s (Some p) up old new h z = counted_call x s (ModelCall.Set_link p up) 0 old old new h z
 
-counted_happens : (x : WorldSetup) (e : Event) (old new : World) → CountsFromZero old → Happens x e old new → CountsFromZero new
+pub counted_happens : (x : WorldSetup) (e : Event) (old new : World) → CountsFromZero old → Happens x e old new → CountsFromZero new
 counted_happens x (Event.Tick s n) old new h z = counted_call x s ModelCall.Tick 0 old old new h z
 counted_happens x (Event.Emit s p) old new h z = counted_call x s ModelCall.Transmit 0 old old new h z
 counted_happens x (Event.Deliver c to) old new h z = counted_comes x c to (end_at x.cables to c) (old.on_cable to c) old new h z
@@ -94,7 +94,7 @@ counted_run : (x : WorldSetup) (es : List Event) (old new : World) → CountsFro
 counted_run x [] old new h z = subst CountsFromZero (sym z) h
 counted_run x (e ∷ es) old new h z = counted_run x es z.0 new (counted_happens x e old z.0 h z.1) z.2
 
-none_sent : (i : ℕ) → i < 0 → ⊥
+pub none_sent : (i : ℕ) → i < 0 → ⊥
 none_sent i lt = omega arith
 
 pub counts_from_zero : (x : WorldSetup) (es : List Event) (w : World) → Run x es (first_world x) w → CountsFromZero w

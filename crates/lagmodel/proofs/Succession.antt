@@ -1,8 +1,9 @@
 -- A system that takes the place of one keeps the facts of two systems.
-use Rattle.lagmodel.proofs.Common.{Bool, List, None, Option, Some, [], inl, inr, refl, subst, sym, ℕ, ◌∷◌, ◌≡◌, ◌≤◌, Party, DistributorFacts}
-use Rattle.lagmodel.proofs.Common.{Flushing, On, View, conversation_port, Event, IsWorldSetup, Message, One, Side, TakenLacpdu, Two, World}
-use Rattle.lagmodel.proofs.Common.{WorldSetup, first_world, party_at}
+use Rattle.lagmodel.proofs.Common.{Bool, List, None, Option, Some, [], inl, inr, refl, subst, sym, ℕ, ◌∷◌, ◌≡◌, ◌≤◌, Party, CountsFromZero}
+use Rattle.lagmodel.proofs.Common.{DistributorFacts, Flushing, On, View, conversation_port, Event, IsWorldSetup, Message, One, Side, TakenLacpdu, Two}
+use Rattle.lagmodel.proofs.Common.{World, WorldSetup, first_world, party_at}
 use Rattle.lagmodel.specs.Succession.{IsSuccessor, SuccessionRun, with_successor}
+use Rattle.lagmodel.proofs.Counting.{counted_happens, none_sent}
 use Rattle.lagmodel.proofs.Lines.{MarkerBelow, ResponseBelow, every_weaker, marker_higher, response_higher}
 use Rattle.lagmodel.proofs.Lanes.{Lanes}
 use Rattle.lagmodel.proofs.Stamps.{Stamps}
@@ -62,3 +63,13 @@ all_kept x (None ∷ es) old new f i z =
 pub lawful_through_succession : (x : WorldSetup) (es : List (Option Event)) (w : World) → IsWorldSetup x
     → SuccessionRun x es (first_world x) w → Lawful x w
 lawful_through_succession x es w f z = all_kept x es (first_world x) w f (lawful_first x f) z
+
+counted_through : (x : WorldSetup) (es : List (Option Event)) (old new : World) → CountsFromZero old → SuccessionRun x es old new
+    → CountsFromZero new
+counted_through x [] old new h z = subst CountsFromZero (sym z) h
+counted_through x (Some e ∷ es) old new h z = counted_through x es z.0 new (counted_happens x e old z.0 h z.1) z.2
+counted_through x (None ∷ es) old new h z = counted_through x es z.0 new (subst CountsFromZero (sym z.1.3) h) z.2
+
+pub counts_through_succession : (x : WorldSetup) (es : List (Option Event)) (w : World) → SuccessionRun x es (first_world x) w
+    → CountsFromZero w
+counts_through_succession x es w z = counted_through x es (first_world x) w (λ s g k i lt. absurd (none_sent i lt)) z

@@ -1,6 +1,6 @@
 -- One system on its cables, and whatever is at their other ends: other systems of any kind. What they send is free, but that a Marker
 -- Response on a cable answers the marker that has come there first (6.5.4; profile).
-use Rattle.std.specs.Prelude.{◌≡◌, ℕ, Bool, true, false, cond, eqb, Option, Some, None, List, [], ◌∷◌, ◌++◌}
+use Rattle.std.specs.Prelude.{◌≡◌, ◌<◌, ℕ, Bool, true, false, cond, eqb, Option, Some, None, List, [], ◌∷◌, ◌++◌, length, slice_index}
 use Rattle.lagtypes.specs.Group.{SamePair, pair_of}
 use Rattle.lagmodel.specs.View.{PortFacts, View, SystemSetup, IsSystemSetup, first_view, ControlMessage, Marker, Response, Lacp, ModelCall}
 use Rattle.lagmodel.specs.View.{Receive, Set_link, Force, is_restart}
@@ -121,14 +121,31 @@ TookInSync w = (p : ℕ) (a : PortFacts) → w.view.port p ≡ Some a → a.dist
     → (m : TakenLacpdu) × (w.taken p ≡ Some m) × (a.partner ≡ m.pdu.actor) × (m.pdu.synchronized ≡ true)
     × (m.pdu.actor.aggregatable ≡ true → SamePair (pair_of m.pdu.actor m.pdu.partner) (pair_at a))
 
--- There is such a run in which a port comes to distribute, and a frame arrives of conversation 48, which was never forced.
+-- There is such a run in which a port comes to distribute, not on defaults, with the Actor of the LACPDU that it took last as its partner;
+-- and a frame arrives of conversation 48, which was never forced.
 abbrev pub ArrivesAtAnyPeer : Type 0
-ArrivesAtAnyPeer = (u : SystemSetup) × (ends : ℕ → Option ℕ) × (es : List Happening) × (w : Scene) × IsSystemSetup u
-    × ((c d p : ℕ) → ends c ≡ Some p → ends d ≡ Some p → c ≡ d) × ComesAll u ends es (first_scene u) w
-    × (w.forced 1 48 ≡ false) × (w.sent 1 48 ≡ 0 ∷ []) × (w.collected 1 48 ≡ 0 ∷ [])
+ArrivesAtAnyPeer = (u : SystemSetup) × (ends : ℕ → Option ℕ) × (es : List Happening) × (w : Scene) × (a : PortFacts) × (m : TakenLacpdu)
+    × IsSystemSetup u × ((c d p : ℕ) → ends c ≡ Some p → ends d ≡ Some p → c ≡ d) × ComesAll u ends es (first_scene u) w
+    × (ends 1 ≡ Some 1) × (w.view.port 1 ≡ Some a) × (a.distributes ≡ true) × (a.defaulted ≡ false) × (w.taken 1 ≡ Some m)
+    × (a.partner ≡ m.pdu.actor) × (w.forced 1 48 ≡ false) × (w.sent 1 48 ≡ 0 ∷ []) × (w.collected 1 48 ≡ 0 ∷ [])
 
--- Each lawful call is one of these, whatever cables accept: so each call of every system whose calls are lawful moves.
+-- The scene after these visible acts of a call that ended in the view v. `accepts`: whether the cables accept what an act sends. `stamp`:
+-- the stamp of what came in this call.
+abbrev pub scene_after_acts : (ℕ → Option ℕ) → ℕ → (Act → Bool) → List Act → View → Scene → Scene
+scene_after_acts ends stamp accepts [] v w = record w { view = v }
+scene_after_acts ends stamp accepts (a ∷ more) v w = scene_after_acts ends stamp accepts more v (record w {
+  out = on_cable_after One ends w.whole (λ p. 0) w.sent (accepts a) (Some a) w.out;
+  sent = sent_after (Some a) w.sent;
+  taken = taken_after stamp (Some a) w.taken;
+})
+
+-- Each lawful call is one of these, whatever cables accept, and leaves the scene that its visible acts leave, frames on the cables with
+-- them: so each call of every system whose calls are lawful moves.
 abbrev pub EachCallIsOne : Type 0
-EachCallIsOne = (u : SystemSetup) (ends : ℕ → Option ℕ) (call : ModelCall) (stamp : ℕ) (accepts : Move → Bool) (seen : List Act) (old : Scene)
+EachCallIsOne = (u : SystemSetup) (ends : ℕ → Option ℕ) (call : ModelCall) (stamp : ℕ) (accepts : Act → Bool) (seen : List Act) (old : Scene)
     (v : View) → LawfulMoves u call old.view seen v → Fits call stamp ends old
-    → (moves : List (Move × Bool)) × (new : Scene) × Comes u ends (Calls call stamp moves) old new × (new.view ≡ v)
+    → (moves : List (Move × Bool)) × Comes u ends (Calls call stamp moves) old (scene_after_acts ends stamp accepts seen v old)
+
+-- the serials that a conversation sent are 0, 1, 2 and so on, so no two of its frames have the same one
+abbrev pub SerialsCountFromZero : Scene → Type 0
+SerialsCountFromZero w = (g k i : ℕ) → i < length (w.sent g k) → slice_index (w.sent g k) i ≡ i

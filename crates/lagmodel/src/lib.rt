@@ -52,32 +52,36 @@ pub fn something_arrives()
     ensures { SomethingArrives }
 {}
 
-ghost use Rattle.lagmodel.specs.AnyPeer.{EachCallIsOne, HoldsWithAnyPeer, OrderHolds, TookInSync};
+ghost use Rattle.lagmodel.specs.AnyPeer.{EachCallIsOne, HoldsWithAnyPeer, OrderHolds, SerialsCountFromZero, TookInSync};
 
 /// One system beside peers of any kind and number, however they are wired: ports that distribute in one aggregator name one partner; a
 /// port that distributes, and is not defaulted, took last an LACPDU that said IN_SYNC, whose Actor it names; and what the peers hand up of a
-/// conversation that was never forced is a subsequence of what was sent, if a Marker Response answers the marker that has come first on its
-/// cable; also where LACPDUs overtake. Each lawful call is one of the happenings (6.2.4, 6.4.9, 6.4.14, 6.5.4; profile).
+/// conversation that was never forced is a subsequence of what was sent, of which no two have one serial, if a Marker Response answers the
+/// marker that has come first on its cable; also where LACPDUs overtake. Each lawful call is one of the happenings, with what it sends
+/// (6.2.4, 6.4.9, 6.4.14, 6.5.4; profile).
 pub fn order_with_any_peer()
     ensures one_partner { HoldsWithAnyPeer (λ w. OnePartner w.view) }
     ensures took_synchronized { HoldsWithAnyPeer TookInSync }
     ensures in_order { HoldsWithAnyPeer OrderHolds }
+    ensures counts_from_zero { HoldsWithAnyPeer SerialsCountFromZero }
     ensures each_call { EachCallIsOne }
 {}
 
 ghost use Rattle.lagmodel.specs.Succession.{HoldsThroughSuccession};
 
 /// The headline, as in `headline`, where at any time another system may take the place of one and go on where it was, as after a warm start:
-/// one partner, agreement and order (6.2.4, 6.3.6, 6.4.14; profile).
+/// one partner, agreement and order, and no serial comes twice (6.2.4, 6.3.6, 6.4.14; profile).
 pub fn headline_through_succession()
     ensures one_partner { HoldsThroughSuccession (λ x w. (s : Side) → OnePartner (w.view s)) }
     ensures agree { HoldsThroughSuccession (λ x w. EndsAgree x w) }
     ensures in_order { HoldsThroughSuccession (λ x w. InOrder w) }
+    ensures counts_from_zero { HoldsThroughSuccession (λ x w. CountsFromZero w) }
 {}
 
 ghost use Rattle.lagmodel.specs.AnyPeer.{ArrivesAtAnyPeer};
 
-/// `order_with_any_peer` is not empty: there is a run in which a port distributes and a frame arrives (profile).
+/// `order_with_any_peer` is not empty: there is a run in which a port distributes, with the partner that it heard, and a frame arrives
+/// (profile).
 pub fn something_arrives_at_any_peer()
     ensures { ArrivesAtAnyPeer }
 {}
