@@ -203,7 +203,7 @@ counted_moves u ends call stamp (m ∷ ms) old new h z =
     counted_moves u ends call stamp ms (scene_after u ends stamp m old) new (λ g k. counted_act (act u m.0 old.view) old.sent h g k) z.1
 
 -- what changes no serial that was sent
-unsent : (old new : Scene) → new.sent ≡ old.sent → SerialsCountFromZero old → SerialsCountFromZero new
+pub unsent : (old new : Scene) → new.sent ≡ old.sent → SerialsCountFromZero old → SerialsCountFromZero new
 unsent old new e h g k = subst (λ (sent : ℕ → ℕ → List ℕ). IsCount (sent g k)) (sym e) (h g k)
 
 pub counted_comes : (u : SystemSetup) (ends : ℕ → Option ℕ) (e : Happening) (old new : Scene) → SerialsCountFromZero old
