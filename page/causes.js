@@ -170,6 +170,10 @@ function ofSteps(finding, { records }) {
 
 const ofUnheard = ({ at }, { link }) => {
     const other = link.ends.find((it) => it && it !== at);
+    if (other?.system && addressOf(other.system) === addressOf(at.system)) return {
+        isFirst: true, title: "both ends of a link have one system address", lines: [`${link.ends.map((it) => it.short).join(" and ")} do not hear each other: an end may drop LACPDUs of its own system, as Linux does`],
+        advice: "Look for a loop (a cable between two ports of this system); if there are two machines, one has a copied identifier: give each its own.",
+    };
     return { title: "an end hears nobody for longer than 6 seconds", advice: other ? `LACPDUs of ${other.short} are in this capture, and do not reach ${at.short}: look at its receiver, a filter there, or a device between.`
         : "No LACPDU of its partner is in this capture: set LACP on there (switch: mode active, not on; bonding: mode=802.3ad), or look at the path to here." };
 };

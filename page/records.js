@@ -205,13 +205,19 @@ const byTime = (one, other) => one.seconds === null || other.seconds === null ? 
     : one.seconds - other.seconds || one.packet - other.packet;
 const findingsFirst = (list) => [...list.filter((it) => it.findings.length), ...list.filter((it) => !it.findings.length)];
 
+/* The other end of a link whose ends hear nobody, and so name nobody: of two that are alone on an interface. */
+function otherUnheard(end, ends) {
+    const here = ends.filter((it) => it.interface === end.interface && it.last);
+    return here.length === 2 && here.includes(end) && here.every((it) => !it.hasHeard) ? here.find((it) => it !== end) : null;
+}
+
 /* The links: two ends, of which the second may not be heard (null), their frames in the order of times, and their findings. */
 function linksOf(ends) {
     const actors = listed(ends, (it) => it.actors), partners = listed(ends, (it) => it.partners);
     const seen = new Set(), links = [];
     for (const end of ends) {
         if (seen.has(end)) continue;
-        const partner = partnerOf(end, actors, partners), both = [end, partner && !seen.has(partner) ? partner : null];
+        const partner = partnerOf(end, actors, partners) ?? otherUnheard(end, ends), both = [end, partner && !seen.has(partner) ? partner : null];
         const heard = both.filter(Boolean);
         heard.forEach((it) => seen.add(it));
         links.push({ ends: both, frames: heard.flatMap((it) => it.frames).sort(byTime), findings: heard.flatMap((it) => it.findings) });

@@ -45,7 +45,7 @@ function silentFacts({ ports }, form) {
 
 function partnerFacts({ name, ports }) {
     const facts = [], add = (fact, of, title, advice) => { if (of.length) facts.push({ name: fact, ports: of, title, advice }); };
-    const heard = ports.filter((it) => it.partner), apart = heard.filter((it) => it.partner.system === null && it.aggregator !== null);
+    const heard = ports.filter((it) => it.partner), apart = heard.filter((it) => isLinked(it) && it.partner.system === null && it.aggregator !== null);
     add("apart", apart, `another aggregator than the one in use has ${namesIn(apart)}`,
         `Both ends speak there: it has another partner, or another key. As root, cat /proc/net/bonding/${name} names it.`);
     const alike = heard.filter((it) => it.partner.system === it.actor.system && it.partner.priority !== null && it.partner.priority !== it.actor.priority);
@@ -97,7 +97,7 @@ const RULES = new Map([
 ]);
 
 /* What explains the rest comes first: facts by name, rules by number. */
-const RANKS = ["no-lacp", "no-root", 30, "own-address", "never-heard", 29, 15, "apart", "link-down", "speeds", 5, "passive-unheard", 14, 12, 22, 17, 2, 3, 4, "too-few"];
+const RANKS = ["no-lacp", "no-root", "set-down", 30, "own-address", "never-heard", 29, 15, "apart", "link-down", "speeds", 5, "passive-unheard", 14, 12, 22, 17, 2, 3, 4, "too-few"];
 /* What calls for nothing by itself. */
 const ASIDE = ["aggregators", "same-partner-port", "one-system", "note", "said"];
 

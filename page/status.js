@@ -37,6 +37,11 @@ function valuesIn(text) {
 /* A partner is known if it has an address, and the end is not Defaulted. */
 const knownPartner = (actor, partner) => !partner || partner.system === NO_ADDRESS || (actor && actor.state & DEFAULTED_BIT) ? null : partner;
 
+/* That fewer links of a bundle carry than it wants: it passes no data. Each form has its own name of what it wants. */
+const tooFew = (name, carrying, least, option) => ({
+    name: "too-few", text: `${name} is down: ${carrying} of its links ${Number(carrying) === 1 ? "carries" : "carry"}, and it wants ${least} (${option})`,
+});
+
 /* A port with what a form has of it. */
 const portOfText = (given) => ({ link: null, source: "", actor: null, partner: null, aggregator: null, isUsed: null, speed: "", facts: [], ...given });
 
@@ -83,6 +88,8 @@ function bondOf(text) {
     if (!found) notes.push({ name: "no-root", text: "the text lacks the LACPDUs: read the file as root (sudo cat /proc/net/bonding/bond0), or take ip -d -j link" });
     if (said.get("MII Polling Interval (ms)") === "0") notes.push({ name: "note", text: "miimon is 0: a link that goes down is not noticed" });
     const members = parts.map((it) => memberOfBonding(it, active)), ports = members.map(({ port }) => port);
+    const carrying = ports.filter((it) => it.isUsed).length, least = Number(said.get("Min links") ?? 0);
+    if (said.get("MII Status") === "down" && carrying && carrying < least) notes.push(tooFew("the bond", carrying, least, "min_links"));
     const isCut = !ports.length || members.some(({ isWhole }) => !isWhole) || (found && ports.filter((it) => it.aggregator === active).length < Number(found[2]));
     return { bundles: [{ name: "the bond", ports, isCut: Boolean(isCut) }], notes };
 }
@@ -119,7 +126,10 @@ function ipLink(links) {
         : [{ name: "no-lacp", text: bonds.length ? `no bond of this text speaks LACP: its mode is "${bonds[0].linkinfo.info_data?.mode}" (LACP is mode=802.3ad)` : "no bond is in this text" }];
     const bundles = lacp.map((bond) => {
         const members = links.filter((it) => it.master === bond.ifname && it.linkinfo?.info_slave_kind === "bond"), whole = members.filter(isMemberWhole);
-        return { name: bond.ifname, ports: whole.map((it) => memberOfIp(it, bond)), isCut: whole.length < members.length || Boolean(bond.isCut) };
+        const ports = whole.map((it) => memberOfIp(it, bond)), carrying = ports.filter((it) => it.isUsed).length, least = bond.linkinfo.info_data.min_links ?? 0;
+        if (bond.flags && !bond.flags.includes("UP")) notes.push({ name: "set-down", text: `${bond.ifname} is set down: ip link set ${bond.ifname} up` });
+        if (bond.flags?.includes("NO-CARRIER") && carrying && carrying < least) notes.push(tooFew(bond.ifname, carrying, least, "min_links"));
+        return { name: bond.ifname, ports, isCut: whole.length < members.length || Boolean(bond.isCut) };
     });
     const lost = links.some((it) => it.linkinfo?.info_slave_kind === "bond" && !links.some((bond) => bond.ifname === it.master && bond.linkinfo?.info_kind === "bond"));
     if (lost && !bonds.length) return { form: "ip", bundles: [{ name: "the bond", ports: [], isCut: true }], notes: [] };
@@ -130,10 +140,10 @@ function ipLink(links) {
 function ipLinkOfText(text) {
     const links = text.split(/^(?=\d+: )/m).map((part) => {
         const [, ifname] = /^\d+: ([^@:]+)/.exec(part) ?? [], word = (name) => new RegExp(` ${name} (\\S+)`).exec(part)?.[1], number = (name) => numberOf(word(name)) ?? undefined;
-        const it = { ifname, master: word("master"), address: /link\/ether (\S+)/.exec(part)?.[1], linkinfo: {} };
+        const it = { ifname, flags: /<(.*?)>/.exec(part)?.[1].split(","), master: word("master"), address: /link\/ether (\S+)/.exec(part)?.[1], linkinfo: {} };
         it.isCut = !part.includes(" tlb_dynamic_lb ");
         if (/^\s*bond mode /m.test(part)) it.linkinfo = { info_kind: "bond", info_data: {
-            mode: word("bond mode"), ad_actor_sys_prio: number("ad_actor_sys_prio"), ad_actor_system: word("ad_actor_system"),
+            mode: word("bond mode"), ad_actor_sys_prio: number("ad_actor_sys_prio"), ad_actor_system: word("ad_actor_system"), min_links: number("min_links"),
             ad_info: { aggregator: number("ad_aggregator"), actor_key: number("ad_actor_key"), partner_key: number("ad_partner_key"), partner_mac: word("ad_partner_mac") },
         } };
         if (/^\s*bond_slave /m.test(part)) Object.assign(it.linkinfo, { info_slave_kind: "bond", info_slave_data: {
@@ -178,9 +188,6 @@ function partyOfShow(said, side) {
     };
 }
 
-/* That fewer links of a bundle of lagd carry than it wants: it passes no data. */
-const tooFew = (name, carrying, least) => ({ name: "too-few", text: `${name} is down: ${carrying} of its links carry, and it wants ${least} (min-links)` });
-
 /* Ticks of 100 ms behind which the next LACPDU is overdue: its period is 1 s or 30 s. */
 const overdueIn = (actor) => actor.state & 2 ? 30 - 15 : 900 - 350;
 
@@ -210,7 +217,7 @@ function showOf(text) {
         const [head, ...parts] = part.split(/^(?=(?:member|slave): )/m), said = valuesIn(head), active = numberOf(said.get("aggregator"));
         const ports = parts.map((it) => memberOfShow(it, active));
         const name = /^---- (.*) ----/.exec(head)[1], carrying = /^down, ([1-9]\d*) of /.exec(said.get("status") ?? "")?.[1], isOff = said.get("status") === "off";
-        const notes = [...isOff ? [{ name: "no-lacp", text: `${name}: LACP is off` }] : [], ...carrying ? [tooFew(name, carrying, said.get("min_links"))] : []];
+        const notes = [...isOff ? [{ name: "no-lacp", text: `${name}: LACP is off` }] : [], ...carrying ? [tooFew(name, carrying, said.get("min_links"), "min-links")] : []];
         return { name, ports, isCut: !ports.length || ports.some((it) => !it.isWhole), notes };
     });
     return { form: "show", bundles, notes: bundles.flatMap((it) => it.notes) };
@@ -230,7 +237,7 @@ function memberOfLagd(bundle, port) {
 
 const lagdJson = (lines) => ({
     form: "lagd", bundles: lines.map((it) => ({ name: it.bundle, ports: it.ports.map((port) => memberOfLagd(it, port)), isCut: false })),
-    notes: lines.filter((it) => it.state === "down" && it.carrying > 0).map((it) => tooFew(it.bundle, it.carrying, it.min_links)),
+    notes: lines.filter((it) => it.state === "down" && it.carrying > 0).map((it) => tooFew(it.bundle, it.carrying, it.min_links, "min-links")),
 });
 
 /* ---- Any of them ---- */

@@ -36,19 +36,19 @@ function ofOneEnd(end, until) {
     if (end.named === end.system) return [IDLE, `${end.short} hears itself: a loop`];
     if (isSilent(end, until)) return [IDLE, `${end.short} sends nothing after ${seconds(end.record.last)}, and nobody else speaks here`];
     if (end.distributes && isKnown(end.named)) return [UNKNOWN, `${end.short} says that it carries; the other direction is not in this capture`];
-    return isKnown(end.named) ? [UNKNOWN, `${end.short} alone is in this capture: it names ${addressOf(end.named)}`] : [IDLE, `nobody answers ${end.short}`];
+    return isKnown(end.named) ? [UNKNOWN, `${end.short} alone is in this capture: it names ${addressOf(end.named)}`] : [IDLE, end.has("active") ? `nobody answers ${end.short}` : `${end.short} is passive, and nobody answers it`];
 }
 
-/* Whether a link with both ends carries, and why not. */
+/* Whether a link with both ends carries, and why not; and whether that says no more than their states. */
 function ofBothEnds(link, bundle, until) {
     const { ends } = link, silent = ends.filter((it) => isSilent(it, until)), lost = ends.filter((it) => it.has("defaulted") || it.has("expired"));
     const never = lost.filter((it) => !it.hasHeard), deaf = never.length ? never : lost;
     const keys = ofKeysOf(link, bundle);
+    if (ends[0].system === ends[1].system) return [IDLE, "both ends have one system: a loop, or a copied identifier"];
+    if (ends.every((it) => !it.has("active"))) return [IDLE, "both ends are passive"];
     if (silent.length === 1) return [IDLE, `${silent[0].short} sends nothing after ${seconds(silent[0].record.last)}`];
     if (silent.length) return [IDLE, `nothing is sent on it after ${seconds(Math.max(...silent.map((it) => it.record.last)))}`];
     if (isUp(link)) return keys ? [CARRIES_APART, `both ways: ${keys}`] : [CARRIES, "both ways"];
-    if (ends[0].system === ends[1].system) return [IDLE, "both ends have one system: a loop, or a copied identifier"];
-    if (ends.every((it) => !it.has("active"))) return [IDLE, "both ends are passive"];
     if (keys && !deaf.length) return [IDLE, keys];
     if (deaf.length) return [IDLE, `${deaf.map((it) => it.short).join(" and ")} ${deaf.length === 1 ? "hears" : "hear"} nobody`];
     const single = ends.filter((it) => !it.has("aggregatable"));
@@ -56,16 +56,16 @@ function ofBothEnds(link, bundle, until) {
     const waits = ends.filter((it) => !it.has("synchronized"));
     if (waits.length === 1) return [IDLE, `${waits[0].short} has not attached it: another aggregator is in use there, or it has links enough`];
     const said = ends.map((it) => `${it.short} is ${machinesOf(it.last.actor.state).mux}`).join(", ");
-    return [IDLE, said];
+    return [IDLE, said, "is vague"];
 }
 
 /* Of a link: its name, its ends, how it is, and why. */
 function lineOf(link, bundle, until) {
     const heard = link.ends.filter((it) => it?.last), isWhole = heard.length === 2;
     if (!heard.length) return null;
-    const [how, why] = isWhole ? ofBothEnds(link, bundle, until) : ofOneEnd(heard[0], until), [{ label }] = heard;
+    const [how, why, isVague] = isWhole ? ofBothEnds(link, bundle, until) : ofOneEnd(heard[0], until), [{ label }] = heard;
     const far = isWhole ? "" : isKnown(heard[0].named ?? "") ? ` - ${addressOf(heard[0].named)}` : " - nobody", ends = `${heard.map((it) => it.short).join(" - ")}${far}`;
-    return { link, port: heard[0].port, name: label ? `${label} (${ends})` : ends, how, why };
+    return { link, port: heard[0].port, name: label ? `${label} (${ends})` : ends, how, why, isVague };
 }
 
 /* The lines of all links, those that do not carry first. */
@@ -87,6 +87,8 @@ export function headlineOf(lines, causes) {
     const head = `${carry} of ${counted(all, "link")} ${carry === 1 || all === 1 ? "carries" : "carry"}`, more = causes.filter(({ kind }) => kind === FAULT).length - 1;
     if (cause) return [`${all ? `${head}. ` : ""}${cause.title[0].toUpperCase()}${cause.title.slice(1)}${more ? `, and ${counted(more, "more cause")}` : ""}.`, "bad"];
     if (!all) return ["", ""];
+    const idle = lines.find(({ how, isVague }) => how === IDLE && !isVague);
+    if (idle) return [`${head}. ${idle.why[0].toUpperCase()}${idle.why.slice(1)}; this capture does not show why: ask both ends, and capture all links.`, ""];
     if (carry < all) return [`${head}. No cause is in this capture: ask both ends, and capture all links.`, ""];
     if (causes.some(({ kind }) => kind === EFFECT)) return [`${all === 1 ? "The link carries" : `${all} links carry`}, both ways, at the end.`, ""];
     return [all === 1 ? `The link carries, both ways. ${ONE}` : `${all} links carry, both ways: ${HASH}`, "good"];

@@ -17,6 +17,8 @@ VERDICT = "[document.getElementById('verdict').textContent, document.getElementB
 TITLES = "[...document.querySelectorAll('#findings > li > strong')].map((it) => it.firstChild.textContent)"
 UNSHOWN, ONE = "This capture does not show why", "The link carries, both ways. It is one link: of a bundle capture all links, since keys and partners are compared between them."
 ALONE = "No cause is in this capture: ask both ends, and capture all links."
+NOT_WHY = "this capture does not show why: ask both ends, and capture all links."
+UNATTACHED = "02-00-00-00-00-01 port 1 has not attached it: another aggregator is in use there, or it has links enough"
 OPEN = "document.querySelectorAll('#findings details').forEach((it) => { it.open = true; }), 1"
 # The fields of each frame that is drawn, by a click on it.
 FIELDS = """(async () => {
@@ -127,16 +129,16 @@ def of_idle_links(tests: Tests, browser: Browser, folder: str) -> None:
 
 def of_effects(tests: Tests, browser: Browser, folder: str) -> None:
     """What often follows from a fault, where there is no other: LACPDUs that do not arrive are one; of others the capture does not show why."""
-    alone, first = [f"0 of 1 link carries. {ALONE}", ""], "document.querySelector('#findings li').textContent"
+    first = "document.querySelector('#findings li').textContent"
     browser.choose(os.path.join(CAPTURES, "bonding.pcap"))
-    tests.same("an effect without a fault has no cause in this capture", browser.value(VERDICT), alone)
+    tests.same("an effect without a fault has no cause in this capture", browser.value(VERDICT), [f"0 of 1 link carries. 02-00-00-00-0b-00 port 1 hears nobody; {NOT_WHY}", ""])
     said = browser.value(first)
     wanted = UNSHOWN, "rule 13 is normal if both ends distribute later"
     tests.same("it says so, and that it is normal after a start", [it in said for it in wanted], [True, True])
     path = os.path.join(folder, "attached.pcap")
     made.attached(path, True)
     browser.choose(path)
-    tests.same("so has a link that the partner does not attach", [*browser.value(VERDICT), UNSHOWN in browser.value(first)], [*alone, True])
+    tests.same("so has a link that the partner does not attach", [*browser.value(VERDICT), UNSHOWN in browser.value(first)], [f"0 of 1 link carries. {UNATTACHED}; {NOT_WHY}", "", True])
     made.attached(path, False)
     browser.choose(path)
     tests.same("an end that hears nothing is a fault", browser.value(VERDICT), ["0 of 1 link carries. An end hears nobody for longer than 6 seconds.", "bad"])
@@ -145,7 +147,7 @@ def of_effects(tests: Tests, browser: Browser, folder: str) -> None:
     tests.same("it stands first, and explains the other", [browser.value(TITLES), UNSHOWN in said], [titles, False])
     made.astray(path)
     browser.choose(path)
-    tests.same("it follows from a fault of whoever is on its interface", browser.value(VERDICT), ["0 of 2 links carry. A frame to another destination.", "bad"])
+    tests.same("it follows from a fault of whoever is on its interface", browser.value(VERDICT), ["0 of 1 link carries. A frame to another destination.", "bad"])
 
 
 def of_copies(tests: Tests, browser: Browser, folder: str) -> None:

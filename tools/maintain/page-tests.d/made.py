@@ -92,6 +92,24 @@ def deaf(path: str) -> None:
     pcap(path, sorted(packets))
 
 
+def looped(path: str) -> None:
+    """Both ends of a link are ports of system 1, which drops LACPDUs of its own, as Linux does: they hear nobody."""
+    ends = Party(1, 7, 1, 0xC7), Party(1, 7, 2, 0xC7)
+    pcap(path, sorted((second + it.port / 10, frame(it.source(), lacpdu(it, None))) for second in range(20) for it in ends))
+
+
+def passive(path: str) -> None:
+    """Both ends are passive, and say that they carry."""
+    pcap(path, exchange(Party(1, 7, 1, FAST & ~1), Party(2, 8, 1, FAST & ~1), range(4)))
+
+
+def lately_deaf(path: str) -> None:
+    """On link 2 system 1 is Expired for the last 4 seconds."""
+    packets = exchange(Party(1, 7, 1, FAST), Party(2, 8, 1, FAST), range(20))
+    packets += exchange(Party(1, 7, 2, FAST), Party(2, 8, 2, FAST), (second + 0.1 for second in range(16)))
+    pcap(path, sorted([*packets, *exchange(Party(1, 7, 2, EXPIRED), Party(2, 8, 2, FAST_DOWN), (second + 0.1 for second in range(16, 20)))]))
+
+
 def stranger(path: str) -> None:
     """Two systems that hear each other, and on the same interface a third that hears nobody."""
     third = Party(3, 9, 5, 0x47)
