@@ -161,7 +161,7 @@ def line_of(path: str, text: str) -> Callable[[Read], list[str]]:
 
 def shown_rule(pages: Read) -> list[str]:
     """A line of a test of findings: the milliseconds, the rule and the frame, and in words the seconds, the frame and the rule."""
-    when, rule, frame = found(pages, "crates/tests_capture/src/links/of_findings.rt", r"shows\(&rt, &split, (\d+), &\[\((\d+), (\d+)\)\]\)")
+    when, rule, frame = found(pages, "crates/tests_capture/src/links/of_partners.rt", r"shows\(&rt, &split, (\d+), &\[\((\d+), (\d+)\)\]\)")
     return [when, rule, frame, rounded_to(Decimal(when) / 1000, "0.1"), frame, rule]
 
 

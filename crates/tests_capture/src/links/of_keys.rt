@@ -1,0 +1,167 @@
+use crate::links::frames::{A, B, C, FAST, Said, UP, a_to_b, at, b_to_a, info, shows};
+use findings::SlowFrame;
+use lagtypes::Key;
+use slowpdu::Info;
+use std::process::Abort;
+
+// 6.3.6: a LAG ID has the keys of both systems.
+#[test]
+fn keys_differ_within_a_pair_of_systems(rt: HostRuntime) {
+    let second = |from: Info, to: Info, keys: (u16, u16)| {
+        let mut said = a_to_b(FAST, FAST);
+        said.actor = from;
+        said.partner = to;
+        said.actor.port.number = 2;
+        said.partner.port.number = 2;
+        said.actor.key = Key(keys.0);
+        said.partner.key = Key(keys.1);
+        let mut frame = at(400, said);
+        frame.interface = 1;
+        frame
+    };
+    let first = at(0, a_to_b(FAST, FAST));
+    let again = at(1000, a_to_b(FAST, FAST));
+    let third = at(2000, a_to_b(FAST, FAST));
+    let (a, b, c) = (info(A, FAST), info(B, FAST), info(C, FAST));
+    let frames = |other: SlowFrame| [first, other, again, third];
+    shows(&rt, &frames(second(a, b, (2, 1))), 3000, &[(15, 4)]);
+    shows(&rt, &frames(second(a, b, (1, 2))), 3000, &[(15, 4)]);
+    shows(&rt, &frames(second(a, b, (1, 1))), 3000, &[]);
+    shows(&rt, &frames(second(a, c, (2, 2))), 3000, &[]);
+    // The first LACPDU of the two may have been on its way.
+    shows(&rt, &frames(second(a, b, (2, 1)))[..3], 3000, &[]);
+    // The other link was heard 90 seconds before, and longer ago.
+    let slow = |milliseconds: u64| at(milliseconds, a_to_b(UP, UP));
+    let other = second(info(A, UP), info(B, UP), (2, 1));
+    let answer = at(400, b_to_a(UP, UP));
+    let frames = [slow(0), answer, other, slow(90_000), slow(90_400)];
+    shows(&rt, &frames, 90_400, &[(15, 5)]);
+    let frames = [slow(0), answer, other, slow(90_000), slow(90_401)];
+    shows(&rt, &frames, 90_400, &[]);
+}
+
+// 6.3.6: two groups of A lead to two groups of B, one to one: the keys of their links differ at both ends.
+#[test]
+fn two_bundles_are_between_two_systems(rt: HostRuntime) {
+    let link = |milliseconds: u64, number: u16, own: u16, far: u16| {
+        let mut said = a_to_b(FAST, FAST);
+        said.actor.port.number = number;
+        said.partner.port.number = number;
+        said.actor.key = Key(own);
+        said.partner.key = Key(far);
+        let mut frame = at(milliseconds, said);
+        frame.interface = u32::from(number);
+        frame
+    };
+    let frames = |third: (u16, u16), fourth: (u16, u16)| {
+        let first = |milliseconds: u64| link(milliseconds, 1, 10, 10);
+        let second = |milliseconds: u64| link(milliseconds, 2, 10, 10);
+        let third = |milliseconds: u64| link(milliseconds, 3, third.0, third.1);
+        let fourth = |milliseconds: u64| link(milliseconds, 4, fourth.0, fourth.1);
+        [
+            first(0),
+            fourth(10),
+            second(20),
+            third(30),
+            first(1000),
+            fourth(1010),
+            second(1020),
+            third(1030),
+            first(2000),
+            fourth(2010),
+            second(2020),
+            third(2030),
+        ]
+    };
+    shows(&rt, &frames((20, 20), (20, 20)), 3000, &[]);
+    shows(&rt, &frames((20, 30), (20, 30)), 3000, &[]);
+    // One port of B is in the group of no other link. What comes between does not hide it.
+    let expected = [(15, 10), (15, 12)];
+    shows(&rt, &frames((20, 20), (20, 30)), 3000, &expected);
+    // The cables of one link of each group are crossed: every link is beside one that shares a key.
+    let expected = [(15, 9), (15, 10), (15, 11), (15, 12)];
+    shows(&rt, &frames((10, 20), (20, 10)), 3000, &expected);
+}
+
+// What an end has said before counts no more.
+#[test]
+fn a_key_that_is_set_right_is_no_fault(rt: HostRuntime) {
+    let link = |milliseconds: u64, number: u16, far: u16| {
+        let mut said = a_to_b(FAST, FAST);
+        said.actor.port.number = number;
+        said.partner.port.number = number;
+        said.partner.key = Key(far);
+        let mut frame = at(milliseconds, said);
+        frame.interface = u32::from(number);
+        frame
+    };
+    let frames = [
+        link(0, 1, 1),
+        link(100, 2, 2),
+        link(1000, 1, 1),
+        link(1100, 2, 1),
+        link(2000, 1, 1),
+        link(2100, 2, 1),
+        link(3000, 1, 1),
+    ];
+    shows(&rt, &frames, 3500, &[]);
+}
+
+// 6.3.6: both links of two systems carry, each in an aggregator of its own, since B gives them the keys 1 and 2.
+#[test]
+fn two_links_carry_in_two_groups(rt: HostRuntime) {
+    let (first, answer) = (a_to_b(FAST, FAST), b_to_a(FAST, FAST));
+    let (mut second, mut reply) = (first, answer);
+    second.actor.port.number = 2;
+    second.partner.port.number = 2;
+    second.partner.key = Key(2);
+    reply.actor.port.number = 2;
+    reply.actor.key = Key(2);
+    reply.partner.port.number = 2;
+    let other = |milliseconds: u64, said: Said| {
+        let mut frame = at(milliseconds, said);
+        frame.interface = 1;
+        frame
+    };
+    let frames = [
+        at(0, first),
+        at(10, answer),
+        other(20, second),
+        other(30, reply),
+        at(1000, first),
+        at(1010, answer),
+        other(1020, second),
+        other(1030, reply),
+        at(2000, first),
+        at(2010, answer),
+        other(2020, second),
+        other(2030, reply),
+    ];
+    let expected = [(15, 9), (15, 10), (15, 11), (15, 12)];
+    shows(&rt, &frames, 2500, &expected);
+}
+
+// 6.3.6: the frames of one interface stand behind those of the other, as `mergecap -a` writes them: no time is judged between
+// the two.
+#[test]
+fn keys_are_not_judged_where_one_link_stands_behind_the_other(rt: HostRuntime) {
+    let said = a_to_b(UP, UP);
+    let mut other = said;
+    other.actor.key = Key(2);
+    other.actor.port.number = 2;
+    other.partner.port.number = 2;
+    let second = |milliseconds: u64| {
+        let mut frame = at(milliseconds, other);
+        frame.interface = 1;
+        frame
+    };
+    let frames = [
+        at(0, said),
+        at(70_000, said),
+        at(100_000, said),
+        second(9_999),
+        second(10_000),
+        second(10_500),
+    ];
+    shows(&rt, &frames, 10_500, &[(28, 4)]);
+}
