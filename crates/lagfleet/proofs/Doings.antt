@@ -4,7 +4,7 @@ use Rattle.std.proofs.Common.{sym, true, length, ℕ, ◌&&◌, ◌<◌, ◌∙�
 use Rattle.std.proofs.lemmas.Bool.{and_parts, cases_Bool, true≢false}
 use Rattle.std.proofs.lemmas.Bool.Decides.{nat_tests}
 use Rattle.std.proofs.lemmas.Option.{none-some, same_Some}
-use Rattle.std.specs.Prelude.{option_to_list, drop}
+use Rattle.std.specs.Prelude.{drop}
 use Rattle.lagtypes.specs.declared.identifiers.AggId.{AggId}
 use Rattle.lagtypes.specs.declared.party.Party.{Party}
 use Rattle.lagtypes.specs.Same.{same_party}
@@ -19,7 +19,6 @@ use Rattle.lagmodel.specs.View.{ControlMessage, Free, ModelCall, SystemSetup, Vi
 use Rattle.lagmodel.specs.Move.{Act, LawfulMoves, Sends, Sends_frame, Took}
 use Rattle.lagmodel.proofs.Brings.{moves_bring}
 use Rattle.lagmodel.proofs.Base.{cond_true, cond_false}
-use Rattle.lagsystem.specs.declared.drive.Reply.{Reply}
 use Rattle.lagsystem.specs.declared.drive.Reply.TheVariants as reply
 use Rattle.lagsystem.specs.declared.fault.SystemFault.{SystemFault}
 use Rattle.lagsystem.specs.declared.received.Received.TheVariants.{TookLacpdu, Respond}
@@ -90,20 +89,20 @@ offer_lawful gives agg conv (Err fault) old new h asked =
 pub does_lawfully : (gives : ℕ → ℕ → ℕ → Type 0) (doing : Doing) (law : ModelCall) (acts : List Act) (old new : SystemState)
     → Does gives doing law acts old new
     → LawfulMoves (model_setup old) law (model_view old) acts (model_view new) × (model_setup new ≡ model_setup old)
-does_lawfully gives (Makes call) law acts old new x =
-    let m = x.1.moves in (
-      told_lawful (model_setup old) m.0 law (model_view old) (model_view new) acts x.2 (moved old new refl x.3 m.4),
-      x.1.configured,
+does_lawfully gives (Makes call answer) law acts old new x =
+    let m = x.0.moves in (
+      told_lawful (model_setup old) m.0 law (model_view old) (model_view new) acts x.1 (moved old new refl x.2 m.4),
+      x.0.configured,
     )
 does_lawfully gives (Forces agg conv) law acts old new x =
     let m = x.0.moves in (moved old new (m.2 ∙ sym x.1) (m.3 ∙ sym x.2) m.4, x.0.configured)
-does_lawfully gives (Offers agg conv) law acts old new x =
-    let both = offer_lawful gives agg conv x.0 old new x.1.0 x.1.1 in (moved old new (sym x.2) (sym x.3) both.0, both.1)
-does_lawfully gives (Leaves agg conv) law acts old new x = (moved old new (sym x.2) (sym x.3) x.1.1.moves, x.1.1.configured)
-does_lawfully gives (Probes port) law acts old new x = (moved old new (sym x.2) (sym x.3) x.1.1.2.moves, x.1.1.2.configured)
+does_lawfully gives (Offers agg conv answer) law acts old new x =
+    let both = offer_lawful gives agg conv answer old new x.0.0 x.0.1 in (moved old new (sym x.1) (sym x.2) both.0, both.1)
+does_lawfully gives (Leaves agg conv answer) law acts old new x = (moved old new (sym x.1) (sym x.2) x.0.1.moves, x.0.1.configured)
+does_lawfully gives (Probes port answer) law acts old new x = (moved old new (sym x.1) (sym x.2) x.0.1.2.moves, x.0.1.2.configured)
 does_lawfully gives (Rests agg conv) law acts old new x =
     let m = x.0.1.moves in (moved old new (m.2 ∙ sym x.1) (m.3 ∙ sym x.2) m.4, x.0.1.configured)
-does_lawfully gives (Sets setting) law acts old new x = (moved old new (sym x.2) (sym x.3) x.1.moves, x.1.configured)
+does_lawfully gives (Sets setting answer) law acts old new x = (moved old new (sym x.1) (sym x.2) x.0.moves, x.0.configured)
 
 -- ---- at most one visible act
 
@@ -113,13 +112,6 @@ one_act s (Call.Receive n octets) (reply.Receive (Ok (Respond frame))) acts h = 
 one_act s (Call.Transmit n) (reply.Transmit (Ok (Some frame))) acts h = (Some (Sends n (control_message h.0)), h.2)
 one_act s (Call.Offer agg octets) (reply.Offer (Ok port)) acts h = (Some (Sends_frame port agg.0 (number_of_conversation s octets)), h)
 one_act s call answer acts h = (None, h)
-
--- a call as its contract promises it, and as the law is told of it
-pub makes_call : (gives : ℕ → ℕ → ℕ → Type 0) (old new : SystemState) (call : Call) (answer : Reply) (law : ModelCall)
-    → (promise : CallPromise gives old call answer new) → IsTold promise.moves.0 law
-    → (act : Option Act) × Does gives (Makes call) law (option_to_list act) old new
-makes_call gives old new call answer law promise t =
-    let o = one_act old call answer promise.moves.1 promise.moves.3 in (o.0, (answer, promise, t, o.1))
 
 -- what came is told as it was read
 pub told_received : (n : ℕ) (octets : List ℕ) (seen : ModelCall) (o : Option ControlMessage) (pdu : ControlMessage) → FrameSeenAs octets o

@@ -1,32 +1,48 @@
 -- Each event of a fleet is an event of its network.
-use Rattle.std.proofs.Common.{List, None, Option, Some, [], ap, cond, inl, inr, refl, subst, sym, true, ℕ, ◌++◌, ◌∙◌, ◌∷◌, ◌≡◌}
-use Rattle.std.specs.Prelude.{option_to_list}
+use Rattle.std.proofs.Common.{Bool, Err, List, None, Ok, Option, Some, [], ap, cond, inr, refl, subst, sym, true, ℕ, ◌++◌, ◌∙◌, ◌∷◌, ◌≡◌}
 use Rattle.lagtypes.specs.declared.identifiers.AggId.{AggId}
 use Rattle.lagmodel.specs.View.{ModelCall, SystemSetup, View, first_view}
-use Rattle.lagmodel.specs.Move.{LawfulMoves}
+use Rattle.lagmodel.specs.Move.{Act, LawfulMoves}
 use Rattle.lagmodel.specs.Law.{Members}
-use Rattle.lagmodel.specs.World.{Message, Control, Data, at_two}
+use Rattle.lagmodel.specs.World.{Message, Control, Data, at_two, sent_after, taken_after}
+use Rattle.lagsystem.specs.declared.drive.HostCall.{HostCall}
+use Rattle.lagsystem.specs.declared.drive.HostCall.TheVariants as host
+use Rattle.lagsystem.specs.declared.drive.HostReply.{HostReply}
+use Rattle.lagsystem.specs.declared.drive.HostReply.TheVariants as told
+use Rattle.lagsystem.specs.declared.drive.Reply.{Reply}
+use Rattle.lagsystem.specs.declared.drive.Reply.TheVariants as reply
 use Rattle.lagsystem.specs.Calls.{Call}
 use Rattle.lagsystem.specs.ModelView.{model_setup, model_view}
 use Rattle.lagsystem.specs.State.{SystemState}
 use Rattle.lagsystem.proofs.FirstView.{first_shows, configured_setup}
 use Rattle.lagnetwork.specs.Network.{Place, NetworkSetup, IsNetworkSetup, Network, NetworkEvent, NetworkHappens, NetworkRun, NetworkCall, at_system}
 use Rattle.lagnetwork.specs.Network.{first_network, DeliversFirstAt, RepeatsFirstAt, ends_at, CountsNetworkChanges, also_forced, freed_view}
-use Rattle.lagnetwork.specs.Network.{handed_up_from, without_first, Tick, Emit, Deliver, Lose, Repeat, Cut, Join, Sense, Restart, Configure, Offer}
-use Rattle.lagnetwork.specs.Network.{Move_conversation, Force, Hear, Frees, Overtake, Succeed}
+use Rattle.lagnetwork.specs.Network.{handed_up_from, network_after_acts, towards_after, without_first, Tick, Emit, Deliver, Lose, Repeat, Cut, Join}
+use Rattle.lagnetwork.specs.Network.{Sense, Restart, Configure, Offer, Move_conversation, Force, Hear, Frees, Overtake, Succeed}
+use Rattle.lagnetwork.specs.NetworkLaw.{IsNetworkInvariant}
 use Rattle.lagnetwork.proofs.Networks.{there, elsewhere, is_or_not}
 use Rattle.lagnetwork.proofs.NetworkCalls.{calls_from}
 use Rattle.lagnetwork.proofs.NetworkEvents.{runs_joined}
 use Rattle.lagfleet.specs.Doing.{Doing, Forces, Leaves, Makes, Offers, Probes, Rests, Sets}
-use Rattle.lagfleet.specs.Fleet.{Fleet, FleetAlgorithms, FleetForces, FleetHappens, FleetRun, FleetDelivers, FleetRepeats, Answers, IsCabled}
-use Rattle.lagfleet.specs.Fleet.{IsFirstFleet, fleet_setup, is_held, FleetEvent, FleetSteps, ForcesHeld, Plays, Offers_conversation}
-use Rattle.lagfleet.specs.Fleet.{Leaves_conversation, Probes_port, Rests_conversation, Forces_port, Changes_setting}
+use Rattle.lagfleet.specs.Fleet.{Answers, Fleet, FleetAlgorithms, FleetAsks, FleetCalls, FleetForces, FleetReceives, FleetRepeats, FleetRun}
+use Rattle.lagfleet.specs.Fleet.{FleetEvent, FleetSteps, ForcesHeld, IsCabled, IsFirstFleet, IsFleetInvariant, IsOnCables, Restarts, fleet_setup}
+use Rattle.lagfleet.specs.Fleet.{handed_up_in, is_held, Makes_call, Asks_call, Changes_setting, Hears_again, Gives_way, Befalls}
 use Rattle.lagfleet.proofs.Doings.{does_lawfully, held_freed}
 
 -- what stays true of a fleet: its systems keep their configurations, and the network shows them
 pub record Shown (start : ℕ → SystemState) (systems : ℕ → SystemState) (net : Network) : Type 0 where
   pub setup : (t : ℕ) → model_setup (systems t) ≡ model_setup (start t)
   pub view : (t : ℕ) → net.view t ≡ model_view (systems t)
+
+-- acts leave the view in which the call ended
+acts_view : (x : NetworkSetup) (s stamp : ℕ) (accepts : Act → Bool) (acts : List Act) (v : View) (w : Network)
+    → (network_after_acts x s stamp accepts acts v w).view ≡ at_system w.view s v
+acts_view x s stamp accepts [] v w = refl
+acts_view x s stamp accepts (a ∷ more) v w = acts_view x s stamp accepts more v (record w {
+  towards = towards_after x s w.whole (w.count s) (w.sent s) (accepts a) (Some a) w.towards;
+  sent = at_system w.sent s (sent_after (Some a) (w.sent s));
+  taken = at_system w.taken s (taken_after stamp (Some a) (w.taken s));
+})
 
 -- one system answers, and the others stay
 one_by_one : (old new : ℕ → SystemState) (s : ℕ) (P : ℕ → SystemState → SystemState → Type 0) → new ≡ at_system old s (new s)
@@ -53,20 +69,22 @@ module _ (gives : FleetAlgorithms) (far : ℕ → ℕ → Option Place) (start :
         ∙ ap model_view (sym (ap (λ (f : ℕ → SystemState). f t) others ∙ elsewhere old.systems s (systems s) t ne)));
   }
 
-  answered : (s : ℕ) (doing : Doing) (law : ModelCall) (stamp : ℕ) (old : Fleet) (before : Network) (systems : ℕ → SystemState)
-      (after : Network) → Shown start old.systems old.net → before.view ≡ old.net.view
-      → Answers gives far s doing law stamp old before systems after
+  answered : (s : ℕ) (doing : Doing) (law : ModelCall) (stamp : ℕ) (accepts : Act → Bool) (old : Fleet) (before : Network)
+      (systems : ℕ → SystemState) (after : Network) → Shown start old.systems old.net → before.view ≡ old.net.view
+      → Answers gives far s doing law stamp accepts old before systems after
       → NetworkCall (fleet_setup far start) s law stamp old.net before after × Shown start systems after
-  answered s doing law stamp old before systems after i same a =
-      let both = does_lawfully (gives s) doing law (option_to_list a.act) (old.systems s) (systems s) a.does in
+  answered s doing law stamp accepts old before systems after i same a =
+      let both = does_lawfully (gives s) doing law a.acts (old.systems s) (systems s) a.does in
       let shown : View = model_view (systems s) in
-      let lawful : LawfulMoves (model_setup (start s)) law (before.view s) (option_to_list a.act) shown =
-      subst (λ (v : View). LawfulMoves (model_setup (start s)) law v (option_to_list a.act) shown)
+      let lawful : LawfulMoves (model_setup (start s)) law (before.view s) a.acts shown =
+      subst (λ (v : View). LawfulMoves (model_setup (start s)) law v a.acts shown)
       (sym (ap (λ (f : ℕ → View). f s) same ∙ i.view s))
-      (subst (λ (u : SystemSetup). LawfulMoves u law (model_view (old.systems s)) (option_to_list a.act) shown) (i.setup s) both.0) in (
-        calls_from (fleet_setup far start) s law stamp old.net before after shown a.act a.accepted a.count lawful a.counts a.leaves,
+      (subst (λ (u : SystemSetup). LawfulMoves u law (model_view (old.systems s)) a.acts shown) (i.setup s) both.0) in (
+        calls_from (fleet_setup far start) s law stamp old.net before after shown a.acts accepts a.count lawful a.counts a.leaves,
         placed s old systems after i a.others both.1
-            (ap (λ (w : Network). w.view) a.leaves ∙ ap (λ (v : ℕ → View). at_system v s shown) same),
+            (ap (λ (w : Network). w.view) a.leaves
+            ∙ acts_view (fleet_setup far old.systems) s stamp accepts a.acts shown before
+            ∙ ap (λ (v : ℕ → View). at_system v s shown) same),
       )
 
   still : (old new : Fleet) → Shown start old.systems old.net → new.systems ≡ old.systems → new.net.view ≡ old.net.view
@@ -83,100 +101,6 @@ module _ (gives : FleetAlgorithms) (far : ℕ → ℕ → Option Place) (start :
   alike : (old new : Fleet) → new ≡ old → Shown start old.systems old.net → Shown start new.systems new.net
   alike old new e = subst (λ (f : Fleet). Shown start f.systems f.net) (sym e)
 
-  delivered : (s p : ℕ) (line : List Message) (old new : Fleet) → Shown start old.systems old.net
-      → FleetDelivers gives far s p line old new
-      → DeliversFirstAt (fleet_setup far start) s p line old.net new.net × Shown start new.systems new.net
-  delivered s p [] old new i z = (ap (λ (f : Fleet). f.net) z, alike old new z i)
-  delivered s p (Control pdu stamp ∷ ms) old new i z =
-      let a = answered s (Makes (Call.Receive p z.0)) (ModelCall.Receive p (Some pdu)) stamp old old.net new.systems z.1 i refl z.3 in
-      ((z.1, a.0, z.4), renet new.systems z.1 new.net (ap (λ (w : Network). w.view) z.4) a.1)
-  delivered s p (Data origin g k serial ∷ ms) old new i z =
-      let a = answered s (Makes (Call.Receive p z.0)) (ModelCall.Receive p None) 0 old old.net new.systems z.2 i refl z.3 in
-      ((z.1, z.2, a.0, z.4), renet new.systems z.2 new.net (ap (λ (w : Network). w.view) z.4 ∙ same (far s p) z.1) a.1)
-    where
-      same : (o : Option Place) (up : Option ℕ)
-          → (handed_up_from s o up g k serial (without_first s p z.2)).view ≡ (z.2).view
-      same None up = refl
-      same (Some b) (Some h) = refl
-      same (Some b) None = refl
-
-  repeated : (s p : ℕ) (line : List Message) (old new : Fleet) → Shown start old.systems old.net
-      → FleetRepeats gives far s p line old new
-      → RepeatsFirstAt (fleet_setup far start) s p line old.net new.net × Shown start new.systems new.net
-  repeated s p [] old new i z = (ap (λ (f : Fleet). f.net) z, alike old new z i)
-  repeated s p (Data origin g k serial ∷ ms) old new i z = (ap (λ (f : Fleet). f.net) z, alike old new z i)
-  repeated s p (Control pdu stamp ∷ ms) old new i z =
-      answered s (Makes (Call.Receive p z.0)) (ModelCall.Receive p (Some pdu)) stamp old old.net new.systems new.net i refl z.2
-
-  forces : (s : ℕ) (agg : AggId) (k : ℕ) (doing : Doing) (old new : Fleet) → Shown start old.systems old.net
-      → FleetForces gives far s agg k doing old new
-      → NetworkHappens (fleet_setup far start) (Force s agg.0 k) old.net new.net × Shown start new.systems new.net
-  forces s agg k doing old new i z = elim z [
-    | inl y ↦ (inl (ap (λ (f : Fleet). f.net) y.1), alike old new y.1 i)
-    | inr y ↦ (let a = answered s doing (ModelCall.Force agg.0 k) 0 old
-        (record old.net { forced = at_system old.net.forced s (at_two (old.net.forced s) agg.0 k true) }) new.systems new.net i refl y in
-        (inr a.0, a.1))
-  ]
-
-  happens : (e : NetworkEvent) (old new : Fleet) → Shown start old.systems old.net → FleetHappens gives far e old new
-      → NetworkHappens (fleet_setup far start) e old.net new.net × Shown start new.systems new.net
-  happens (Tick s n) old new i z = answered s (Makes Call.Tick) ModelCall.Tick 0 old old.net new.systems new.net i refl z
-  happens (Emit s p) old new i z = answered s (Makes (Call.Transmit p)) ModelCall.Transmit 0 old old.net new.systems new.net i refl z
-  happens (Deliver s p) old new i z = delivered s p (old.net.towards s p) old new i z
-  happens (Lose s p) old new i z = (z.1, still old new i z.0 (ap (λ (w : Network). w.view) z.1))
-  happens (Repeat s p) old new i z = repeated s p (old.net.towards s p) old new i z
-  happens (Cut s p) old new i z = (z.1, still old new i z.0 (ap (λ (w : Network). w.view) z.1))
-  happens (Join s p) old new i z = (z.1, still old new i z.0 (ap (λ (w : Network). w.view) z.1))
-  happens (Sense s p) old new i z =
-      answered s (Makes (Call.Set_link p (old.net.whole s p))) (ModelCall.Set_link p (old.net.whole s p)) 0 old old.net new.systems new.net i refl z
-  happens (Restart s) old new i z =
-      let first : model_view (new.systems s) ≡ first_view (model_setup (start s)) =
-      first_shows (new.systems s) z.0.step.1 ∙ ap first_view (z.0.configured ∙ i.setup s) in (
-        (
-          z.2,
-          subst (λ (v : View). CountsNetworkChanges old.net (record old.net {
-            view = at_system old.net.view s v;
-            towards = λ t q. cond (ends_at (fleet_setup far start) s t q) [] (old.net.towards t q);
-          }) z.2) first z.3,
-          z.4 ∙ ap (λ (v : View). record old.net {
-            view = at_system old.net.view s v;
-            towards = λ t q. cond (ends_at (fleet_setup far start) s t q) [] (old.net.towards t q);
-            count = z.2;
-          }) first,
-        ),
-        placed s old new.systems new.net i z.1 z.0.configured (ap (λ (w : Network). w.view) z.4),
-      )
-  happens (Configure s p change) old new i z =
-      answered s (Makes (Call.Configure p z.0)) ModelCall.Configure 0 old old.net new.systems new.net i refl z.1
-  happens (Offer s g frame) old new i z = answered s (Makes (Call.Offer z.0 frame)) ModelCall.Offer 0 old old.net new.systems new.net i refl z.1
-  happens (Move_conversation s g k p) old new i z =
-      answered s (Makes (Call.Move_conversation z.0 k p)) ModelCall.Move_conversation 0 old old.net new.systems new.net i refl z.1
-  happens (Force s g k) old new i z =
-      let r = forces s z.0 k (Forces z.0 k) old new i z.2 in
-      (subst (λ g. NetworkHappens (fleet_setup far start) (Force s g k) old.net new.net) z.1 r.0, r.1)
-  happens (Frees s test) old new i z = absurd z
-  happens (Overtake s p line) old new i z = (z.1, still old new i z.0 (ap (λ (w : Network). w.view) z.1.1))
-  happens (Succeed s after) old new i z =
-      let y = z.3.0 in (
-        (
-          record {
-            members = subst (λ (u : SystemSetup). Members u after.port) (i.setup s) y.members;
-            apart = y.apart;
-            parties = y.parties;
-            heard = y.heard;
-            on = y.on;
-            waits = y.waits;
-            next = y.next;
-          },
-          z.3.1,
-        ),
-        placed s old new.systems new.net i z.2 z.1
-            (ap (λ (w : Network). w.view) z.3.1 ∙ ap (λ (v : View). at_system old.net.view s v) z.0),
-      )
-  happens (Hear s p pdu stamp) old new i z =
-      let a = answered s (Makes (Call.Receive p z.0)) (ModelCall.Receive p pdu) stamp old old.net new.systems new.net i refl z.3 in
-      ((z.1, a.0), a.1)
-
   -- an event of a fleet is one of its network, or none
   abbrev IsPlayed : Fleet → Fleet → Type 0
   IsPlayed old new = (es : List NetworkEvent) × NetworkRun (fleet_setup far start) es old.net new.net × Shown start new.systems new.net
@@ -185,8 +109,109 @@ module _ (gives : FleetAlgorithms) (far : ℕ → ℕ → Option Place) (start :
       → NetworkHappens (fleet_setup far start) e old.net new.net × Shown start new.systems new.net → IsPlayed old new
   one e old new h = (e ∷ [], (new.net, h.0, refl), h.1)
 
-  held : (s port : ℕ) (old new : Fleet) → Shown start old.systems old.net → ForcesHeld gives s port old new → IsPlayed old new
-  held s port old new i z =
+  nothing : (old new : Fleet) → Shown start old.systems old.net → new ≡ old → IsPlayed old new
+  nothing old new i e = ([], ap (λ (f : Fleet). f.net) e, alike old new e i)
+
+  received : (s p : ℕ) (octets : List ℕ) (answer : Reply) (accepts : Act → Bool) (o : Option Place) (line : List Message) (old new : Fleet)
+      → far s p ≡ o → old.net.towards s p ≡ line → Shown start old.systems old.net
+      → FleetReceives gives far s p octets answer accepts o line old new → IsPlayed old new
+  received s p octets answer accepts None line old new e f i z =
+      let a = answered s (Makes (Call.Receive p octets) answer) (ModelCall.Receive p z.0) z.1 accepts old old.net new.systems new.net i refl
+      z.3 in
+      one (Hear s p z.0 z.1) old new ((e, a.0), a.1)
+  received s p octets answer accepts (Some place) [] old new e f i z = absurd z
+  received s p octets answer accepts (Some place) (Control pdu stamp ∷ ms) old new e f i z =
+      let a = answered s (Makes (Call.Receive p octets) answer) (ModelCall.Receive p (Some pdu)) stamp accepts old old.net new.systems z.0 i refl
+      z.2 in
+      one (Deliver s p) old new (
+        subst (λ l. DeliversFirstAt (fleet_setup far start) s p l old.net new.net) (sym f) (z.0, a.0, z.3),
+        renet new.systems z.0 new.net (ap (λ (w : Network). w.view) z.3) a.1,
+      )
+  received s p octets answer accepts (Some place) (Data origin g k serial ∷ ms) old new e f i z =
+      let a = answered s (Makes (Call.Receive p octets) answer) (ModelCall.Receive p None) 0 accepts old old.net new.systems z.0 i refl z.1 in
+      one (Deliver s p) old new (
+        subst (λ l. DeliversFirstAt (fleet_setup far start) s p l old.net new.net) (sym f) (
+          handed_up_in answer,
+          z.0,
+          a.0,
+          subst (λ o. new.net ≡ handed_up_from s o (handed_up_in answer) g k serial (without_first s p z.0)) (sym e) z.2,
+        ),
+        renet new.systems z.0 new.net (ap (λ (w : Network). w.view) z.2 ∙ same (handed_up_in answer)) a.1,
+      )
+    where
+      same : (up : Option ℕ) → (handed_up_from s (Some place) up g k serial (without_first s p z.0)).view ≡ (z.0).view
+      same (Some h) = refl
+      same None = refl
+
+  repeated : (s p : ℕ) (octets : List ℕ) (answer : Reply) (accepts : Act → Bool) (line : List Message) (old new : Fleet)
+      → old.net.towards s p ≡ line → Shown start old.systems old.net
+      → FleetRepeats gives far s p octets answer accepts line old new → IsPlayed old new
+  repeated s p octets answer accepts [] old new f i z = absurd z
+  repeated s p octets answer accepts (Data origin g k serial ∷ ms) old new f i z = absurd z
+  repeated s p octets answer accepts (Control pdu stamp ∷ ms) old new f i z =
+      let a = answered s (Makes (Call.Receive p octets) answer) (ModelCall.Receive p (Some pdu)) stamp accepts old old.net new.systems new.net i
+      refl z.1 in
+      one (Repeat s p) old new (subst (λ l. RepeatsFirstAt (fleet_setup far start) s p l old.net new.net) (sym f) a.0, a.1)
+
+  forces : (s : ℕ) (agg : AggId) (k : ℕ) (doing : Doing) (accepts : Act → Bool) (old new : Fleet) → Shown start old.systems old.net
+      → FleetForces gives far s agg k doing accepts old new → IsPlayed old new
+  forces s agg k doing accepts old new i z =
+      let a = answered s doing (ModelCall.Force agg.0 k) 0 accepts old
+      (record old.net { forced = at_system old.net.forced s (at_two (old.net.forced s) agg.0 k true) }) new.systems new.net i refl z in
+      one (Force s agg.0 k) old new (inr a.0, a.1)
+
+  restarts : (s : ℕ) (old new : Fleet) → Shown start old.systems old.net → Restarts gives far s old new → IsPlayed old new
+  restarts s old new i z =
+      let first : model_view (new.systems s) ≡ first_view (model_setup (start s)) =
+      first_shows (new.systems s) z.promise.step.1 ∙ ap first_view (z.promise.configured ∙ i.setup s) in
+      one (Restart s) old new (
+        (
+          z.count,
+          subst (λ (v : View). CountsNetworkChanges old.net (record old.net {
+            view = at_system old.net.view s v;
+            towards = λ t q. cond (ends_at (fleet_setup far start) s t q) [] (old.net.towards t q);
+          }) z.count) first z.counts,
+          z.leaves ∙ ap (λ (v : View). record old.net {
+            view = at_system old.net.view s v;
+            towards = λ t q. cond (ends_at (fleet_setup far start) s t q) [] (old.net.towards t q);
+            count = z.count;
+          }) first,
+        ),
+        placed s old new.systems new.net i z.others z.promise.configured (ap (λ (w : Network). w.view) z.leaves),
+      )
+
+  -- a call of which the law is told so
+  plain : (s : ℕ) (doing : Doing) (law seen : ModelCall) (accepts : Act → Bool) (old new : Fleet) → Shown start old.systems old.net
+      → seen ≡ law → Answers gives far s doing seen 0 accepts old old.net new.systems new.net
+      → NetworkCall (fleet_setup far start) s law 0 old.net old.net new.net × Shown start new.systems new.net
+  plain s doing law seen accepts old new i e z = answered s doing law 0 accepts old old.net new.systems new.net i refl
+      (subst (λ l. Answers gives far s doing l 0 accepts old old.net new.systems new.net) e z)
+
+  calls : (s : ℕ) (call : Call) (answer : Reply) (accepts : Act → Bool) (old new : Fleet) → Shown start old.systems old.net
+      → FleetCalls gives far s call answer accepts old new → IsPlayed old new
+  calls s Call.Tick answer accepts old new i z = one (Tick s 1) old new (plain s (Makes Call.Tick answer) ModelCall.Tick z.0 accepts old new i z.1 z.2)
+  calls s (Call.Transmit p) answer accepts old new i z = one (Emit s p) old new
+      (plain s (Makes (Call.Transmit p) answer) ModelCall.Transmit z.0 accepts old new i z.1 z.2)
+  calls s (Call.Set_link p up) answer accepts old new i z = one (Sense s p) old new
+      (plain s (Makes (Call.Set_link p up) answer) (ModelCall.Set_link p (old.net.whole s p)) (ModelCall.Set_link p up) accepts old new i
+      (ap (ModelCall.Set_link p) z.0) z.1)
+  calls s (Call.Receive p octets) answer accepts old new i z =
+      received s p octets answer accepts (far s p) (old.net.towards s p) old new refl refl i z
+  calls s (Call.Configure p to) answer accepts old new i z =
+      one (Configure s p (record { key = to.key; priority = to.priority; aggregatable = to.aggregatable })) old new
+      (plain s (Makes (Call.Configure p to) answer) ModelCall.Configure z.0 accepts old new i z.1 z.2)
+  calls s Call.Restart reply.Restart accepts old new i z = restarts s old new i z
+  calls s Call.Restart answer accepts old new i z = absurd z
+  calls s (Call.Offer agg frame) answer accepts old new i z = one (Offer s agg.0 frame) old new
+      (plain s (Makes (Call.Offer agg frame) answer) ModelCall.Offer z.0 accepts old new i z.1 z.2)
+  calls s (Call.Move_conversation agg k p) answer accepts old new i z = one (Move_conversation s agg.0 k p) old new
+      (plain s (Makes (Call.Move_conversation agg k p) answer) ModelCall.Move_conversation z.0 accepts old new i z.1 z.2)
+  calls s (Call.Force agg k) (reply.Force (Ok done)) accepts old new i z = forces s agg k (Forces agg k) accepts old new i z
+  calls s (Call.Force agg k) (reply.Force (Err fault)) accepts old new i z = nothing old new i z.1
+  calls s (Call.Force agg k) answer accepts old new i z = absurd z
+
+  held : (s port count : ℕ) (old new : Fleet) → Shown start old.systems old.net → ForcesHeld gives s port count old new → IsPlayed old new
+  held s port count old new i z =
       let test = is_held port (old.systems s) in
       let both = held_freed port (old.systems s) (new.systems s) z.promise.0 z.promise.2 in
       let seen : model_view (new.systems s) ≡ freed_view test (old.net.view s) = both.0 ∙ ap (freed_view test) (sym (i.view s)) in
@@ -198,31 +223,75 @@ module _ (gives : FleetAlgorithms) (far : ℕ → ℕ → Option Place) (start :
         placed s old new.systems new.net i z.others both.1 (ap (λ (w : Network). w.view) z.leaves),
       )
 
+  asks : (s : ℕ) (call : HostCall) (answer : HostReply) (accepts : Act → Bool) (old new : Fleet) → Shown start old.systems old.net
+      → FleetAsks gives far s call answer accepts old new → IsPlayed old new
+  asks s (host.OfferConversation agg conv) (told.OfferConversation answer) accepts old new i z = one (Offer s agg.0 []) old new
+      (plain s (Offers agg conv answer) ModelCall.Offer ModelCall.Offer accepts old new i refl z)
+  asks s (host.LeaveConversation agg conv) (told.LeaveConversation answer) accepts old new i z = one (Move_conversation s agg.0 conv 0) old new
+      (plain s (Leaves agg conv answer) ModelCall.Move_conversation ModelCall.Move_conversation accepts old new i refl z)
+  asks s (host.Probe port) (told.Probe answer) accepts old new i z = one (Emit s port) old new
+      (plain s (Probes port answer) ModelCall.Transmit ModelCall.Transmit accepts old new i refl z)
+  asks s (host.Rest agg conv) (told.Rest (Ok done)) accepts old new i z = forces s agg conv (Rests agg conv) accepts old new i z
+  asks s (host.Rest agg conv) (told.Rest (Err fault)) accepts old new i z = nothing old new i z.1
+  asks s (host.ForcePort port) (told.ForcePort (Ok count)) accepts old new i z = held s port count old new i z
+  asks s (host.ForcePort port) (told.ForcePort (Err fault)) accepts old new i z = nothing old new i z.1
+  asks s call answer accepts old new i z = absurd z
+
+  -- what happens on cables leaves the views
+  cables_view : (e : NetworkEvent) (old new : Network) → IsOnCables e → NetworkHappens (fleet_setup far start) e old new
+      → new.view ≡ old.view
+  cables_view (Lose s p) old new h z = ap (λ (w : Network). w.view) z
+  cables_view (Cut s p) old new h z = ap (λ (w : Network). w.view) z
+  cables_view (Join s p) old new h z = ap (λ (w : Network). w.view) z
+  cables_view (Overtake s p line) old new h z = ap (λ (w : Network). w.view) z.1
+  cables_view e old new h z = absurd h
+
+  -- the law of cables knows no configuration
+  cables_alike : (e : NetworkEvent) (old new : Network) (systems : ℕ → SystemState) → IsOnCables e
+      → NetworkHappens (fleet_setup far systems) e old new → NetworkHappens (fleet_setup far start) e old new
+  cables_alike (Lose s p) old new systems h z = z
+  cables_alike (Cut s p) old new systems h z = z
+  cables_alike (Join s p) old new systems h z = z
+  cables_alike (Overtake s p line) old new systems h z = z
+  cables_alike e old new systems h z = absurd h
+
   steps : (e : FleetEvent) (old new : Fleet) → Shown start old.systems old.net → FleetSteps gives far e old new → IsPlayed old new
-  steps (Plays e) old new i z = one e old new (happens e old new i z)
-  steps (Offers_conversation s agg conv) old new i z = one (Offer s agg.0 []) old new
-      (answered s (Offers agg conv) ModelCall.Offer 0 old old.net new.systems new.net i refl z)
-  steps (Leaves_conversation s agg conv) old new i z = one (Move_conversation s agg.0 conv 0) old new
-      (answered s (Leaves agg conv) ModelCall.Move_conversation 0 old old.net new.systems new.net i refl z)
-  steps (Probes_port s port) old new i z = one (Emit s port) old new
-      (answered s (Probes port) ModelCall.Transmit 0 old old.net new.systems new.net i refl z)
-  steps (Rests_conversation s agg conv) old new i z = one (Force s agg.0 conv) old new (forces s agg conv (Rests agg conv) old new i z)
-  steps (Forces_port s port) old new i z = elim z [
-    | inl y ↦ held s port old new i y
-    | inr y ↦ ([], ap (λ (f : Fleet). f.net) y.2, alike old new y.2 i)
-  ]
-  steps (Changes_setting s setting) old new i z = one (Tick s 0) old new
-      (answered s (Sets setting) ModelCall.Tick 0 old old.net new.systems new.net i refl z)
+  steps (Makes_call s call answer accepts) old new i z = calls s call answer accepts old new i z
+  steps (Asks_call s call answer accepts) old new i z = asks s call answer accepts old new i z
+  steps (Changes_setting s setting answer) old new i z = one (Tick s 0) old new
+      (plain s (Sets setting answer) ModelCall.Tick ModelCall.Tick (λ a. true) old new i refl z)
+  steps (Hears_again s p octets answer accepts) old new i z =
+      repeated s p octets answer accepts (old.net.towards s p) old new refl i z
+  steps (Gives_way s) old new i z =
+      let y = z.2.0 in
+      one (Succeed s (model_view (new.systems s))) old new (
+        (
+          record {
+            members = subst (λ (u : SystemSetup). Members u ((model_view (new.systems s)).port)) (i.setup s) y.members;
+            apart = y.apart;
+            parties = y.parties;
+            heard = y.heard;
+            on = y.on;
+            waits = y.waits;
+            next = y.next;
+          },
+          z.2.1,
+        ),
+        placed s old new.systems new.net i z.1 z.0 (ap (λ (w : Network). w.view) z.2.1),
+      )
+  steps (Befalls e) old new i z =
+      let happens = cables_alike e old.net new.net old.systems z.0 z.2 in
+      one e old new (happens, still old new i z.1 (cables_view e old.net new.net z.0 happens))
 
   runs : (es : List FleetEvent) (old new : Fleet) → Shown start old.systems old.net → FleetRun gives far es old new → IsPlayed old new
-  runs [] old new i z = ([], ap (λ (f : Fleet). f.net) z, alike old new z i)
+  runs [] old new i z = nothing old new i z
   runs (e ∷ es) old new i z =
       let a = steps e old z.0 i z.1 in
       let b = runs es z.0 new a.2 z.2 in
       (a.0 ++ b.0, runs_joined (fleet_setup far start) a.0 b.0 old.net z.0.net new.net a.1 b.1, b.2)
 
 -- from the start
-pub fleet_runs : (gives : FleetAlgorithms) (far : ℕ → ℕ → Option Place) (es : List FleetEvent) (start end : Fleet)
+fleet_runs : (gives : FleetAlgorithms) (far : ℕ → ℕ → Option Place) (es : List FleetEvent) (start end : Fleet)
     → IsFirstFleet far start → FleetRun gives far es start end
     → (events : List NetworkEvent)
     × NetworkRun (fleet_setup far start.systems) events (first_network (fleet_setup far start.systems)) end.net
@@ -235,5 +304,11 @@ fleet_runs gives far es start end f z =
     let r = runs gives far start.systems es start end i z in
     (r.0, subst (λ (w : Network). NetworkRun (fleet_setup far start.systems) r.0 w end.net) f.1 r.1, r.2.view)
 
-pub fleet_setup_is : (far : ℕ → ℕ → Option Place) (systems : ℕ → SystemState) → IsCabled far → IsNetworkSetup (fleet_setup far systems)
+fleet_setup_is : (far : ℕ → ℕ → Option Place) (systems : ℕ → SystemState) → IsCabled far → IsNetworkSetup (fleet_setup far systems)
 fleet_setup_is far systems h = record { setup = λ s. configured_setup (systems s); cables = h }
+
+-- what holds after each event of a network holds after each of a fleet
+pub holds_of_fleet : (gives : FleetAlgorithms) (P : NetworkSetup → Network → Type 0) → IsNetworkInvariant P → IsFleetInvariant gives P
+holds_of_fleet gives P h far events start end cabled first z =
+    let r = fleet_runs gives far events start end first z in
+    (h (fleet_setup far start.systems) r.0 end.net (fleet_setup_is far start.systems cabled) r.1, r.2)

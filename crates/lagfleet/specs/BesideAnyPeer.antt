@@ -1,13 +1,13 @@
 -- One system of lagsystem on its cables, and whatever is at their other ends: what each contract promises of its calls, octets received.
-use Rattle.std.specs.Prelude.{◌≡◌, ◌≤◌, ℕ, Bool, true, ◌⊎◌, Option, Some, option_to_list, List, [], ◌∷◌, Ok, Err}
+use Rattle.std.specs.Prelude.{◌≡◌, ◌≤◌, ℕ, Bool, true, Option, Some, List, [], ◌∷◌, Result, Ok, Err}
 use Rattle.lagtypes.specs.declared.identifiers.AggId.{AggId}
 use Rattle.lagmodel.specs.View.{Flushing, ModelCall, On, PortFacts, SystemSetup, View, conversation_port}
 use Rattle.lagmodel.specs.Move.{Act}
 use Rattle.lagmodel.specs.Law.{Members}
-use Rattle.lagmodel.specs.World.{One, at_two, on_cable_after, sent_after, taken_after}
+use Rattle.lagmodel.specs.World.{at_two}
 use Rattle.lagmodel.specs.Succession.{HasHeard}
 use Rattle.lagmodel.specs.AnyPeer.{Calls, Comes, Fits, Forces, Happening}
-use Rattle.lagmodel.specs.AnyPeer.{Restarts, Scene, first_scene}
+use Rattle.lagmodel.specs.AnyPeer.{Restarts, Scene, first_scene, scene_after_acts}
 use Rattle.lagsystem.specs.declared.drive.HostCall.TheVariants as host
 use Rattle.lagsystem.specs.declared.drive.HostReply.TheVariants as told
 use Rattle.lagsystem.specs.declared.drive.Reply.{Reply}
@@ -29,39 +29,28 @@ pub record Stage : Type 0 where
   pub system : SystemState
   pub scene : Scene
 
--- The scene after a call that ended in the view v and had at most this one visible act. `accepted`: whether the cable accepts what is
--- sent. `stamp`: the stamp of what came in this call.
-abbrev pub scene_after_call : (ℕ → Option ℕ) → ℕ → Bool → Option Act → View → Scene → Scene
-scene_after_call ends stamp accepted o v w = record w {
-  view = v;
-  out = on_cable_after One ends w.whole (λ p. 0) w.sent accepted o w.out;
-  sent = sent_after o w.sent;
-  taken = taken_after stamp o w.taken;
-}
-
 -- The system does this, and what it shows goes onto its cable, if that accepts it. before: the scene as it began. `fits`: of octets that
 -- are read as a control PDU, that PDU stands first on the cable of the port, if it has one; a link that is said to be down has its cable
 -- cut.
-pub record Acts (gives : ℕ → ℕ → ℕ → Type 0) (ends : ℕ → Option ℕ) (doing : Doing) (law : ModelCall) (stamp : ℕ) (old : Stage)
-    (before : Scene) (new : Stage) : Type 0 where
-  pub act : Option Act
-  pub does : Does gives doing law (option_to_list act) old.system new.system
+pub record Acts (gives : ℕ → ℕ → ℕ → Type 0) (ends : ℕ → Option ℕ) (doing : Doing) (law : ModelCall) (stamp : ℕ)
+    (accepts : Act → Bool) (old : Stage) (before : Scene) (new : Stage) : Type 0 where
+  pub acts : List Act
+  pub does : Does gives doing law acts old.system new.system
   pub fits : Fits law stamp ends before
-  pub accepted : Bool
-  pub leaves : new.scene ≡ scene_after_call ends stamp accepted act (model_view new.system) before
+  pub leaves : new.scene ≡ scene_after_acts ends stamp accepts acts (model_view new.system) before
 
--- a call of `drive` but a restart and a force; those two; a call of a host that is none of them; a setting; a takeover; or what happens
--- on the cables and at their other ends
+-- A call of `drive` but a restart and a force, with what is answered and what cables accept of what that sends; those two; a call of a host
+-- that is none of them; a setting; a takeover; or what happens on the cables and at their other ends.
 pub data StageEvent : Type 0 where
-  Makes_call : (call : Call) (stamp : ℕ) → StageEvent
+  Makes_call : (call : Call) (answer : Reply) (accepts : Act → Bool) (stamp : ℕ) → StageEvent
   Starts_again : StageEvent
-  Forces_conversation : (agg : AggId) (conv : ℕ) → StageEvent
-  Offers_conversation : (agg : AggId) (conv : ℕ) → StageEvent
-  Leaves_conversation : (agg : AggId) (conv : ℕ) → StageEvent
-  Probes_port : (port : ℕ) → StageEvent
-  Rests_conversation : (agg : AggId) (conv : ℕ) → StageEvent
-  Forces_port : (port : ℕ) → StageEvent
-  Changes_setting : (setting : Setting) → StageEvent
+  Forces_conversation : (agg : AggId) (conv : ℕ) (answer : Result Unit SystemFault) → StageEvent
+  Offers_conversation : (agg : AggId) (conv : ℕ) (answer : Result ℕ SystemFault) (accepts : Act → Bool) → StageEvent
+  Leaves_conversation : (agg : AggId) (conv : ℕ) (answer : Result Unit SystemFault) → StageEvent
+  Probes_port : (port : ℕ) (answer : Result (Option (List ℕ)) SystemFault) (accepts : Act → Bool) → StageEvent
+  Rests_conversation : (agg : AggId) (conv : ℕ) (answer : Result Unit SystemFault) → StageEvent
+  Forces_port : (port : ℕ) (answer : Result ℕ SystemFault) → StageEvent
+  Changes_setting : (setting : Setting) (answer : Result Unit SystemFault) → StageEvent
   Gives_way : StageEvent
   Befalls : (e : Happening) → StageEvent
 
@@ -80,16 +69,18 @@ pub record IsSceneSuccessor (u : SystemSetup) (w : Scene) (after : View) : Type 
   pub waits : (g k p n : ℕ) → after.flows.state g k ≡ Flushing p n → ⊥
   pub next : w.view.flows.next ≤ after.flows.next
 
+-- a cable that takes all that is sent on it
+abbrev pub takes_all : Act → Bool
+takes_all a = true
+
 -- a conversation is forced, and counts as forced from then on; or that is refused, and nothing changes
-abbrev pub StageForces : (ℕ → ℕ → ℕ → Type 0) → (ℕ → Option ℕ) → AggId → ℕ → Doing → Stage → Stage → Type 0
-StageForces gives ends agg conv doing old new =
-    (IsRefused gives doing old.system × (new ≡ old))
-    ⊎ Acts gives ends doing (ModelCall.Force agg.0 conv) 0 old
+abbrev pub StageForces : (ℕ → ℕ → ℕ → Type 0) → (ℕ → Option ℕ) → AggId → ℕ → Doing → Result Unit SystemFault → Stage → Stage → Type 0
+StageForces gives ends agg conv doing (Ok done) old new = Acts gives ends doing (ModelCall.Force agg.0 conv) 0 takes_all old
     (record old.scene { forced = at_two old.scene.forced agg.0 conv true }) new
+StageForces gives ends agg conv doing (Err fault) old new = IsRefused gives doing fault old.system × (new ≡ old)
 
 -- just what was held on the port is forced
-pub record StageForcesHeld (gives : ℕ → ℕ → ℕ → Type 0) (port : ℕ) (old new : Stage) : Type 0 where
-  pub count : ℕ
+pub record StageForcesHeld (gives : ℕ → ℕ → ℕ → Type 0) (port count : ℕ) (old new : Stage) : Type 0 where
   pub promise : HostPromise gives old.system (host.ForcePort port) (told.ForcePort (Ok count)) new.system
   pub leaves : new.scene ≡ record old.scene {
     view = model_view new.system;
@@ -98,20 +89,25 @@ pub record StageForcesHeld (gives : ℕ → ℕ → ℕ → Type 0) (port : ℕ)
 
 -- From old, the event may lead to new.
 abbrev pub StageSteps : (ℕ → ℕ → ℕ → Type 0) → (ℕ → Option ℕ) → StageEvent → Stage → Stage → Type 0
-StageSteps gives ends (Makes_call call stamp) old new =
-    (law : ModelCall) × CallSeenAs call law × Acts gives ends (Doing.Makes call) law stamp old old.scene new
+StageSteps gives ends (Makes_call call answer accepts stamp) old new =
+    (law : ModelCall) × CallSeenAs call law × Acts gives ends (Doing.Makes call answer) law stamp accepts old old.scene new
 StageSteps gives ends Starts_again old new = CallPromise gives old.system Call.Restart reply.Restart new.system
     × (new.scene ≡ record old.scene { view = model_view new.system; out = λ c. []; back = λ c. [] })
-StageSteps gives ends (Forces_conversation agg conv) old new = StageForces gives ends agg conv (Doing.Forces agg conv) old new
-StageSteps gives ends (Offers_conversation agg conv) old new = Acts gives ends (Doing.Offers agg conv) ModelCall.Offer 0 old old.scene new
-StageSteps gives ends (Leaves_conversation agg conv) old new =
-    Acts gives ends (Doing.Leaves agg conv) ModelCall.Move_conversation 0 old old.scene new
-StageSteps gives ends (Probes_port port) old new = Acts gives ends (Doing.Probes port) ModelCall.Transmit 0 old old.scene new
-StageSteps gives ends (Rests_conversation agg conv) old new = StageForces gives ends agg conv (Doing.Rests agg conv) old new
-StageSteps gives ends (Forces_port port) old new =
-    StageForcesHeld gives port old new
-    ⊎ ((fault : SystemFault) × HostPromise gives old.system (host.ForcePort port) (told.ForcePort (Err fault)) old.system × (new ≡ old))
-StageSteps gives ends (Changes_setting setting) old new = Acts gives ends (Doing.Sets setting) ModelCall.Tick 0 old old.scene new
+StageSteps gives ends (Forces_conversation agg conv answer) old new =
+    StageForces gives ends agg conv (Doing.Forces agg conv) answer old new
+StageSteps gives ends (Offers_conversation agg conv answer accepts) old new =
+    Acts gives ends (Doing.Offers agg conv answer) ModelCall.Offer 0 accepts old old.scene new
+StageSteps gives ends (Leaves_conversation agg conv answer) old new =
+    Acts gives ends (Doing.Leaves agg conv answer) ModelCall.Move_conversation 0 takes_all old old.scene new
+StageSteps gives ends (Probes_port port answer accepts) old new =
+    Acts gives ends (Doing.Probes port answer) ModelCall.Transmit 0 accepts old old.scene new
+StageSteps gives ends (Rests_conversation agg conv answer) old new =
+    StageForces gives ends agg conv (Doing.Rests agg conv) answer old new
+StageSteps gives ends (Forces_port port (Ok count)) old new = StageForcesHeld gives port count old new
+StageSteps gives ends (Forces_port port (Err fault)) old new =
+    HostPromise gives old.system (host.ForcePort port) (told.ForcePort (Err fault)) old.system × (new ≡ old)
+StageSteps gives ends (Changes_setting setting answer) old new =
+    Acts gives ends (Doing.Sets setting answer) ModelCall.Tick 0 takes_all old old.scene new
 StageSteps gives ends Gives_way old new =
     IsSceneSuccessor (model_setup old.system) old.scene (model_view new.system)
     × (model_setup new.system ≡ model_setup old.system)
@@ -131,8 +127,10 @@ HoldsBesideAnyPeer gives P = (ends : ℕ → Option ℕ) (events : List StageEve
     → start.scene ≡ first_scene (model_setup start.system) → StageRun gives ends events start end
     → P end.scene × (end.scene.view ≡ model_view end.system)
 
--- Each call that a contract allows is an event, if what the contract shows of it fits the cables.
+-- Each call that a contract allows is an event, whatever the cables accept, if what the contract shows of it fits the cables; and it leaves
+-- what the answer shows, frames on the cables with it.
 abbrev pub EachCallBesideAnyPeer : (ℕ → ℕ → ℕ → Type 0) → Type 0
-EachCallBesideAnyPeer gives = (ends : ℕ → Option ℕ) (old : Stage) (call : Call) (answer : Reply) (after : SystemState) (stamp : ℕ)
-    (promise : CallPromise gives old.system call answer after) → Fits promise.moves.0 stamp ends old.scene
-    → (new : Stage) × StageSteps gives ends (Makes_call call stamp) old new × (new.system ≡ after)
+EachCallBesideAnyPeer gives = (ends : ℕ → Option ℕ) (old : Stage) (call : Call) (answer : Reply) (accepts : Act → Bool)
+    (after : SystemState) (stamp : ℕ) (promise : CallPromise gives old.system call answer after) → Fits promise.moves.0 stamp ends old.scene
+    → (new : Stage) × StageSteps gives ends (Makes_call call answer accepts stamp) old new × (new.system ≡ after)
+    × (new.scene ≡ scene_after_acts ends stamp accepts promise.moves.1 (model_view after) old.scene)

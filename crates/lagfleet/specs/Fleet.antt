@@ -1,12 +1,11 @@
 -- Any number of systems of lagsystem, cabled in any way: what each contract promises of its calls, and frames on cables.
-use Rattle.std.specs.Prelude.{◌≡◌, ℕ, Bool, ◌&&◌, true, cond, nat_lt, ◌⊎◌, Option, Some, None, option_to_list, List, [], ◌∷◌, Result, Ok, Err}
+use Rattle.std.specs.Prelude.{◌≡◌, ℕ, Bool, ◌&&◌, true, cond, nat_lt, Option, Some, None, option_to_list, List, [], ◌∷◌, Result, Ok, Err}
 use Rattle.lagtypes.specs.declared.identifiers.AggId.{AggId}
 use Rattle.distributor.specs.Chains.{is_held_on}
 use Rattle.distributor.specs.Conversations.{assignment_of}
 use Rattle.lagmodel.specs.View.{ControlMessage, ModelCall}
 use Rattle.lagmodel.specs.Move.{Act}
 use Rattle.lagmodel.specs.World.{Message, Control, Data, at_two}
-use Rattle.lagsystem.specs.declared.config.PortChange.{PortChange}
 use Rattle.lagsystem.specs.declared.drive.HostCall.{HostCall}
 use Rattle.lagsystem.specs.declared.drive.HostCall.TheVariants as host
 use Rattle.lagsystem.specs.declared.drive.HostReply.{HostReply}
@@ -14,19 +13,19 @@ use Rattle.lagsystem.specs.declared.drive.HostReply.TheVariants as told
 use Rattle.lagsystem.specs.declared.drive.Reply.{Reply}
 use Rattle.lagsystem.specs.declared.drive.Reply.TheVariants as reply
 use Rattle.lagsystem.specs.declared.fault.SystemFault.{SystemFault}
+use Rattle.lagsystem.specs.declared.received.Received.TheVariants.{Up}
 use Rattle.lagsystem.specs.Calls.{Call}
 use Rattle.lagsystem.specs.First.{IsFirst}
 use Rattle.lagsystem.specs.HostCalls.{HostPromise}
-use Rattle.lagsystem.specs.ModelView.{EffectsSeenAs, FrameSeenAs, model_setup, model_view}
+use Rattle.lagsystem.specs.ModelView.{CallSeenAs, EffectsSeenAs, FrameSeenAs, model_setup, model_view}
 use Rattle.lagsystem.specs.Offers.{has_aggregator}
 use Rattle.lagsystem.specs.Readers.{aggregator_numbered, conversation_count}
 use Rattle.lagsystem.specs.Settings.{Setting, SettingPromise}
 use Rattle.lagsystem.specs.Sound.{CallPromise}
 use Rattle.lagsystem.specs.State.{SystemState}
 use Rattle.lagnetwork.specs.Network.{Place, NetworkSetup, Network, NetworkEvent, NetworkHappens, CountsNetworkChanges}
-use Rattle.lagnetwork.specs.Network.{network_after_call, at_system, ends_at, without_first, handed_up_from, first_network, also_forced}
-use Rattle.lagnetwork.specs.Network.{Tick, Emit, Deliver, Lose, Repeat, Cut, Join, Sense, Restart, Configure, Offer, Move_conversation, Force, Hear}
-use Rattle.lagnetwork.specs.Network.{Frees, Overtake, Succeed}
+use Rattle.lagnetwork.specs.Network.{network_after_acts, at_system, ends_at, without_first, handed_up_from, first_network, also_forced}
+use Rattle.lagnetwork.specs.Network.{Lose, Cut, Join, Overtake, Succeed}
 use Rattle.lagfleet.specs.Doing.{Doing, Does, IsRefused, Makes, Forces, Offers, Leaves, Probes, Rests, Sets}
 
 -- the systems, and the records of their network, in which a message stands for the frame that carries it
@@ -44,103 +43,84 @@ FleetAlgorithms = ℕ → ℕ → ℕ → ℕ → Type 0
 
 -- System s does this, and what it shows goes onto its cable, if that accepts it. before: the network as it began; after: as it ended.
 pub record Answers (gives : FleetAlgorithms) (far : ℕ → ℕ → Option Place) (s : ℕ) (doing : Doing) (law : ModelCall) (stamp : ℕ)
-    (old : Fleet) (before : Network) (systems : ℕ → SystemState) (after : Network) : Type 0 where
-  pub act : Option Act
-  pub does : Does (gives s) doing law (option_to_list act) (old.systems s) (systems s)
+    (accepts : Act → Bool) (old : Fleet) (before : Network) (systems : ℕ → SystemState) (after : Network) : Type 0 where
+  pub acts : List Act
+  pub does : Does (gives s) doing law acts (old.systems s) (systems s)
   pub others : systems ≡ at_system old.systems s (systems s)
-  pub accepted : Bool
   pub count : ℕ → ℕ → ℕ
   pub counts : CountsNetworkChanges old.net
-      (network_after_call (fleet_setup far old.systems) s stamp accepted act (model_view (systems s)) before) count
+      (network_after_acts (fleet_setup far old.systems) s stamp accepts acts (model_view (systems s)) before) count
   pub leaves : after
-      ≡ record (network_after_call (fleet_setup far old.systems) s stamp accepted act (model_view (systems s)) before) { count = count }
+      ≡ record (network_after_acts (fleet_setup far old.systems) s stamp accepts acts (model_view (systems s)) before) { count = count }
 
--- The first message is received, in a frame that carries it, and then taken away. A frame of a client is no control frame.
-abbrev pub FleetDelivers : FleetAlgorithms → (ℕ → ℕ → Option Place) → ℕ → ℕ → List Message → Fleet → Fleet → Type 0
-FleetDelivers gives far s p [] old new = new ≡ old
-FleetDelivers gives far s p (Control pdu stamp ∷ ms) old new =
-    (octets : List ℕ) × (mid : Network) × FrameSeenAs octets (Some pdu)
-    × Answers gives far s (Makes (Call.Receive p octets)) (ModelCall.Receive p (Some pdu)) stamp old old.net new.systems mid
+-- the aggregator at whose client a frame is handed up, as the reply says; None: at none
+abbrev pub handed_up_in : Reply → Option ℕ
+handed_up_in (reply.Receive (Ok (Up agg))) = Some agg.0
+handed_up_in answer = None
+
+-- Octets come on a port. Without a cable of the fleet they may be any; else they carry what came first on it, which is then taken away.
+-- A frame of a client is handed up where the reply says so.
+abbrev pub FleetReceives : FleetAlgorithms → (ℕ → ℕ → Option Place) → ℕ → ℕ → List ℕ → Reply → (Act → Bool) → Option Place → List Message
+    → Fleet → Fleet → Type 0
+FleetReceives gives far s p octets answer accepts None line old new =
+    (pdu : Option ControlMessage) × (stamp : ℕ) × FrameSeenAs octets pdu
+    × Answers gives far s (Makes (Call.Receive p octets) answer) (ModelCall.Receive p pdu) stamp accepts old old.net new.systems new.net
+FleetReceives gives far s p octets answer accepts (Some place) [] old new = ⊥
+FleetReceives gives far s p octets answer accepts (Some place) (Control pdu stamp ∷ ms) old new =
+    (mid : Network) × FrameSeenAs octets (Some pdu)
+    × Answers gives far s (Makes (Call.Receive p octets) answer) (ModelCall.Receive p (Some pdu)) stamp accepts old old.net new.systems mid
     × (new.net ≡ without_first s p mid)
-FleetDelivers gives far s p (Data origin g k serial ∷ ms) old new =
-    (octets : List ℕ) × (up : Option ℕ) × (mid : Network)
-    × Answers gives far s (Makes (Call.Receive p octets)) (ModelCall.Receive p None) 0 old old.net new.systems mid
-    × (new.net ≡ handed_up_from s (far s p) up g k serial (without_first s p mid))
+FleetReceives gives far s p octets answer accepts (Some place) (Data origin g k serial ∷ ms) old new =
+    (mid : Network)
+    × Answers gives far s (Makes (Call.Receive p octets) answer) (ModelCall.Receive p None) 0 accepts old old.net new.systems mid
+    × (new.net ≡ handed_up_from s (Some place) (handed_up_in answer) g k serial (without_first s p mid))
 
--- the first message is received, in a frame that carries it, but stays; a frame of a client is never repeated
-abbrev pub FleetRepeats : FleetAlgorithms → (ℕ → ℕ → Option Place) → ℕ → ℕ → List Message → Fleet → Fleet → Type 0
-FleetRepeats gives far s p [] old new = new ≡ old
-FleetRepeats gives far s p (Data origin g k serial ∷ ms) old new = new ≡ old
-FleetRepeats gives far s p (Control pdu stamp ∷ ms) old new =
-    (octets : List ℕ) × FrameSeenAs octets (Some pdu)
-    × Answers gives far s (Makes (Call.Receive p octets)) (ModelCall.Receive p (Some pdu)) stamp old old.net new.systems new.net
+-- the first message on a cable is received, in a frame that carries it, but stays; a frame of a client is never repeated
+abbrev pub FleetRepeats : FleetAlgorithms → (ℕ → ℕ → Option Place) → ℕ → ℕ → List ℕ → Reply → (Act → Bool) → List Message → Fleet → Fleet
+    → Type 0
+FleetRepeats gives far s p octets answer accepts [] old new = ⊥
+FleetRepeats gives far s p octets answer accepts (Data origin g k serial ∷ ms) old new = ⊥
+FleetRepeats gives far s p octets answer accepts (Control pdu stamp ∷ ms) old new = FrameSeenAs octets (Some pdu)
+    × Answers gives far s (Makes (Call.Receive p octets) answer) (ModelCall.Receive p (Some pdu)) stamp accepts old old.net new.systems new.net
 
--- A conversation is forced, and counts as forced from then on; or that is refused, and nothing changes.
-abbrev pub FleetForces : FleetAlgorithms → (ℕ → ℕ → Option Place) → ℕ → AggId → ℕ → Doing → Fleet → Fleet → Type 0
-FleetForces gives far s agg conv doing old new =
-    (IsRefused (gives s) doing (old.systems s) × (new ≡ old))
-    ⊎ Answers gives far s doing (ModelCall.Force agg.0 conv) 0 old
+-- a conversation is forced, and counts as forced from then on
+abbrev pub FleetForces : FleetAlgorithms → (ℕ → ℕ → Option Place) → ℕ → AggId → ℕ → Doing → (Act → Bool) → Fleet → Fleet → Type 0
+FleetForces gives far s agg conv doing accepts old new = Answers gives far s doing (ModelCall.Force agg.0 conv) 0 accepts old
     (record old.net { forced = at_system old.net.forced s (at_two (old.net.forced s) agg.0 conv true) }) new.systems new.net
 
--- From old, the event may lead to new.
-abbrev pub FleetHappens : FleetAlgorithms → (ℕ → ℕ → Option Place) → NetworkEvent → Fleet → Fleet → Type 0
--- one tick
-FleetHappens gives far (Tick s n) old new = Answers gives far s (Makes Call.Tick) ModelCall.Tick 0 old old.net new.systems new.net
-FleetHappens gives far (Emit s p) old new = Answers gives far s (Makes (Call.Transmit p)) ModelCall.Transmit 0 old old.net new.systems new.net
-FleetHappens gives far (Deliver s p) old new = FleetDelivers gives far s p (old.net.towards s p) old new
-FleetHappens gives far (Lose s p) old new =
-    (new.systems ≡ old.systems) × NetworkHappens (fleet_setup far old.systems) (Lose s p) old.net new.net
-FleetHappens gives far (Repeat s p) old new = FleetRepeats gives far s p (old.net.towards s p) old new
-FleetHappens gives far (Cut s p) old new =
-    (new.systems ≡ old.systems) × NetworkHappens (fleet_setup far old.systems) (Cut s p) old.net new.net
-FleetHappens gives far (Join s p) old new =
-    (new.systems ≡ old.systems) × NetworkHappens (fleet_setup far old.systems) (Join s p) old.net new.net
-FleetHappens gives far (Sense s p) old new =
-    Answers gives far s (Makes (Call.Set_link p (old.net.whole s p))) (ModelCall.Set_link p (old.net.whole s p)) 0 old old.net new.systems new.net
-FleetHappens gives far (Restart s) old new =
-    CallPromise (gives s) (old.systems s) Call.Restart reply.Restart (new.systems s)
-    × (new.systems ≡ at_system old.systems s (new.systems s))
-    × (count : ℕ → ℕ → ℕ)
-    × CountsNetworkChanges old.net (record old.net {
-      view = at_system old.net.view s (model_view (new.systems s));
-      towards = λ t q. cond (ends_at (fleet_setup far old.systems) s t q) [] (old.net.towards t q);
-    }) count
-    × (new.net ≡ record old.net {
-      view = at_system old.net.view s (model_view (new.systems s));
-      towards = λ t q. cond (ends_at (fleet_setup far old.systems) s t q) [] (old.net.towards t q);
-      count = count;
-    })
-FleetHappens gives far (Configure s p change) old new =
-    (to : PortChange) × Answers gives far s (Makes (Call.Configure p to)) ModelCall.Configure 0 old old.net new.systems new.net
-FleetHappens gives far (Offer s g frame) old new =
-    (agg : AggId) × Answers gives far s (Makes (Call.Offer agg frame)) ModelCall.Offer 0 old old.net new.systems new.net
-FleetHappens gives far (Move_conversation s g k p) old new =
-    (agg : AggId) × Answers gives far s (Makes (Call.Move_conversation agg k p)) ModelCall.Move_conversation 0 old old.net new.systems new.net
-FleetHappens gives far (Force s g k) old new = (agg : AggId) × (agg.0 ≡ g) × FleetForces gives far s agg k (Forces agg k) old new
--- no call of a host does so by itself
-FleetHappens gives far (Frees s test) old new = ⊥
-FleetHappens gives far (Overtake s p line) old new =
-    (new.systems ≡ old.systems) × NetworkHappens (fleet_setup far old.systems) (Overtake s p line) old.net new.net
--- a system gives way to one of the same configuration, as after a warm start
-FleetHappens gives far (Succeed s after) old new =
-    (after ≡ model_view (new.systems s))
-    × (model_setup (new.systems s) ≡ model_setup (old.systems s))
-    × (new.systems ≡ at_system old.systems s (new.systems s))
-    × NetworkHappens (fleet_setup far old.systems) (Succeed s after) old.net new.net
--- a port without a cable of the fleet receives any octets at all
-FleetHappens gives far (Hear s p pdu stamp) old new =
-    (octets : List ℕ) × (far s p ≡ None) × FrameSeenAs octets pdu
-    × Answers gives far s (Makes (Call.Receive p octets)) (ModelCall.Receive p pdu) stamp old old.net new.systems new.net
+-- that is refused, and nothing changes
+abbrev pub FleetRefuses : FleetAlgorithms → ℕ → Doing → SystemFault → Fleet → Fleet → Type 0
+FleetRefuses gives s doing fault old new = IsRefused (gives s) doing fault (old.systems s) × (new ≡ old)
 
--- an event of a network; or a call of a host that is none of them, or a setting, of system s
-pub data FleetEvent : Type 0 where
-  Plays : (e : NetworkEvent) → FleetEvent
-  Offers_conversation : (s : ℕ) (agg : AggId) (conv : ℕ) → FleetEvent
-  Leaves_conversation : (s : ℕ) (agg : AggId) (conv : ℕ) → FleetEvent
-  Probes_port : (s port : ℕ) → FleetEvent
-  Rests_conversation : (s : ℕ) (agg : AggId) (conv : ℕ) → FleetEvent
-  Forces_port : (s port : ℕ) → FleetEvent
-  Changes_setting : (s : ℕ) (setting : Setting) → FleetEvent
+-- a restart loses what is on the cables of the system, and on no other
+pub record Restarts (gives : FleetAlgorithms) (far : ℕ → ℕ → Option Place) (s : ℕ) (old new : Fleet) : Type 0 where
+  pub promise : CallPromise (gives s) (old.systems s) Call.Restart reply.Restart (new.systems s)
+  pub others : new.systems ≡ at_system old.systems s (new.systems s)
+  pub count : ℕ → ℕ → ℕ
+  pub counts : CountsNetworkChanges old.net (record old.net {
+    view = at_system old.net.view s (model_view (new.systems s));
+    towards = λ t q. cond (ends_at (fleet_setup far old.systems) s t q) [] (old.net.towards t q);
+  }) count
+  pub leaves : new.net ≡ record old.net {
+    view = at_system old.net.view s (model_view (new.systems s));
+    towards = λ t q. cond (ends_at (fleet_setup far old.systems) s t q) [] (old.net.towards t q);
+    count = count;
+  }
+
+-- System s makes this call of `drive`, and answers so; `accepts`: whether the cable accepts what an act sends.
+abbrev pub FleetCalls : FleetAlgorithms → (ℕ → ℕ → Option Place) → ℕ → Call → Reply → (Act → Bool) → Fleet → Fleet → Type 0
+FleetCalls gives far s (Call.Receive p octets) answer accepts old new =
+    FleetReceives gives far s p octets answer accepts (far s p) (old.net.towards s p) old new
+-- a link is said to be as its cable is
+FleetCalls gives far s (Call.Set_link p up) answer accepts old new = (up ≡ old.net.whole s p)
+    × Answers gives far s (Makes (Call.Set_link p up) answer) (ModelCall.Set_link p up) 0 accepts old old.net new.systems new.net
+FleetCalls gives far s Call.Restart reply.Restart accepts old new = Restarts gives far s old new
+FleetCalls gives far s Call.Restart answer accepts old new = ⊥
+FleetCalls gives far s (Call.Force agg k) (reply.Force (Ok done)) accepts old new = FleetForces gives far s agg k (Forces agg k) accepts old new
+FleetCalls gives far s (Call.Force agg k) (reply.Force (Err fault)) accepts old new = FleetRefuses gives s (Forces agg k) fault old new
+FleetCalls gives far s (Call.Force agg k) answer accepts old new = ⊥
+FleetCalls gives far s call answer accepts old new =
+    (law : ModelCall) × CallSeenAs call law × Answers gives far s (Makes call answer) law 0 accepts old old.net new.systems new.net
 
 -- conversation k of aggregator g is there, and held on the port
 abbrev pub is_held : ℕ → SystemState → ℕ → ℕ → Bool
@@ -148,8 +128,7 @@ is_held port s g k = has_aggregator s (aggregator_numbered g)
     && (nat_lt k (conversation_count s) && is_held_on port (assignment_of s.table g k))
 
 -- just what was held on the port is forced
-pub record ForcesHeld (gives : FleetAlgorithms) (s port : ℕ) (old new : Fleet) : Type 0 where
-  pub count : ℕ
+pub record ForcesHeld (gives : FleetAlgorithms) (s port count : ℕ) (old new : Fleet) : Type 0 where
   pub promise : HostPromise (gives s) (old.systems s) (host.ForcePort port) (told.ForcePort (Ok count)) (new.systems s)
   pub others : new.systems ≡ at_system old.systems s (new.systems s)
   pub leaves : new.net ≡ record old.net {
@@ -158,23 +137,57 @@ pub record ForcesHeld (gives : FleetAlgorithms) (s port : ℕ) (old new : Fleet)
   }
 
 -- there is no such port: nothing changes
-abbrev pub RefusesPort : FleetAlgorithms → ℕ → ℕ → Fleet → Fleet → Type 0
-RefusesPort gives s port old new =
-    (fault : SystemFault)
-    × HostPromise (gives s) (old.systems s) (host.ForcePort port) (told.ForcePort (Err fault)) (old.systems s) × (new ≡ old)
+abbrev pub RefusesPort : FleetAlgorithms → ℕ → ℕ → SystemFault → Fleet → Fleet → Type 0
+RefusesPort gives s port fault old new =
+    HostPromise (gives s) (old.systems s) (host.ForcePort port) (told.ForcePort (Err fault)) (old.systems s) × (new ≡ old)
+
+-- System s makes this call of a host, none of those of `drive`, and answers so.
+abbrev pub FleetAsks : FleetAlgorithms → (ℕ → ℕ → Option Place) → ℕ → HostCall → HostReply → (Act → Bool) → Fleet → Fleet → Type 0
+FleetAsks gives far s (host.OfferConversation agg conv) (told.OfferConversation answer) accepts old new =
+    Answers gives far s (Offers agg conv answer) ModelCall.Offer 0 accepts old old.net new.systems new.net
+FleetAsks gives far s (host.LeaveConversation agg conv) (told.LeaveConversation answer) accepts old new =
+    Answers gives far s (Leaves agg conv answer) ModelCall.Move_conversation 0 accepts old old.net new.systems new.net
+FleetAsks gives far s (host.Probe port) (told.Probe answer) accepts old new =
+    Answers gives far s (Probes port answer) ModelCall.Transmit 0 accepts old old.net new.systems new.net
+FleetAsks gives far s (host.Rest agg conv) (told.Rest (Ok done)) accepts old new = FleetForces gives far s agg conv (Rests agg conv) accepts old new
+FleetAsks gives far s (host.Rest agg conv) (told.Rest (Err fault)) accepts old new = FleetRefuses gives s (Rests agg conv) fault old new
+FleetAsks gives far s (host.ForcePort port) (told.ForcePort (Ok count)) accepts old new = ForcesHeld gives s port count old new
+FleetAsks gives far s (host.ForcePort port) (told.ForcePort (Err fault)) accepts old new = RefusesPort gives s port fault old new
+FleetAsks gives far s call answer accepts old new = ⊥
+
+-- A call of `drive`, a call of a host that is none of those, or a setting, of system s, with what it answers and what cables accept of what
+-- that sends; the first message on the cable of its port is received, but stays; another system takes its place; or what happens on cables.
+pub data FleetEvent : Type 0 where
+  Makes_call : (s : ℕ) (call : Call) (answer : Reply) (accepts : Act → Bool) → FleetEvent
+  Asks_call : (s : ℕ) (call : HostCall) (answer : HostReply) (accepts : Act → Bool) → FleetEvent
+  Changes_setting : (s : ℕ) (setting : Setting) (answer : Result Unit SystemFault) → FleetEvent
+  Hears_again : (s p : ℕ) (octets : List ℕ) (answer : Reply) (accepts : Act → Bool) → FleetEvent
+  Gives_way : (s : ℕ) → FleetEvent
+  Befalls : (e : NetworkEvent) → FleetEvent
+
+-- it happens on cables alone
+abbrev pub IsOnCables : NetworkEvent → Type 0
+IsOnCables (Lose s p) = Unit {0}
+IsOnCables (Cut s p) = Unit {0}
+IsOnCables (Join s p) = Unit {0}
+IsOnCables (Overtake s p line) = Unit {0}
+IsOnCables e = ⊥
 
 -- From old, the event may lead to new.
 abbrev pub FleetSteps : FleetAlgorithms → (ℕ → ℕ → Option Place) → FleetEvent → Fleet → Fleet → Type 0
-FleetSteps gives far (Plays e) old new = FleetHappens gives far e old new
-FleetSteps gives far (Offers_conversation s agg conv) old new =
-    Answers gives far s (Offers agg conv) ModelCall.Offer 0 old old.net new.systems new.net
-FleetSteps gives far (Leaves_conversation s agg conv) old new =
-    Answers gives far s (Leaves agg conv) ModelCall.Move_conversation 0 old old.net new.systems new.net
-FleetSteps gives far (Probes_port s port) old new =
-    Answers gives far s (Probes port) ModelCall.Transmit 0 old old.net new.systems new.net
-FleetSteps gives far (Rests_conversation s agg conv) old new = FleetForces gives far s agg conv (Rests agg conv) old new
-FleetSteps gives far (Forces_port s port) old new = ForcesHeld gives s port old new ⊎ RefusesPort gives s port old new
-FleetSteps gives far (Changes_setting s setting) old new = Answers gives far s (Sets setting) ModelCall.Tick 0 old old.net new.systems new.net
+FleetSteps gives far (Makes_call s call answer accepts) old new = FleetCalls gives far s call answer accepts old new
+FleetSteps gives far (Asks_call s call answer accepts) old new = FleetAsks gives far s call answer accepts old new
+FleetSteps gives far (Changes_setting s setting answer) old new =
+    Answers gives far s (Sets setting answer) ModelCall.Tick 0 (λ a. true) old old.net new.systems new.net
+FleetSteps gives far (Hears_again s p octets answer accepts) old new =
+    FleetRepeats gives far s p octets answer accepts (old.net.towards s p) old new
+-- a system gives way to one of the same configuration, as after a warm start
+FleetSteps gives far (Gives_way s) old new =
+    (model_setup (new.systems s) ≡ model_setup (old.systems s))
+    × (new.systems ≡ at_system old.systems s (new.systems s))
+    × NetworkHappens (fleet_setup far old.systems) (Succeed s (model_view (new.systems s))) old.net new.net
+FleetSteps gives far (Befalls e) old new =
+    IsOnCables e × (new.systems ≡ old.systems) × NetworkHappens (fleet_setup far old.systems) e old.net new.net
 
 -- events one after another
 abbrev pub FleetRun : FleetAlgorithms → (ℕ → ℕ → Option Place) → List FleetEvent → Fleet → Fleet → Type 0
@@ -219,21 +232,23 @@ abbrev pub IsOther : HostCall → Type 0
 IsOther (host.Call call) = ⊥
 IsOther call = Unit {0}
 
--- system s may go on as the system after, in an event of the fleet
-abbrev pub GoesOn : FleetAlgorithms → (ℕ → ℕ → Option Place) → ℕ → Fleet → SystemState → Type 0
-GoesOn gives far s old after =
-    (e : FleetEvent) × (new : Fleet) × FleetSteps gives far e old new × (new.systems ≡ at_system old.systems s after)
+-- System s may go on as the system after, in this event of the fleet. What that leaves of the network is what the answer shows.
+abbrev pub GoesOn : FleetAlgorithms → (ℕ → ℕ → Option Place) → ℕ → Fleet → FleetEvent → SystemState → Type 0
+GoesOn gives far s old e after = (new : Fleet) × FleetSteps gives far e old new × (new.systems ≡ at_system old.systems s after)
 
--- Each call that a contract allows, and that says what is so of the cables, is an event of the fleet, and so is each call of a host and
--- each setting.
+-- Each call that a contract allows, and that says what is so of the cables, is an event of the fleet, whatever the cables accept, and so is
+-- each call of a host and each setting.
 abbrev pub EachCallIsAnEvent : FleetAlgorithms → Type 0
-EachCallIsAnEvent gives = (far : ℕ → ℕ → Option Place) (s : ℕ) (old : Fleet) (call : Call) (answer : Reply) (after : SystemState)
-    → IsTrueOf far s old.net call → CallPromise (gives s) (old.systems s) call answer after → GoesOn gives far s old after
+EachCallIsAnEvent gives = (far : ℕ → ℕ → Option Place) (s : ℕ) (old : Fleet) (call : Call) (answer : Reply) (accepts : Act → Bool)
+    (after : SystemState) → IsTrueOf far s old.net call → CallPromise (gives s) (old.systems s) call answer after
+    → GoesOn gives far s old (Makes_call s call answer accepts) after
 
 abbrev pub EachHostCallIsAnEvent : FleetAlgorithms → Type 0
-EachHostCallIsAnEvent gives = (far : ℕ → ℕ → Option Place) (s : ℕ) (old : Fleet) (call : HostCall) (answer : HostReply) (after : SystemState)
-    → IsOther call → HostPromise (gives s) (old.systems s) call answer after → GoesOn gives far s old after
+EachHostCallIsAnEvent gives = (far : ℕ → ℕ → Option Place) (s : ℕ) (old : Fleet) (call : HostCall) (answer : HostReply)
+    (accepts : Act → Bool) (after : SystemState) → IsOther call → HostPromise (gives s) (old.systems s) call answer after
+    → GoesOn gives far s old (Asks_call s call answer accepts) after
 
 abbrev pub EachSettingIsAnEvent : FleetAlgorithms → Type 0
 EachSettingIsAnEvent gives = (far : ℕ → ℕ → Option Place) (s : ℕ) (old : Fleet) (setting : Setting) (answer : Result Unit SystemFault)
-    (after : SystemState) → SettingPromise (old.systems s) setting answer after → GoesOn gives far s old after
+    (after : SystemState) → SettingPromise (old.systems s) setting answer after
+    → GoesOn gives far s old (Changes_setting s setting answer) after

@@ -3,13 +3,15 @@
 //! functions do nothing when they run: the contract of each is a proved theorem.
 #![tactic(auto)]
 
-ghost use Rattle.lagnetwork.specs.NetworkLaw.{EachTookInSync, EachOnePartner, CablesAgree, NetworkInOrder, EachCollectorInOrder, NamesFarEnd, OneDevice, NotWithItself};
+ghost use Rattle.lagnetwork.specs.NetworkLaw.{AllCountFromZero, EachTookInSync, EachOnePartner, CablesAgree, NetworkInOrder, EachCollectorInOrder, NamesFarEnd, OneDevice, NotWithItself};
 ghost use Rattle.std.specs.Prelude.{ℕ};
 ghost use Rattle.lagfleet.specs.Fleet.{IsFleetInvariant};
 
 // promise: **any number of `System`s**: the first five rows of lagnetwork hold after any calls, those of hosts, settings and takeovers
-//    among them, octets received, whatever the algorithms return; LACPDUs may overtake data
-// contract: `fleet` (`one_partner`, `agree`, `in_order`, `each_in_order`, `names_far_end`, `took_synchronized`, `one_device`, `not_with_itself`)
+//    among them, octets received, whatever the algorithms return; LACPDUs may overtake data,
+//    and no frame comes twice
+// contract: `fleet` (`one_partner`, `agree`, `in_order`, `each_in_order`, `counts_from_zero`, `names_far_end`, `took_synchronized`, `one_device`,
+//    `not_with_itself`)
 // premises: those of the law of two systems; no slow protocols frame is offered by number; a system that takes over has the configuration
 //    and meets `IsNetworkSuccessor`
 /// After every list of calls of any number of systems, each with an algorithm of its own, whatever the algorithms return: those of
@@ -20,6 +22,7 @@ pub fn fleet<F: Fn(u16, usize) -> usize>()
     ensures agree { (algorithms : ℕ → F) → IsFleetInvariant (λ s. F.post (algorithms s)) (λ x w. CablesAgree x w) }
     ensures in_order { (algorithms : ℕ → F) → IsFleetInvariant (λ s. F.post (algorithms s)) (λ x w. NetworkInOrder w) }
     ensures each_in_order { (algorithms : ℕ → F) → IsFleetInvariant (λ s. F.post (algorithms s)) (λ x w. EachCollectorInOrder w) }
+    ensures counts_from_zero { (algorithms : ℕ → F) → IsFleetInvariant (λ s. F.post (algorithms s)) (λ x w. AllCountFromZero w) }
     ensures names_far_end { (algorithms : ℕ → F) → IsFleetInvariant (λ s. F.post (algorithms s)) (λ x w. NamesFarEnd x w) }
     ensures took_synchronized { (algorithms : ℕ → F) → IsFleetInvariant (λ s. F.post (algorithms s)) (λ x w. EachTookInSync x w) }
     ensures one_device { (algorithms : ℕ → F) → IsFleetInvariant (λ s. F.post (algorithms s)) (λ x w. OneDevice x w) }
@@ -28,8 +31,9 @@ pub fn fleet<F: Fn(u16, usize) -> usize>()
 
 ghost use Rattle.lagfleet.specs.Fleet.{EachCallIsAnEvent, EachHostCallIsAnEvent, EachSettingIsAnEvent, ShowsOneAct};
 
-// promise: each call that a contract allows, each of the five calls of hosts and each setting is an event of a fleet; a reply shows one act
-//    or none
+// promise: each call that a contract allows, each of the five calls of hosts and each setting is the event of a fleet that has this call and
+//    this answer, whatever cables accept: what goes out is what the answer shows, and a frame is handed up where the reply says so; a reply
+//    shows one act or none
 // contract: `each_call_is_an_event` (`calls`, `host_calls`, `settings`), `each_call_shows_one_act`
 // premises: what comes on a cable carries what came first there; a link is said to be as its cable is (`IsTrueOf`)
 /// What the contract of a call shows is one act or none, as an event of a fleet has it (profile).
@@ -37,22 +41,24 @@ pub fn each_call_shows_one_act()
     ensures { ShowsOneAct }
 {}
 
-/// Each call of a system, in any fleet and at any moment, is an event of the fleet, if what comes on a cable is a frame that carries what
-/// came first there, and a link is said to be as its cable is; so is each of the five calls of hosts, and each setting (profile).
+/// Each call of a system, with what it answers, in any fleet and at any moment, is an event of the fleet, whatever cables accept, if what
+/// comes on a cable is a frame that carries what came first there, and a link is said to be as its cable is; so is each of the five calls
+/// of hosts, and each setting. It leaves on the cables what the answer shows (profile).
 pub fn each_call_is_an_event<F: Fn(u16, usize) -> usize>()
     ensures calls { (algorithms : ℕ → F) → EachCallIsAnEvent (λ s. F.post (algorithms s)) }
     ensures host_calls { (algorithms : ℕ → F) → EachHostCallIsAnEvent (λ s. F.post (algorithms s)) }
     ensures settings { (algorithms : ℕ → F) → EachSettingIsAnEvent (λ s. F.post (algorithms s)) }
 {}
 
-ghost use Rattle.lagmodel.specs.AnyPeer.{OrderHolds, TookInSync};
+ghost use Rattle.lagmodel.specs.AnyPeer.{OrderHolds, SerialsCountFromZero, TookInSync};
 ghost use Rattle.lagmodel.specs.Law.{OnePartner};
 ghost use Rattle.lagfleet.specs.BesideAnyPeer.{EachCallBesideAnyPeer, HoldsBesideAnyPeer};
 
 // promise: **one `System` beside any peers**, which may lie, overtake and send what others sent, however they are wired: ports that
 //    distribute in one aggregator name one partner; a distributing port, not on defaults, took last an LACPDU that said IN_SYNC, and names
-//    its Actor; what the peers hand up of an unforced conversation is in order; each call of `drive` but a restart and a force is such an event
-// contract: `beside_any_peer` (`one_partner`, `took_synchronized`, `in_order`, `each_call`)
+//    its Actor; what the peers hand up of an unforced conversation is in order, and nothing twice; each call of `drive` but a restart and a
+//    force is such an event, and leaves what its answer shows, whatever cables accept
+// contract: `beside_any_peer` (`one_partner`, `took_synchronized`, `in_order`, `counts_from_zero`, `each_call`)
 // premises: a Marker Response on a cable answers the marker that came there first; no port has two cables; a link is said to be down only
 //    while its cable is cut; a restart loses what is on the cables; a takeover as above (`IsSceneSuccessor`)
 /// One system beside peers of any kind and number, however they are wired, as `order_with_any_peer` of `lagmodel` has it of definitions:
@@ -62,5 +68,6 @@ pub fn beside_any_peer<F: Fn(u16, usize) -> usize>()
     ensures one_partner { (algorithm : F) → HoldsBesideAnyPeer (F.post algorithm) (λ w. OnePartner w.view) }
     ensures took_synchronized { (algorithm : F) → HoldsBesideAnyPeer (F.post algorithm) TookInSync }
     ensures in_order { (algorithm : F) → HoldsBesideAnyPeer (F.post algorithm) OrderHolds }
+    ensures counts_from_zero { (algorithm : F) → HoldsBesideAnyPeer (F.post algorithm) SerialsCountFromZero }
     ensures each_call { (algorithm : F) → EachCallBesideAnyPeer (F.post algorithm) }
 {}

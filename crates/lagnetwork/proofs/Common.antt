@@ -1,7 +1,7 @@
 -- The names that proofs of this crate import, passed on from one place. Declares nothing; tools/maintain/proof-imports writes it.
 pub use Rattle.std.proofs.Common.{Bool, IsSome, IsSomeAnd, List, None, Option, Some, [], ap, append-nil, arith, cond, eq-eqb, eqb, eqb-true, false}
-pub use Rattle.std.proofs.Common.{get_or, inl, inr, length, length-append, map, option_map, refl, subst, suc, sym, true, ℕ, ◌&&◌, ◌++◌, ◌<◌, ◌∙◌, ◌∷◌}
-pub use Rattle.std.proofs.Common.{◌≡◌, ◌≢◌, ◌≤◌, ◌⊎◌}
+pub use Rattle.std.proofs.Common.{get_or, inl, inr, length, length-append, option_map, refl, subst, suc, sym, true, ℕ, ◌&&◌, ◌++◌, ◌<◌, ◌∙◌, ◌∷◌, ◌≡◌}
+pub use Rattle.std.proofs.Common.{◌≢◌, ◌≤◌, ◌⊎◌}
 pub use Rattle.std.proofs.lemmas.Bool.{and_from, and_parts, cases_Bool, cases_lt, eqb-false, false≢true, true≢false}
 pub use Rattle.std.proofs.lemmas.Option.{none-some, same_Some}
 pub use Rattle.std.specs.Prelude.{drop, option_to_list}
@@ -29,7 +29,7 @@ pub use Rattle.lagmodel.proofs.Stamps.{stamps_emptied, stamps_first, stamps_own,
 pub use Rattle.lagnetwork.specs.Network.{AllNetworkMoves, CountsNetworkChanges, DeliversFirstAt, IsNetworkSetup, IsNetworkSuccessor, Network}
 pub use Rattle.lagnetwork.specs.Network.{NetworkCall, NetworkEvent, NetworkHappens, NetworkRun, NetworkSetup, Place, RepeatsFirstAt, also_forced}
 pub use Rattle.lagnetwork.specs.Network.{at_place, at_system, ends_at, first_network, freed_view, handed_up_from, is_at, is_end, is_place}
-pub use Rattle.lagnetwork.specs.Network.{network_after, network_after_all, network_after_call, put_on_line, towards_after, without_first}
+pub use Rattle.lagnetwork.specs.Network.{network_after, network_after_acts, network_after_all, put_on_line, towards_after, without_first}
 pub use Rattle.lagnetwork.specs.NetworkLaw.{AllBelowNext, AllCountFromZero, CablesAgree, CollectedThenFlying, EachOnePartner, EachTookInSync}
 pub use Rattle.lagnetwork.specs.NetworkLaw.{FlushedBehindMarker, FlyOnItsCable, IsUpToDate, MaySucceedItself, NamesFarEnd, NetworkInOrder}
 pub use Rattle.lagnetwork.specs.NetworkLaw.{NotWithItself, OneAggregatorReachesTwo, OneDevice, scene_of}

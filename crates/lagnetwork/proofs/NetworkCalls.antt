@@ -1,8 +1,9 @@
--- A call of one system, by lawful moves with at most one visible act, is a call of the network.
-use Rattle.lagnetwork.proofs.Common.{Bool, List, None, Option, Some, [], ap, cond, eqb, false, map, refl, subst, sym, true, ℕ, ◌++◌, ◌∙◌, ◌∷◌, ◌≡◌}
+-- A call of one system, by lawful moves with visible acts, is a call of the network.
+use Rattle.lagnetwork.proofs.Common.{Bool, List, None, Option, Some, [], ap, cond, eqb, false, refl, subst, sym, true, ℕ, ◌++◌, ◌∙◌, ◌∷◌, ◌≡◌}
 use Rattle.lagnetwork.proofs.Common.{option_to_list, Act, AllAllowed, LawfulMoves, Move, act, acts, view_after, view_after_all, ModelCall, View}
-use Rattle.lagnetwork.proofs.Common.{AllNetworkMoves, CountsNetworkChanges, Network, NetworkCall, NetworkSetup, at_system, network_after}
-use Rattle.lagnetwork.proofs.Common.{network_after_all, network_after_call}
+use Rattle.lagnetwork.proofs.Common.{sent_after, taken_after, AllNetworkMoves, CountsNetworkChanges, Network, NetworkCall, NetworkSetup, at_system}
+use Rattle.lagnetwork.proofs.Common.{network_after_acts, network_after_all, towards_after}
+use Rattle.lagmodel.proofs.AnyPeer.{accepted}
 use Rattle.lagnetwork.proofs.Networks.{there, elsewhere, is_or_not}
 
 pub itself : {X : Type 0} (f : ℕ → X) (s t : ℕ) → f t ≡ at_system f s (f s) t
@@ -16,95 +17,67 @@ twice f s x y t = go (eqb t s)
     go true = refl
     go false = refl
 
-none_called : (x : NetworkSetup) (s : ℕ) (stamp : ℕ) (kept : Bool) (w : Network) → w ≡ network_after_call x s stamp kept None (w.view s) w
-none_called x s stamp kept w = λ i. record w {
-  view = λ t. itself w.view s t i;
-  sent = λ t. itself w.sent s t i;
-  taken = λ t. itself w.taken s t i;
-}
+module _ (x : NetworkSetup) (s : ℕ) (call : ModelCall) (stamp : ℕ) (accepts : Act → Bool) where
+  -- the network after an act, and after a move that ended in the view v and showed this
+  abbrev with_act : Act → Network → Network
+  with_act a w = record w {
+    towards = towards_after x s w.whole (w.count s) (w.sent s) (accepts a) (Some a) w.towards;
+    sent = at_system w.sent s (sent_after (Some a) (w.sent s));
+    taken = at_system w.taken s (taken_after stamp (Some a) (w.taken s));
+  }
 
--- a call that is seen to do nothing changes the view alone
-only_view : (x : NetworkSetup) (s : ℕ) (stamp : ℕ) (kept : Bool) (v : View) (w : Network)
-    → network_after_call x s stamp kept None v w ≡ record w { view = at_system w.view s v }
-only_view x s stamp kept v w = λ i. record w {
-  view = at_system w.view s v;
-  sent = λ t. sym (itself w.sent s t) i;
-  taken = λ t. sym (itself w.taken s t) i;
-}
+  abbrev shown : Option Act → View → Network → Network
+  shown o v w = record w {
+    view = at_system w.view s v;
+    towards = towards_after x s w.whole (w.count s) (w.sent s) (accepted accepts o) o w.towards;
+    sent = at_system w.sent s (sent_after o (w.sent s));
+    taken = at_system w.taken s (taken_after stamp o (w.taken s));
+  }
 
-before : (x : NetworkSetup) (s : ℕ) (stamp : ℕ) (kept : Bool) (o : Option Act) (a b : View) (w : Network)
-    → network_after_call x s stamp kept o b (network_after_call x s stamp kept None a w) ≡ network_after_call x s stamp kept o b w
-before x s stamp kept o a b w =
-    ap (network_after_call x s stamp kept o b) (only_view x s stamp kept a w)
-    ∙ (λ i. record (network_after_call x s stamp kept o b w) { view = λ t. twice w.view s a b t i })
+  -- the view on the way does not matter
+  view_over : (seen : List Act) (v on_the_way : View) (w : Network)
+      → network_after_acts x s stamp accepts seen v (record w { view = at_system w.view s on_the_way })
+      ≡ network_after_acts x s stamp accepts seen v w
+  view_over [] v on_the_way w = λ i. record w { view = λ t. twice w.view s on_the_way v t i }
+  view_over (a ∷ more) v on_the_way w = view_over more v on_the_way (with_act a w)
 
-behind : (x : NetworkSetup) (s : ℕ) (stamp : ℕ) (kept : Bool) (o : Option Act) (a b : View) (w : Network)
-    → network_after_call x s stamp kept None b (network_after_call x s stamp kept o a w) ≡ network_after_call x s stamp kept o b w
-behind x s stamp kept o a b w =
-    only_view x s stamp kept b (network_after_call x s stamp kept o a w)
-    ∙ (λ i. record (network_after_call x s stamp kept o b w) { view = λ t. twice w.view s a b t i })
+  one_shown : (o : Option Act) (seen : List Act) (v on_the_way : View) (w : Network)
+      → network_after_acts x s stamp accepts seen v (shown o on_the_way w)
+      ≡ network_after_acts x s stamp accepts (option_to_list o ++ seen) v w
+  one_shown None seen v on_the_way w = ap (network_after_acts x s stamp accepts seen v) (λ i. record w {
+    view = at_system w.view s on_the_way;
+    sent = λ t. sym (itself w.sent s t) i;
+    taken = λ t. sym (itself w.taken s t) i;
+  }) ∙ view_over seen v on_the_way w
+  one_shown (Some a) seen v on_the_way w = view_over seen v on_the_way (with_act a w)
 
-nothing_seen : (y : Act) (ys : List Act) → y ∷ ys ≡ [] → ⊥
-nothing_seen y ys h = cc
+  all_moves : (ms : List Move) (w : Network) → AllAllowed (x.setup s) call (w.view s) ms → (moves : List (Move × Bool))
+      × AllNetworkMoves x s call stamp moves w
+      × (network_after_all x s stamp moves w
+      ≡ network_after_acts x s stamp accepts (acts (x.setup s) ms (w.view s)) (view_after_all (x.setup s) ms (w.view s)) w)
+  all_moves [] w h = ([], tt, λ i. record w { view = λ t. itself w.view s t i })
+  all_moves (m ∷ ms) w h =
+      let o = act (x.setup s) m (w.view s) in
+      let v : View = view_after (x.setup s) m (w.view s) in
+      let here = there w.view s v in
+      let r = all_moves ms (shown o v w) (subst (λ (v : View). AllAllowed (x.setup s) call v ms) (sym here) h.1) in (
+        (m, accepted accepts o) ∷ r.0,
+        (h.0, r.1),
+        r.2
+            ∙ ap (λ (y : View). network_after_acts x s stamp accepts (acts (x.setup s) ms y) (view_after_all (x.setup s) ms y) (shown o v w)) here
+            ∙ one_shown o (acts (x.setup s) ms v) (view_after_all (x.setup s) ms v) v w,
+      )
 
-one_seen : (y z : Act) (ys : List Act) → y ∷ ys ≡ z ∷ [] → (y ≡ z) × (ys ≡ [])
-one_seen y z ys h = (cc, cc)
-
-called_step : (x : NetworkSetup) (s : ℕ) (stamp : ℕ) (kept : Bool) (m : Move) (ms : List Move) (w : Network) (o a : Option Act)
-    → act (x.setup s) m (w.view s) ≡ a
-    → ((o : Option Act) → acts (x.setup s) ms ((network_after x s stamp (m, kept) w).view s) ≡ option_to_list o
-    → network_after_all x s stamp (map (λ (m : Move). (m, kept)) ms) (network_after x s stamp (m, kept) w) ≡ network_after_call x s stamp kept o
-    (view_after_all (x.setup s) ms ((network_after x s stamp (m, kept) w).view s)) (network_after x s stamp (m, kept) w))
-    → option_to_list a ++ acts (x.setup s) ms (view_after (x.setup s) m (w.view s)) ≡ option_to_list o
-    → network_after_all x s stamp (map (λ (m : Move). (m, kept)) ms) (network_after x s stamp (m, kept) w) ≡ network_after_call x s stamp kept o
-    (view_after_all (x.setup s) ms (view_after (x.setup s) m (w.view s))) w
-called_step x s stamp kept m ms w o None h ih e =
-    let v : View = view_after (x.setup s) m (w.view s) in
-    let there = there w.view s v in
-    ih o (ap (acts (x.setup s) ms) there ∙ e)
-    ∙ ap (λ (y : View). network_after_call x s stamp kept o (view_after_all (x.setup s) ms y) (network_after x s stamp (m, kept) w)) there
-    ∙ ap (λ (a : Option Act). network_after_call x s stamp kept o (view_after_all (x.setup s) ms v) (network_after_call x s stamp kept a v w)) h
-    ∙ before x s stamp kept o v (view_after_all (x.setup s) ms v) w
-called_step x s stamp kept m ms w None (Some y) h ih e =
-    absurd (nothing_seen y (acts (x.setup s) ms (view_after (x.setup s) m (w.view s))) e)
-called_step x s stamp kept m ms w (Some z) (Some y) h ih e =
-    let v : View = view_after (x.setup s) m (w.view s) in
-    let there = there w.view s v in
-    let parts = one_seen y z (acts (x.setup s) ms v) e in
-    ih None (ap (acts (x.setup s) ms) there ∙ parts.1)
-    ∙ ap (λ (y : View). network_after_call x s stamp kept None (view_after_all (x.setup s) ms y) (network_after x s stamp (m, kept) w)) there
-    ∙ ap (λ (a : Option Act). network_after_call x s stamp kept None (view_after_all (x.setup s) ms v)
-    (network_after_call x s stamp kept a v w)) h
-    ∙ behind x s stamp kept (Some y) v (view_after_all (x.setup s) ms v) w
-    ∙ ap (λ (y : Act). network_after_call x s stamp kept (Some y) (view_after_all (x.setup s) ms v) w) parts.0
-
-called_moves : (x : NetworkSetup) (s : ℕ) (stamp : ℕ) (kept : Bool) (ms : List Move) (w : Network) (o : Option Act)
-    → acts (x.setup s) ms (w.view s) ≡ option_to_list o
-    → network_after_all x s stamp (map (λ (m : Move). (m, kept)) ms) w ≡ network_after_call x s stamp kept o
-    (view_after_all (x.setup s) ms (w.view s)) w
-called_moves x s stamp kept [] w None e = none_called x s stamp kept w
-called_moves x s stamp kept [] w (Some y) e = absurd (nothing_seen y [] (sym e))
-called_moves x s stamp kept (m ∷ ms) w o e =
-    called_step x s stamp kept m ms w o (act (x.setup s) m (w.view s)) refl
-    (λ o. called_moves x s stamp kept ms (network_after x s stamp (m, kept) w) o) e
-
-moves_of_network : (x : NetworkSetup) (s : ℕ) (call : ModelCall) (stamp : ℕ) (kept : Bool) (ms : List Move) (w : Network)
-    → AllAllowed (x.setup s) call (w.view s) ms → AllNetworkMoves x s call stamp (map (λ (m : Move). (m, kept)) ms) w
-moves_of_network x s call stamp kept [] w h = tt
-moves_of_network x s call stamp kept (m ∷ ms) w h = (
-  h.0,
-  moves_of_network x s call stamp kept ms (network_after x s stamp (m, kept) w)
-      (subst (λ v. AllAllowed (x.setup s) call v ms) (sym (there w.view s (view_after (x.setup s) m (w.view s)))) h.1),
-)
-
-pub calls_from : (x : NetworkSetup) (s : ℕ) (call : ModelCall) (stamp : ℕ) (old mid new : Network) (v : View) (o : Option Act)
-    (kept : Bool) (count : ℕ → ℕ → ℕ)
-    → LawfulMoves (x.setup s) call (mid.view s) (option_to_list o) v → CountsNetworkChanges old (network_after_call x s stamp kept o v mid) count
-    → new ≡ record (network_after_call x s stamp kept o v mid) { count = count } → NetworkCall x s call stamp old mid new
-calls_from x s call stamp old mid new v o kept count h c e =
-    let same : network_after_all x s stamp (map (λ (m : Move). (m, kept)) h.0) mid ≡ network_after_call x s stamp kept o v mid =
-    called_moves x s stamp kept h.0 mid o h.2 ∙ ap (λ (v : View). network_after_call x s stamp kept o v mid) (sym h.3) in (
-      map (λ (m : Move). (m, kept)) h.0,
-      moves_of_network x s call stamp kept h.0 mid h.1,
+pub calls_from : (x : NetworkSetup) (s : ℕ) (call : ModelCall) (stamp : ℕ) (old mid new : Network) (v : View) (seen : List Act)
+    (accepts : Act → Bool) (count : ℕ → ℕ → ℕ)
+    → LawfulMoves (x.setup s) call (mid.view s) seen v → CountsNetworkChanges old (network_after_acts x s stamp accepts seen v mid) count
+    → new ≡ record (network_after_acts x s stamp accepts seen v mid) { count = count } → NetworkCall x s call stamp old mid new
+calls_from x s call stamp old mid new v seen accepts count h c e =
+    let r = all_moves x s call stamp accepts h.0 mid h.1 in
+    let same : network_after_all x s stamp r.0 mid ≡ network_after_acts x s stamp accepts seen v mid =
+    r.2 ∙ ap (λ (seen : List Act). network_after_acts x s stamp accepts seen (view_after_all (x.setup s) h.0 (mid.view s)) mid) h.2
+    ∙ ap (λ (v : View). network_after_acts x s stamp accepts seen v mid) (sym h.3) in (
+      r.0,
+      r.1,
       (count, subst (λ w. CountsNetworkChanges old w count) (sym same) c, e ∙ ap (λ (w : Network). record w { count = count }) (sym same)),
     )

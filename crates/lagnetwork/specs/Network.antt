@@ -248,12 +248,12 @@ abbrev pub NetworkRun : NetworkSetup → List NetworkEvent → Network → Netwo
 NetworkRun x [] old new = new ≡ old
 NetworkRun x (e ∷ es) old new = (mid : Network) × NetworkHappens x e old mid × NetworkRun x es mid new
 
--- The network after a call of system s that ended in the view v and had at most this one visible act. `accepted`: whether the
--- cable accepts what is sent. `stamp`: the stamp of what came in this call.
-abbrev pub network_after_call : NetworkSetup → ℕ → ℕ → Bool → Option Act → View → Network → Network
-network_after_call x s stamp accepted o v w = record w {
-  view = at_system w.view s v;
-  towards = towards_after x s w.whole (w.count s) (w.sent s) accepted o w.towards;
-  sent = at_system w.sent s (sent_after o (w.sent s));
-  taken = at_system w.taken s (taken_after stamp o (w.taken s));
-}
+-- The network after these visible acts of a call of system s that ended in the view v. `accepts`: whether the cable accepts what an act
+-- sends. `stamp`: the stamp of what came in this call.
+abbrev pub network_after_acts : NetworkSetup → ℕ → ℕ → (Act → Bool) → List Act → View → Network → Network
+network_after_acts x s stamp accepts [] v w = record w { view = at_system w.view s v }
+network_after_acts x s stamp accepts (a ∷ more) v w = network_after_acts x s stamp accepts more v (record w {
+  towards = towards_after x s w.whole (w.count s) (w.sent s) (accepts a) (Some a) w.towards;
+  sent = at_system w.sent s (sent_after (Some a) (w.sent s));
+  taken = at_system w.taken s (taken_after stamp (Some a) (w.taken s));
+})

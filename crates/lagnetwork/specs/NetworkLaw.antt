@@ -1,14 +1,14 @@
 -- What holds after each event of any number of systems, in every schedule.
 use Rattle.std.specs.Prelude.{◌≡◌, ◌≢◌, ◌⊎◌, ◌<◌, ℕ, true, false, Some, IsSome, List, [], ◌∷◌, ◌++◌, Contains, length, slice_index}
 use Rattle.lagtypes.specs.Group.{SamePair}
-use Rattle.std.specs.Prelude.{Bool, None, Option, option_to_list}
+use Rattle.std.specs.Prelude.{Bool, None, Option}
 use Rattle.lagmodel.specs.View.{ModelCall, View, PortFacts, Flushing, On, conversation_port, Marker, Response}
 use Rattle.lagmodel.specs.Move.{Act, LawfulMoves, pair_at}
 use Rattle.lagmodel.specs.World.{One, Message, Control, TakenLacpdu}
 use Rattle.lagmodel.specs.Law.{IsSubsequence, OnePartner, serials}
 use Rattle.lagnetwork.specs.Network.{Network, NetworkSetup, IsNetworkSetup, NetworkEvent, NetworkRun, first_network}
 use Rattle.lagmodel.specs.AnyPeer.{Scene, TookInSync}
-use Rattle.lagnetwork.specs.Network.{Place, IsNetworkSuccessor, NetworkCall, CountsNetworkChanges, network_after_call}
+use Rattle.lagnetwork.specs.Network.{Place, IsNetworkSuccessor, NetworkCall, CountsNetworkChanges, network_after_acts}
 
 -- Ports of each system that distribute in one aggregator have one partner system and key.
 abbrev pub EachOnePartner : Network → Type 0
@@ -130,14 +130,15 @@ abbrev pub IsNetworkInvariant : (NetworkSetup → Network → Type 0) → Type 0
 IsNetworkInvariant P = (x : NetworkSetup) (events : List NetworkEvent) (w : Network) → IsNetworkSetup x
     → NetworkRun x events (first_network x) w → P x w
 
--- What the contract of each call of a system promises, lawful moves with at most one visible act, is a call of the network.
+-- What the contract of each call of a system promises, lawful moves with these visible acts, is a call of the network, whatever cables
+-- accept; and it leaves what the acts leave, frames on the cables with them.
 abbrev pub LawfulCallsAreCalls : Type 0
 LawfulCallsAreCalls =
-    (x : NetworkSetup) (s : ℕ) (call : ModelCall) (stamp : ℕ) (old mid new : Network) (v : View) (o : Option Act) (accepted : Bool)
+    (x : NetworkSetup) (s : ℕ) (call : ModelCall) (stamp : ℕ) (old mid new : Network) (v : View) (seen : List Act) (accepts : Act → Bool)
     (count : ℕ → ℕ → ℕ)
-    → LawfulMoves (x.setup s) call (mid.view s) (option_to_list o) v
-    → CountsNetworkChanges old (network_after_call x s stamp accepted o v mid) count
-    → new ≡ record (network_after_call x s stamp accepted o v mid) { count = count } → NetworkCall x s call stamp old mid new
+    → LawfulMoves (x.setup s) call (mid.view s) seen v
+    → CountsNetworkChanges old (network_after_acts x s stamp accepts seen v mid) count
+    → new ≡ record (network_after_acts x s stamp accepts seen v mid) { count = count } → NetworkCall x s call stamp old mid new
 
 -- There is a run of three systems, of which systems 2 and 3 have one identifier: both ports of system 1 distribute in its
 -- aggregator 1, one towards each of them, not on defaults; and conversation 48, never forced, had its first frame handed up

@@ -63,9 +63,11 @@ ghost use Rattle.lagnetwork.specs.NetworkLaw.{LawfulCallsAreCalls};
 
 // promise: a takeover is possible: a system of which no conversation waits may take its own place
 // contract: `network` (`takeovers`)
-// promise: a call of one system, lawful moves with at most one visible act, is a call of the network
+// promise: a call of one system, lawful moves with visible acts, is a call of the network, whatever cables accept, and leaves what it sends on
+//    them
 // contract: `lawful_calls`
-/// A call of one system, as the contract of `lagsystem` has it (lawful moves, with what its reply shows), is a call of the network.
+/// A call of one system, as the contract of `lagsystem` has it (lawful moves, with what its reply shows), is a call of the network, and
+/// leaves on the cables what the reply shows.
 pub fn lawful_calls()
     ensures { LawfulCallsAreCalls }
 {}

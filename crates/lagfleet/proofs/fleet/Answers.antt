@@ -1,59 +1,47 @@
+use Rattle.lagnetwork.specs.NetworkLaw.{AllCountFromZero, CablesAgree, EachCollectorInOrder, EachOnePartner, EachTookInSync, NamesFarEnd}
+use Rattle.lagnetwork.specs.NetworkLaw.{NetworkInOrder, NotWithItself, OneDevice}
+use Rattle.lagnetwork.proofs.NetworkArriving.{each_part, parts}
+use Rattle.lagnetwork.proofs.NetworkCounting.{counts_from_zero}
 use Rattle.lagnetwork.proofs.NetworkEvents.{all_fine}
 use Rattle.lagnetwork.proofs.NetworkLaws.{each_took_in_sync, one_partner_each, cables_agree, in_order_each, names_far_end, one_device}
 use Rattle.lagnetwork.proofs.NetworkLaws.{not_with_itself}
-use Rattle.lagfleet.specs.Fleet.{fleet_setup}
-use Rattle.lagfleet.proofs.Fleets.{fleet_runs, fleet_setup_is}
-use Rattle.lagnetwork.proofs.NetworkArriving.{each_part, parts}
+use Rattle.lagfleet.proofs.Fleets.{holds_of_fleet}
 use Rattle.lagfleet.proofs.fleet.Goals as goal
 
 pub returns-clause-one_partner : goal.returns-clause-one_partner
-returns-clause-one_partner g c = λ algorithms far events start end cabled first z.
-    let f = fleet_setup_is far start.systems cabled in
-    let r = fleet_runs (λ s a b k. g.F.Fn.post (algorithms s) (a, (b, tt)) k) far events start end first z in
-    (one_partner_each (fleet_setup far start.systems) end.net (all_fine (fleet_setup far start.systems) r.0 end.net f r.1), r.2)
+returns-clause-one_partner g c = λ algorithms. holds_of_fleet (λ s a b k. g.F.Fn.post (algorithms s) (a, (b, tt)) k) (λ x w. EachOnePartner w)
+    (λ x events w f r. one_partner_each x w (all_fine x events w f r))
 
 pub returns-clause-agree : goal.returns-clause-agree
-returns-clause-agree g c = λ algorithms far events start end cabled first z.
-    let f = fleet_setup_is far start.systems cabled in
-    let r = fleet_runs (λ s a b k. g.F.Fn.post (algorithms s) (a, (b, tt)) k) far events start end first z in
-    (cables_agree (fleet_setup far start.systems) f end.net (all_fine (fleet_setup far start.systems) r.0 end.net f r.1), r.2)
+returns-clause-agree g c = λ algorithms. holds_of_fleet (λ s a b k. g.F.Fn.post (algorithms s) (a, (b, tt)) k) (λ x w. CablesAgree x w)
+    (λ x events w f r. cables_agree x f w (all_fine x events w f r))
 
 pub returns-clause-in_order : goal.returns-clause-in_order
-returns-clause-in_order g c = λ algorithms far events start end cabled first z.
-    let f = fleet_setup_is far start.systems cabled in
-    let r = fleet_runs (λ s a b k. g.F.Fn.post (algorithms s) (a, (b, tt)) k) far events start end first z in
-    (in_order_each (fleet_setup far start.systems) end.net (all_fine (fleet_setup far start.systems) r.0 end.net f r.1), r.2)
-
-pub returns-clause-names_far_end : goal.returns-clause-names_far_end
-returns-clause-names_far_end g c = λ algorithms far events start end cabled first z.
-    let f = fleet_setup_is far start.systems cabled in
-    let r = fleet_runs (λ s a b k. g.F.Fn.post (algorithms s) (a, (b, tt)) k) far events start end first z in
-    (names_far_end (fleet_setup far start.systems) f end.net (all_fine (fleet_setup far start.systems) r.0 end.net f r.1), r.2)
-
-pub returns-clause-one_device : goal.returns-clause-one_device
-returns-clause-one_device g c = λ algorithms far events start end cabled first z.
-    let f = fleet_setup_is far start.systems cabled in
-    let r = fleet_runs (λ s a b k. g.F.Fn.post (algorithms s) (a, (b, tt)) k) far events start end first z in
-    (one_device (fleet_setup far start.systems) f end.net (all_fine (fleet_setup far start.systems) r.0 end.net f r.1), r.2)
-
-pub returns-clause-not_with_itself : goal.returns-clause-not_with_itself
-returns-clause-not_with_itself g c = λ algorithms far events start end cabled first z.
-    let f = fleet_setup_is far start.systems cabled in
-    let r = fleet_runs (λ s a b k. g.F.Fn.post (algorithms s) (a, (b, tt)) k) far events start end first z in
-    (not_with_itself (fleet_setup far start.systems) f end.net (all_fine (fleet_setup far start.systems) r.0 end.net f r.1), r.2)
+returns-clause-in_order g c = λ algorithms. holds_of_fleet (λ s a b k. g.F.Fn.post (algorithms s) (a, (b, tt)) k) (λ x w. NetworkInOrder w)
+    (λ x events w f r. in_order_each x w (all_fine x events w f r))
 
 pub returns-clause-each_in_order : goal.returns-clause-each_in_order
-returns-clause-each_in_order g c = λ algorithms far events start end cabled first z.
-    let f = fleet_setup_is far start.systems cabled in
-    let r = fleet_runs (λ s a b k. g.F.Fn.post (algorithms s) (a, (b, tt)) k) far events start end first z in
-    let x = fleet_setup far start.systems in (
-      λ t h s j k u. parts (end.net.arrived t h s j k) (end.net.collected s j k) (end.net.sent s j k) (each_part x r.0 end.net r.1 t h s j k)
-          (in_order_each x end.net (all_fine x r.0 end.net f r.1) s j k u),
-      r.2,
-    )
+returns-clause-each_in_order g c = λ algorithms. holds_of_fleet (λ s a b k. g.F.Fn.post (algorithms s) (a, (b, tt)) k) (λ x w. EachCollectorInOrder w)
+    (λ x events w f r. λ t h s j k u.
+    parts (w.arrived t h s j k) (w.collected s j k) (w.sent s j k) (each_part x events w r t h s j k)
+    (in_order_each x w (all_fine x events w f r) s j k u))
+
+pub returns-clause-counts_from_zero : goal.returns-clause-counts_from_zero
+returns-clause-counts_from_zero g c = λ algorithms. holds_of_fleet (λ s a b k. g.F.Fn.post (algorithms s) (a, (b, tt)) k) (λ x w. AllCountFromZero w)
+    (λ x events w f r. counts_from_zero x events w r)
+
+pub returns-clause-names_far_end : goal.returns-clause-names_far_end
+returns-clause-names_far_end g c = λ algorithms. holds_of_fleet (λ s a b k. g.F.Fn.post (algorithms s) (a, (b, tt)) k) (λ x w. NamesFarEnd x w)
+    (λ x events w f r. names_far_end x f w (all_fine x events w f r))
 
 pub returns-clause-took_synchronized : goal.returns-clause-took_synchronized
-returns-clause-took_synchronized g c = λ algorithms far events start end cabled first z.
-    let f = fleet_setup_is far start.systems cabled in
-    let r = fleet_runs (λ s a b k. g.F.Fn.post (algorithms s) (a, (b, tt)) k) far events start end first z in
-    (each_took_in_sync (fleet_setup far start.systems) end.net (all_fine (fleet_setup far start.systems) r.0 end.net f r.1), r.2)
+returns-clause-took_synchronized g c = λ algorithms. holds_of_fleet (λ s a b k. g.F.Fn.post (algorithms s) (a, (b, tt)) k) (λ x w. EachTookInSync x w)
+    (λ x events w f r. each_took_in_sync x w (all_fine x events w f r))
+
+pub returns-clause-one_device : goal.returns-clause-one_device
+returns-clause-one_device g c = λ algorithms. holds_of_fleet (λ s a b k. g.F.Fn.post (algorithms s) (a, (b, tt)) k) (λ x w. OneDevice x w)
+    (λ x events w f r. one_device x f w (all_fine x events w f r))
+
+pub returns-clause-not_with_itself : goal.returns-clause-not_with_itself
+returns-clause-not_with_itself g c = λ algorithms. holds_of_fleet (λ s a b k. g.F.Fn.post (algorithms s) (a, (b, tt)) k) (λ x w. NotWithItself x w)
+    (λ x events w f r. not_with_itself x f w (all_fine x events w f r))
