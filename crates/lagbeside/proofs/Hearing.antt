@@ -1,10 +1,23 @@
 -- A port that processes no LACPDU comes nearer to EXPIRED and DEFAULTED with each tick.
-use Rattle.lagbeside.proofs.Common.{Bool, IsTrue, List, [], ap, arith, false, if◌then◌else◌, inl, inr, not, refl, subst, suc, sym, true, zero, ℕ}
-use Rattle.lagbeside.proofs.Common.{◌&&◌, ◌+◌, ◌-◌, ◌==◌, ◌∙◌, ◌∷◌, ◌≡◌, ◌≤◌, nat_tests, ReceiveState, Current, Defaulted, Expired, Initialize}
-use Rattle.lagbeside.proofs.Common.{PortDisabled, Machines, periodic_rows, receive_rows, same_receive_state, AtRest, Fires, FiresTimes, Row}
-use Rattle.lagbeside.proofs.Common.{RunsToRest, count_down, Reply, SystemPort, Call, Configure, Receive, Restart, Set_link, Tick, Transmit}
-use Rattle.lagbeside.proofs.Common.{choice_with_link, can_receive_in, none_enabled, can_receive_at_rest, all-get, IsNoticed, LeavesUnheard}
-use Rattle.lagbeside.proofs.Common.{processed_on, timeout_time, tick_count, IsTimed, most_current_while}
+use Rattle.std.proofs.Common.{Bool, IsTrue, List, [], ap, arith, false, if◌then◌else◌, inl, inr, not, refl, subst, suc, sym, true, zero, ℕ, ◌&&◌, ◌+◌}
+use Rattle.std.proofs.Common.{◌-◌, ◌==◌, ◌∙◌, ◌∷◌, ◌≡◌, ◌≤◌}
+use Rattle.std.proofs.lemmas.Bool.Decides.{nat_tests}
+use Rattle.portmachines.specs.declared.receive.ReceiveState.{ReceiveState}
+use Rattle.portmachines.specs.declared.receive.ReceiveState.TheVariants.{Current, Defaulted, Expired, Initialize, PortDisabled}
+use Rattle.portmachines.specs.Machines.{Machines}
+use Rattle.portmachines.specs.Periodic.{periodic_rows}
+use Rattle.portmachines.specs.Receive.{receive_rows, same_receive_state}
+use Rattle.portmachines.specs.Rows.{AtRest, Fires, FiresTimes, Row, RunsToRest}
+use Rattle.portmachines.specs.Transmit.{count_down}
+use Rattle.lagsystem.specs.declared.system_ports.SystemPort.{SystemPort}
+use Rattle.lagsystem.specs.Calls.{Call, Configure, Receive, Restart, Set_link, Tick, Transmit, choice_with_link}
+use Rattle.lagsystem.specs.ModelView.{can_receive_in, none_enabled}
+use Rattle.lagsystem.proofs.Rest.{can_receive_at_rest}
+use Rattle.lagsystem.proofs.Rising.{all-get}
+use Rattle.lagbeside.specs.Hearing.{IsNoticed, LeavesUnheard, processed_on}
+use Rattle.lagbeside.specs.Heartbeat.{tick_count}
+use Rattle.lagbeside.specs.Timers.{IsTimed, most_current_while, timeout_time}
+use Rattle.lagsystem.specs.declared.drive.Reply.{Reply}
 use Rattle.lagbeside.proofs.EachPort.{KeptByCall, KeptBySettling}
 use Rattle.lagbeside.proofs.OnePort.{AtPort, GoesOn, goes_on, settling_leaves}
 
@@ -115,14 +128,15 @@ unheard_goes_on n = record { settles = unheard_settles n; ticks = tick_unheard; 
 
 -- where it begins and ends
 
-pub begins : (r : ReceiveState) (short : Bool) (n : ℕ) → can_receive_in r ≡ true → n ≤ most_current_while short r
+pub begins : (r : ReceiveState) (short : Bool) (n : ℕ) → can_receive_in r ≡ true → n ≤ most_current_while r → n ≤ timeout_time short
     → Within 1 (timeout_time short + 30) r n
-begins Initialize short n c l = absurd (no c)
-begins PortDisabled short n c l = absurd (no c)
-begins Defaulted short n c l = tt
-begins Expired true n c l = (omega (arith, l), omega arith)
-begins Current true n c l = (omega (arith, l), omega arith)
-begins r short n c l = (omega (arith, l), omega arith)
+begins Initialize short n c l t = absurd (no c)
+begins PortDisabled short n c l t = absurd (no c)
+begins Defaulted short n c l t = tt
+begins Expired true n c l t = (omega (arith, l), omega arith)
+begins Expired false n c l t = (omega (arith, l), omega arith)
+begins Current true n c l t = (omega (arith, t), omega arith)
+begins Current false n c l t = (omega (arith, t), omega arith)
 
 pub when_up : (up : Bool) (b : Bool) → up ≡ true → (if up then b else true) ≡ true → b ≡ true
 when_up true b e h = h
@@ -135,7 +149,7 @@ pub is_defaulted : (most n : ℕ) (r : ReceiveState) → most ≡ 0 → Within 1
 is_defaulted most n r l w = grind (arith, nat_tests)
 
 pub is_noticed : (gives : ℕ → ℕ → ℕ → Type 0) → IsNoticed gives
-is_noticed gives old new calls replies i x y s t at up h u there =
+is_noticed gives old new calls replies i x y s t at within up h u there =
     let awake = can_receive_at_rest x.port
     (all-get (λ (z : SystemPort). none_enabled receive_rows z.port ≡ true) old.system_ports i x at s.rested.0) in
     let timed = all-get (λ (z : SystemPort). IsTimed z.port) old.system_ports i x at t in
@@ -143,7 +157,7 @@ is_noticed gives old new calls replies i x y s t at up h u there =
     let first : UnheardFor most 0 x.port = (
       up,
       begins x.port.receive x.port.short x.port.current_while
-          (when_up x.port.enabled (can_receive_in x.port.receive) up awake) timed.0,
+          (when_up x.port.enabled (can_receive_in x.port.receive) up awake) timed.0 within,
     ) in
     let end = goes_on (LeavesUnheard x.number) UnheardFor gives most old new calls replies i x y (unheard_goes_on x.number) s at
     first h u there in

@@ -1,11 +1,18 @@
-mod Common
-mod Counting
-mod Selecting
-mod EachPort
-mod Timers
-mod OnePort
-mod Hearing
-mod Knowing
+pub mod Counting
+pub mod Selecting
+pub mod ReadyMembers
+pub mod EachPort
+pub mod Timers
+pub mod OnePort
+pub mod Hearing
+pub mod Sounding
+pub mod Silence
+pub mod Heartbeat
+pub mod Knowing
+pub mod TableSteps
+pub mod Waits
+pub mod HostWaits
+pub mod Told
 mod Serving
 mod Others
 mod Beside

@@ -1,20 +1,41 @@
 -- The other ports of an aggregator wait no longer, if none begins to.
-use Rattle.lagbeside.proofs.Common.{Bool, List, Option, Some, [], ap, arith, cond, eqb-true, false, filter, if◌then◌else◌, inl, inr, length, nat_le}
-use Rattle.lagbeside.proofs.Common.{not, refl, slice_get, subst, suc, sym, true, zero, ℕ, ◌&&◌, ◌+◌, ◌-◌, ◌==◌, ◌||◌, ◌∙◌, ◌∷◌, ◌≡◌, ◌≤◌, ◌⊎◌}
-use Rattle.lagbeside.proofs.Common.{cases_Bool, nat_tests, none-some, AllByRecursion, list_all, list_any, AggId, Key, Choice, Selected, Standby}
-use Rattle.lagbeside.proofs.Common.{Unselected, is_unselected, same_party, itself, Lacpdu, party_of, MuxState, Attached, CollectingDistributing}
-use Rattle.lagbeside.proofs.Common.{Detached, Waiting, Machines, mux_rows, same_mux_state, default_partner, lacpdu_rows, receive_rows, RunsToRest}
-use Rattle.lagbeside.proofs.Common.{Starts, before_start, count_down, PortView, is_aggregator, ports_that_chose, has_chosen, has_waited}
-use Rattle.lagbeside.proofs.Common.{is_detached_or_waiting, occupies, Reply, SystemPort, Call, Configure, ProcessesLacpdu, Receive, Restart, Set_link}
-use Rattle.lagbeside.proofs.Common.{Tick, Transmit, changed_party, choice_with_link, key_of, MuxIsSettled, occupied, ready_of, IsSound, SystemState}
-use Rattle.lagbeside.proofs.Common.{selection_view, stage_of, views, all-get, tick_count, NoneBegins, Runs, RunsOnceTicked, RunsWhile, Service}
-use Rattle.lagbeside.proofs.Common.{begins_in}
-use Rattle.selection.specs.Ready.{is_ready}
+use Rattle.std.proofs.Common.{Bool, List, Option, Some, [], ap, arith, eqb-true, false, if◌then◌else◌, inl, inr, not}
+use Rattle.std.proofs.Common.{refl, slice_get, subst, sym, true, ℕ, ◌&&◌, ◌+◌, ◌-◌, ◌==◌, ◌||◌, ◌∙◌, ◌∷◌, ◌≡◌, ◌≤◌, ◌⊎◌}
+use Rattle.std.proofs.lemmas.Bool.{cases_Bool}
+use Rattle.std.proofs.lemmas.Bool.Decides.{nat_tests}
+use Rattle.std.specs.List.{AllByRecursion}
+use Rattle.lagtypes.specs.declared.identifiers.AggId.{AggId}
+use Rattle.lagtypes.specs.declared.identifiers.Key.{Key}
+use Rattle.lagtypes.specs.declared.party.Choice.{Choice}
+use Rattle.lagtypes.specs.declared.party.Choice.TheVariants.{Selected, Standby, Unselected}
+use Rattle.lagtypes.specs.Choices.{is_unselected}
+use Rattle.lagtypes.specs.Same.{same_party}
+use Rattle.slowpdu.specs.declared.pdu.Lacpdu.{Lacpdu}
+use Rattle.slowpdu.specs.Parties.{party_of}
+use Rattle.portmachines.specs.declared.mux.MuxState.{MuxState}
+use Rattle.portmachines.specs.declared.mux.MuxState.TheVariants.{Attached, CollectingDistributing, Detached, Waiting}
+use Rattle.portmachines.specs.Machines.{Machines}
+use Rattle.portmachines.specs.Mux.{mux_rows, same_mux_state}
+use Rattle.portmachines.specs.Receive.{default_partner, lacpdu_rows, receive_rows}
+use Rattle.portmachines.specs.Rows.{RunsToRest}
+use Rattle.portmachines.specs.Start.{Starts, before_start}
+use Rattle.portmachines.specs.Transmit.{count_down}
+use Rattle.selection.specs.Views.{has_chosen, has_waited, is_detached_or_waiting, occupies}
+use Rattle.lagsystem.specs.declared.drive.Reply.{Reply}
+use Rattle.lagsystem.specs.declared.system_ports.SystemPort.{SystemPort}
+use Rattle.lagsystem.specs.Calls.{Call, Configure, ProcessesLacpdu, Receive, Restart, Set_link, Tick, Transmit, changed_party, choice_with_link}
+use Rattle.lagsystem.specs.NothingToSettle.{MuxIsSettled}
+use Rattle.lagsystem.specs.Sound.{IsSound}
+use Rattle.lagsystem.specs.State.{SystemState}
+use Rattle.lagsystem.specs.Views.{stage_of}
+use Rattle.lagbeside.specs.Heartbeat.{tick_count}
+use Rattle.lagbeside.specs.Serving.{NoneBegins, Runs, RunsOnceTicked, RunsWhile, Service, begins_in}
 use Rattle.lagbeside.proofs.EachPort.{KeptByCall, KeptBySettling, OfEach, Step-each, Tick-each}
 use Rattle.lagbeside.proofs.Hearing.{no}
 use Rattle.lagbeside.proofs.OnePort.{AtPort, periodic_leaves}
 use Rattle.lagbeside.proofs.Timers.{RowsKeep, runs_keep, takes_keep}
 use Rattle.lagbeside.proofs.Serving.{aside_each}
+use Rattle.lagbeside.proofs.ReadyMembers.{Fine, no_member_waits}
 
 -- an occupant in WAITING has so many ticks left at the most
 abbrev pub Hard : AggId → ℕ → Machines → Type 0
@@ -199,44 +220,6 @@ module _ (n : ℕ) (agg : AggId) (gives : ℕ → ℕ → ℕ → Type 0) where
   once_runs Is old new (call ∷ calls) (answer ∷ answers) h = (h.0, h.1, tt, h.2, h.3, once_runs Is h.1 new calls answers h.4)
   once_runs Is old new calls replies h = absurd h
 
--- Ready
-
-abbrev Lags : PortView → Bool
-Lags v = is_detached_or_waiting v.stage
-
-abbrev Waited : PortView → Bool
-Waited v = has_waited v.stage
-
-abbrev Fine : AggId → SystemPort → Type 0
-Fine agg y = has_chosen agg y.port.choice ≡ true → Lags (selection_view y) ≡ true → Waited (selection_view y) ≡ true
-
-member_waited : (c : Bool) (v : PortView) (xs : List PortView) → (c ≡ true → Lags v ≡ true → Waited v ≡ true)
-    → list_all Waited (filter Lags xs) ≡ true → list_all Waited (filter Lags (cond c (v ∷ xs) xs)) ≡ true
-member_waited c v xs k rest = grind (arith, nat_tests)
-
-all_waited : (agg : AggId) (ports : List SystemPort) → AllByRecursion (Fine agg) ports
-    → list_all Waited (filter Lags (ports_that_chose agg (views ports))) ≡ true
-all_waited agg [] a = refl
-all_waited agg (y ∷ ys) a = member_waited (has_chosen agg y.port.choice) (selection_view y) (ports_that_chose agg (views ys)) a.0
-    (all_waited agg ys a.1)
-
-either_true : (a b : Bool) → (a ≡ true) ⊎ (b ≡ true) → (a || b) ≡ true
-either_true a b h = grind (arith, nat_tests)
-
-both_true : (a b : Bool) → a ≡ true → b ≡ true → (a && b) ≡ true
-both_true a b e f = grind (arith, nat_tests)
-
-some_lags : (agg : AggId) (ports : List SystemPort) (i : ℕ) (x : SystemPort) → slice_get ports i ≡ Some x
-    → has_chosen agg x.port.choice ≡ true → Lags (selection_view x) ≡ true → list_any Lags (ports_that_chose agg (views ports)) ≡ true
-some_lags agg [] i x e c d = absurd (none-some x e)
-some_lags agg (y ∷ ys) zero x e c d = grind (arith, nat_tests, either_true)
-some_lags agg (y ∷ ys) (suc i) x e c d = grind (arith, nat_tests, either_true, some_lags agg ys i x e c d)
-
-all_ready : (keys : List Key) (ports : List SystemPort) (agg : AggId) → is_aggregator keys agg ≡ true
-    → list_any Lags (ports_that_chose agg (views ports)) ≡ true
-    → list_all Waited (filter Lags (ports_that_chose agg (views ports))) ≡ true → is_ready keys (views ports) agg ≡ true
-all_ready keys ports agg known some all = grind (arith, nat_tests, both_true)
-
 -- a member at rest that has not waited is synchronized
 
 chosen_occupies : (agg : AggId) (c : Choice) → has_chosen agg c ≡ true → (occupies agg c ≡ true) × (is_unselected c ≡ false)
@@ -269,27 +252,10 @@ fine_ports u c n agg keys all t r e f (x ∷ xs) q a b = (
   fine_ports u c n agg keys all t r e f xs q.1 a.1 b.1,
 )
 
-within : (keys : List Key) (i : ℕ) (key : Key) → slice_get keys i ≡ Some key → (suc i) ≤ length keys
-within [] i key e = absurd (none-some key e)
-within (k ∷ ks) zero key e = omega arith
-within (k ∷ ks) (suc i) key e = omega (arith, within ks i key e)
-
-pub known_number : (keys : List Key) (n : ℕ) (key : Key) → key_of keys n ≡ Some key → (nat_le 1 n && nat_le n (length keys)) ≡ true
-known_number keys zero key e = absurd (none-some key e)
-known_number keys (suc n) key e = let l = within keys n key e in grind (arith, nat_tests)
-
 -- so a member does not wait
 pub never_waits : (u : Service) (c : Choice) (s : SystemState) (i : ℕ) (x : SystemPort) (agg : AggId) (t r : ℕ) → t ≡ 0 → r ≡ 0 → IsSound s
     → slice_get s.system_ports i ≡ Some x → x.port.choice ≡ Selected agg
     → OfEach (AtPort x.number (λ p. p.mux ≡ Waiting → p.wait_while ≤ t)) s.system_ports
     → OfEach (Beside x.number (Hard agg r)) s.system_ports → x.port.mux ≡ Waiting → ⊥
 never_waits u c s i x agg t r e0 f0 h at e a b m =
-    let key = h.occupants.key i agg.0 x at (ap occupied e) in
-    let known : is_aggregator s.keys agg ≡ true = known_number s.keys agg.0 x.port.party.key key in
-    let settled = all-get (MuxIsSettled s.keys s.system_ports) s.system_ports i x at h.quiet.0 in
-    let unready : is_ready s.keys (views s.system_ports) agg ≡ false =
-    sym (ap (ready_of s.keys (views s.system_ports)) e) ∙ settled.unready in
-    let lags : Lags (selection_view x) ≡ true = ap (λ n. is_detached_or_waiting (stage_of n x.port.wait_while)) m in
-    no (sym unready ∙ all_ready s.keys s.system_ports agg known
-    (some_lags agg s.system_ports i x at (ap (has_chosen agg) e ∙ itself agg.0) lags)
-    (all_waited agg s.system_ports (fine_ports u c x.number agg s.keys s.system_ports t r e0 f0 s.system_ports h.quiet.0 a b)))
+    no_member_waits s i x agg h at e (fine_ports u c x.number agg s.keys s.system_ports t r e0 f0 s.system_ports h.quiet.0 a b) m

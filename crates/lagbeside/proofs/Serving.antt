@@ -1,18 +1,44 @@
 -- A port that is served stays so, and climbs.
-use Rattle.lagbeside.proofs.Common.{Bool, List, None, Ok, Option, Some, [], ap, arith, eqb-true, false, if◌then◌else◌, inl, inr, refl, slice_get}
-use Rattle.lagbeside.proofs.Common.{subst, sym, true, ℕ, ◌&&◌, ◌+◌, ◌-◌, ◌==◌, ◌∙◌, ◌∷◌, ◌≡◌, ◌≤◌, ◌⊎◌, cases_Bool, nat_tests, same_Some, Choice}
-use Rattle.lagbeside.proofs.Common.{Unselected, StateBits, is_selected, is_unselected, same_party, party_itself, Lacpdu, party_of, MuxState, Detached}
-use Rattle.lagbeside.proofs.Common.{Waiting, Current, Machines, is_synchronized, mux_rows, same_mux_state, receive_rows, recorded_synchronization}
-use Rattle.lagbeside.proofs.Common.{AtRest, RunsToRest, count_down, Reply, TookLacpdu, SystemPort, Call, Configure, OnlyPortChangesBy}
-use Rattle.lagbeside.proofs.Common.{ProcessesLacpdu, Receive, Restart, Set_link, Step, ThenSettles, Tick, Transmit, choice_with_link, can_receive}
-use Rattle.lagbeside.proofs.Common.{can_receive_in, none_enabled, IsSound, SystemState, port_index, port_numbers, with_table, named, keeps_place}
-use Rattle.lagbeside.proofs.Common.{can_receive_at_rest, Rises, all-get, found_place, ports_rise, processed_on, timeout_time, EachCall, tick_count}
-use Rattle.lagbeside.proofs.Common.{Fed, IsServed, LeavesServed, RunsWhile, Serves, Service, in_sync}
+use Rattle.std.proofs.Common.{Bool, List, None, Ok, Option, Some, [], ap, arith, eqb-true, false, if◌then◌else◌, inl, inr, refl, subst}
+use Rattle.std.proofs.Common.{sym, true, ℕ, ◌&&◌, ◌+◌, ◌-◌, ◌==◌, ◌∙◌, ◌∷◌, ◌≡◌, ◌≤◌, ◌⊎◌}
+use Rattle.std.proofs.lemmas.Bool.{cases_Bool}
+use Rattle.std.proofs.lemmas.Bool.Decides.{nat_tests}
+use Rattle.lagtypes.specs.declared.party.Choice.{Choice}
+use Rattle.lagtypes.specs.declared.party.Choice.TheVariants.{Unselected}
+use Rattle.lagtypes.specs.declared.state.StateBits.{StateBits}
+use Rattle.lagtypes.specs.Choices.{is_selected, is_unselected}
+use Rattle.lagtypes.specs.Same.{same_party}
+use Rattle.lagtypes.proofs.SameLemmas.{party_itself}
+use Rattle.slowpdu.specs.declared.pdu.Lacpdu.{Lacpdu}
+use Rattle.slowpdu.specs.Parties.{party_of}
+use Rattle.portmachines.specs.declared.mux.MuxState.{MuxState}
+use Rattle.portmachines.specs.declared.mux.MuxState.TheVariants.{Detached, Waiting}
+use Rattle.portmachines.specs.declared.receive.ReceiveState.TheVariants.{Current}
+use Rattle.portmachines.specs.Machines.{Machines}
+use Rattle.portmachines.specs.Mux.{is_synchronized, mux_rows, same_mux_state}
+use Rattle.portmachines.specs.Receive.{receive_rows, recorded_synchronization}
+use Rattle.portmachines.specs.Rows.{AtRest, RunsToRest}
+use Rattle.portmachines.specs.Transmit.{count_down}
+use Rattle.lagsystem.specs.declared.drive.Reply.{Reply}
+use Rattle.lagsystem.specs.declared.received.Received.TheVariants.{TookLacpdu}
+use Rattle.lagsystem.specs.declared.system_ports.SystemPort.{SystemPort}
+use Rattle.lagsystem.specs.Calls.{Call, Configure, OnlyPortChangesBy, ProcessesLacpdu, Receive, Restart, Set_link, Step, ThenSettles, Tick, Transmit}
+use Rattle.lagsystem.specs.Calls.{choice_with_link}
+use Rattle.lagsystem.specs.ModelView.{can_receive, can_receive_in}
+use Rattle.lagsystem.specs.Sound.{IsSound}
+use Rattle.lagsystem.specs.State.{SystemState, port_index, with_table}
+use Rattle.lagsystem.proofs.Effects.{named}
+use Rattle.lagsystem.proofs.Rising.{all-get, found_place}
+use Rattle.lagbeside.specs.Hearing.{processed_on}
+use Rattle.lagbeside.specs.Timers.{timeout_time}
+use Rattle.lagbeside.specs.Heartbeat.{EachCall, tick_count}
+use Rattle.lagbeside.specs.Serving.{Fed, IsServed, LeavesServed, RunsWhile, Serves, Service, in_sync}
 use Rattle.lagsystem.specs.declared.drive.Reply.TheVariants as reply
-use Rattle.lagbeside.proofs.EachPort.{KeptByCall, KeptBySettling, OfEach, Step-each, Tick-each, settling_each, took}
+use Rattle.lagbeside.proofs.EachPort.{KeptByCall, KeptBySettling, OfEach, Step-each, Tick-each, took}
 use Rattle.lagbeside.proofs.Hearing.{EnabledKeep, both, is_number, no, not_down, stays_up, times_keep}
-use Rattle.lagbeside.proofs.Knowing.{decoded, placed, rests_still}
-use Rattle.lagbeside.proofs.OnePort.{AtPort, at_number, mux_leaves, periodic_leaves}
+use Rattle.lagbeside.proofs.Knowing.{decoded, rests_still}
+use Rattle.lagbeside.proofs.OnePort.{AtPort, mux_leaves, periodic_leaves}
+use Rattle.lagbeside.proofs.Knowing.{takes_each}
 
 -- SELECTED so, and served
 abbrev pub Held : Service → Choice → ℕ → Machines → Type 0
@@ -147,27 +173,6 @@ climbs_takes u c may left t v p q serves awake a h =
       (served_first u v p q s.0 s.1 s.2 s.3 awake serves h, k.0 ∙ a.0.1),
       subst (λ m. Comes may t m q.wait_while) (sym k.1) (subst (λ n. Comes may t p.mux n) (sym k.2) a.1),
     )
-
--- what holds of the port that processed an LACPDU, after the settling
-pub takes_each : (Q : Machines → Type 0) (old new : SystemState) (x : Lacpdu) (k : ℕ) (z : SystemPort) → IsSound old
-    → slice_get old.system_ports k ≡ Some z → ((q : Machines) → can_receive z.port ≡ true → ProcessesLacpdu x z.port q → Q q)
-    → KeptBySettling (AtPort z.number Q) → ThenSettles (OnlyPortChangesBy (Some k) (ProcessesLacpdu x)) old new
-    → OfEach (AtPort z.number Q) new.system_ports
-takes_each Q old new x k z sound at does settles h =
-    let y = h.1.0.0 in
-    let q = h.1.0.1 in
-    let same : z ≡ y = same_Some z y (sym at ∙ h.1.0.2) in
-    let awake = can_receive_at_rest z.port
-    (all-get (λ (c : SystemPort). none_enabled receive_rows c.port ≡ true) old.system_ports k z at sound.rested.0) in
-    let first = does q awake (subst (λ (c : SystemPort). ProcessesLacpdu x c.port q) (sym same) h.1.0.3) in
-    let after : SystemPort = record y { port = q } in
-    let rises : Rises 0 (port_numbers h.0.system_ports) =
-    subst (Rises 0) (sym (keeps_place (ProcessesLacpdu x) (Some k) old h.0 h.1).same) (ports_rise old sound.ports) in
-    let here : slice_get h.0.system_ports k ≡ Some after =
-    subst (λ l. slice_get l k ≡ Some after) (sym h.1.0.4) (placed old.system_ports k y after h.1.0.2) in
-    let each = at_number Q 0 h.0.system_ports k after rises here first in
-    settling_each (AtPort z.number Q) settles h.0 new h.2 (subst (λ (c : SystemPort). OfEach (AtPort c.number Q) h.0.system_ports)
-    (sym same) each)
 
 -- so of the port with this number
 pub takes_at : (P Q : Machines → Type 0) (m : ℕ) (old new : SystemState) (v : Lacpdu) (o : Option ℕ) → IsSound old

@@ -1,12 +1,29 @@
 -- What happens to a port leaves no timer above the ticks that it can start with.
-use Rattle.lagbeside.proofs.Common.{Bool, List, [], arith, cond, false, if◌then◌else◌, inl, inr, nat_lt, refl, subst, suc, sym, true, zero, ℕ, ◌++◌}
-use Rattle.lagbeside.proofs.Common.{◌+◌, ◌<◌, ◌∷◌, ◌≡◌, ◌≤◌, nat_tests, AllByRecursion, Lacpdu, Setup, ReceiveState, Current, Defaulted, Expired}
-use Rattle.lagbeside.proofs.Common.{Initialize, PortDisabled, Machines, mux_rows, periodic_rows, lacpdu_rows, receive_rows, start_receive, Fires}
-use Rattle.lagbeside.proofs.Common.{FiresTimes, Row, RunsToRest, Starts, before_start, aged, count_down, Reply, Call, Configure, ProcessesLacpdu}
-use Rattle.lagbeside.proofs.Common.{Receive, Restart, Set_link, Tick, Transmit, changed_party, choice_with_link, IsTimed, most_current_while}
-use Rattle.lagbeside.proofs.Common.{most_periodic_timer}
+use Rattle.std.proofs.Common.{Bool, Err, List, None, Ok, Option, Some, [], arith, cond, false, if◌then◌else◌, inl, inr, nat_lt, refl, subst, suc, sym}
+use Rattle.std.proofs.Common.{true, zero, ℕ, ◌++◌, ◌+◌, ◌-◌, ◌<◌, ◌∷◌, ◌≡◌, ◌≤◌}
+use Rattle.std.proofs.lemmas.Bool.Decides.{nat_tests}
+use Rattle.std.specs.List.{AllByRecursion}
+use Rattle.slowpdu.specs.declared.pdu.Lacpdu.{Lacpdu}
 use Rattle.portmachines.specs.declared.periodic.PeriodicState.{PeriodicState}
-use Rattle.lagbeside.proofs.EachPort.{KeptByCall, KeptBySettling}
+use Rattle.portmachines.specs.declared.port.Setup.{Setup}
+use Rattle.portmachines.specs.declared.receive.ReceiveState.{ReceiveState}
+use Rattle.portmachines.specs.declared.receive.ReceiveState.TheVariants.{Current, Defaulted, Initialize, PortDisabled}
+use Rattle.portmachines.specs.Machines.{Machines}
+use Rattle.portmachines.specs.Mux.{mux_rows}
+use Rattle.portmachines.specs.Periodic.{periodic_rows}
+use Rattle.portmachines.specs.Receive.{lacpdu_rows, receive_rows, start_receive}
+use Rattle.portmachines.specs.Rows.{Fires, FiresTimes, Row, RunsToRest}
+use Rattle.portmachines.specs.Start.{Starts, before_start}
+use Rattle.portmachines.specs.Transmit.{aged, count_down}
+use Rattle.lagsystem.specs.declared.system_ports.SystemPort.{SystemPort}
+use Rattle.lagsystem.specs.Calls.{Call, Configure, ProcessesLacpdu, Receive, Restart, Set_link, Tick, Transmit, changed_party, choice_with_link}
+use Rattle.lagsystem.specs.State.{SystemState, port_index}
+use Rattle.lagsystem.proofs.Rising.{all-get, all-set}
+use Rattle.lagbeside.specs.Timers.{EachSettingKeepsTimed, IsTimed, KeepsTimeout, PortsAreTimed, most_current_while, most_periodic_timer}
+use Rattle.lagbeside.specs.Timers.{timeout_time}
+use Rattle.lagsystem.specs.declared.drive.Reply.{Reply}
+use Rattle.lagsystem.specs.Settings.{Setting, SetsPort, in_mode, is_held_so, is_in_mode, with_held}
+use Rattle.lagbeside.proofs.EachPort.{KeptByCall, KeptBySettling, OfEach, settling_each, zip_kept}
 
 -- what each row keeps, its machine keeps
 
@@ -32,21 +49,17 @@ takes_keep P v k p q h a = elim h [ inl f ↦ fires_keep P (lacpdu_rows v) k p q
 
 -- current_while
 
--- the bound is the least in EXPIRED
-least_expired : (short : Bool) → 30 ≤ most_current_while short Expired
-least_expired short = grind (arith, nat_tests)
+-- the bound is the least in EXPIRED, and the highest in other states
+rises : (r : ReceiveState) (n : ℕ) → n ≤ most_current_while r → (n ≤ most_current_while Initialize)
+    × (n ≤ most_current_while PortDisabled) × (n ≤ most_current_while Defaulted)
+rises r n h = grind (arith, nat_tests)
 
--- and the highest in these states
-rises : (short : Bool) (r : ReceiveState) (n : ℕ) → n ≤ most_current_while short r → (n ≤ most_current_while short Initialize)
-    × (n ≤ most_current_while short PortDisabled) × (n ≤ most_current_while short Defaulted)
-rises short r n h = grind (arith, nat_tests)
-
-starts_with : (short : Bool) → (if short then 30 else 900) ≤ most_current_while short Current
+starts_with : (short : Bool) → (if short then 30 else 900) ≤ most_current_while Current
 starts_with true = omega arith
 starts_with false = omega arith
 
 receive_keeps : RowsKeep IsTimed receive_rows
-receive_keeps = grind (arith, nat_tests, rises, least_expired)
+receive_keeps = grind (arith, nat_tests, rises)
 
 take_keeps : (v : Lacpdu) → RowsKeep IsTimed (lacpdu_rows v)
 take_keeps v = (λ p a. (starts_with p.short, a.1, a.2, a.3), tt)
@@ -84,7 +97,7 @@ counts p a = (omega (arith, a.0), omega (arith, a.1), omega (arith, a.2), recent
 starts : (p q : Machines) → Starts p q → IsTimed p → IsTimed q
 starts p q h a =
     subst IsTimed (sym h.2) (runs_keep IsTimed receive_rows receive_keeps (start_receive p) h.0 h.1
-    ((rises p.short p.receive p.current_while a.0).0, a.1, a.2, a.3))
+    ((rises p.receive p.current_while a.0).0, a.1, a.2, a.3))
 
 abbrev pub TimedAt : ℕ → Machines → Type 0
 TimedAt n p = IsTimed p
@@ -108,3 +121,83 @@ timed_kept (Configure n change) answer = λ p q h a. starts (record p { party = 
 timed_kept Restart answer = timed_starts
 timed_kept (Transmit n) answer = λ p e a. (a.0, a.1, a.2, sent p.ages a.3)
 timed_kept call answer = tt
+
+-- the time-out of the port
+
+short_most : (short : Bool) → 30 ≤ timeout_time short
+short_most true = omega arith
+short_most false = omega arith
+
+starts_most : (short : Bool) → (if short then 30 else 900) ≤ timeout_time short
+starts_most true = omega arith
+starts_most false = omega arith
+
+receive_rows_within : RowsKeep KeepsTimeout receive_rows
+receive_rows_within = grind (arith, nat_tests, short_most)
+
+periodic_rows_within : RowsKeep KeepsTimeout periodic_rows
+periodic_rows_within = grind (arith, nat_tests)
+
+mux_rows_within : (ready : Bool) → RowsKeep KeepsTimeout (mux_rows ready)
+mux_rows_within ready = grind (arith, nat_tests)
+
+within_starts : (p q : Machines) → Starts p q → KeepsTimeout p → KeepsTimeout q
+within_starts p q h a = subst KeepsTimeout (sym h.2) (runs_keep KeepsTimeout receive_rows receive_rows_within (start_receive p) h.0 h.1 a)
+
+abbrev pub WithinTimeout : ℕ → Machines → Type 0
+WithinTimeout n p = KeepsTimeout p
+
+pub within_settles : KeptBySettling WithinTimeout
+within_settles = record {
+  mux = λ n ready p q h a. runs_keep KeepsTimeout (mux_rows ready) (mux_rows_within ready) p q h a;
+  periodic = λ n p q h a. subst KeepsTimeout (sym h.2) (runs_keep KeepsTimeout periodic_rows periodic_rows_within p h.0 h.1 a);
+  select = λ n choice p none may a. a;
+}
+
+zero_within : (short : Bool) → 0 ≤ timeout_time short
+zero_within short = omega arith
+
+pub within_first : (n : ℕ) (u : Setup) (q : Machines) → Starts (before_start u) q → WithinTimeout n q
+within_first n u q h = within_starts (before_start u) q h (zero_within u.short)
+
+fewer : (n most : ℕ) → n ≤ most → n - 1 ≤ most
+fewer n most h = omega (arith, h)
+
+pub within_kept : (call : Call) (answer : Reply) → KeptByCall WithinTimeout call answer
+within_kept Tick answer = λ n p q h a. runs_keep KeepsTimeout receive_rows receive_rows_within (count_down p) q h
+    (fewer p.current_while (timeout_time p.short) a)
+within_kept (Set_link n up) answer = λ max_links p q h a. runs_keep KeepsTimeout receive_rows receive_rows_within
+    (record p { enabled = up; choice = choice_with_link max_links up p.choice }) q h a
+within_kept (Receive n octets) answer = λ v p q t f h a. takes_keep KeepsTimeout v ((λ m b. starts_most m.short), tt) p q h a
+within_kept (Configure n change) answer = λ p q h a. within_starts (record p { party = changed_party change p.party }) q h.1 a
+within_kept Restart answer = within_first
+within_kept (Transmit n) answer = λ p e a. a
+within_kept call answer = tt
+
+-- a setting keeps the bounds
+
+set_each : (P : ℕ → Machines → Type 0) → KeptBySettling P → (already : SystemPort → Bool) (change : SystemPort → SystemPort)
+    → ((x : SystemPort) → P x.number x.port → P (change x).number (change x).port) → (o : Option ℕ) (old new : SystemState)
+    → SetsPort already change o old new → OfEach P old.system_ports → OfEach P new.system_ports
+set_each P k already change c None old new h a = absurd h
+set_each P k already change c (Some i) old new h a = elim h [
+  | inl same ↦ subst (λ (s : SystemState). OfEach P s.system_ports) (sym same.1) a
+  | inr settled ↦ (let b = settled.1.0 in
+      let is : SystemPort → Type 0 = λ x. P x.number x.port in
+      settling_each P k settled.0 new settled.2 (subst (OfEach P) (sym b.3)
+      (all-set is old.system_ports i (change b.0) a (c b.0 (all-get is old.system_ports i b.0 b.1 a)))))
+]
+
+pub setting_timed : EachSettingKeepsTimed
+setting_timed old new (Setting.Hold_port n held) (Ok done) h t =
+    set_each TimedAt timed_settles (is_held_so held) (with_held held) (λ x a. a) (port_index n old.system_ports) old new h t
+setting_timed old new (Setting.Hold_port n held) (Err fault) h t = subst PortsAreTimed (sym h.same) t
+setting_timed old new (Setting.Set_mode n active short) (Ok done) h t =
+    set_each TimedAt timed_settles (is_in_mode active short) (in_mode active short) (λ x a. a) (port_index n old.system_ports) old new h t
+setting_timed old new (Setting.Set_mode n active short) (Err fault) h t = subst PortsAreTimed (sym h.same) t
+setting_timed old new (Setting.Set_max_delay max_delay) (Ok done) h t = subst PortsAreTimed (sym h) t
+setting_timed old new (Setting.Set_max_delay max_delay) (Err fault) h t = absurd h
+setting_timed old new (Setting.Set_max_links max_links) (Ok done) h t = settling_each TimedAt timed_settles h.1.0 new h.1.2
+    (zip_kept (λ p q. q ≡ record p { choice = choice_with_link max_links p.enabled p.choice }) TimedAt TimedAt
+    (λ n p q e a. subst IsTimed (sym e) a) old.system_ports h.1.0.system_ports h.1.1.0 t)
+setting_timed old new (Setting.Set_max_links max_links) (Err fault) h t = subst PortsAreTimed (sym h.1) t

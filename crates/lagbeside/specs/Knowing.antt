@@ -12,7 +12,8 @@ use Rattle.lagsystem.specs.declared.system_ports.SystemPort.{SystemPort}
 use Rattle.lagsystem.specs.Calls.{Call, OnlyPortChangesBy, ProcessesLacpdu, TableRun, ThenSettles}
 use Rattle.lagsystem.specs.Sound.{IsSound}
 use Rattle.lagsystem.specs.State.{SystemState}
-use Rattle.lagbeside.specs.Hearing.{LeavesUnheard, timeout_time}
+use Rattle.lagbeside.specs.Hearing.{LeavesUnheard}
+use Rattle.lagbeside.specs.Timers.{timeout_time}
 use Rattle.lagbeside.specs.Heartbeat.{EachCall, tick_count}
 
 -- CURRENT, on no defaults and not Expired, and the partner is the actor of the LACPDU: its six parameters, its Activity

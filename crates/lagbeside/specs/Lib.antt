@@ -4,4 +4,6 @@ pub mod Timers
 pub mod Heartbeat
 pub mod Hearing
 pub mod Knowing
+pub mod Waits
+pub mod Told
 pub mod Serving

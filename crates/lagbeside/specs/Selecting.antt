@@ -60,3 +60,10 @@ pub record SharesGroup (s : SystemState) (x : SystemPort) : Type 0 where
 abbrev pub HasPlace : SystemState → SystemPort → Type 0
 HasPlace s x = (ports_with x.port.party.key s ≤ aggregators_with x.port.party.key s)
     ⊎ ((1 ≤ aggregators_with x.port.party.key s) × SharesGroup s x)
+
+-- in a sound system, each port that wants an aggregator, and that the host does not hold, is SELECTED, or STANDBY with a full one,
+-- if there is an aggregator of its key, and the ports of that key share one group
+abbrev pub SharesAggregator : Type 0
+SharesAggregator = (s : SystemState) (i : ℕ) (x : SystemPort) → IsSound s → slice_get s.system_ports i ≡ Some x
+    → WantsAggregator x.port → x.held ≡ false → 1 ≤ aggregators_with x.port.party.key s → SharesGroup s x
+    → (selected x.port ≡ true) ⊎ StandsByFull s x.port

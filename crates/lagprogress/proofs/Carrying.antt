@@ -1,26 +1,61 @@
 -- The link of each port that carries a conversation, or on which one is held, is up.
-use Rattle.lagprogress.proofs.Common.{Bool, Err, List, None, Ok, Option, Result, Some, ap, arith, cond, eqb, false, inl, inr, length, not, refl}
-use Rattle.lagprogress.proofs.Common.{subst, sym, true, ℕ, ◌&&◌, ◌==◌, ◌||◌, ◌∙◌, ◌≡◌, ◌⊎◌, and_parts, nat_tests, none-some, slice_get_cases}
-use Rattle.lagprogress.proofs.Common.{slice_get_within, AggId, State, StateBits, bits_of, with_synchronization, encode_then_decode}
-use Rattle.lagprogress.proofs.Common.{CollectingDistributing, Setup, ReceiveState, PortDisabled, Machines, partner_synchronized, same_mux_state}
-use Rattle.lagprogress.proofs.Common.{selected, lacpdu_rows, receive_rows, same_receive_state, start_receive, Starts, before_start, count_down}
-use Rattle.lagprogress.proofs.Common.{has_chosen, Assignment, Free, On, force_result, is_among, move_result, after_down, Table, assignment_of}
-use Rattle.lagprogress.proofs.Common.{next_identifier, first_free, Answer, SystemFault, SystemPort, Call, Configure, Force, FreesIfDown}
-use Rattle.lagprogress.proofs.Common.{Move_conversation, Offer, Receive, Restart, Set_link, Step, Tick, Transmit, changed_party, choice_with_link}
-use Rattle.lagprogress.proofs.Common.{IsFirst, configured_numbers, none_enabled, MuxIsSettled, Offers, system_force_result, system_move_result}
-use Rattle.lagprogress.proofs.Common.{aggregator_numbered, distributing, IsSound, SystemState, port_numbers, Step-frame, rests, all-get, ports_rise}
-use Rattle.lagprogress.proofs.Common.{Step-sound, first_sound, forced_to, moved_to, Algorithms, half, EachReachedHasCarriersUp, HasPortUp, carrier_of}
-use Rattle.lagprogress.proofs.Common.{held_on, takes_down}
+use Rattle.std.proofs.Common.{Bool, Err, List, None, Ok, Option, Result, Some, ap, arith, cond, eqb, false, inl, inr, length, not, refl, subst, sym}
+use Rattle.std.proofs.Common.{true, ℕ, ◌&&◌, ◌==◌, ◌||◌, ◌∙◌, ◌≡◌, ◌⊎◌}
+use Rattle.std.proofs.lemmas.Bool.{and_parts}
+use Rattle.std.proofs.lemmas.Bool.Decides.{nat_tests}
+use Rattle.std.proofs.lemmas.Option.{none-some, slice_get_cases, slice_get_within}
+use Rattle.lagtypes.specs.declared.identifiers.AggId.{AggId}
+use Rattle.lagtypes.specs.declared.state.State.{State}
+use Rattle.lagtypes.specs.declared.state.StateBits.{StateBits}
+use Rattle.lagtypes.specs.States.{bits_of, with_synchronization}
+use Rattle.lagtypes.proofs.StateLemmas.{encode_then_decode}
+use Rattle.portmachines.specs.declared.mux.MuxState.TheVariants.{CollectingDistributing}
+use Rattle.portmachines.specs.declared.port.Setup.{Setup}
+use Rattle.portmachines.specs.declared.receive.ReceiveState.{ReceiveState}
+use Rattle.portmachines.specs.declared.receive.ReceiveState.TheVariants.{PortDisabled}
+use Rattle.portmachines.specs.Machines.{Machines}
+use Rattle.portmachines.specs.Mux.{partner_synchronized, same_mux_state, selected}
+use Rattle.portmachines.specs.Receive.{lacpdu_rows, receive_rows, same_receive_state, start_receive}
+use Rattle.portmachines.specs.Start.{Starts, before_start}
+use Rattle.portmachines.specs.Transmit.{count_down}
+use Rattle.selection.specs.Views.{has_chosen}
+use Rattle.distributor.specs.declared.assignment.Assignment.{Assignment}
+use Rattle.distributor.specs.declared.assignment.Assignment.TheVariants.{Free, On}
+use Rattle.distributor.specs.Calls.{force_result, is_among, move_result}
+use Rattle.distributor.specs.Changes.{after_down}
+use Rattle.distributor.specs.Conversations.{Table, assignment_of, next_identifier}
+use Rattle.distributor.proofs.TableLemmas.{first_free}
+use Rattle.lagsystem.specs.declared.drive.Reply.{Reply as Answer}
+use Rattle.lagsystem.specs.declared.fault.SystemFault.{SystemFault}
+use Rattle.lagsystem.specs.declared.system_ports.SystemPort.{SystemPort}
+use Rattle.lagsystem.specs.Calls.{Call, Configure, Force, FreesIfDown, Move_conversation, Offer, Receive, Restart, Set_link, Step, Tick, Transmit}
+use Rattle.lagsystem.specs.Calls.{changed_party, choice_with_link}
+use Rattle.lagsystem.specs.First.{IsFirst, configured_numbers}
+use Rattle.lagsystem.specs.ModelView.{none_enabled}
+use Rattle.lagsystem.specs.NothingToSettle.{MuxIsSettled}
+use Rattle.lagsystem.specs.Offers.{Offers, system_force_result, system_move_result}
+use Rattle.lagsystem.specs.Readers.{aggregator_numbered, distributing}
+use Rattle.lagsystem.specs.Sound.{IsSound}
+use Rattle.lagsystem.specs.State.{SystemState, port_numbers}
+use Rattle.lagsystem.proofs.Keeps.{Step-frame}
+use Rattle.lagsystem.proofs.Rest.{rests}
+use Rattle.lagsystem.proofs.Rising.{all-get, ports_rise}
+use Rattle.lagsystem.proofs.Sound.{Step-sound, first_sound}
+use Rattle.lagsystem.proofs.Steps.{forced_to, moved_to}
+use Rattle.lagworld.specs.Events.{Algorithms}
+use Rattle.lagworld.specs.State.{half}
+use Rattle.lagprogress.specs.Freed.{EachReachedHasCarriersUp, HasPortUp, carrier_of, held_on}
+use Rattle.lagbeside.specs.Heartbeat.{takes_down}
 use Rattle.lagsystem.specs.declared.drive.Reply.TheVariants as reply
 use Rattle.lagprogress.proofs.Answering.{among_port}
-use Rattle.lagprogress.proofs.EachPort.{KeptByCall, KeptBySettling, OfEach, Step-each, first_each}
+use Rattle.lagbeside.proofs.EachPort.{KeptByCall, KeptBySettling, OfEach, Step-each, first_each}
 use Rattle.lagprogress.proofs.Freeing.{Stays, held_carries, stays}
-use Rattle.lagprogress.proofs.TableSteps.{Turns, asks_turn, comes_turn, gives_turn, same_turns, settles_turn, ticks_turn, turns_through}
+use Rattle.lagbeside.proofs.TableSteps.{Turns, asks_turn, comes_turn, gives_turn, same_turns, settles_turn, ticks_turn, turns_through}
 use Rattle.lagprogress.proofs.Halves.{both_first}
-use Rattle.lagprogress.proofs.Hearing.{no}
+use Rattle.lagbeside.proofs.Hearing.{no}
 use Rattle.lagprogress.proofs.Linked.{many, events_each}
-use Rattle.lagprogress.proofs.OnePort.{AtPort, at_number, same_place, settling_leaves}
-use Rattle.lagprogress.proofs.Timers.{RowsKeep, fires_keep, runs_keep}
+use Rattle.lagbeside.proofs.OnePort.{AtPort, at_number, same_place, settling_leaves}
+use Rattle.lagbeside.proofs.Timers.{RowsKeep, fires_keep, runs_keep}
 
 -- the partner of a port in PORT_DISABLED is not synchronized
 
@@ -49,7 +84,7 @@ pub lapse_kept : (call : Call) (answer : Answer) → KeptByCall LapsesAt call an
 lapse_kept Tick answer = λ n p q h a. runs_keep Lapses receive_rows receive_lapses (count_down p) q h a
 lapse_kept (Set_link n up) answer = λ max_links p q h a. runs_keep Lapses receive_rows receive_lapses
     (record p { enabled = up; choice = choice_with_link max_links up p.choice }) q h a
-lapse_kept (Receive n octets) answer = λ v p q t h a. elim h [
+lapse_kept (Receive n octets) answer = λ v p q t came h a. elim h [
   | inl f ↦ fires_keep Lapses (lacpdu_rows v) (λ p a e. absurd cc, tt) p q f a
   | inr r ↦ subst Lapses (sym r.1) a
 ]
@@ -105,7 +140,7 @@ up_kept : (p : ℕ) (call : Call) (answer : Answer) → takes_down p call ≡ fa
 up_kept p Tick answer t = λ n q r h a e. runs_keep Up receive_rows receive_up (count_down q) r h (a e)
 up_kept p (Set_link n up) answer t = λ max_links q r h a e. runs_keep Up receive_rows receive_up
     (record q { enabled = up; choice = choice_with_link max_links up q.choice }) r h (set_up n p up t e)
-up_kept p (Receive n octets) answer t = λ v q r took h a e. elim h [
+up_kept p (Receive n octets) answer t = λ v q r took came h a e. elim h [
   | inl f ↦ fires_keep Up (lacpdu_rows v) (λ p a. a, tt) q r f (a e)
   | inr x ↦ subst Up (sym x.1) (a e)
 ]

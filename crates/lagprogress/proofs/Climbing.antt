@@ -1,21 +1,40 @@
 -- How the mux machine of a SELECTED port climbs, and what a round keeps of what holds of one end.
-use Rattle.lagprogress.proofs.Common.{Bool, List, Some, [], ap, arith, cond, false, filter, if◌then◌else◌, inl, inr, not, refl, slice_get, subst, suc}
-use Rattle.lagprogress.proofs.Common.{sym, true, zero, ℕ, ◌&&◌, ◌-◌, ◌==◌, ◌||◌, ◌∙◌, ◌∷◌, ◌≡◌, ◌≤◌, ◌⊎◌, and_parts, nat_tests, none-some}
-use Rattle.lagprogress.proofs.Common.{AllByRecursion, list_all, list_any, AggId, Key, Choice, Selected, Standby, Unselected, is_selected}
-use Rattle.lagprogress.proofs.Common.{is_unselected, same_party, itself, party_itself, Lacpdu, party_of, MuxState, Attached, CollectingDistributing}
-use Rattle.lagprogress.proofs.Common.{Detached, Waiting, ReceiveState, Machines, is_synchronized, mux_rows, partner_synchronized, same_mux_state}
-use Rattle.lagprogress.proofs.Common.{default_partner, lacpdu_rows, receive_rows, same_receive_state, AtRest, RunsToRest, count_down, PortView}
-use Rattle.lagprogress.proofs.Common.{is_aggregator, ports_that_chose, has_chosen, has_waited, is_detached_or_waiting, SystemPort, ProcessesLacpdu}
-use Rattle.lagprogress.proofs.Common.{MuxIsSettled, occupied, ready_of, IsSound, SystemState, selection_view, stage_of, views, all-get, HasRecorded}
-use Rattle.lagprogress.proofs.Common.{IsTimed}
-use Rattle.lagprogress.proofs.EachPort.{KeptBySettling}
-use Rattle.selection.specs.Ready.{is_ready}
+use Rattle.std.proofs.Common.{Bool, List, Some, [], ap, arith, false, if◌then◌else◌, inl, inr, not, refl, slice_get, subst, sym}
+use Rattle.std.proofs.Common.{true, ℕ, ◌&&◌, ◌-◌, ◌==◌, ◌||◌, ◌∙◌, ◌∷◌, ◌≡◌, ◌≤◌, ◌⊎◌}
+use Rattle.std.proofs.lemmas.Bool.{and_parts}
+use Rattle.std.proofs.lemmas.Bool.Decides.{nat_tests}
+use Rattle.std.specs.List.{AllByRecursion}
+use Rattle.lagtypes.specs.declared.identifiers.AggId.{AggId}
+use Rattle.lagtypes.specs.declared.party.Choice.{Choice}
+use Rattle.lagtypes.specs.declared.party.Choice.TheVariants.{Selected, Standby, Unselected}
+use Rattle.lagtypes.specs.Choices.{is_selected, is_unselected}
+use Rattle.lagtypes.specs.Same.{same_party}
+use Rattle.lagtypes.proofs.SameLemmas.{party_itself}
+use Rattle.slowpdu.specs.declared.pdu.Lacpdu.{Lacpdu}
+use Rattle.slowpdu.specs.Parties.{party_of}
+use Rattle.portmachines.specs.declared.mux.MuxState.{MuxState}
+use Rattle.portmachines.specs.declared.mux.MuxState.TheVariants.{Attached, CollectingDistributing, Detached, Waiting}
+use Rattle.portmachines.specs.declared.receive.ReceiveState.{ReceiveState}
+use Rattle.portmachines.specs.Machines.{Machines}
+use Rattle.portmachines.specs.Mux.{is_synchronized, mux_rows, partner_synchronized, same_mux_state}
+use Rattle.portmachines.specs.Receive.{default_partner, lacpdu_rows, receive_rows, same_receive_state}
+use Rattle.portmachines.specs.Rows.{AtRest, RunsToRest}
+use Rattle.portmachines.specs.Transmit.{count_down}
+use Rattle.selection.specs.Views.{has_chosen, has_waited, is_detached_or_waiting}
+use Rattle.lagsystem.specs.declared.system_ports.SystemPort.{SystemPort}
+use Rattle.lagsystem.specs.Calls.{ProcessesLacpdu}
+use Rattle.lagsystem.specs.Sound.{IsSound}
+use Rattle.lagsystem.specs.State.{SystemState}
+use Rattle.lagsystem.specs.Views.{stage_of}
+use Rattle.lagbeside.specs.Knowing.{HasRecorded}
+use Rattle.lagbeside.specs.Timers.{IsTimed}
+use Rattle.lagbeside.proofs.EachPort.{KeptBySettling}
 use Rattle.lagprogress.proofs.EndFacts.{Along, IsEnd, SameActor, Synced, activity, not_attached, takes_sync}
-use Rattle.lagprogress.proofs.Hearing.{EnabledKeep, no, not_down, times_keep}
-use Rattle.lagprogress.proofs.Knowing.{Known, counts, rests_still}
-use Rattle.lagprogress.proofs.Selecting.{known_number}
-use Rattle.lagprogress.proofs.Timers.{runs_keep, fires_keep}
-use Rattle.lagprogress.proofs.OnePort.{mux_leaves, periodic_leaves}
+use Rattle.lagbeside.proofs.Hearing.{EnabledKeep, no, not_down, times_keep}
+use Rattle.lagbeside.proofs.Knowing.{Known, counts, rests_still}
+use Rattle.lagbeside.proofs.Timers.{runs_keep, fires_keep}
+use Rattle.lagbeside.proofs.OnePort.{mux_leaves, periodic_leaves}
+use Rattle.lagbeside.proofs.ReadyMembers.{Fine, no_member_waits}
 
 -- while current_while has ticks left the receive machine stays
 
@@ -120,52 +139,16 @@ risen_waits m n h e = grind (arith, nat_tests)
 member_selected : (agg : AggId) (c : Choice) → has_chosen agg c ≡ true → is_selected c ≡ true
 member_selected agg c h = grind (arith, nat_tests)
 
-abbrev Lags : PortView → Bool
-Lags v = is_detached_or_waiting v.stage
-
-abbrev Waited : PortView → Bool
-Waited v = has_waited v.stage
-
-both_true : (a b : Bool) → a ≡ true → b ≡ true → (a && b) ≡ true
-both_true a b e f = grind (arith, nat_tests)
-
-either_true : (a b : Bool) → (a ≡ true) ⊎ (b ≡ true) → (a || b) ≡ true
-either_true a b h = grind (arith, nat_tests)
-
-member_waited : (c : Bool) (v : PortView) (xs : List PortView) → (c ≡ true → Lags v ≡ true → Waited v ≡ true)
-    → list_all Waited (filter Lags xs) ≡ true → list_all Waited (filter Lags (cond c (v ∷ xs) xs)) ≡ true
-member_waited c v xs k rest = grind (arith, nat_tests)
-
-all_waited : (agg : AggId) (ports : List SystemPort) → AllByRecursion (λ (y : SystemPort). Ripe 0 y.port) ports
-    → list_all Waited (filter Lags (ports_that_chose agg (views ports))) ≡ true
-all_waited agg [] a = refl
-all_waited agg (y ∷ ys) a = grind (arith, nat_tests, member_waited, risen_waits, member_selected, all_waited agg ys a.1)
-
-some_lags : (agg : AggId) (ports : List SystemPort) (i : ℕ) (x : SystemPort) → slice_get ports i ≡ Some x
-    → has_chosen agg x.port.choice ≡ true → Lags (selection_view x) ≡ true → list_any Lags (ports_that_chose agg (views ports)) ≡ true
-some_lags agg [] i x e c d = absurd (none-some x e)
-some_lags agg (y ∷ ys) zero x e c d = grind (arith, nat_tests, either_true)
-some_lags agg (y ∷ ys) (suc i) x e c d = grind (arith, nat_tests, either_true, some_lags agg ys i x e c d)
-
--- so the aggregator is Ready
-all_ready : (keys : List Key) (ports : List SystemPort) (agg : AggId) → is_aggregator keys agg ≡ true
-    → list_any Lags (ports_that_chose agg (views ports)) ≡ true
-    → list_all Waited (filter Lags (ports_that_chose agg (views ports))) ≡ true → is_ready keys (views ports) agg ≡ true
-all_ready keys ports agg known some all = grind (arith, nat_tests, both_true)
+fine : (agg : AggId) (ports : List SystemPort) → AllByRecursion (λ (y : SystemPort). Ripe 0 y.port) ports → AllByRecursion (Fine agg) ports
+fine agg [] a = tt
+fine agg (y ∷ ys) a = (λ c l. risen_waits y.port.mux y.port.wait_while (a.0 (member_selected agg y.port.choice c)) l, fine agg ys a.1)
 
 never_waits : (s : SystemState) (i : ℕ) (x : SystemPort) (c : Choice) → x.port.choice ≡ c → IsSound s → slice_get s.system_ports i ≡ Some x
     → AllByRecursion (λ (y : SystemPort). Ripe 0 y.port) s.system_ports → is_selected c ≡ true → x.port.mux ≡ Waiting → ⊥
 never_waits s i x Unselected e h at ripe sel m = no sel
 never_waits s i x (Standby agg) e h at ripe sel m = no sel
 never_waits s i x (Selected agg) e h at ripe sel m =
-    let key = h.occupants.key i agg.0 x at (ap occupied e) in
-    let known : is_aggregator s.keys agg ≡ true = known_number s.keys agg.0 x.port.party.key key in
-    let settled = all-get (MuxIsSettled s.keys s.system_ports) s.system_ports i x at h.quiet.0 in
-    let unready : is_ready s.keys (views s.system_ports) agg ≡ false =
-    sym (ap (ready_of s.keys (views s.system_ports)) e) ∙ settled.unready in
-    let lags : Lags (selection_view x) ≡ true = ap (λ n. is_detached_or_waiting (stage_of n x.port.wait_while)) m in
-    no (sym unready ∙ all_ready s.keys s.system_ports agg known
-    (some_lags agg s.system_ports i x at (ap (has_chosen agg) e ∙ itself agg.0) lags) (all_waited agg s.system_ports ripe))
+    no_member_waits s i x agg h at e (fine agg s.system_ports ripe) m
 
 -- a SELECTED port does not wait, where no member of its aggregator has ticks of wait_while left
 pub climbed : (s : SystemState) (i : ℕ) (x : SystemPort) → IsSound s → slice_get s.system_ports i ≡ Some x
@@ -201,7 +184,7 @@ down_settles t = record {
             (times_keep (Rising t) (mux_rows ready) (rising_rows t ready) h.0 p q h.1 (chosen, was.1 chosen)).1),
       ));
   periodic = λ k. periodic_leaves (Down t k);
-  select = λ k choice p none may a e. absurd (elim may.0 [ inl up ↦ no (sym e ∙ up) | inr s ↦ (a e).0 s.0 s.1 ]);
+  select = λ k choice p none may a e. absurd (elim may.0 [ inl up ↦ no (sym e ∙ up.0) | inr s ↦ (a e).0 s.0 s.1 ]);
 }
 
 pub down_takes : (t k : ℕ) (x : Lacpdu) (p q : Machines) → ProcessesLacpdu x p q → Down t k p → Down t k q

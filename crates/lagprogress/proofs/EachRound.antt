@@ -1,16 +1,32 @@
 -- What healthy rounds keep of each port of a system, and of the cables.
-use Rattle.lagprogress.proofs.Common.{Bool, List, Some, ap, arith, false, inl, inr, map, refl, slice_get, subst, suc, sym, true, zero, ℕ, ◌+◌, ◌∙◌}
-use Rattle.lagprogress.proofs.Common.{◌≡◌, nat_tests, Party, Lacpdu, One, Side, Two, end_at, peer, Machines, receive_rows, RunsToRest, after_sending}
-use Rattle.lagprogress.proofs.Common.{count_down, Table, SystemPort, ProcessesLacpdu, Receive, SystemState, with_system_ports, with_table, Reply}
-use Rattle.lagprogress.proofs.Common.{Algorithms, WorldSteps, link_ends, ItemValue, LinkState, WorldState, half, port_at, end_is, Clearing}
-use Rattle.lagprogress.proofs.Common.{HostRounds, IsHostRound, IsPlayed, NoneIsLeft, PlayedRounds, IsRound, Rounds, IsSteady}
+use Rattle.std.proofs.Common.{Bool, List, Some, ap, arith, false, inl, inr, map, refl, slice_get, subst, suc, sym, true, zero, ℕ, ◌+◌, ◌∙◌, ◌≡◌}
+use Rattle.std.proofs.lemmas.Bool.Decides.{nat_tests}
+use Rattle.lagtypes.specs.declared.party.Party.{Party}
+use Rattle.slowpdu.specs.declared.pdu.Lacpdu.{Lacpdu}
+use Rattle.lagmodel.specs.World.{One, Side, Two, end_at, peer}
+use Rattle.portmachines.specs.Machines.{Machines}
+use Rattle.portmachines.specs.Receive.{receive_rows}
+use Rattle.portmachines.specs.Rows.{RunsToRest}
+use Rattle.portmachines.specs.Transmit.{after_sending, count_down}
+use Rattle.distributor.specs.Conversations.{Table}
+use Rattle.lagsystem.specs.declared.system_ports.SystemPort.{SystemPort}
+use Rattle.lagsystem.specs.Calls.{ProcessesLacpdu, Receive}
+use Rattle.lagsystem.specs.State.{SystemState, with_system_ports, with_table}
+use Rattle.lagworld.specs.declared.reply.Reply.{Reply}
+use Rattle.lagworld.specs.Events.{Algorithms, WorldSteps}
+use Rattle.lagworld.specs.ModelWorld.{link_ends}
+use Rattle.lagworld.specs.State.{ItemValue, LinkState, WorldState, half, port_at}
+use Rattle.lagworld.proofs.Cables.{end_is}
+use Rattle.lagprogress.specs.HostRounds.{Clearing, HostRounds, IsHostRound, IsPlayed, NoneIsLeft, PlayedRounds}
+use Rattle.lagprogress.specs.Rounds.{IsRound, Rounds}
+use Rattle.lagprogress.specs.Steady.{IsSteady}
 use Rattle.lagprogress.proofs.Unchanged.{events_keep}
-use Rattle.lagprogress.proofs.EachPort.{KeptBySettling, OfEach, Step-each, asked_each, Tick-each}
+use Rattle.lagbeside.proofs.EachPort.{KeptBySettling, OfEach, Step-each, asked_each, Tick-each}
 use Rattle.lagprogress.proofs.OneCable.{OnCable, cable, deliver_ends, emits, ticks}
-use Rattle.lagprogress.proofs.OnePort.{AtPort, settling_leaves}
+use Rattle.lagbeside.proofs.OnePort.{AtPort, settling_leaves}
 use Rattle.lagprogress.proofs.OneRound.{ticked}
 use Rattle.lagprogress.proofs.RoundEvents.{asked_half, came_half}
-use Rattle.lagprogress.proofs.Timers.{runs_keep, takes_keep}
+use Rattle.lagbeside.proofs.Timers.{runs_keep, takes_keep}
 use Rattle.lagprogress.proofs.Reaching.{runs_steady}
 use Rattle.lagprogress.proofs.HostRound.{KeptBetween, MadeByTick, holds_on, of_side}
 use Rattle.lagprogress.proofs.Linked.{peer_twice, each_side}
@@ -40,7 +56,7 @@ pub delivers_each : (P : ℕ → Machines → Type 0) → RoundKeeps P → (s : 
 delivers_each P k s gives c n r old new h a = elim (came_half gives c n r old new h s) [
   | inl same ↦ subst (λ (z : SystemState). OfEach P z.system_ports) (sym same) a
   | inr (i, l, there, m) ↦ Step-each P k.settles (gives s) (half s old).state (Receive (port_at s l) m.item.octets) (answer.Receive m.a)
-      (half s new).state (λ v p q took does d. k.takes (port_at s l) v p q does d) m.promise.step a
+      (half s new).state (λ v p q took came does d. k.takes (port_at s l) v p q does d) m.promise.step a
 ]
 
 -- the own parameters of a port, and whether its link is up: no event of a round changes them

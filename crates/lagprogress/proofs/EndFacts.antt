@@ -1,19 +1,36 @@
 -- What ticks, receipts and settlings leave of a port at an end of a cable whose other end sends LACPDUs of one kind.
-use Rattle.lagprogress.proofs.Common.{Bool, Some, ap, arith, false, if◌then◌else◌, inl, inr, not, refl, slice_get, subst, sym, true, ℕ, ◌&&◌, ◌-◌}
-use Rattle.lagprogress.proofs.Common.{◌==◌, ◌||◌, ◌∙◌, ◌≡◌, ◌≤◌, ◌⊎◌, nat_tests, same_Some, Choice, Unselected, StateBits, is_selected, same_party}
-use Rattle.lagprogress.proofs.Common.{bits_of, party_itself, Lacpdu, party_of, MuxState, Detached, Waiting, Expired, Machines, is_synchronized}
-use Rattle.lagprogress.proofs.Common.{mux_rows, partner_synchronized, same_mux_state, RunsPeriodic, periodic_rows, is_maintained, lacpdu_rows}
-use Rattle.lagprogress.proofs.Common.{receive_rows, recorded_synchronization, same_receive_state, AtRest, RunsToRest, count_down, SystemPort}
-use Rattle.lagprogress.proofs.Common.{OnlyPortChangesBy, ProcessesLacpdu, ThenSettles, can_receive, can_receive_in, none_enabled, IsSound}
-use Rattle.lagprogress.proofs.Common.{SystemState, port_numbers, keeps_place, can_receive_at_rest, Rises, all-get, ports_rise, HasRecorded}
-use Rattle.lagprogress.proofs.Common.{timeout_time}
-use Rattle.lagprogress.proofs.EachPort.{KeptBySettling, OfEach, settling_each}
-use Rattle.lagprogress.proofs.Heartbeat.{raised}
-use Rattle.lagprogress.proofs.Hearing.{EnabledKeep, no, not_down, times_keep}
-use Rattle.lagprogress.proofs.Knowing.{Known, counts, decoded, placed, receive_known, receives, recorded}
-use Rattle.lagprogress.proofs.OnePort.{AtPort, at_number, mux_leaves, periodic_leaves}
-use Rattle.lagprogress.proofs.Sounding.{Calm, Sounds, counts_sounds, mux_sounds, not_silent, periodic_runs}
-use Rattle.lagprogress.proofs.Timers.{RowsKeep, runs_keep, takes_keep}
+use Rattle.std.proofs.Common.{Bool, ap, arith, false, if◌then◌else◌, inl, inr, not, refl, subst, sym, true, ℕ, ◌&&◌, ◌-◌, ◌==◌, ◌||◌}
+use Rattle.std.proofs.Common.{◌∙◌, ◌≡◌, ◌≤◌, ◌⊎◌}
+use Rattle.std.proofs.lemmas.Bool.Decides.{nat_tests}
+use Rattle.lagtypes.specs.declared.party.Choice.{Choice}
+use Rattle.lagtypes.specs.declared.party.Choice.TheVariants.{Unselected}
+use Rattle.lagtypes.specs.declared.state.StateBits.{StateBits}
+use Rattle.lagtypes.specs.Choices.{is_selected}
+use Rattle.lagtypes.specs.Same.{same_party}
+use Rattle.lagtypes.specs.States.{bits_of}
+use Rattle.lagtypes.proofs.SameLemmas.{party_itself}
+use Rattle.slowpdu.specs.declared.pdu.Lacpdu.{Lacpdu}
+use Rattle.slowpdu.specs.Parties.{party_of}
+use Rattle.portmachines.specs.declared.mux.MuxState.{MuxState}
+use Rattle.portmachines.specs.declared.mux.MuxState.TheVariants.{Detached, Waiting}
+use Rattle.portmachines.specs.declared.receive.ReceiveState.TheVariants.{Expired}
+use Rattle.portmachines.specs.Machines.{Machines}
+use Rattle.portmachines.specs.Mux.{is_synchronized, mux_rows, partner_synchronized, same_mux_state}
+use Rattle.portmachines.specs.Periodic.{RunsPeriodic, periodic_rows}
+use Rattle.portmachines.specs.Receive.{is_maintained, lacpdu_rows, receive_rows, recorded_synchronization, same_receive_state}
+use Rattle.portmachines.specs.Rows.{AtRest, RunsToRest}
+use Rattle.portmachines.specs.Transmit.{count_down}
+use Rattle.lagsystem.specs.Calls.{ProcessesLacpdu}
+use Rattle.lagsystem.specs.ModelView.{can_receive, can_receive_in}
+use Rattle.lagbeside.specs.Knowing.{HasRecorded}
+use Rattle.lagbeside.specs.Timers.{timeout_time}
+use Rattle.lagbeside.proofs.EachPort.{KeptBySettling}
+use Rattle.lagbeside.proofs.Heartbeat.{raised}
+use Rattle.lagbeside.proofs.Hearing.{EnabledKeep, no, not_down, times_keep}
+use Rattle.lagbeside.proofs.Knowing.{Known, counts, decoded, receive_known, receives, recorded}
+use Rattle.lagbeside.proofs.OnePort.{AtPort, mux_leaves, periodic_leaves}
+use Rattle.lagbeside.proofs.Sounding.{Calm, Sounds, counts_sounds, mux_sounds, not_silent, periodic_runs}
+use Rattle.lagbeside.proofs.Timers.{RowsKeep, runs_keep, takes_keep}
 
 -- Activity and Timeout of the actor of an LACPDU
 abbrev pub activity : Lacpdu → Bool
@@ -298,24 +315,3 @@ both_along Y Z v u c d k l = record {
   select = λ choice p none y. (k.select choice p none y.0, l.select choice p none y.1);
   takes = λ x p q e awake h a y. (k.takes x p q e awake h a y.0, l.takes x p q e awake h a y.1);
 }
-
--- what holds of the port that processed an LACPDU, after the settling
-pub takes_each : (Q : Machines → Type 0) (old new : SystemState) (x : Lacpdu) (k : ℕ) (z : SystemPort) → IsSound old
-    → slice_get old.system_ports k ≡ Some z → ((q : Machines) → can_receive z.port ≡ true → ProcessesLacpdu x z.port q → Q q)
-    → KeptBySettling (AtPort z.number Q) → ThenSettles (OnlyPortChangesBy (Some k) (ProcessesLacpdu x)) old new
-    → OfEach (AtPort z.number Q) new.system_ports
-takes_each Q old new x k z sound at does settles h =
-    let y = h.1.0.0 in
-    let q = h.1.0.1 in
-    let same : z ≡ y = same_Some z y (sym at ∙ h.1.0.2) in
-    let awake = can_receive_at_rest z.port
-    (all-get (λ (c : SystemPort). none_enabled receive_rows c.port ≡ true) old.system_ports k z at sound.rested.0) in
-    let first = does q awake (subst (λ (c : SystemPort). ProcessesLacpdu x c.port q) (sym same) h.1.0.3) in
-    let after : SystemPort = record y { port = q } in
-    let rises : Rises 0 (port_numbers h.0.system_ports) =
-    subst (Rises 0) (sym (keeps_place (ProcessesLacpdu x) (Some k) old h.0 h.1).same) (ports_rise old sound.ports) in
-    let here : slice_get h.0.system_ports k ≡ Some after =
-    subst (λ l. slice_get l k ≡ Some after) (sym h.1.0.4) (placed old.system_ports k y after h.1.0.2) in
-    let each = at_number Q 0 h.0.system_ports k after rises here first in
-    settling_each (AtPort z.number Q) settles h.0 new h.2 (subst (λ (c : SystemPort). OfEach (AtPort c.number Q) h.0.system_ports)
-    (sym same) each)

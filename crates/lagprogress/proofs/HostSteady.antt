@@ -1,12 +1,31 @@
 -- What calls and settings of hosts leave of both systems.
-use Rattle.lagprogress.proofs.Common.{Bool, Err, List, None, Ok, Option, Result, Some, [], ap, arith, false, inl, inr, refl, subst, suc, sym, true}
-use Rattle.lagprogress.proofs.Common.{zero, ℕ, ◌∙◌, ◌∷◌, ◌≡◌, ◌⊎◌, none-some, same_Some, AggId, Lacpdu, One, Side, Two, WorldSetup, peer}
-use Rattle.lagprogress.proofs.Common.{next_identifier, Config, HostCall, HostReply, Answer, SystemFault, Call, Carries, IsFrame, Step, call_of}
-use Rattle.lagprogress.proofs.Common.{HostPromise, ProbesAt, ProbesIf, SendsMarkerOf, IsSound, NoneHeld, SystemState, port_index, IsOther, TableAlone}
-use Rattle.lagprogress.proofs.Common.{host_alone, Step-sound, Event, Reply, Algorithms, WorldSteps, most_events, transmitted_item, with_item_sent}
-use Rattle.lagprogress.proofs.Common.{forced_if_accepted, with_state, AreFirst, IsSoundWorld, IsStart, HalfState, ItemValue, LinkState, WorldState}
-use Rattle.lagprogress.proofs.Common.{half, put_on_port, with_half, start_sound, hosts_keep_headline, EachHostReachedIsSteady, EachHostRunKeepsSteady}
-use Rattle.lagprogress.proofs.Common.{IsSteady, PortsAreTimed}
+use Rattle.std.proofs.Common.{Bool, Err, List, None, Ok, Option, Result, Some, [], ap, false, inl, inr, refl, subst, sym, true, ℕ}
+use Rattle.std.proofs.Common.{◌∙◌, ◌∷◌, ◌≡◌, ◌⊎◌}
+use Rattle.std.proofs.lemmas.Option.{none-some, same_Some}
+use Rattle.lagtypes.specs.declared.identifiers.AggId.{AggId}
+use Rattle.slowpdu.specs.declared.pdu.Lacpdu.{Lacpdu}
+use Rattle.lagmodel.specs.World.{One, Side, Two, peer}
+use Rattle.distributor.specs.Conversations.{next_identifier}
+use Rattle.lagsystem.specs.declared.drive.HostCall.{HostCall}
+use Rattle.lagsystem.specs.declared.drive.HostReply.{HostReply}
+use Rattle.lagsystem.specs.declared.drive.Reply.{Reply as Answer}
+use Rattle.lagsystem.specs.declared.fault.SystemFault.{SystemFault}
+use Rattle.lagsystem.specs.Calls.{Call, Carries, IsFrame, Step}
+use Rattle.lagsystem.specs.Drives.{call_of}
+use Rattle.lagsystem.specs.HostCalls.{HostPromise}
+use Rattle.lagsystem.specs.Probing.{ProbesAt, ProbesIf}
+use Rattle.lagsystem.specs.Sending.{SendsMarkerOf}
+use Rattle.lagsystem.specs.Sound.{IsSound}
+use Rattle.lagsystem.specs.State.{SystemState, port_index}
+use Rattle.lagsystem.proofs.HostCallLemmas.{IsOther, TableAlone, host_alone}
+use Rattle.lagsystem.proofs.Sound.{Step-sound}
+use Rattle.lagworld.specs.Events.{Algorithms, transmitted_item, with_item_sent}
+use Rattle.lagworld.specs.HalfCalls.{forced_if_accepted}
+use Rattle.lagworld.specs.State.{HalfState, ItemValue, LinkState, WorldState, half, put_on_port, with_half}
+use Rattle.lagworld.proofs.Starts.{start_sound}
+use Rattle.laghosts.proofs.HostHeadline.{hosts_keep_headline}
+use Rattle.lagprogress.specs.Steady.{EachHostReachedIsSteady, EachHostRunKeepsSteady}
+use Rattle.lagbeside.specs.Timers.{PortsAreTimed}
 use Rattle.slowpdu.specs.declared.pdu.Pdu.TheVariants as pdu
 use Rattle.lagsystem.specs.declared.drive.HostCall.TheVariants as host
 use Rattle.lagsystem.specs.declared.drive.HostReply.TheVariants as told
@@ -16,17 +35,17 @@ use Rattle.lagsystem.proofs.ProbingLemmas.{probes_sound}
 use Rattle.lagsystem.proofs.SettingsKeep.{setting_sound}
 use Rattle.lagworld.specs.Asking.{with_sent_in}
 use Rattle.lagworld.proofs.OneSystem.{after_call}
-use Rattle.laghosts.specs.HostEvents.{AfterNumberedOffer, AfterProbe, CountsHeldIfOk, ForcesPort, HalfSets, HalfTells, HostEvent, HostRuns, HostSteps}
+use Rattle.laghosts.specs.HostEvents.{AfterNumberedOffer, AfterProbe, CountsHeldIfOk, ForcesPort, HalfTells, HostEvent, HostRuns, HostSteps}
 use Rattle.laghosts.specs.HostEvents.{Leaves, Offers, Plays, Probes, Rests, Sets, numbered_item}
 use Rattle.laghosts.proofs.HostHappens.{offered_joint}
-use Rattle.lagprogress.proofs.EachPort.{Step-each}
+use Rattle.lagbeside.proofs.EachPort.{Step-each}
 use Rattle.lagprogress.proofs.Halves.{each_is_calls, start_steady}
-use Rattle.lagprogress.proofs.HostWaits.{forces_port}
+use Rattle.lagbeside.proofs.HostWaits.{forces_port}
 use Rattle.lagprogress.proofs.Linked.{each_side}
-use Rattle.lagprogress.proofs.OnePort.{calls_each}
+use Rattle.lagbeside.proofs.OnePort.{calls_each}
 use Rattle.lagprogress.proofs.Passing.{marker_carries_none}
 use Rattle.lagprogress.proofs.Quieting.{Quietly, SendsPlain}
-use Rattle.lagprogress.proofs.Timers.{TimedAt, setting_timed, timed_kept, timed_settles}
+use Rattle.lagbeside.proofs.Timers.{TimedAt, setting_timed, timed_kept, timed_settles}
 
 -- ---- one system
 

@@ -1,16 +1,17 @@
 -- What an LACPDU that overtakes leaves as it is: the order of data, and of markers among them.
-use Rattle.lagprogress.proofs.Common.{Bool, List, None, Option, Some, [], refl, subst, sym, ℕ, ◌∷◌, ◌≡◌, Party, Happens, IsWorldSetup, Message, One}
-use Rattle.lagprogress.proofs.Common.{Side, TakenLacpdu, Two, World, WorldSetup, at_cable, end_at, first_world, party_at, peer, with_messages}
-use Rattle.lagmodel.specs.World.{Event}
+use Rattle.std.proofs.Common.{Bool, List, None, Option, Some, [], subst, sym, ℕ, ◌∷◌, ◌≡◌}
+use Rattle.lagtypes.specs.declared.party.Party.{Party}
+use Rattle.lagmodel.specs.World.{IsWorldSetup, Message, One, Side, TakenLacpdu, Two, World, WorldSetup, at_cable, first_world}
+use Rattle.lagmodel.specs.World.{peer, with_messages, Event}
 use Rattle.lagmodel.specs.Overtaking.{Overtakes}
 use Rattle.lagmodel.specs.View.{SystemSetup, View}
 use Rattle.lagmodel.proofs.Events.{happens_kept, lawful_first}
 use Rattle.lagmodel.proofs.LaneMoves.{at_cable_each}
 use Rattle.lagmodel.proofs.Lines.{Every}
 use Rattle.lagmodel.proofs.Overtaken.{every_overtaken, lanes_back_overtaken, lanes_out_overtaken}
-use Rattle.lagmodel.proofs.Stamps.{Fresh, Stamps}
+use Rattle.lagmodel.proofs.Stamps.{Fresh}
 use Rattle.lagmodel.proofs.Worlds.{Half, HalfFacing, Lawful}
-use Rattle.lagprogress.specs.Overtaking.{OvertakesOnCable, OvertakingRun}
+use Rattle.lagprogress.specs.Overtaking.{OvertakingRun}
 
 module _ (u : SystemSetup) (me : Side) (ends theirs : ℕ → Option ℕ) (v : View) (party : ℕ → Option Party) (count : ℕ → ℕ)
     (whole : ℕ → Bool) (sent collected : ℕ → ℕ → List ℕ) (forced : ℕ → ℕ → Bool) (taken their_taken : ℕ → Option TakenLacpdu) where

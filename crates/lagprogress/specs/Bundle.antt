@@ -20,7 +20,7 @@ use Rattle.laghosts.specs.HostEvents.{HostEvent, HostRuns}
 use Rattle.lagprogress.specs.ComingUp.{Distributes}
 use Rattle.lagprogress.specs.Progress.{EndKnows}
 use Rattle.lagprogress.specs.Rounds.{AtEnd, IsHealthyAt, Playing}
-use Rattle.lagprogress.specs.Selecting.{aggregators_with, ports_with}
+use Rattle.lagbeside.specs.Selecting.{aggregators_with, ports_with}
 use Rattle.lagprogress.specs.Shared.{HasAggregators}
 use Rattle.lagprogress.specs.Steady.{IsSteady}
 

@@ -9,7 +9,7 @@ use Rattle.lagsystem.specs.State.{SystemState}
 use Rattle.lagworld.specs.Events.{Algorithms}
 use Rattle.lagworld.specs.State.{LinkState, WorldState, half}
 use Rattle.lagprogress.specs.Rounds.{AtEnd, IsHealthy, Rounds, up_if_both_active, up_if_one_is}
-use Rattle.lagprogress.specs.Selecting.{aggregators_with}
+use Rattle.lagbeside.specs.Selecting.{aggregators_with}
 use Rattle.lagprogress.specs.Steady.{IsSteady}
 
 -- the system has one port, and an aggregator with the port's key

@@ -1,12 +1,4 @@
-pub mod Silence
-pub mod Selecting
 pub mod Shared
-pub mod Timers
-pub mod Heartbeat
-pub mod Hearing
-pub mod Knowing
-pub mod Waits
-pub mod Told
 pub mod Steady
 pub mod Overtaking
 pub mod Passing

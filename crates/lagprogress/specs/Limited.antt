@@ -18,7 +18,7 @@ use Rattle.lagworld.specs.Sound.{IsSound, IsStart}
 use Rattle.lagworld.specs.State.{LinkState, WorldState, half}
 use Rattle.lagprogress.specs.Bundle.{AllHeard, EnoughLinks, SystemsDiffer}
 use Rattle.lagprogress.specs.Rounds.{AtEnd, IsHealthyAt, Playing}
-use Rattle.lagprogress.specs.Selecting.{IsFull}
+use Rattle.lagbeside.specs.Selecting.{IsFull}
 use Rattle.lagprogress.specs.Shared.{HasAggregators}
 use Rattle.lagprogress.specs.Steady.{IsSteady}
 

@@ -1,35 +1,15 @@
 -- Ports of one key that share aggregators, of which there may be fewer than ports (6.4.14).
-use Rattle.std.specs.Prelude.{◌≡◌, ◌≢◌, ◌≤◌, ◌⊎◌, ℕ, true, false, Some, slice_get}
+use Rattle.std.specs.Prelude.{◌≡◌, ◌≤◌, ◌⊎◌, ℕ, true, false, Some, slice_get}
 use Rattle.lagtypes.specs.declared.identifiers.Key.{Key}
 use Rattle.lagtypes.specs.declared.identifiers.SystemId.{SystemId}
 use Rattle.lagtypes.specs.declared.party.Choice.TheVariants.{Unselected}
-use Rattle.lagtypes.specs.Group.{individual}
 use Rattle.lagtypes.specs.States.{bits_of}
-use Rattle.slowpdu.specs.Parties.{party_of}
 use Rattle.portmachines.specs.Machines.{Machines}
-use Rattle.portmachines.specs.Mux.{selected}
-use Rattle.selection.specs.Choice.{has_group_of}
 use Rattle.lagmodel.specs.World.{Side, peer}
 use Rattle.lagsystem.specs.declared.system_ports.SystemPort.{SystemPort}
-use Rattle.lagsystem.specs.Sound.{IsSound}
-use Rattle.lagsystem.specs.State.{SystemState}
-use Rattle.lagsystem.specs.Views.{selection_view}
+use Rattle.lagbeside.specs.Selecting.{aggregators_with, ports_with}
 use Rattle.lagworld.specs.State.{LinkState, WorldState, half}
 use Rattle.lagprogress.specs.Rounds.{AtEnd, IsHealthyAt}
-use Rattle.lagprogress.specs.Selecting.{StandsByFull, WantsAggregator, aggregators_with, ports_with}
-
--- the link of the port is not Individual, and the links of all ports of its key that are not UNSELECTED have its group (LAG ID)
-pub record SharesGroup (s : SystemState) (x : SystemPort) : Type 0 where
-  pub together : individual x.port.party (party_of x.port.partner) ≡ false
-  pub group : (k : ℕ) (y : SystemPort) → slice_get s.system_ports k ≡ Some y → y.port.party.key ≡ x.port.party.key
-      → y.port.choice ≢ Unselected → has_group_of (selection_view x) (selection_view y) ≡ true
-
--- in a sound system, each port that wants an aggregator, and that the host does not hold, is SELECTED, or STANDBY with a full one,
--- if there is an aggregator of its key, and the ports of that key share one group
-abbrev pub SharesAggregator : Type 0
-SharesAggregator = (s : SystemState) (i : ℕ) (x : SystemPort) → IsSound s → slice_get s.system_ports i ≡ Some x
-    → WantsAggregator x.port → x.held ≡ false → 1 ≤ aggregators_with x.port.party.key s → SharesGroup s x
-    → (selected x.port ≡ true) ⊎ StandsByFull s x.port
 
 -- the port is aggregatable, and has recorded as its partner a port of the system with this identifier, with the key `far`, that is
 -- aggregatable too

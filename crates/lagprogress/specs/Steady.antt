@@ -13,7 +13,7 @@ use Rattle.lagworld.specs.Making.{AreFirst}
 use Rattle.lagworld.specs.Sound.{IsSound as IsSoundWorld, IsStart}
 use Rattle.lagworld.specs.State.{WorldState, half}
 use Rattle.laghosts.specs.HostEvents.{HostEvent, HostRuns}
-use Rattle.lagprogress.specs.Timers.{PortsAreTimed}
+use Rattle.lagbeside.specs.Timers.{PortsAreTimed}
 
 -- the system is sound, no timer of its ports is above its bound, and the host holds no port
 abbrev pub IsSteadySystem : SystemState → Type 0

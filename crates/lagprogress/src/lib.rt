@@ -1,6 +1,6 @@
-//! How ports make progress: which are SELECTED, how long one is silent, notices silence, and knows what it heard, how far
-//! timers go, and how soon a link comes up; and that LACPDUs may overtake data. The functions of this crate but four do nothing when
-//! they run: the contract of each is a proved theorem over the states and calls of `lagsystem`, and over the events of `lagworld`.
+//! How two systems make progress: how soon the ends of a cable know each other, a link comes up, and both ends agree; and that LACPDUs
+//! may overtake data. The functions of this crate but four do nothing when they run: the contract of each is a proved theorem over the
+//! events of `lagworld`, on what `lagbeside` proves of one port.
 //! `play_round` and `play_rounds` play healthy rounds, `play_host_round` and `play_host_rounds` those of hosts.
 //!
 //! In comments, numbers such as 6.4.13 are sections of IEEE 802.1AX-2014, and "profile" is docs/PROFILE.md.
@@ -16,7 +16,9 @@ mod overtaking;
 mod playing;
 mod sharing;
 
-ghost use Rattle.lagprogress.specs.Silence.{SilenceEnds};
+ghost use Rattle.lagworld.specs.Sound.{both_algorithms};
+ghost use Rattle.lagprogress.specs.Steady.{EachEventIsCalls, EachEventKeepsSteady, StartIsSteady};
+ghost use Rattle.lagprogress.specs.Steady.{EachHostReachedIsSteady, EachHostRunKeepsSteady, EachReachedIsSteady, EachRunKeepsSteady};
 
 pub use arriving::{
     disabled_ports_have_unsynchronized_partners, each_frame_arrives, frames_pass_cables,
@@ -35,125 +37,7 @@ pub use limits::{down_ports_are_unselected, each_limited_link_agrees};
 pub use loops::{play_host_round, play_host_rounds};
 pub use overtaking::lacpdus_may_overtake;
 pub use playing::{play_round, play_rounds};
-pub use sharing::{
-    each_key_is_in_one_aggregator_by_hosts, groups_stay_whole, ports_share_aggregators,
-};
-
-// promise: NTT becomes true within a bound, which each tick lowers by one and no run of the periodic machine raises: in FAST the timer's
-//    ticks and 299, in SLOW the timer's ticks
-// contract: `silence_ends` (`Silence`)
-// premises: active, link up
-/// An active port whose link is up is not silent for long: no run of the periodic machine raises the bound on the ticks
-/// until NTT is true; each tick lowers it by one; and at 0 NTT is true (6.4.13).
-pub fn silence_ends()
-    ensures { SilenceEnds }
-{}
-
-ghost use Rattle.lagprogress.specs.Selecting.{FindsAggregator, WaitsForRoom};
-
-// promise: a port is SELECTED, or STANDBY with a full aggregator, if its link is up, it is CURRENT or DEFAULTED, and its partner is not its
-//    own system
-// contract: `ports_find_aggregators` (`FindsAggregator`)
-// premises: sound; not held; as many aggregators of its key as ports of that key, up or down
-/// A port of a sound system whose link is up, that is CURRENT or DEFAULTED, that the host does not hold, and whose partner is
-/// not its own system, is SELECTED, or STANDBY in an aggregator that has no room, if its system has at least as many
-/// aggregators of its key as ports of that key (6.4.14; profile).
-pub fn ports_find_aggregators()
-    ensures { FindsAggregator }
-{}
-
-// promise: the aggregator of a STANDBY port has as many members as the limit
-// contract: `standby_ports_wait_for_room`
-// premises: sound
-/// No STANDBY port of a sound system waits while its aggregator has room: that has as many members as the limit of links
-/// (6.4.14; profile).
-pub fn standby_ports_wait_for_room()
-    ensures { WaitsForRoom }
-{}
-
-ghost use Rattle.lagprogress.specs.Timers.{EachCallKeepsTimed, EachHostCallKeepsTimed, EachSettingKeepsTimed, FirstIsTimed};
-
-// promise: at first and after each call no timer has more ticks than it can start with, no window an age above 10, and a wait for a response
-//    is below 30 ticks; settings keep the bounds of timers and windows, and after `set_mode` current_while may exceed the new time-out
-// contract: `timers_are_bounded`, `waits_are_short` (`first`, `kept`, `hosts`, `settings`)
-/// No timer of a port has more ticks than it can start with: current_while at most Short_Timeout_Time (30 ticks) in EXPIRED, and
-/// Long_Timeout_Time (900) in any other state; periodic_timer at most Fast_Periodic_Time (10) in FAST, else Slow_Periodic_Time (300);
-/// wait_while at most Aggregate_Wait_Time (20); and no age of the transmit window is above 10 (6.4.4, 6.4.16). And current_while is
-/// at most the time-out of the port: 30 with Short Timeout. So it is in each first state, and each call keeps it, whatever the
-/// distribution algorithm returns. Settings keep it, too, but for the last: after `set_mode` current_while goes on until it expires or
-/// an LACPDU starts it anew (profile).
-pub fn timers_are_bounded<F: Fn(u16, usize) -> usize>()
-    ensures first { FirstIsTimed }
-    ensures kept { (algorithm : F) → EachCallKeepsTimed (F.post algorithm) }
-    ensures hosts { (algorithm : F) → EachHostCallKeepsTimed (F.post algorithm) }
-    ensures settings { EachSettingKeepsTimed }
-{}
-
-ghost use Rattle.lagprogress.specs.Waits.{EachCallKeepsWaits, EachHostCallKeepsWaits, FirstWaitsAreShort};
-
-/// The age of a conversation that waits for the response to a marker is below 30 ticks (3 s): so it is in each first
-/// state, and each call keeps it, whatever the distribution algorithm returns (6.2.5; profile).
-pub fn waits_are_short<F: Fn(u16, usize) -> usize>()
-    ensures first { FirstWaitsAreShort }
-    ensures kept { (algorithm : F) → EachCallKeepsWaits (F.post algorithm) }
-    ensures hosts { (algorithm : F) → EachHostCallKeepsWaits (F.post algorithm) }
-{}
-
-ghost use Rattle.lagprogress.specs.Told.{TellsAtMost900};
-
-// promise: `ticks_until_due` is at most 900, and 0 exactly if a frame is due
-// contract: `ticks_until_due_are_bounded`
-// premises: timers and waits within their bounds
-/// `ticks_until_due` tells at most 900 ticks (90 s), and 0 exactly where a frame is due. The timers and waits of the system
-/// are within their bounds (6.4.4; profile).
-pub fn ticks_until_due_are_bounded()
-    ensures { TellsAtMost900 }
-{}
-
-ghost use Rattle.lagprogress.specs.Heartbeat.{IsHeard, IsSilentShortly};
-
-// promise: an LACPDU of a port is due after calls with 309 ticks or more, if it sent none in them; if none is due, they have at most 308
-// contract: `active_ports_are_heard` (`heard`, `silent`)
-// premises: sound, timers within bounds; active; the link stays up
-/// An active port whose link stays up is heard: after any calls that leave its link up, 309 ticks or more among them, an
-/// LACPDU is due on it, if it sent none in them. So it sends one in any 309 ticks (31 s) after each of which it is asked
-/// (6.4.13, 6.4.16), and where none is due after such calls, at most 308 ticks are among them. The system is sound, its timers
-/// are within their bounds, and its distribution algorithm may return anything.
-pub fn active_ports_are_heard<F: Fn(u16, usize) -> usize>()
-    ensures heard { (algorithm : F) → IsHeard (F.post algorithm) }
-    ensures silent { (algorithm : F) → IsSilentShortly (F.post algorithm) }
-{}
-
-ghost use Rattle.lagprogress.specs.Hearing.{IsNoticed};
-
-// promise: a port is not CURRENT after calls with 900 ticks (30 with Short Timeout) in which it processed no LACPDU, and DEFAULTED after 30
-//    more
-// contract: `silence_is_noticed` (`Hearing`)
-// premises: sound, timers within bounds, and current_while within the port's time-out; the link stays up; no `configure` names it
-/// Silence is noticed: a port whose link stays up, that no `configure` names, and that processes no LACPDU is not
-/// CURRENT after 900 ticks (90 s), or 30 (3 s) if it has Short Timeout, and it is DEFAULTED after 30 more (6.4.12). The
-/// system is sound, its timers are within their bounds, current_while of the port is within its time-out, and its distribution
-/// algorithm may return anything.
-pub fn silence_is_noticed<F: Fn(u16, usize) -> usize>()
-    ensures { (algorithm : F) → IsNoticed (F.post algorithm) }
-{}
-
-ghost use Rattle.lagprogress.specs.Knowing.{IsKnown};
-
-// promise: a port that processed an LACPDU knows its actor after calls with fewer ticks than these
-// contract: `what_was_heard_is_known` (`Knowing`)
-// premises: sound before and after; the link stays up; no `configure` names it; it processes no other LACPDU
-/// What a port heard it knows: a port that processed an LACPDU is CURRENT and has recorded its actor, with its Activity
-/// and its Timeout, for 900 ticks (90 s), or 30 (3 s) if it has Short Timeout, while its link stays up, no `configure`
-/// names it, and it processes no other LACPDU (6.4.12). The system is sound, and its distribution algorithm may
-/// return anything.
-pub fn what_was_heard_is_known<F: Fn(u16, usize) -> usize>()
-    ensures { (algorithm : F) → IsKnown (F.post algorithm) }
-{}
-
-ghost use Rattle.lagworld.specs.Sound.{both_algorithms};
-ghost use Rattle.lagprogress.specs.Steady.{EachEventIsCalls, EachEventKeepsSteady, StartIsSteady};
-ghost use Rattle.lagprogress.specs.Steady.{EachHostReachedIsSteady, EachHostRunKeepsSteady, EachReachedIsSteady, EachRunKeepsSteady};
+pub use sharing::{each_key_is_in_one_aggregator_by_hosts, groups_stay_whole};
 
 // promise: each event of a world is a list of calls of each system, perhaps empty
 // contract: `each_event_is_calls`

@@ -15,7 +15,7 @@ from typing import Iterator
 from edits import DEFINITIONS, Trial, apply, copy_crates, read, restore, unbuilt, write
 from repository import RT
 
-CRATES = ("lagmodel", "lagprogress")
+CRATES = ("lagmodel", "lagbeside", "lagprogress")
 
 
 def check(crate: str) -> tuple[bool, str]:

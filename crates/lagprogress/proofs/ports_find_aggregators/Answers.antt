@@ -1,5 +1,0 @@
-use Rattle.lagprogress.proofs.Selecting.{finds_aggregator}
-use Rattle.lagprogress.proofs.ports_find_aggregators.Goals as goal
-
-pub returns : goal.returns
-returns c = finds_aggregator

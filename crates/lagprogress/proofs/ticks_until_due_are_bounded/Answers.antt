@@ -1,5 +1,0 @@
-use Rattle.lagprogress.proofs.Told.{is_bounded}
-use Rattle.lagprogress.proofs.ticks_until_due_are_bounded.Goals as goal
-
-pub returns : goal.returns
-returns c = is_bounded
