@@ -1,24 +1,8 @@
 -- A port that is the only one of its key waits for no other.
-use Rattle.std.proofs.Common.{Bool, List, Some, [], ap, false, refl, slice_get, suc, sym, true, zero, ℕ, ◌&&◌, ◌==◌, ◌∙◌, ◌∷◌, ◌≡◌, ◌≢◌}
-use Rattle.std.proofs.lemmas.Bool.{and_parts}
-use Rattle.std.proofs.lemmas.Option.{same_Some}
-use Rattle.std.specs.List.{AllByRecursion}
-use Rattle.lagtypes.specs.declared.identifiers.AggId.{AggId}
-use Rattle.lagtypes.specs.declared.identifiers.Key.{Key}
-use Rattle.lagtypes.specs.declared.party.Party.{Party}
-use Rattle.portmachines.specs.declared.mux.MuxState.TheVariants.{Waiting}
-use Rattle.portmachines.specs.Mux.{same_mux_state}
-use Rattle.selection.specs.Views.{occupies}
-use Rattle.lagsystem.specs.declared.drive.Reply.{Reply}
-use Rattle.lagsystem.specs.declared.system_ports.SystemPort.{SystemPort}
-use Rattle.lagsystem.specs.Calls.{Call, Tick}
-use Rattle.lagsystem.specs.ModelView.{key_of}
-use Rattle.lagsystem.specs.Occupants.{occupied}
-use Rattle.lagsystem.specs.Sound.{IsSound}
-use Rattle.lagsystem.specs.State.{SystemState}
-use Rattle.lagsystem.proofs.Keeps.{Step-frame}
-use Rattle.lagsystem.proofs.Sound.{Step-sound}
-use Rattle.lagbeside.specs.Serving.{ComesUpAlone, IsOnlyOfKey, NoneBegins, RunsOnceTicked, RunsWhile, begins_in}
+use Rattle.lagbeside.proofs.Common.{Bool, List, Some, [], ap, false, refl, slice_get, suc, sym, true, zero, ℕ, ◌&&◌, ◌==◌, ◌∙◌, ◌∷◌, ◌≡◌, ◌≢◌}
+use Rattle.lagbeside.proofs.Common.{and_parts, same_Some, AllByRecursion, AggId, Key, Party, Waiting, same_mux_state, occupies, Reply, SystemPort}
+use Rattle.lagbeside.proofs.Common.{Call, Tick, key_of, occupied, IsSound, SystemState, Step-frame, Step-sound, ComesUpAlone, IsOnlyOfKey, NoneBegins}
+use Rattle.lagbeside.proofs.Common.{RunsOnceTicked, RunsWhile, begins_in}
 use Rattle.lagbeside.proofs.Beside.{comes_up}
 use Rattle.lagbeside.proofs.Selecting.{occupies_is}
 

@@ -1,26 +1,10 @@
 -- One port beside any peer.
-use Rattle.std.proofs.Common.{Bool, List, Some, [], ap, arith, false, inl, inr, not, refl, slice_get, subst, sym, true, ℕ, ◌&&◌, ◌-◌, ◌∙◌, ◌∷◌, ◌≡◌}
-use Rattle.std.proofs.Common.{◌≤◌}
-use Rattle.std.proofs.lemmas.Bool.Decides.{nat_tests}
-use Rattle.lagtypes.specs.declared.identifiers.AggId.{AggId}
-use Rattle.lagtypes.specs.declared.party.Choice.{Choice}
-use Rattle.lagtypes.specs.declared.party.Choice.TheVariants.{Selected}
-use Rattle.lagtypes.specs.Choices.{is_selected, is_unselected}
-use Rattle.portmachines.specs.declared.mux.MuxState.{MuxState}
-use Rattle.portmachines.specs.declared.mux.MuxState.TheVariants.{Attached, CollectingDistributing, Detached, Waiting}
-use Rattle.portmachines.specs.Mux.{is_synchronized, mux_rows, partner_synchronized, same_mux_state}
-use Rattle.portmachines.specs.Rows.{AtRest}
-use Rattle.lagsystem.specs.declared.drive.Reply.{Reply}
-use Rattle.lagsystem.specs.declared.system_ports.SystemPort.{SystemPort}
-use Rattle.lagsystem.specs.Calls.{Call}
-use Rattle.lagsystem.specs.First.{configured_numbers}
-use Rattle.lagsystem.specs.NothingToSettle.{MuxIsSettled}
-use Rattle.lagsystem.specs.Sound.{IsSound}
-use Rattle.lagsystem.specs.State.{SystemState, port_numbers}
-use Rattle.lagsystem.proofs.Keeps.{Step-frame}
-use Rattle.lagsystem.proofs.Rising.{all-get, ports_rise}
-use Rattle.lagbeside.specs.Heartbeat.{EachCall, tick_count}
-use Rattle.lagbeside.specs.Serving.{ComesUp, Fed, IsServed, LeavesServed, NoneBegins, RunsWhile, Service, StaysUp}
+use Rattle.lagbeside.proofs.Common.{Bool, List, Some, [], ap, arith, false, inl, inr, not, refl, slice_get, subst, sym, true, ℕ, ◌&&◌, ◌-◌, ◌∙◌, ◌∷◌}
+use Rattle.lagbeside.proofs.Common.{◌≡◌, ◌≤◌, nat_tests, AggId, Choice, Selected, is_selected, is_unselected, MuxState, Attached}
+use Rattle.lagbeside.proofs.Common.{CollectingDistributing, Detached, Waiting, is_synchronized, mux_rows, partner_synchronized, same_mux_state}
+use Rattle.lagbeside.proofs.Common.{AtRest, Reply, SystemPort, Call, configured_numbers, MuxIsSettled, IsSound, SystemState, port_numbers, Step-frame}
+use Rattle.lagbeside.proofs.Common.{all-get, ports_rise, EachCall, tick_count, ComesUp, Fed, IsServed, LeavesServed, NoneBegins, RunsWhile, Service}
+use Rattle.lagbeside.proofs.Common.{StaysUp}
 use Rattle.lagbeside.proofs.EachPort.{OfEach}
 use Rattle.lagbeside.proofs.Hearing.{no}
 use Rattle.lagbeside.proofs.OnePort.{AtPort, at_number, same_place}

@@ -1,9 +1,6 @@
 -- How many elements of a list pass a test.
-use Rattle.std.proofs.Common.{Bool, List, Some, [], ap, arith, cond, false, filter, length, refl, slice_get, suc, true, zero, ℕ, ◌+◌, ◌∙◌, ◌∷◌, ◌≡◌}
-use Rattle.std.proofs.Common.{◌≤◌}
-use Rattle.std.proofs.lemmas.Bool.{false≢true}
-use Rattle.std.proofs.lemmas.Bool.Decides.{nat_tests}
-use Rattle.std.proofs.lemmas.Option.{none-some, same_Some}
+use Rattle.lagbeside.proofs.Common.{Bool, List, Some, [], ap, arith, cond, false, filter, length, refl, slice_get, suc, true, zero, ℕ, ◌+◌, ◌∙◌, ◌∷◌}
+use Rattle.lagbeside.proofs.Common.{◌≡◌, ◌≤◌, false≢true, nat_tests, none-some, same_Some}
 
 abbrev pub count : {A : Type 0} → (A → Bool) → List A → ℕ
 count test [] = zero

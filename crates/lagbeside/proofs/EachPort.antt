@@ -1,52 +1,21 @@
 -- What the machines of a port keep, every call of a system keeps of each port.
-use Rattle.std.proofs.Common.{Bool, Err, List, None, Ok, Option, Result, Some, [], ap, arith, false, inl, inr, length, not, refl, slice_get}
-use Rattle.std.proofs.Common.{slice_set, subst, sym, true, ℕ, ◌&&◌, ◌==◌, ◌||◌, ◌∙◌, ◌∷◌, ◌≡◌, ◌⊎◌}
-use Rattle.std.proofs.lemmas.Bool.{cases_Bool}
-use Rattle.std.proofs.lemmas.Bool.Decides.{nat_tests}
-use Rattle.std.proofs.lemmas.Option.{none-some}
-use Rattle.std.specs.List.{AllByRecursion}
-use Rattle.lagtypes.specs.declared.identifiers.AggId.{AggId}
-use Rattle.lagtypes.specs.declared.party.Choice.{Choice}
-use Rattle.lagtypes.specs.declared.party.Choice.TheVariants.{Selected, Standby}
-use Rattle.lagtypes.specs.Choices.{is_selected, is_unselected}
-use Rattle.slowpdu.specs.declared.pdu.Lacpdu.{Lacpdu}
-use Rattle.portmachines.specs.declared.mux.MuxState.{MuxState}
-use Rattle.portmachines.specs.declared.mux.MuxState.TheVariants.{Attached, CollectingDistributing, Detached, Waiting}
-use Rattle.portmachines.specs.declared.port.Setup.{Setup}
-use Rattle.portmachines.specs.Machines.{Machines}
-use Rattle.portmachines.specs.Mux.{is_synchronized, mux_rows, partner_synchronized, same_mux_state}
-use Rattle.portmachines.specs.Periodic.{RunsPeriodic}
-use Rattle.portmachines.specs.Receive.{receive_rows}
-use Rattle.portmachines.specs.Rows.{RunsToRest}
-use Rattle.portmachines.specs.Start.{Starts, before_start}
-use Rattle.portmachines.specs.Transmit.{after_sending, count_down, is_due}
-use Rattle.selection.specs.declared.view.PortView.{PortView}
-use Rattle.selection.specs.Limits.{AggregatorsValue}
-use Rattle.selection.specs.Views.{is_eligible}
-use Rattle.lagsystem.specs.declared.drive.Reply.{Reply}
-use Rattle.lagsystem.specs.declared.received.Received.TheVariants.{TookLacpdu}
-use Rattle.lagsystem.specs.declared.system_ports.SystemPort.{SystemPort}
-use Rattle.lagsystem.specs.Calls.{AnswersMarker, Call, Carries, ChangesParty, Configure, Data_frame, Faulty, Force, GivesEffect, IsFrame}
-use Rattle.lagsystem.specs.Calls.{Move_conversation, Offer, OnlyPortChangesBy, ParsesWhere, Performs, PortAtChangesBy, ProcessesLacpdu, Receive}
-use Rattle.lagsystem.specs.Calls.{ReceivedFrame, ReceivesAt, Releases, Restart, Runt, Set_link, SetsPortEnabled, Step, ThenSettles, Tick, Transmit}
-use Rattle.lagsystem.specs.Calls.{up_or_dropped}
-use Rattle.lagsystem.specs.First.{HasJustStarted, IsFirst, setup_of}
-use Rattle.lagsystem.specs.Settling.{ChoosesIn, PortsChangeBy, PromotesNext, Settling, choice_for, ready_of, with_choice}
-use Rattle.lagsystem.specs.State.{SystemState, aggregators_value, port_index, with_system_ports}
-use Rattle.lagsystem.specs.Views.{views}
-use Rattle.lagsystem.proofs.Rest.{becomes_slots, last_slots, marker_slots, offers_slots, same_slots, zip_all}
-use Rattle.lagsystem.proofs.Rising.{all-get, all-set, found_place}
-use Rattle.distributor.specs.Changes.{marker_due}
-use Rattle.lagsystem.specs.declared.fault.SystemFault.{SystemFault}
-use Rattle.lagsystem.specs.declared.received.Received.{Received}
-use Rattle.lagsystem.specs.Offers.{system_force_result, system_move_result}
-use Rattle.lagsystem.specs.Sending.{TransmitsAt, TransmitsIf}
-use Rattle.lagsystem.specs.Windows.{reply_has_lacpdu, subtype}
+use Rattle.lagbeside.proofs.Common.{Bool, Err, List, None, Ok, Option, Result, Some, [], ap, arith, false, inl, inr, length, not, refl, slice_get}
+use Rattle.lagbeside.proofs.Common.{slice_set, subst, sym, true, ℕ, ◌&&◌, ◌==◌, ◌||◌, ◌∙◌, ◌∷◌, ◌≡◌, ◌⊎◌, cases_Bool, nat_tests, none-some}
+use Rattle.lagbeside.proofs.Common.{AllByRecursion, AggId, Choice, Selected, Standby, is_selected, is_unselected, Lacpdu, MuxState, Attached}
+use Rattle.lagbeside.proofs.Common.{CollectingDistributing, Detached, Waiting, Setup, Machines, is_synchronized, mux_rows, partner_synchronized}
+use Rattle.lagbeside.proofs.Common.{same_mux_state, RunsPeriodic, receive_rows, RunsToRest, Starts, before_start, after_sending, count_down, is_due}
+use Rattle.lagbeside.proofs.Common.{PortView, AggregatorsValue, is_eligible, marker_due, Reply, SystemFault, Received, TookLacpdu, SystemPort}
+use Rattle.lagbeside.proofs.Common.{AnswersMarker, Call, Carries, ChangesParty, Configure, Data_frame, Faulty, Force, GivesEffect, IsFrame}
+use Rattle.lagbeside.proofs.Common.{Move_conversation, Offer, OnlyPortChangesBy, ParsesWhere, Performs, PortAtChangesBy, ProcessesLacpdu, Receive}
+use Rattle.lagbeside.proofs.Common.{ReceivedFrame, ReceivesAt, Releases, Restart, Runt, Set_link, SetsPortEnabled, Step, ThenSettles, Tick, Transmit}
+use Rattle.lagbeside.proofs.Common.{up_or_dropped, HasJustStarted, IsFirst, setup_of, system_force_result, system_move_result, collecting}
+use Rattle.lagbeside.proofs.Common.{TransmitsAt, TransmitsIf, ChoosesIn, PortsChangeBy, PromotesNext, Settling, choice_for, ready_of, with_choice}
+use Rattle.lagbeside.proofs.Common.{SystemState, aggregators_value, port_index, with_system_ports, views, reply_has_lacpdu, subtype, becomes_slots}
+use Rattle.lagbeside.proofs.Common.{last_slots, marker_slots, offers_slots, same_slots, zip_all, all-get, all-set, found_place}
 use Rattle.lagsystem.proofs.Limiting.{next_stands}
 use Rattle.lagsystem.proofs.Preserves.{lacpdu_subtype}
 use Rattle.lagsystem.proofs.PromotionLemmas.{choices_keep, promotions_keep}
 use Rattle.lagsystem.specs.declared.drive.Reply.TheVariants as reply
-use Rattle.lagsystem.specs.Readers.{collecting}
 use Rattle.slowpdu.specs.declared.pdu.Pdu.TheVariants as pdu
 use Rattle.slowpdu.specs.declared.pdu.Marker.{Marker}
 use Rattle.slowpdu.specs.Markers.{response_to}

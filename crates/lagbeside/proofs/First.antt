@@ -1,22 +1,8 @@
 -- From the first LACPDU on.
-use Rattle.std.proofs.Common.{Bool, Ok, ap, arith, false, inl, inr, refl, subst, sym, true, ℕ, ◌∙◌, ◌≡◌, ◌≤◌, ◌⊎◌}
-use Rattle.lagtypes.specs.declared.identifiers.AggId.{AggId}
-use Rattle.lagtypes.specs.declared.party.Choice.{Choice}
-use Rattle.lagtypes.specs.declared.party.Choice.TheVariants.{Selected, Standby, Unselected}
-use Rattle.lagtypes.specs.declared.party.Party.{Party}
-use Rattle.lagtypes.specs.Choices.{is_selected}
-use Rattle.portmachines.specs.Machines.{Machines}
-use Rattle.lagsystem.specs.declared.received.Received.TheVariants.{TookLacpdu}
-use Rattle.lagsystem.specs.declared.system_ports.SystemPort.{SystemPort}
-use Rattle.lagsystem.specs.Calls.{Receive}
-use Rattle.lagsystem.specs.State.{SystemState, port_index}
-use Rattle.lagsystem.proofs.Keeps.{Step-frame}
-use Rattle.lagsystem.proofs.Rising.{all-get, ports_rise}
-use Rattle.lagsystem.proofs.Sound.{Step-sound}
-use Rattle.lagbeside.specs.Timers.{timeout_time}
-use Rattle.lagbeside.specs.Heartbeat.{EachCall}
-use Rattle.lagbeside.specs.Selecting.{StandsByFull, WantsAggregator}
-use Rattle.lagbeside.specs.Serving.{CarriesBeside, Fed, IsServed, LeavesServed, NoneBegins, RunsOnceTicked, Service, WaitsAreBounded}
+use Rattle.lagbeside.proofs.Common.{Bool, Ok, ap, arith, false, inl, inr, refl, subst, sym, true, ℕ, ◌∙◌, ◌≡◌, ◌≤◌, ◌⊎◌, AggId, Choice, Selected}
+use Rattle.lagbeside.proofs.Common.{Standby, Unselected, Party, is_selected, Machines, TookLacpdu, SystemPort, Receive, SystemState, port_index}
+use Rattle.lagbeside.proofs.Common.{Step-frame, all-get, ports_rise, Step-sound, EachCall, StandsByFull, WantsAggregator, CarriesBeside, Fed}
+use Rattle.lagbeside.proofs.Common.{IsServed, LeavesServed, NoneBegins, RunsOnceTicked, Service, WaitsAreBounded, timeout_time}
 use Rattle.lagsystem.specs.declared.drive.Reply.TheVariants as reply
 use Rattle.lagbeside.proofs.Beside.{comes_up, same_number}
 use Rattle.lagbeside.proofs.EachPort.{Step-each, took}

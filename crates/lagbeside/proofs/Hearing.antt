@@ -1,23 +1,10 @@
 -- A port that processes no LACPDU comes nearer to EXPIRED and DEFAULTED with each tick.
-use Rattle.std.proofs.Common.{Bool, IsTrue, List, [], ap, arith, false, if◌then◌else◌, inl, inr, not, refl, subst, suc, sym, true, zero, ℕ, ◌&&◌, ◌+◌}
-use Rattle.std.proofs.Common.{◌-◌, ◌==◌, ◌∙◌, ◌∷◌, ◌≡◌, ◌≤◌}
-use Rattle.std.proofs.lemmas.Bool.Decides.{nat_tests}
-use Rattle.portmachines.specs.declared.receive.ReceiveState.{ReceiveState}
-use Rattle.portmachines.specs.declared.receive.ReceiveState.TheVariants.{Current, Defaulted, Expired, Initialize, PortDisabled}
-use Rattle.portmachines.specs.Machines.{Machines}
-use Rattle.portmachines.specs.Periodic.{periodic_rows}
-use Rattle.portmachines.specs.Receive.{receive_rows, same_receive_state}
-use Rattle.portmachines.specs.Rows.{AtRest, Fires, FiresTimes, Row, RunsToRest}
-use Rattle.portmachines.specs.Transmit.{count_down}
-use Rattle.lagsystem.specs.declared.system_ports.SystemPort.{SystemPort}
-use Rattle.lagsystem.specs.Calls.{Call, Configure, Receive, Restart, Set_link, Tick, Transmit, choice_with_link}
-use Rattle.lagsystem.specs.ModelView.{can_receive_in, none_enabled}
-use Rattle.lagsystem.proofs.Rest.{can_receive_at_rest}
-use Rattle.lagsystem.proofs.Rising.{all-get}
-use Rattle.lagbeside.specs.Hearing.{IsNoticed, LeavesUnheard, processed_on}
-use Rattle.lagbeside.specs.Heartbeat.{tick_count}
-use Rattle.lagbeside.specs.Timers.{IsTimed, most_current_while, timeout_time}
-use Rattle.lagsystem.specs.declared.drive.Reply.{Reply}
+use Rattle.lagbeside.proofs.Common.{Bool, IsTrue, List, [], ap, arith, false, if◌then◌else◌, inl, inr, not, refl, subst, suc, sym, true, zero, ℕ}
+use Rattle.lagbeside.proofs.Common.{◌&&◌, ◌+◌, ◌-◌, ◌==◌, ◌∙◌, ◌∷◌, ◌≡◌, ◌≤◌, nat_tests, ReceiveState, Current, Defaulted, Expired, Initialize}
+use Rattle.lagbeside.proofs.Common.{PortDisabled, Machines, periodic_rows, receive_rows, same_receive_state, AtRest, Fires, FiresTimes, Row}
+use Rattle.lagbeside.proofs.Common.{RunsToRest, count_down, Reply, SystemPort, Call, Configure, Receive, Restart, Set_link, Tick, Transmit}
+use Rattle.lagbeside.proofs.Common.{choice_with_link, can_receive_in, none_enabled, can_receive_at_rest, all-get, IsNoticed, LeavesUnheard}
+use Rattle.lagbeside.proofs.Common.{processed_on, tick_count, IsTimed, most_current_while, timeout_time}
 use Rattle.lagbeside.proofs.EachPort.{KeptByCall, KeptBySettling}
 use Rattle.lagbeside.proofs.OnePort.{AtPort, GoesOn, goes_on, settling_leaves}
 

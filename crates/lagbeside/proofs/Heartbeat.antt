@@ -1,20 +1,8 @@
 -- A port that is active, whose link stays up and that sends nothing comes nearer to its next LACPDU with each tick.
-use Rattle.std.proofs.Common.{Bool, ap, arith, false, if◌then◌else◌, inl, refl, subst, sym, true, ℕ, ◌+◌, ◌-◌, ◌==◌, ◌∙◌, ◌≡◌, ◌≤◌, ◌⊎◌}
-use Rattle.portmachines.specs.Machines.{Machines}
-use Rattle.portmachines.specs.Mux.{mux_rows}
-use Rattle.portmachines.specs.Periodic.{periodic_rows}
-use Rattle.portmachines.specs.Receive.{receive_rows, start_receive}
-use Rattle.portmachines.specs.Rows.{AtRest, RunsToRest}
-use Rattle.portmachines.specs.Transmit.{count_down}
-use Rattle.lagsystem.specs.declared.system_ports.SystemPort.{SystemPort}
-use Rattle.lagsystem.specs.Calls.{Call, Configure, Receive, Restart, Set_link, Tick, Transmit, changed_party, choice_with_link}
-use Rattle.lagsystem.specs.NothingToSettle.{PeriodicIsSettled}
-use Rattle.lagsystem.specs.Windows.{reply_has_lacpdu}
-use Rattle.lagsystem.proofs.Rising.{all-get}
-use Rattle.lagbeside.specs.Heartbeat.{IsHeard, IsSilentShortly, LeavesUpAndSilent, tick_count}
-use Rattle.lagbeside.specs.Silence.{IsLoud}
-use Rattle.lagbeside.specs.Timers.{IsTimed}
-use Rattle.lagsystem.specs.declared.drive.Reply.{Reply}
+use Rattle.lagbeside.proofs.Common.{Bool, ap, arith, false, if◌then◌else◌, inl, refl, subst, sym, true, ℕ, ◌+◌, ◌-◌, ◌==◌, ◌∙◌, ◌≡◌, ◌≤◌, ◌⊎◌}
+use Rattle.lagbeside.proofs.Common.{Machines, mux_rows, periodic_rows, receive_rows, start_receive, AtRest, RunsToRest, count_down, Reply, SystemPort}
+use Rattle.lagbeside.proofs.Common.{Call, Configure, Receive, Restart, Set_link, Tick, Transmit, changed_party, choice_with_link, PeriodicIsSettled}
+use Rattle.lagbeside.proofs.Common.{reply_has_lacpdu, all-get, IsHeard, IsSilentShortly, LeavesUpAndSilent, tick_count, IsLoud, IsTimed}
 use Rattle.lagbeside.proofs.EachPort.{KeptByCall, KeptBySettling}
 use Rattle.lagbeside.proofs.OnePort.{AtPort, GoesOn, goes_on, mux_leaves, periodic_leaves}
 use Rattle.lagbeside.proofs.Silence.{loud}

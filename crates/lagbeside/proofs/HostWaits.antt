@@ -1,30 +1,16 @@
 -- No call of a host leaves a conversation waiting for a response for 30 ticks, or a timer above its bound.
-use Rattle.std.proofs.Common.{Bool, Err, List, None, Ok, Option, Result, Some, arith, false, if◌then◌else◌, subst, suc, sym, true, zero, ℕ, ◌≡◌}
-use Rattle.std.proofs.lemmas.Bool.Decides.{nat_tests}
-use Rattle.lagtypes.specs.declared.identifiers.AggId.{AggId}
-use Rattle.portmachines.specs.Machines.{Machines}
-use Rattle.distributor.specs.declared.assignment.Assignment.{Assignment}
-use Rattle.distributor.specs.declared.assignment.Assignment.TheVariants.{On}
+use Rattle.lagbeside.proofs.Common.{Bool, Err, List, None, Ok, Option, Result, Some, arith, false, if◌then◌else◌, subst, suc, sym, true, zero, ℕ, ◌≡◌}
+use Rattle.lagbeside.proofs.Common.{nat_tests, AggId, Machines, Assignment, On, leave_result, after_mark, assignment_of, next_identifier, Answer}
+use Rattle.lagbeside.proofs.Common.{SystemFault, SystemPort, Call, Force, Step, GivesOrRefuses, in_system, aggregator_numbered, SendsMarkerOf}
+use Rattle.lagbeside.proofs.Common.{SystemState, port_index, EachCallKeepsTimed, EachHostCallKeepsTimed, IsTimed, KeepsTimeout}
+use Rattle.lagbeside.proofs.Common.{EachHostCallKeepsWaits, IsAwaited, WaitsAreShort}
 use Rattle.distributor.specs.declared.fault.DistFault.{DistFault}
-use Rattle.distributor.specs.Calls.{leave_result}
-use Rattle.distributor.specs.Changes.{after_mark}
-use Rattle.distributor.specs.Conversations.{assignment_of, next_identifier}
 use Rattle.lagsystem.specs.declared.drive.HostCall.{HostCall}
 use Rattle.lagsystem.specs.declared.drive.HostReply.{HostReply}
-use Rattle.lagsystem.specs.declared.drive.Reply.{Reply as Answer}
-use Rattle.lagsystem.specs.declared.fault.SystemFault.{SystemFault}
-use Rattle.lagsystem.specs.declared.system_ports.SystemPort.{SystemPort}
-use Rattle.lagsystem.specs.Calls.{Call, Force, Step}
 use Rattle.lagsystem.specs.Drives.{call_of}
 use Rattle.lagsystem.specs.HostCalls.{HostPromise}
-use Rattle.lagsystem.specs.Offers.{GivesOrRefuses, in_system}
 use Rattle.lagsystem.specs.Probing.{Probes, ProbesAt, ProbesIf}
-use Rattle.lagsystem.specs.Readers.{aggregator_numbered}
-use Rattle.lagsystem.specs.Sending.{SendsMarkerOf}
-use Rattle.lagsystem.specs.State.{SystemState, port_index}
 use Rattle.lagsystem.proofs.HostCallLemmas.{TableAlone, host_alone}
-use Rattle.lagbeside.specs.Timers.{EachCallKeepsTimed, EachHostCallKeepsTimed, IsTimed, KeepsTimeout}
-use Rattle.lagbeside.specs.Waits.{EachHostCallKeepsWaits, IsAwaited, WaitsAreShort}
 use Rattle.distributor.specs.declared.fault.DistFault.TheVariants as dist
 use Rattle.lagsystem.specs.declared.drive.HostCall.TheVariants as host
 use Rattle.lagsystem.specs.declared.drive.HostReply.TheVariants as told

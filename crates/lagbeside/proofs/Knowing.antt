@@ -1,34 +1,13 @@
 -- A port keeps what it recorded of an LACPDU while current_while has ticks left.
-use Rattle.std.proofs.Common.{Bool, List, Some, [], ap, arith, false, if◌then◌else◌, inl, inr, refl, slice_get, slice_set, subst, suc, sym, true}
-use Rattle.std.proofs.Common.{zero, ℕ, ◌&&◌, ◌+◌, ◌-◌, ◌==◌, ◌∙◌, ◌∷◌, ◌≡◌, ◌≤◌}
-use Rattle.std.proofs.lemmas.Bool.Decides.{nat_tests}
-use Rattle.std.proofs.lemmas.Option.{none-some, same_Some}
-use Rattle.lagtypes.specs.declared.state.StateBits.{StateBits}
-use Rattle.lagtypes.specs.States.{bits_of, with_synchronization}
-use Rattle.lagtypes.proofs.StateLemmas.{encode_then_decode}
-use Rattle.slowpdu.specs.declared.pdu.Info.{Info}
-use Rattle.slowpdu.specs.declared.pdu.Lacpdu.{Lacpdu}
-use Rattle.portmachines.specs.declared.receive.ReceiveState.{ReceiveState}
-use Rattle.portmachines.specs.declared.receive.ReceiveState.TheVariants.{Current, Expired, Initialize, PortDisabled}
-use Rattle.portmachines.specs.Machines.{Machines}
-use Rattle.portmachines.specs.Periodic.{periodic_rows}
-use Rattle.portmachines.specs.Receive.{receive_rows, recorded_synchronization, same_receive_state}
-use Rattle.portmachines.specs.Rows.{AtRest, Fires, FiresTimes, Row, RunsToRest}
-use Rattle.portmachines.specs.Transmit.{count_down}
-use Rattle.lagsystem.specs.declared.system_ports.SystemPort.{SystemPort}
-use Rattle.lagsystem.specs.Calls.{Call, Configure, OnlyPortChangesBy, ProcessesLacpdu, Receive, Restart, Set_link, ThenSettles, Tick, Transmit}
-use Rattle.lagsystem.specs.Calls.{choice_with_link}
-use Rattle.lagsystem.specs.ModelView.{can_receive, can_receive_in, none_enabled}
-use Rattle.lagsystem.specs.Sound.{IsSound}
-use Rattle.lagsystem.specs.State.{SystemState, port_numbers}
-use Rattle.lagsystem.proofs.Effects.{named}
-use Rattle.lagsystem.proofs.Keeps.{keeps_place, keeps_settled}
-use Rattle.lagsystem.proofs.Rest.{can_receive_at_rest}
-use Rattle.lagsystem.proofs.Rising.{Rises, all-get, ports_rise}
-use Rattle.lagbeside.specs.Hearing.{LeavesUnheard, processed_on}
+use Rattle.lagbeside.proofs.Common.{Bool, List, Some, [], ap, arith, false, if◌then◌else◌, inl, inr, refl, slice_get, slice_set, subst, suc, sym}
+use Rattle.lagbeside.proofs.Common.{true, zero, ℕ, ◌&&◌, ◌+◌, ◌-◌, ◌==◌, ◌∙◌, ◌∷◌, ◌≡◌, ◌≤◌, nat_tests, none-some, same_Some, StateBits, bits_of}
+use Rattle.lagbeside.proofs.Common.{with_synchronization, encode_then_decode, Info, Lacpdu, ReceiveState, Current, Expired, Initialize, PortDisabled}
+use Rattle.lagbeside.proofs.Common.{Machines, periodic_rows, receive_rows, recorded_synchronization, same_receive_state, AtRest, Fires, FiresTimes}
+use Rattle.lagbeside.proofs.Common.{Row, RunsToRest, count_down, Reply, SystemPort, Call, Configure, OnlyPortChangesBy, ProcessesLacpdu, Receive}
+use Rattle.lagbeside.proofs.Common.{Restart, Set_link, ThenSettles, Tick, Transmit, choice_with_link, can_receive, can_receive_in, none_enabled}
+use Rattle.lagbeside.proofs.Common.{IsSound, SystemState, port_numbers, named, keeps_place, keeps_settled, can_receive_at_rest, Rises, all-get}
+use Rattle.lagbeside.proofs.Common.{ports_rise, LeavesUnheard, processed_on, timeout_time}
 use Rattle.lagbeside.specs.Knowing.{HasRecorded, IsKnown}
-use Rattle.lagbeside.specs.Timers.{timeout_time}
-use Rattle.lagsystem.specs.declared.drive.Reply.{Reply}
 use Rattle.lagbeside.proofs.EachPort.{KeptByCall, KeptBySettling, OfEach, settling_each}
 use Rattle.lagbeside.proofs.Hearing.{EnabledKeep, both, is_number, no, not_down, stays_up, times_keep}
 use Rattle.lagbeside.proofs.OnePort.{AtPort, GoesOn, at_number, goes_on, same_place, settling_leaves}

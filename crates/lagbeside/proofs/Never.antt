@@ -1,29 +1,10 @@
 -- A port that no LACPDU was in sync with.
-use Rattle.std.proofs.Common.{Bool, List, [], ap, arith, false, inl, inr, not, refl, subst, sym, true, ℕ, ◌&&◌, ◌||◌, ◌∙◌, ◌∷◌, ◌≡◌}
-use Rattle.std.proofs.lemmas.Bool.{cases_Bool}
-use Rattle.std.proofs.lemmas.Bool.Decides.{nat_tests}
-use Rattle.lagtypes.specs.declared.party.Party.{Party}
-use Rattle.lagtypes.specs.declared.state.StateBits.{StateBits}
-use Rattle.lagtypes.specs.Choices.{is_selected}
-use Rattle.lagtypes.specs.States.{bits_of, with_synchronization, with_timeout}
-use Rattle.lagtypes.proofs.StateLemmas.{encode_then_decode}
-use Rattle.slowpdu.specs.declared.pdu.Info.{Info}
-use Rattle.slowpdu.specs.declared.pdu.Lacpdu.{Lacpdu}
-use Rattle.portmachines.specs.declared.mux.MuxState.{MuxState}
-use Rattle.portmachines.specs.declared.mux.MuxState.TheVariants.{CollectingDistributing}
-use Rattle.portmachines.specs.Machines.{Machines}
-use Rattle.portmachines.specs.Mux.{partner_synchronized, same_mux_state}
-use Rattle.portmachines.specs.Receive.{receive_rows, recorded_synchronization}
-use Rattle.portmachines.specs.Transmit.{count_down}
-use Rattle.lagsystem.specs.declared.drive.Reply.{Reply}
-use Rattle.lagsystem.specs.declared.system_ports.SystemPort.{SystemPort}
-use Rattle.lagsystem.specs.Calls.{Call, Configure, ProcessesLacpdu, Receive, Restart, Set_link, Tick, Transmit, choice_with_link}
-use Rattle.lagsystem.specs.NothingToSettle.{MuxIsSettled}
-use Rattle.lagsystem.specs.Sound.{IsSound}
-use Rattle.lagsystem.specs.State.{SystemState}
-use Rattle.lagsystem.proofs.Rising.{all-get, ports_rise}
-use Rattle.lagbeside.specs.Heartbeat.{EachCall}
-use Rattle.lagbeside.specs.Serving.{Brings, IsUnanswered, LeavesUnanswered, NeverAlone, Runs, in_sync}
+use Rattle.lagbeside.proofs.Common.{Bool, List, [], ap, arith, false, inl, inr, not, refl, subst, sym, true, ℕ, ◌&&◌, ◌||◌, ◌∙◌, ◌∷◌, ◌≡◌, cases_Bool}
+use Rattle.lagbeside.proofs.Common.{nat_tests, Party, StateBits, is_selected, bits_of, with_synchronization, with_timeout, encode_then_decode, Info}
+use Rattle.lagbeside.proofs.Common.{Lacpdu, MuxState, CollectingDistributing, Machines, partner_synchronized, same_mux_state, receive_rows}
+use Rattle.lagbeside.proofs.Common.{recorded_synchronization, count_down, Reply, SystemPort, Call, Configure, ProcessesLacpdu, Receive, Restart}
+use Rattle.lagbeside.proofs.Common.{Set_link, Tick, Transmit, choice_with_link, MuxIsSettled, IsSound, SystemState, all-get, ports_rise, EachCall}
+use Rattle.lagbeside.proofs.Common.{Brings, IsUnanswered, LeavesUnanswered, NeverAlone, Runs, in_sync}
 use Rattle.lagbeside.proofs.EachPort.{KeptByCall, KeptBySettling, OfEach, Step-each, Tick-each}
 use Rattle.lagbeside.proofs.Serving.{aside_each}
 use Rattle.lagbeside.proofs.Beside.{runs_ports, same_number}

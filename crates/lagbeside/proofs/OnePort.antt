@@ -1,29 +1,9 @@
 -- Of one port, what each call keeps and each tick moves on, over a list of calls.
-use Rattle.std.proofs.Common.{Bool, List, Some, [], ap, arith, false, option_map, refl, slice_get, subst, suc, sym, zero, ℕ, ◌+◌, ◌-◌, ◌<◌, ◌∙◌, ◌∷◌}
-use Rattle.std.proofs.Common.{◌≡◌, ◌≤◌}
-use Rattle.std.proofs.lemmas.Bool.Decides.{nat_tests}
-use Rattle.std.proofs.lemmas.Option.{none-some, same_Some, slice_get-map}
-use Rattle.std.specs.List.{AllByRecursion}
-use Rattle.lagtypes.specs.declared.party.Choice.TheVariants.{Unselected}
-use Rattle.portmachines.specs.declared.mux.MuxState.TheVariants.{Detached}
-use Rattle.portmachines.specs.declared.periodic.PeriodicState.TheVariants.{NoPeriodic}
-use Rattle.portmachines.specs.Machines.{Machines}
-use Rattle.portmachines.specs.Mux.{mux_rows}
-use Rattle.portmachines.specs.Periodic.{RunsPeriodic, periodic_rows}
-use Rattle.portmachines.specs.Receive.{receive_rows}
-use Rattle.portmachines.specs.Rows.{AtRest, RunsToRest}
-use Rattle.portmachines.specs.Transmit.{count_down}
-use Rattle.lagsystem.specs.declared.system_ports.SystemPort.{SystemPort}
-use Rattle.lagsystem.specs.Calls.{Call, Step, TableRun, Tick}
-use Rattle.lagsystem.specs.First.{configured_numbers}
-use Rattle.lagsystem.specs.NothingToSettle.{PeriodicIsSettled}
-use Rattle.lagsystem.specs.Sound.{IsSound}
-use Rattle.lagsystem.specs.State.{SystemState, port_numbers}
-use Rattle.lagsystem.proofs.Keeps.{Step-frame}
-use Rattle.lagsystem.proofs.Rising.{Rises, all-get, ports_rise}
-use Rattle.lagsystem.proofs.Sound.{Step-sound}
-use Rattle.lagbeside.specs.Heartbeat.{EachCall, tick_count}
-use Rattle.lagsystem.specs.declared.drive.Reply.{Reply}
+use Rattle.lagbeside.proofs.Common.{Bool, List, Some, [], ap, arith, false, option_map, refl, slice_get, subst, suc, sym, zero, ℕ, ◌+◌, ◌-◌, ◌<◌, ◌∙◌}
+use Rattle.lagbeside.proofs.Common.{◌∷◌, ◌≡◌, ◌≤◌, nat_tests, none-some, same_Some, slice_get-map, AllByRecursion, Unselected, Detached, NoPeriodic}
+use Rattle.lagbeside.proofs.Common.{Machines, mux_rows, RunsPeriodic, periodic_rows, receive_rows, AtRest, RunsToRest, count_down, Reply, SystemPort}
+use Rattle.lagbeside.proofs.Common.{Call, Step, TableRun, Tick, configured_numbers, PeriodicIsSettled, IsSound, SystemState, port_numbers, Step-frame}
+use Rattle.lagbeside.proofs.Common.{Rises, all-get, ports_rise, Step-sound, EachCall, tick_count}
 use Rattle.lagbeside.proofs.EachPort.{KeptByCall, KeptBySettling, OfEach, Step-each, Tick-each}
 use Rattle.lagbeside.proofs.Timers.{runs_keep}
 

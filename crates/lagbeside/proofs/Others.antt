@@ -1,35 +1,12 @@
 -- The other ports of an aggregator wait no longer, if none begins to.
-use Rattle.std.proofs.Common.{Bool, List, Option, Some, [], ap, arith, eqb-true, false, if◌then◌else◌, inl, inr, not}
-use Rattle.std.proofs.Common.{refl, slice_get, subst, sym, true, ℕ, ◌&&◌, ◌+◌, ◌-◌, ◌==◌, ◌||◌, ◌∙◌, ◌∷◌, ◌≡◌, ◌≤◌, ◌⊎◌}
-use Rattle.std.proofs.lemmas.Bool.{cases_Bool}
-use Rattle.std.proofs.lemmas.Bool.Decides.{nat_tests}
-use Rattle.std.specs.List.{AllByRecursion}
-use Rattle.lagtypes.specs.declared.identifiers.AggId.{AggId}
-use Rattle.lagtypes.specs.declared.identifiers.Key.{Key}
-use Rattle.lagtypes.specs.declared.party.Choice.{Choice}
-use Rattle.lagtypes.specs.declared.party.Choice.TheVariants.{Selected, Standby, Unselected}
-use Rattle.lagtypes.specs.Choices.{is_unselected}
-use Rattle.lagtypes.specs.Same.{same_party}
-use Rattle.slowpdu.specs.declared.pdu.Lacpdu.{Lacpdu}
-use Rattle.slowpdu.specs.Parties.{party_of}
-use Rattle.portmachines.specs.declared.mux.MuxState.{MuxState}
-use Rattle.portmachines.specs.declared.mux.MuxState.TheVariants.{Attached, CollectingDistributing, Detached, Waiting}
-use Rattle.portmachines.specs.Machines.{Machines}
-use Rattle.portmachines.specs.Mux.{mux_rows, same_mux_state}
-use Rattle.portmachines.specs.Receive.{default_partner, lacpdu_rows, receive_rows}
-use Rattle.portmachines.specs.Rows.{RunsToRest}
-use Rattle.portmachines.specs.Start.{Starts, before_start}
-use Rattle.portmachines.specs.Transmit.{count_down}
-use Rattle.selection.specs.Views.{has_chosen, has_waited, is_detached_or_waiting, occupies}
-use Rattle.lagsystem.specs.declared.drive.Reply.{Reply}
-use Rattle.lagsystem.specs.declared.system_ports.SystemPort.{SystemPort}
-use Rattle.lagsystem.specs.Calls.{Call, Configure, ProcessesLacpdu, Receive, Restart, Set_link, Tick, Transmit, changed_party, choice_with_link}
-use Rattle.lagsystem.specs.NothingToSettle.{MuxIsSettled}
-use Rattle.lagsystem.specs.Sound.{IsSound}
-use Rattle.lagsystem.specs.State.{SystemState}
-use Rattle.lagsystem.specs.Views.{stage_of}
-use Rattle.lagbeside.specs.Heartbeat.{tick_count}
-use Rattle.lagbeside.specs.Serving.{NoneBegins, Runs, RunsOnceTicked, RunsWhile, Service, begins_in}
+use Rattle.lagbeside.proofs.Common.{Bool, List, Option, Some, [], ap, arith, eqb-true, false, if◌then◌else◌, inl, inr, not, refl, slice_get, subst}
+use Rattle.lagbeside.proofs.Common.{sym, true, ℕ, ◌&&◌, ◌+◌, ◌-◌, ◌==◌, ◌||◌, ◌∙◌, ◌∷◌, ◌≡◌, ◌≤◌, ◌⊎◌, cases_Bool, nat_tests, AllByRecursion, AggId}
+use Rattle.lagbeside.proofs.Common.{Key, Choice, Selected, Standby, Unselected, is_unselected, same_party, Lacpdu, party_of, MuxState, Attached}
+use Rattle.lagbeside.proofs.Common.{CollectingDistributing, Detached, Waiting, Machines, mux_rows, same_mux_state, default_partner, lacpdu_rows}
+use Rattle.lagbeside.proofs.Common.{receive_rows, RunsToRest, Starts, before_start, count_down, has_chosen, has_waited, is_detached_or_waiting}
+use Rattle.lagbeside.proofs.Common.{occupies, Reply, SystemPort, Call, Configure, ProcessesLacpdu, Receive, Restart, Set_link, Tick, Transmit}
+use Rattle.lagbeside.proofs.Common.{changed_party, choice_with_link, MuxIsSettled, IsSound, SystemState, stage_of, tick_count, NoneBegins, Runs}
+use Rattle.lagbeside.proofs.Common.{RunsOnceTicked, RunsWhile, Service, begins_in}
 use Rattle.lagbeside.proofs.EachPort.{KeptByCall, KeptBySettling, OfEach, Step-each, Tick-each}
 use Rattle.lagbeside.proofs.Hearing.{no}
 use Rattle.lagbeside.proofs.OnePort.{AtPort, periodic_leaves}

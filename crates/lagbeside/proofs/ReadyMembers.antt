@@ -1,25 +1,9 @@
 -- When an aggregator is Ready: each of its members that is not attached has waited (6.4.14.1).
-use Rattle.std.proofs.Common.{Bool, List, Some, [], ap, arith, cond, false, filter, if◌then◌else◌}
-use Rattle.std.proofs.Common.{refl, slice_get, suc, sym, true, zero, ℕ, ◌&&◌, ◌+◌, ◌-◌, ◌==◌, ◌||◌, ◌∙◌, ◌∷◌, ◌≡◌, ◌≤◌, ◌⊎◌}
-use Rattle.std.proofs.lemmas.Bool.Decides.{nat_tests}
-use Rattle.std.proofs.lemmas.Option.{none-some}
-use Rattle.std.specs.List.{AllByRecursion, list_all, list_any}
-use Rattle.lagtypes.specs.declared.identifiers.AggId.{AggId}
-use Rattle.lagtypes.specs.declared.identifiers.Key.{Key}
-use Rattle.lagtypes.specs.declared.party.Choice.TheVariants.{Selected}
-use Rattle.lagtypes.proofs.SameLemmas.{itself}
-use Rattle.portmachines.specs.declared.mux.MuxState.TheVariants.{Waiting}
-use Rattle.selection.specs.declared.view.PortView.{PortView}
-use Rattle.selection.specs.Choice.{is_aggregator, ports_that_chose}
-use Rattle.selection.specs.Views.{has_chosen, has_waited, is_detached_or_waiting}
-use Rattle.lagsystem.specs.declared.system_ports.SystemPort.{SystemPort}
-use Rattle.lagsystem.specs.NothingToSettle.{MuxIsSettled}
-use Rattle.lagsystem.specs.Occupants.{occupied}
-use Rattle.lagsystem.specs.Settling.{ready_of}
-use Rattle.lagsystem.specs.Sound.{IsSound}
-use Rattle.lagsystem.specs.State.{SystemState}
-use Rattle.lagsystem.specs.Views.{selection_view, stage_of, views}
-use Rattle.lagsystem.proofs.Rising.{all-get}
+use Rattle.lagbeside.proofs.Common.{Bool, List, Some, [], ap, arith, cond, false, filter, if◌then◌else◌, refl, slice_get, suc, sym, true, zero, ℕ}
+use Rattle.lagbeside.proofs.Common.{◌&&◌, ◌+◌, ◌-◌, ◌==◌, ◌||◌, ◌∙◌, ◌∷◌, ◌≡◌, ◌≤◌, ◌⊎◌, nat_tests, none-some, AllByRecursion, list_all, list_any}
+use Rattle.lagbeside.proofs.Common.{AggId, Key, Selected, itself, Waiting, PortView, is_aggregator, ports_that_chose, has_chosen, has_waited}
+use Rattle.lagbeside.proofs.Common.{is_detached_or_waiting, SystemPort, MuxIsSettled, occupied, ready_of, IsSound, SystemState, selection_view}
+use Rattle.lagbeside.proofs.Common.{stage_of, views, all-get}
 use Rattle.selection.specs.Ready.{is_ready}
 use Rattle.lagbeside.proofs.Hearing.{no}
 use Rattle.lagbeside.proofs.Selecting.{known_number}

@@ -1,40 +1,17 @@
 -- Where each aggregator of a key has an occupant, there are fewer of them than ports of that key.
-use Rattle.std.proofs.Common.{Bool, List, None, Option, Some, [], ap, arith, cond, eqb-true, false, find, if◌then◌else◌, inl, inr, length, nat_le}
-use Rattle.std.proofs.Common.{not, option_map, refl, slice_get, subst, suc, sym, true, zero, ℕ, ◌&&◌, ◌+◌, ◌==◌, ◌||◌, ◌∙◌, ◌∷◌, ◌≡◌, ◌≤◌, ◌⊎◌}
-use Rattle.std.proofs.lemmas.Bool.{and_parts, cases_Bool}
-use Rattle.std.proofs.lemmas.Bool.Decides.{nat_tests}
-use Rattle.std.proofs.lemmas.Option.{none-some, same_Some}
-use Rattle.std.specs.List.{enumerate_from, list_all, list_any}
-use Rattle.lagtypes.specs.declared.identifiers.AggId.{AggId}
-use Rattle.lagtypes.specs.declared.identifiers.Key.{Key}
-use Rattle.lagtypes.specs.declared.party.Choice.{Choice}
-use Rattle.lagtypes.specs.declared.party.Choice.TheVariants.{Selected, Standby, Unselected}
-use Rattle.lagtypes.specs.Choices.{is_selected, is_unselected}
+use Rattle.lagbeside.proofs.Common.{Bool, List, None, Option, Some, [], ap, arith, cond, eqb-true, false, find, if◌then◌else◌, inl, inr, length}
+use Rattle.lagbeside.proofs.Common.{nat_le, not, option_map, refl, slice_get, subst, suc, sym, true, zero, ℕ, ◌&&◌, ◌+◌, ◌==◌, ◌||◌, ◌∙◌, ◌∷◌, ◌≡◌}
+use Rattle.lagbeside.proofs.Common.{◌≤◌, ◌⊎◌, and_parts, cases_Bool, nat_tests, none-some, same_Some, enumerate_from, list_all, list_any, AggId, Key}
+use Rattle.lagbeside.proofs.Common.{Choice, Selected, Standby, Unselected, is_selected, is_unselected, same_system, exact_system, itself, MuxState}
+use Rattle.lagbeside.proofs.Common.{Attached, CollectingDistributing, Waiting, ReceiveState, Current, Defaulted, same_mux_state, same_receive_state}
+use Rattle.lagbeside.proofs.Common.{PortView, aggregator_of_entry, chosen_if_eligible, has_group_of, has_no_occupant, has_occupant, is_aggregator}
+use Rattle.lagbeside.proofs.Common.{lowest, occupants, occupants_share_group, or_else, ports_that_chose, has_room, is_below, is_detached, is_eligible}
+use Rattle.lagbeside.proofs.Common.{occupies, stands_by, SystemPort, key_of, MuxIsSettled, OccupantsAgree, WithinLimit, occupied, IsSound}
+use Rattle.lagbeside.proofs.Common.{SystemState, aggregators_value, may_choose, selection_view, stage_of, views, all-get, ports_rise, IsFull}
+use Rattle.lagbeside.proofs.Common.{SharesGroup, StandsByFull, WantsAggregator, aggregators_with, ports_with}
 use Rattle.lagtypes.specs.Group.{individual}
-use Rattle.lagtypes.specs.Same.{same_system}
-use Rattle.lagtypes.proofs.SameLemmas.{exact_system, itself}
-use Rattle.portmachines.specs.declared.mux.MuxState.{MuxState}
-use Rattle.portmachines.specs.declared.mux.MuxState.TheVariants.{Attached, CollectingDistributing, Waiting}
-use Rattle.portmachines.specs.declared.receive.ReceiveState.{ReceiveState}
-use Rattle.portmachines.specs.declared.receive.ReceiveState.TheVariants.{Current, Defaulted}
-use Rattle.portmachines.specs.Mux.{same_mux_state}
-use Rattle.portmachines.specs.Receive.{same_receive_state}
-use Rattle.selection.specs.declared.view.PortView.{PortView}
-use Rattle.selection.specs.Choice.{aggregator_of_entry, chosen_if_eligible, has_group_of, has_no_occupant, has_occupant, is_aggregator, lowest}
-use Rattle.selection.specs.Choice.{occupants, occupants_share_group, or_else, ports_that_chose}
-use Rattle.selection.specs.Limits.{has_room, is_below}
-use Rattle.selection.specs.Views.{is_detached, is_eligible, occupies, stands_by}
 use Rattle.selection.proofs.LimitLemmas.{NoneStandsBy, none_is_next}
-use Rattle.lagsystem.specs.declared.system_ports.SystemPort.{SystemPort}
-use Rattle.lagsystem.specs.ModelView.{key_of}
-use Rattle.lagsystem.specs.NothingToSettle.{MuxIsSettled}
-use Rattle.lagsystem.specs.Occupants.{OccupantsAgree, WithinLimit, occupied}
-use Rattle.lagsystem.specs.Sound.{IsSound}
-use Rattle.lagsystem.specs.State.{SystemState, aggregators_value}
-use Rattle.lagsystem.specs.Views.{may_choose, selection_view, stage_of, views}
 use Rattle.lagsystem.proofs.NoneLeft.{takes_is}
-use Rattle.lagsystem.proofs.Rising.{all-get, ports_rise}
-use Rattle.lagbeside.specs.Selecting.{IsFull, SharesGroup, StandsByFull, WantsAggregator, aggregators_with, ports_with}
 use Rattle.lagbeside.proofs.Counting.{count, counted, count_less_of, count_more_of}
 
 -- the number of the aggregator that a port occupies; aggregators are numbered from 1

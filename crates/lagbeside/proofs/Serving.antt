@@ -1,44 +1,17 @@
 -- A port that is served stays so, and climbs.
-use Rattle.std.proofs.Common.{Bool, List, None, Ok, Option, Some, [], ap, arith, eqb-true, false, if◌then◌else◌, inl, inr, refl, subst}
-use Rattle.std.proofs.Common.{sym, true, ℕ, ◌&&◌, ◌+◌, ◌-◌, ◌==◌, ◌∙◌, ◌∷◌, ◌≡◌, ◌≤◌, ◌⊎◌}
-use Rattle.std.proofs.lemmas.Bool.{cases_Bool}
-use Rattle.std.proofs.lemmas.Bool.Decides.{nat_tests}
-use Rattle.lagtypes.specs.declared.party.Choice.{Choice}
-use Rattle.lagtypes.specs.declared.party.Choice.TheVariants.{Unselected}
-use Rattle.lagtypes.specs.declared.state.StateBits.{StateBits}
-use Rattle.lagtypes.specs.Choices.{is_selected, is_unselected}
-use Rattle.lagtypes.specs.Same.{same_party}
-use Rattle.lagtypes.proofs.SameLemmas.{party_itself}
-use Rattle.slowpdu.specs.declared.pdu.Lacpdu.{Lacpdu}
-use Rattle.slowpdu.specs.Parties.{party_of}
-use Rattle.portmachines.specs.declared.mux.MuxState.{MuxState}
-use Rattle.portmachines.specs.declared.mux.MuxState.TheVariants.{Detached, Waiting}
-use Rattle.portmachines.specs.declared.receive.ReceiveState.TheVariants.{Current}
-use Rattle.portmachines.specs.Machines.{Machines}
-use Rattle.portmachines.specs.Mux.{is_synchronized, mux_rows, same_mux_state}
-use Rattle.portmachines.specs.Receive.{receive_rows, recorded_synchronization}
-use Rattle.portmachines.specs.Rows.{AtRest, RunsToRest}
-use Rattle.portmachines.specs.Transmit.{count_down}
-use Rattle.lagsystem.specs.declared.drive.Reply.{Reply}
-use Rattle.lagsystem.specs.declared.received.Received.TheVariants.{TookLacpdu}
-use Rattle.lagsystem.specs.declared.system_ports.SystemPort.{SystemPort}
-use Rattle.lagsystem.specs.Calls.{Call, Configure, OnlyPortChangesBy, ProcessesLacpdu, Receive, Restart, Set_link, Step, ThenSettles, Tick, Transmit}
-use Rattle.lagsystem.specs.Calls.{choice_with_link}
-use Rattle.lagsystem.specs.ModelView.{can_receive, can_receive_in}
-use Rattle.lagsystem.specs.Sound.{IsSound}
-use Rattle.lagsystem.specs.State.{SystemState, port_index, with_table}
-use Rattle.lagsystem.proofs.Effects.{named}
-use Rattle.lagsystem.proofs.Rising.{all-get, found_place}
-use Rattle.lagbeside.specs.Hearing.{processed_on}
-use Rattle.lagbeside.specs.Timers.{timeout_time}
-use Rattle.lagbeside.specs.Heartbeat.{EachCall, tick_count}
-use Rattle.lagbeside.specs.Serving.{Fed, IsServed, LeavesServed, RunsWhile, Serves, Service, in_sync}
+use Rattle.lagbeside.proofs.Common.{Bool, List, None, Ok, Option, Some, [], ap, arith, eqb-true, false, if◌then◌else◌, inl, inr, refl, subst, sym}
+use Rattle.lagbeside.proofs.Common.{true, ℕ, ◌&&◌, ◌+◌, ◌-◌, ◌==◌, ◌∙◌, ◌∷◌, ◌≡◌, ◌≤◌, ◌⊎◌, cases_Bool, nat_tests, Choice, Unselected, StateBits}
+use Rattle.lagbeside.proofs.Common.{is_selected, is_unselected, same_party, party_itself, Lacpdu, party_of, MuxState, Detached, Waiting, Current}
+use Rattle.lagbeside.proofs.Common.{Machines, is_synchronized, mux_rows, same_mux_state, receive_rows, recorded_synchronization, AtRest, RunsToRest}
+use Rattle.lagbeside.proofs.Common.{count_down, Reply, TookLacpdu, SystemPort, Call, Configure, OnlyPortChangesBy, ProcessesLacpdu, Receive, Restart}
+use Rattle.lagbeside.proofs.Common.{Set_link, Step, ThenSettles, Tick, Transmit, choice_with_link, can_receive, can_receive_in, IsSound, SystemState}
+use Rattle.lagbeside.proofs.Common.{port_index, with_table, named, all-get, found_place, processed_on, EachCall, tick_count, Fed, IsServed}
+use Rattle.lagbeside.proofs.Common.{LeavesServed, RunsWhile, Serves, Service, in_sync, timeout_time}
 use Rattle.lagsystem.specs.declared.drive.Reply.TheVariants as reply
 use Rattle.lagbeside.proofs.EachPort.{KeptByCall, KeptBySettling, OfEach, Step-each, Tick-each, took}
 use Rattle.lagbeside.proofs.Hearing.{EnabledKeep, both, is_number, no, not_down, stays_up, times_keep}
-use Rattle.lagbeside.proofs.Knowing.{decoded, rests_still}
+use Rattle.lagbeside.proofs.Knowing.{decoded, rests_still, takes_each}
 use Rattle.lagbeside.proofs.OnePort.{AtPort, mux_leaves, periodic_leaves}
-use Rattle.lagbeside.proofs.Knowing.{takes_each}
 
 -- SELECTED so, and served
 abbrev pub Held : Service → Choice → ℕ → Machines → Type 0

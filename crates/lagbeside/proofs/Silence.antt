@@ -1,10 +1,6 @@
 -- The silence of an active port.
-use Rattle.std.proofs.Common.{arith, false, inl, subst, true, ℕ, ◌+◌, ◌-◌, ◌≡◌}
-use Rattle.lagtypes.specs.States.{bits_of}
-use Rattle.portmachines.specs.Machines.{Machines}
-use Rattle.portmachines.specs.Periodic.{RunsPeriodic, periodic_rows}
-use Rattle.portmachines.specs.Rows.{AtRest}
-use Rattle.lagbeside.specs.Silence.{IsLoud, Speaks}
+use Rattle.lagbeside.proofs.Common.{arith, false, inl, subst, true, ℕ, ◌+◌, ◌-◌, ◌≡◌, bits_of, Machines, RunsPeriodic, periodic_rows, AtRest, IsLoud}
+use Rattle.lagbeside.proofs.Common.{Speaks}
 use Rattle.lagbeside.proofs.OnePort.{periodic_leaves}
 use Rattle.lagbeside.proofs.Hearing.{no}
 use Rattle.lagbeside.proofs.Sounding.{Calm, near_comes, near_ticks, not_silent, periodic_near}

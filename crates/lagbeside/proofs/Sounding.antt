@@ -1,18 +1,9 @@
 -- In how many ticks an LACPDU of a port is due that neither its own end nor its partner keeps silent.
-use Rattle.std.proofs.Common.{Bool, List, [], arith, cond, false, inl, inr, length, nat_lt, not, refl, subst, sym, true, ℕ, ◌&&◌, ◌+◌, ◌-◌, ◌<◌, ◌==◌}
-use Rattle.std.proofs.Common.{◌||◌, ◌∷◌, ◌≡◌, ◌≤◌, ◌⊎◌}
-use Rattle.std.proofs.lemmas.Bool.{and_parts}
-use Rattle.std.proofs.lemmas.Bool.Decides.{nat_tests}
-use Rattle.std.specs.List.{AllByRecursion}
-use Rattle.portmachines.specs.declared.periodic.PeriodicState.{PeriodicState}
-use Rattle.portmachines.specs.declared.periodic.PeriodicState.TheVariants.{Fast, NoPeriodic, PeriodicTx, Slow}
-use Rattle.portmachines.specs.Machines.{Machines}
-use Rattle.portmachines.specs.Mux.{mux_rows}
-use Rattle.portmachines.specs.Periodic.{RunsPeriodic, is_silent, partner_short, periodic_rows, periodic_table, same_periodic_state, timer_expired}
-use Rattle.portmachines.specs.Rows.{AtRest, Row, in_order}
-use Rattle.portmachines.specs.Transmit.{aged, count_down, is_due}
-use Rattle.lagbeside.specs.Silence.{SilentFor}
-use Rattle.lagbeside.specs.Timers.{IsTimed, most_periodic_timer}
+use Rattle.lagbeside.proofs.Common.{Bool, List, [], arith, cond, false, inl, inr, length, nat_lt, not, refl, subst, sym, true, ℕ, ◌&&◌, ◌+◌, ◌-◌, ◌<◌}
+use Rattle.lagbeside.proofs.Common.{◌==◌, ◌||◌, ◌∷◌, ◌≡◌, ◌≤◌, ◌⊎◌, and_parts, nat_tests, AllByRecursion, PeriodicState, Fast, NoPeriodic, PeriodicTx}
+use Rattle.lagbeside.proofs.Common.{Slow, Machines, mux_rows, RunsPeriodic, is_silent, partner_short, periodic_rows, periodic_table}
+use Rattle.lagbeside.proofs.Common.{same_periodic_state, timer_expired, AtRest, Row, in_order, aged, count_down, is_due, SilentFor, IsTimed}
+use Rattle.lagbeside.proofs.Common.{most_periodic_timer}
 use Rattle.lagbeside.proofs.Hearing.{EnabledKeep, no, times_keep}
 use Rattle.lagbeside.proofs.Timers.{RowsKeep}
 use Rattle.portmachines.proofs.Windows.{periodic-ages}

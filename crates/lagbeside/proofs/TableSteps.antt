@@ -1,17 +1,7 @@
 -- What each call does to each conversation.
-use Rattle.std.proofs.Common.{Err, List, Ok, Option, Result, ap, arith, subst, sym, ℕ, ◌≡◌}
-use Rattle.std.proofs.lemmas.Bool.Decides.{nat_tests}
-use Rattle.lagtypes.specs.declared.identifiers.AggId.{AggId}
-use Rattle.distributor.specs.declared.assignment.Assignment.{Assignment}
-use Rattle.distributor.specs.Changes.{SetsAssignment, after_mark, after_release, after_tick}
-use Rattle.distributor.specs.Conversations.{Table, assignment_of}
-use Rattle.lagsystem.specs.declared.fault.SystemFault.{SystemFault}
-use Rattle.lagsystem.specs.declared.received.Received.{Received}
-use Rattle.lagsystem.specs.Calls.{Receive, Step, Tick, Transmit}
-use Rattle.lagsystem.specs.Offers.{GivesOrRefuses}
-use Rattle.lagsystem.specs.Settling.{Settling, held_unless_on}
-use Rattle.lagsystem.specs.State.{SystemState, port_index}
-use Rattle.lagsystem.proofs.Keeps.{ports_table, settling_parts}
+use Rattle.lagbeside.proofs.Common.{Err, List, Ok, Option, Result, ap, arith, subst, sym, ℕ, ◌≡◌, nat_tests, AggId, Assignment, SetsAssignment}
+use Rattle.lagbeside.proofs.Common.{after_mark, after_release, after_tick, Table, assignment_of, SystemFault, Received, Receive, Step, Tick, Transmit}
+use Rattle.lagbeside.proofs.Common.{GivesOrRefuses, Settling, held_unless_on, SystemState, port_index, ports_table, settling_parts}
 use Rattle.lagsystem.proofs.Performed.{TableChanges, table_changes}
 use Rattle.lagsystem.specs.declared.drive.Reply.TheVariants as answer
 

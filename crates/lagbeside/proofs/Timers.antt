@@ -1,27 +1,11 @@
 -- What happens to a port leaves no timer above the ticks that it can start with.
-use Rattle.std.proofs.Common.{Bool, Err, List, None, Ok, Option, Some, [], arith, cond, false, if◌then◌else◌, inl, inr, nat_lt, refl, subst, suc, sym}
-use Rattle.std.proofs.Common.{true, zero, ℕ, ◌++◌, ◌+◌, ◌-◌, ◌<◌, ◌∷◌, ◌≡◌, ◌≤◌}
-use Rattle.std.proofs.lemmas.Bool.Decides.{nat_tests}
-use Rattle.std.specs.List.{AllByRecursion}
-use Rattle.slowpdu.specs.declared.pdu.Lacpdu.{Lacpdu}
-use Rattle.portmachines.specs.declared.periodic.PeriodicState.{PeriodicState}
-use Rattle.portmachines.specs.declared.port.Setup.{Setup}
-use Rattle.portmachines.specs.declared.receive.ReceiveState.{ReceiveState}
-use Rattle.portmachines.specs.declared.receive.ReceiveState.TheVariants.{Current, Defaulted, Initialize, PortDisabled}
-use Rattle.portmachines.specs.Machines.{Machines}
-use Rattle.portmachines.specs.Mux.{mux_rows}
-use Rattle.portmachines.specs.Periodic.{periodic_rows}
-use Rattle.portmachines.specs.Receive.{lacpdu_rows, receive_rows, start_receive}
-use Rattle.portmachines.specs.Rows.{Fires, FiresTimes, Row, RunsToRest}
-use Rattle.portmachines.specs.Start.{Starts, before_start}
-use Rattle.portmachines.specs.Transmit.{aged, count_down}
-use Rattle.lagsystem.specs.declared.system_ports.SystemPort.{SystemPort}
-use Rattle.lagsystem.specs.Calls.{Call, Configure, ProcessesLacpdu, Receive, Restart, Set_link, Tick, Transmit, changed_party, choice_with_link}
-use Rattle.lagsystem.specs.State.{SystemState, port_index}
-use Rattle.lagsystem.proofs.Rising.{all-get, all-set}
-use Rattle.lagbeside.specs.Timers.{EachSettingKeepsTimed, IsTimed, KeepsTimeout, PortsAreTimed, most_current_while, most_periodic_timer}
-use Rattle.lagbeside.specs.Timers.{timeout_time}
-use Rattle.lagsystem.specs.declared.drive.Reply.{Reply}
+use Rattle.lagbeside.proofs.Common.{Bool, Err, List, None, Ok, Option, Some, [], arith, cond, false, if◌then◌else◌, inl, inr, nat_lt, refl, subst}
+use Rattle.lagbeside.proofs.Common.{suc, sym, true, zero, ℕ, ◌++◌, ◌+◌, ◌-◌, ◌<◌, ◌∷◌, ◌≡◌, ◌≤◌, nat_tests, AllByRecursion, Lacpdu, PeriodicState}
+use Rattle.lagbeside.proofs.Common.{Setup, ReceiveState, Current, Defaulted, Initialize, PortDisabled, Machines, mux_rows, periodic_rows, lacpdu_rows}
+use Rattle.lagbeside.proofs.Common.{receive_rows, start_receive, Fires, FiresTimes, Row, RunsToRest, Starts, before_start, aged, count_down, Reply}
+use Rattle.lagbeside.proofs.Common.{SystemPort, Call, Configure, ProcessesLacpdu, Receive, Restart, Set_link, Tick, Transmit, changed_party}
+use Rattle.lagbeside.proofs.Common.{choice_with_link, SystemState, port_index, all-get, all-set, EachSettingKeepsTimed, IsTimed, KeepsTimeout}
+use Rattle.lagbeside.proofs.Common.{PortsAreTimed, most_current_while, most_periodic_timer, timeout_time}
 use Rattle.lagsystem.specs.Settings.{Setting, SetsPort, in_mode, is_held_so, is_in_mode, with_held}
 use Rattle.lagbeside.proofs.EachPort.{KeptByCall, KeptBySettling, OfEach, settling_each, zip_kept}
 

@@ -1,15 +1,7 @@
 -- Bounds of the ticks that are told.
-use Rattle.std.proofs.Common.{List, None, Option, Some, [], ap, arith, inl, inr, refl, slice_get, subst, suc, zero, ℕ, ◌<◌, ◌∷◌, ◌≡◌, ◌≤◌}
-use Rattle.std.proofs.lemmas.Bool.Decides.{nat_tests}
-use Rattle.std.proofs.lemmas.Option.{none-some, same_Some}
-use Rattle.std.specs.List.{AllByRecursion}
-use Rattle.portmachines.specs.declared.receive.ReceiveState.{ReceiveState}
-use Rattle.portmachines.specs.Machines.{Machines}
-use Rattle.lagsystem.specs.declared.system_ports.SystemPort.{SystemPort}
-use Rattle.lagsystem.specs.State.{SystemState}
-use Rattle.lagsystem.proofs.Rising.{all-get}
-use Rattle.lagbeside.specs.Timers.{IsTimed, PortsAreTimed, most_current_while}
-use Rattle.lagbeside.specs.Waits.{IsAwaited, WaitsAreShort}
+use Rattle.lagbeside.proofs.Common.{List, None, Option, Some, [], ap, arith, inl, inr, refl, slice_get, subst, suc, zero, ℕ, ◌<◌, ◌∷◌, ◌≡◌, ◌≤◌}
+use Rattle.lagbeside.proofs.Common.{nat_tests, none-some, same_Some, AllByRecursion, ReceiveState, Machines, SystemPort, SystemState, all-get}
+use Rattle.lagbeside.proofs.Common.{IsTimed, PortsAreTimed, most_current_while, IsAwaited, WaitsAreShort}
 use Rattle.lagsystem.specs.Soonest.{HappensIn, IsFirstToHappen, TimerHas, WindowHas}
 use Rattle.lagsystem.specs.Waiting.{ticks_until_due}
 use Rattle.lagsystem.proofs.Soonest.{tells_the_first}

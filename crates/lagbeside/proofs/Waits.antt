@@ -1,27 +1,15 @@
 -- No call leaves a conversation waiting for a response for 30 ticks.
-use Rattle.std.proofs.Common.{Bool, Err, List, Ok, Option, Result, ap, arith, cond, false, length, ltb, refl, subst, sym, true, ℕ, ◌+◌, ◌∙◌, ◌≡◌}
-use Rattle.std.proofs.lemmas.Bool.{ltb-true}
-use Rattle.std.proofs.lemmas.Bool.Decides.{nat_tests}
-use Rattle.lagtypes.specs.declared.identifiers.AggId.{AggId}
-use Rattle.distributor.specs.declared.assignment.Assignment.{Assignment}
-use Rattle.distributor.specs.declared.assignment.Assignment.TheVariants.{Flushing, On, Wanted}
-use Rattle.distributor.specs.Calls.{force_result, move_result}
-use Rattle.distributor.specs.Changes.{after_down, after_mark, after_release, after_tick}
-use Rattle.distributor.specs.Conversations.{Table, assignment_of, next_identifier}
+use Rattle.lagbeside.proofs.Common.{Bool, Err, List, Ok, Option, Result, ap, arith, cond, false, length, ltb, refl, subst, sym, true, ℕ, ◌+◌, ◌∙◌}
+use Rattle.lagbeside.proofs.Common.{◌≡◌, ltb-true, nat_tests, AggId, Assignment, Flushing, On, Wanted, force_result, move_result, after_down}
+use Rattle.lagbeside.proofs.Common.{after_mark, after_release, after_tick, Table, assignment_of, next_identifier, Reply, SystemFault, Call, Configure}
+use Rattle.lagbeside.proofs.Common.{Force, FreesIfDown, Move_conversation, Offer, Receive, Restart, Set_link, Step, Tick, Transmit, IsFirst, Offers}
+use Rattle.lagbeside.proofs.Common.{system_force_result, system_move_result, distributing, Settling, held_unless_on, SystemState, IsAwaited}
+use Rattle.lagbeside.proofs.Common.{WaitsAreShort}
 use Rattle.distributor.proofs.TableLemmas.{first_free}
-use Rattle.lagsystem.specs.declared.fault.SystemFault.{SystemFault}
-use Rattle.lagsystem.specs.Calls.{Call, Configure, Force, FreesIfDown, Move_conversation, Offer, Receive, Restart, Set_link, Step, Tick, Transmit}
-use Rattle.lagsystem.specs.First.{IsFirst}
-use Rattle.lagsystem.specs.Offers.{Offers, system_force_result, system_move_result}
-use Rattle.lagsystem.specs.Readers.{distributing}
-use Rattle.lagsystem.specs.Settling.{Settling, held_unless_on}
-use Rattle.lagsystem.specs.State.{SystemState}
 use Rattle.lagsystem.proofs.Steps.{forced_to, moved_to}
-use Rattle.lagbeside.specs.Waits.{IsAwaited, WaitsAreShort}
-use Rattle.lagsystem.specs.declared.drive.Reply.{Reply}
 use Rattle.lagsystem.specs.declared.drive.Reply.TheVariants as reply
-use Rattle.lagbeside.proofs.TableSteps.{Turning, Turns, asks_turn, comes_turn, gives_turn, same_turns, sets_turn, settles_turn, ticks_turn}
-use Rattle.lagbeside.proofs.TableSteps.{turns_by, turns_through}
+use Rattle.lagbeside.proofs.TableSteps.{Turning, Turns, asks_turn, comes_turn, gives_turn, same_turns, sets_turn, settles_turn, ticks_turn, turns_by}
+use Rattle.lagbeside.proofs.TableSteps.{turns_through}
 
 -- the second is awaited if the first is
 abbrev pub Stays : Assignment → Assignment → Type 0

@@ -1,45 +1,20 @@
 -- What each event of a round leaves of the conversations that are held on a port whose cable is healthy.
-use Rattle.std.proofs.Common.{Bool, IsSome, List, None, Ok, Option, Result, Some, [], ap, arith, cond, eqb, false, filter, inl, inr, ltb, map, refl}
-use Rattle.std.proofs.Common.{slice_get, subst, suc, sym, true, zero, ℕ, ◌+◌, ◌-◌, ◌<◌, ◌==◌, ◌||◌, ◌∙◌, ◌∷◌, ◌≡◌, ◌≤◌, ◌⊎◌}
-use Rattle.std.proofs.lemmas.Bool.{and_parts, cases_Bool}
-use Rattle.std.proofs.lemmas.Bool.Decides.{nat_tests}
-use Rattle.std.proofs.lemmas.Option.{none-some}
-use Rattle.std.specs.List.{list_any}
-use Rattle.lagtypes.specs.declared.identifiers.AggId.{AggId}
-use Rattle.lagtypes.specs.declared.party.Choice.{Choice}
-use Rattle.slowpdu.specs.declared.pdu.Lacpdu.{Lacpdu}
-use Rattle.slowpdu.specs.declared.pdu.MarkerKind.TheVariants.{Information}
-use Rattle.slowpdu.specs.Frames.{frame_octets}
-use Rattle.lagmodel.specs.World.{Side, peer}
-use Rattle.portmachines.specs.declared.mux.MuxState.TheVariants.{CollectingDistributing}
-use Rattle.portmachines.specs.Machines.{Machines}
-use Rattle.portmachines.specs.Mux.{same_mux_state}
-use Rattle.selection.specs.Views.{has_chosen}
-use Rattle.distributor.specs.declared.assignment.Assignment.{Assignment}
-use Rattle.distributor.specs.declared.assignment.Assignment.TheVariants.{On, Wanted}
-use Rattle.distributor.specs.Calls.{is_among}
-use Rattle.distributor.specs.Changes.{after_mark, marker_due, wants_marker}
-use Rattle.distributor.specs.Conversations.{Table, assignment_of, count_conversations, next_identifier, sum_below}
-use Rattle.lagsystem.specs.declared.fault.SystemFault.{SystemFault}
-use Rattle.lagsystem.specs.declared.system_ports.SystemPort.{SystemPort}
-use Rattle.lagsystem.specs.Calls.{Carries, IsFrame}
-use Rattle.lagsystem.specs.NothingToSettle.{MuxIsSettled}
-use Rattle.lagsystem.specs.Readers.{aggregator_numbered, distributes_in, distributing}
-use Rattle.lagsystem.specs.Sending.{SendsMarkerOf, TransmitsIf, own_marker}
-use Rattle.lagsystem.specs.Settling.{Settling}
-use Rattle.lagsystem.specs.State.{SystemState}
-use Rattle.lagsystem.proofs.Keeps.{ports_table, settling_parts}
-use Rattle.lagsystem.proofs.Rising.{all-get}
-use Rattle.lagworld.specs.State.{ItemValue, WorldState, half}
+use Rattle.lagprogress.proofs.Common.{Bool, IsSome, List, None, Ok, Option, Result, Some, [], ap, arith, cond, eqb, false, filter, inl, inr, ltb, map}
+use Rattle.lagprogress.proofs.Common.{refl, slice_get, subst, suc, sym, true, zero, ℕ, ◌+◌, ◌-◌, ◌<◌, ◌==◌, ◌||◌, ◌∙◌, ◌∷◌, ◌≡◌, ◌≤◌, ◌⊎◌, and_parts}
+use Rattle.lagprogress.proofs.Common.{cases_Bool, nat_tests, none-some, list_any, AggId, Choice, Lacpdu, Information, frame_octets, Side, peer}
+use Rattle.lagprogress.proofs.Common.{CollectingDistributing, Machines, same_mux_state, has_chosen, Assignment, On, Wanted, is_among, after_mark}
+use Rattle.lagprogress.proofs.Common.{marker_due, wants_marker, Table, assignment_of, count_conversations, next_identifier, SystemFault, SystemPort}
+use Rattle.lagprogress.proofs.Common.{Carries, IsFrame, MuxIsSettled, aggregator_numbered, distributes_in, distributing, SendsMarkerOf, TransmitsIf}
+use Rattle.lagprogress.proofs.Common.{own_marker, Settling, SystemState, ports_table, settling_parts, all-get, ItemValue, WorldState, half, no}
+use Rattle.lagprogress.proofs.Common.{AtPort}
+use Rattle.distributor.specs.Conversations.{sum_below}
 use Rattle.slowpdu.specs.Layout.{IsAddress}
 use Rattle.slowpdu.specs.Markers.{WritesMarker}
 use Rattle.lagprogress.proofs.Climbing.{PartnerInSync, distributes_now}
-use Rattle.lagbeside.proofs.Hearing.{no}
 use Rattle.lagprogress.proofs.Holding.{Fine, Flights, Has, IsMarker, answering, asking, fine_map, has_last, has_on, marked_here, settled_fine}
 use Rattle.lagprogress.proofs.Holding.{is_port}
 use Rattle.lagprogress.proofs.Linked.{Link, push_there, pushed, end_here, end_with}
 use Rattle.lagprogress.proofs.OneCable.{Went}
-use Rattle.lagbeside.proofs.OnePort.{AtPort}
 use Rattle.lagprogress.proofs.Passing.{sent_carries}
 use Rattle.lagprogress.proofs.HostKnowing.{beside}
 use Rattle.lagprogress.proofs.HostRound.{left}

@@ -1,33 +1,13 @@
 -- How a data frame gets a port, and how it is handed up at the other end of its cable.
-use Rattle.std.proofs.Common.{Err, List, None, Ok, Result, Some, ap, arith, refl, slice_get, subst, suc, sym, true, ℕ, ◌∙◌, ◌≡◌}
-use Rattle.std.proofs.lemmas.Bool.{and_parts}
-use Rattle.std.proofs.lemmas.Bool.Decides.{nat_tests}
-use Rattle.std.proofs.lemmas.Option.{none-some, same_Some}
-use Rattle.lagtypes.specs.declared.identifiers.AggId.{AggId}
-use Rattle.lagmodel.specs.World.{One, Side, Two}
-use Rattle.lagmodel.proofs.Base.{value_of}
-use Rattle.distributor.specs.declared.assignment.Assignment.{Assignment}
-use Rattle.distributor.specs.declared.assignment.Assignment.TheVariants.{Flushing, Free, On, Wanted}
+use Rattle.lagprogress.proofs.Common.{Err, List, None, Ok, Result, Some, ap, arith, refl, slice_get, subst, suc, sym, true, ℕ, ◌∙◌, ◌≡◌, and_parts}
+use Rattle.lagprogress.proofs.Common.{nat_tests, none-some, same_Some, AggId, One, Side, Two, value_of, Assignment, Flushing, Free, On, Wanted}
+use Rattle.lagprogress.proofs.Common.{Assigns, MaySend, is_among, SystemFault, Received, Up, SystemPort, Data_frame, IsFrame, Offer, ReceivesAt, Step}
+use Rattle.lagprogress.proofs.Common.{MayBeOffered, RefusesOffer, assignment_of_frame, collecting, distributing, number_of_conversation, IsSound}
+use Rattle.lagprogress.proofs.Common.{SystemState, port_index, effect_one, Reply, AfterOffer, AfterReceive, Algorithms, DeliversFrom, OnLink}
+use Rattle.lagprogress.proofs.Common.{WorldOffers, WorldReceives, offered_item, side_of, with_frame_counted, with_link_at, HalfState, ItemValue}
+use Rattle.lagprogress.proofs.Common.{LinkState, WorldState, half, port_at, towards, with_half, with_towards, half_there, DeliverHandsUp, GetsPort}
+use Rattle.lagprogress.proofs.Common.{IsHandedUp, OfferGetsPort, TakesFrame, held_on, EndIsUp}
 use Rattle.distributor.specs.declared.fault.DistFault.{DistFault}
-use Rattle.distributor.specs.Calls.{Assigns, MaySend, is_among}
-use Rattle.lagsystem.specs.declared.fault.SystemFault.{SystemFault}
-use Rattle.lagsystem.specs.declared.received.Received.{Received}
-use Rattle.lagsystem.specs.declared.received.Received.TheVariants.{Up}
-use Rattle.lagsystem.specs.declared.system_ports.SystemPort.{SystemPort}
-use Rattle.lagsystem.specs.Calls.{Data_frame, IsFrame, Offer, ReceivesAt, Step}
-use Rattle.lagsystem.specs.Offers.{MayBeOffered, RefusesOffer, assignment_of_frame}
-use Rattle.lagsystem.specs.Readers.{collecting, distributing, number_of_conversation}
-use Rattle.lagsystem.specs.Sound.{IsSound}
-use Rattle.lagsystem.specs.State.{SystemState, port_index}
-use Rattle.lagsystem.proofs.OneFrame.{effect_one}
-use Rattle.lagworld.specs.declared.reply.Reply.{Reply}
-use Rattle.lagworld.specs.Events.{AfterOffer, AfterReceive, Algorithms, DeliversFrom, OnLink, WorldOffers, WorldReceives, offered_item, side_of}
-use Rattle.lagworld.specs.Events.{with_frame_counted, with_link_at}
-use Rattle.lagworld.specs.State.{HalfState, ItemValue, LinkState, WorldState, half, port_at, towards, with_half, with_towards}
-use Rattle.lagworld.proofs.Sides.{half_there}
-use Rattle.lagprogress.specs.Arriving.{DeliverHandsUp, GetsPort, IsHandedUp, OfferGetsPort, TakesFrame}
-use Rattle.lagprogress.specs.Freed.{held_on}
-use Rattle.lagprogress.specs.Passing.{EndIsUp}
 use Rattle.lagsystem.specs.declared.drive.Reply.TheVariants as answer
 use Rattle.lagsystem.proofs.Conversing.{assigned_may}
 use Rattle.lagsystem.proofs.OfferLemmas.{refused_by}

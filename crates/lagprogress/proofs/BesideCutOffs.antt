@@ -1,50 +1,18 @@
 -- What is cut off does no harm: the other links come up beside it.
-use Rattle.std.proofs.Common.{Some, ap, arith, false, inl, inr, refl, slice_get, subst, sym, true, ℕ, ◌-◌, ◌∙◌, ◌≡◌}
-use Rattle.std.proofs.lemmas.Bool.{cases_Bool}
-use Rattle.std.proofs.lemmas.Bool.Decides.{nat_tests}
-use Rattle.std.proofs.lemmas.Option.{same_Some}
-use Rattle.lagtypes.specs.declared.party.Choice.{Choice}
-use Rattle.lagtypes.specs.declared.party.Choice.TheVariants.{Selected}
-use Rattle.lagtypes.specs.declared.party.Party.{Party}
-use Rattle.lagtypes.specs.Choices.{is_selected}
-use Rattle.lagtypes.specs.Same.{same_system}
-use Rattle.lagtypes.proofs.SameLemmas.{exact_system, system-itself}
-use Rattle.slowpdu.specs.declared.pdu.Info.{Info}
-use Rattle.lagmodel.specs.World.{Side, peer}
-use Rattle.portmachines.specs.declared.receive.ReceiveState.TheVariants.{Defaulted}
-use Rattle.portmachines.specs.Machines.{Machines}
-use Rattle.portmachines.specs.Mux.{mux_rows}
-use Rattle.portmachines.specs.Periodic.{periodic_rows}
-use Rattle.portmachines.specs.Receive.{receive_rows}
-use Rattle.portmachines.specs.Rows.{RunsToRest}
-use Rattle.portmachines.specs.Transmit.{count_down}
-use Rattle.lagsystem.specs.declared.system_ports.SystemPort.{SystemPort}
-use Rattle.lagsystem.specs.NothingToSettle.{MuxIsSettled}
-use Rattle.lagsystem.specs.Occupants.{occupied}
-use Rattle.lagsystem.specs.State.{SystemState}
-use Rattle.lagsystem.proofs.Rising.{all-get, found_place, ports_rise}
-use Rattle.lagworld.specs.Events.{Algorithms}
-use Rattle.lagworld.specs.State.{LinkState, WorldState, half, port_at}
-use Rattle.lagprogress.specs.Bundle.{EnoughAggregators, EnoughLinks, OneIsActive}
-use Rattle.lagprogress.specs.CutOff.{EachLinkAgreesBesideCutOffs, EachLinkComesUpBesideCutOffs, IsBundleBesideCutOffs, IsCutOff}
-use Rattle.lagprogress.specs.CutOff.{NoneIsHeldBesideCutOffs}
-use Rattle.lagprogress.specs.HostFreed.{NoneIsHeldBesideCutOffsByHosts}
-use Rattle.lagprogress.specs.HostRounds.{HostRounds}
-use Rattle.lagprogress.specs.Rounds.{IsHealthyAt}
-use Rattle.lagbeside.specs.Selecting.{WantsAggregator}
-use Rattle.lagprogress.specs.Steady.{IsSteady}
-use Rattle.lagbeside.specs.Timers.{IsTimed}
+use Rattle.lagprogress.proofs.Common.{Some, ap, arith, false, inl, inr, refl, slice_get, subst, sym, true, ℕ, ◌-◌, ◌∙◌, ◌≡◌, cases_Bool, nat_tests}
+use Rattle.lagprogress.proofs.Common.{same_Some, Choice, Selected, Party, is_selected, same_system, exact_system, system-itself, Info, Side, peer}
+use Rattle.lagprogress.proofs.Common.{Defaulted, Machines, mux_rows, periodic_rows, receive_rows, RunsToRest, count_down, SystemPort, MuxIsSettled}
+use Rattle.lagprogress.proofs.Common.{occupied, SystemState, all-get, found_place, ports_rise, Algorithms, LinkState, WorldState, half, port_at}
+use Rattle.lagprogress.proofs.Common.{WantsAggregator, IsTimed, KeptBySettling, EnabledKeep, no, not_down, times_keep, AtPort, at_number, mux_leaves}
+use Rattle.lagprogress.proofs.Common.{periodic_leaves, settling_leaves, finds_aggregator, runs_keep, EnoughAggregators, EnoughLinks, OneIsActive}
+use Rattle.lagprogress.proofs.Common.{EachLinkAgreesBesideCutOffs, EachLinkComesUpBesideCutOffs, IsBundleBesideCutOffs, IsCutOff}
+use Rattle.lagprogress.proofs.Common.{NoneIsHeldBesideCutOffs, NoneIsHeldBesideCutOffsByHosts, HostRounds, IsHealthyAt, IsSteady}
 use Rattle.lagprogress.proofs.Bundling.{Meets, agree_of, distribute_of, never_stands, one_meet, one_wakes}
 use Rattle.lagprogress.proofs.Climbing.{Ripe, Rising, rising_first, rising_rows, state_not}
 use Rattle.lagprogress.proofs.CutOffLemmas.{Severed, WereDown, cut_round, cut_since, KeptUnheard, cut_off_is_defaulted_by_hosts}
-use Rattle.lagbeside.proofs.EachPort.{KeptBySettling}
 use Rattle.lagprogress.proofs.EachRound.{EachAt, hosts_on, hosts_steady}
 use Rattle.lagprogress.proofs.Freeing.{freed_by, freed_of}
-use Rattle.lagbeside.proofs.Hearing.{EnabledKeep, no, not_down, times_keep}
-use Rattle.lagbeside.proofs.OnePort.{AtPort, at_number, mux_leaves, periodic_leaves, settling_leaves}
-use Rattle.lagbeside.proofs.Selecting.{finds_aggregator}
 use Rattle.lagprogress.proofs.SharedLemmas.{enough_finds, none_held}
-use Rattle.lagbeside.proofs.Timers.{runs_keep}
 use Rattle.lagprogress.proofs.HostRound.{left}
 use Rattle.lagprogress.proofs.Lasting.{as_before, ends_at, old_port, still_aggregators, still_links}
 

@@ -1,55 +1,21 @@
 -- How the links of a bundle come up and agree.
-use Rattle.std.proofs.Common.{Bool, IsSome, List, None, Option, Some, [], ap, arith, inl, inr, is_some, length, map, refl, slice_get, subst, suc, sym}
-use Rattle.std.proofs.Common.{true, ℕ, ◌+◌, ◌-◌, ◌==◌, ◌∙◌, ◌∷◌, ◌≡◌, ◌≢◌, ◌≤◌, ◌⊎◌}
-use Rattle.std.proofs.lemmas.Bool.{cases_Bool}
-use Rattle.std.proofs.lemmas.Bool.Decides.{nat_tests}
-use Rattle.std.proofs.lemmas.Option.{same_Some}
-use Rattle.std.specs.List.{AllByRecursion}
-use Rattle.lagtypes.specs.declared.identifiers.AggId.{AggId}
-use Rattle.lagtypes.specs.declared.identifiers.Key.{Key}
-use Rattle.lagtypes.specs.declared.party.Choice.{Choice}
-use Rattle.lagtypes.specs.declared.party.Choice.TheVariants.{Standby}
-use Rattle.lagtypes.specs.declared.party.Party.{Party}
-use Rattle.lagtypes.specs.Choices.{is_selected}
-use Rattle.lagtypes.proofs.SameLemmas.{itself}
-use Rattle.slowpdu.specs.declared.pdu.Lacpdu.{Lacpdu}
-use Rattle.lagmodel.specs.World.{IsCabling, One, Side, Two, end_at, peer}
-use Rattle.selection.specs.Choice.{ports_that_chose}
-use Rattle.selection.specs.Views.{has_chosen}
-use Rattle.lagsystem.specs.declared.system_ports.SystemPort.{SystemPort}
-use Rattle.lagsystem.specs.NothingToSettle.{MuxIsSettled}
-use Rattle.lagsystem.specs.Occupants.{occupied}
-use Rattle.lagsystem.specs.Sound.{IsSound}
-use Rattle.lagsystem.specs.State.{SystemState}
-use Rattle.lagsystem.specs.Views.{views}
-use Rattle.lagsystem.proofs.Rising.{all-get, found_place}
-use Rattle.lagworld.specs.declared.agreement.Agreement.TheVariants.{Same}
-use Rattle.lagworld.specs.Agreement.{agreement_at}
-use Rattle.lagworld.specs.Events.{Algorithms}
-use Rattle.lagworld.specs.ModelWorld.{link_ends, world_setup}
-use Rattle.lagworld.specs.Sound.{IsSound as IsWorldSound}
-use Rattle.lagworld.specs.State.{LinkState, WorldState, half, history_at, port_at, towards}
-use Rattle.lagworld.proofs.Cables.{end_is}
-use Rattle.lagprogress.specs.Bundle.{AllHeard, BothAreActive, EachLinkAgrees, EachLinkComesUp, EndsHealthyCable, EnoughLinks, IsBundle, OneIsActive}
-use Rattle.lagprogress.specs.Bundle.{SystemsDiffer}
-use Rattle.lagprogress.specs.ComingUp.{Distributes}
-use Rattle.lagprogress.specs.HostRounds.{Clearing, HostRounds, NoneIsLeft, PlayedRounds}
-use Rattle.lagprogress.specs.Rounds.{AtEnd, IsHealthyAt, up_if_both_active, up_if_one_is}
-use Rattle.lagbeside.specs.Selecting.{WantsAggregator, ports_with}
-use Rattle.lagprogress.specs.Steady.{IsSteady}
-use Rattle.lagbeside.specs.Timers.{IsTimed}
+use Rattle.lagprogress.proofs.Common.{Bool, IsSome, List, None, Option, Some, [], ap, arith, inl, inr, is_some, length, map, refl, slice_get, subst}
+use Rattle.lagprogress.proofs.Common.{suc, sym, true, ℕ, ◌+◌, ◌-◌, ◌==◌, ◌∙◌, ◌∷◌, ◌≡◌, ◌≢◌, ◌≤◌, ◌⊎◌, cases_Bool, nat_tests, same_Some}
+use Rattle.lagprogress.proofs.Common.{AllByRecursion, AggId, Key, Choice, Standby, Party, is_selected, itself, Lacpdu, IsCabling, One, Side, Two}
+use Rattle.lagprogress.proofs.Common.{end_at, peer, ports_that_chose, has_chosen, SystemPort, MuxIsSettled, occupied, IsSound, SystemState, views}
+use Rattle.lagprogress.proofs.Common.{all-get, found_place, Same, agreement_at, Algorithms, link_ends, world_setup, IsWorldSound, LinkState}
+use Rattle.lagprogress.proofs.Common.{WorldState, half, history_at, port_at, towards, end_is, WantsAggregator, ports_with, IsTimed, count}
+use Rattle.lagprogress.proofs.Common.{count_more_of, counted, OfEach, AtPort, waits_for_room, AllHeard, BothAreActive, EachLinkAgrees}
+use Rattle.lagprogress.proofs.Common.{EachLinkComesUp, EndsHealthyCable, EnoughLinks, IsBundle, OneIsActive, SystemsDiffer, Distributes, Clearing}
+use Rattle.lagprogress.proofs.Common.{HostRounds, NoneIsLeft, PlayedRounds, AtEnd, IsHealthyAt, up_if_both_active, up_if_one_is, IsSteady}
 use Rattle.lagprogress.proofs.Climbing.{Down, Ripe, Rising, climbed, down_settles, down_takes, down_ticks, rising_first}
 use Rattle.lagprogress.proofs.ComingUp.{AreSynced, Climbs, Up, agrees_now, climbs_first, climbs_on, comes_up, distributes, hosts_kept, synced_of}
 use Rattle.lagprogress.proofs.Starting.{active_at, awake_at, named_at, Ends, healthy_cable, said_by, starts}
-use Rattle.lagbeside.proofs.Counting.{count, count_more_of, counted}
-use Rattle.lagbeside.proofs.EachPort.{OfEach}
 use Rattle.lagprogress.proofs.EachRound.{EachAt, RoundKeeps, same_index, played_join, host_each, hosts_on, hosts_split, hosts_steady, played_on}
 use Rattle.lagprogress.proofs.EndFacts.{Synced, activity}
 use Rattle.lagprogress.proofs.Linked.{many, at_end, end_here, end_with, EndPort}
 use Rattle.lagprogress.proofs.HostKnowing.{one_meets, AtIt, Fresh, active_meet, knows_peer, fresh_knows}
-use Rattle.lagbeside.proofs.OnePort.{AtPort}
 use Rattle.lagprogress.proofs.OneRound.{Nothing}
-use Rattle.lagbeside.proofs.Selecting.{waits_for_room}
 use Rattle.lagprogress.proofs.SharedLemmas.{Finds, lasted, shared_finds}
 use Rattle.lagprogress.proofs.Lasting.{IsAsBefore, all_by_place, as_before, ends_at, old_port, own_system, still_links}
 use Rattle.lagprogress.proofs.Claims.{IsNamed}

@@ -1,61 +1,25 @@
 -- The link of each port that carries a conversation, or on which one is held, is up.
-use Rattle.std.proofs.Common.{Bool, Err, List, None, Ok, Option, Result, Some, ap, arith, cond, eqb, false, inl, inr, length, not, refl, subst, sym}
-use Rattle.std.proofs.Common.{true, ℕ, ◌&&◌, ◌==◌, ◌||◌, ◌∙◌, ◌≡◌, ◌⊎◌}
-use Rattle.std.proofs.lemmas.Bool.{and_parts}
-use Rattle.std.proofs.lemmas.Bool.Decides.{nat_tests}
-use Rattle.std.proofs.lemmas.Option.{none-some, slice_get_cases, slice_get_within}
-use Rattle.lagtypes.specs.declared.identifiers.AggId.{AggId}
-use Rattle.lagtypes.specs.declared.state.State.{State}
-use Rattle.lagtypes.specs.declared.state.StateBits.{StateBits}
-use Rattle.lagtypes.specs.States.{bits_of, with_synchronization}
-use Rattle.lagtypes.proofs.StateLemmas.{encode_then_decode}
-use Rattle.portmachines.specs.declared.mux.MuxState.TheVariants.{CollectingDistributing}
-use Rattle.portmachines.specs.declared.port.Setup.{Setup}
-use Rattle.portmachines.specs.declared.receive.ReceiveState.{ReceiveState}
-use Rattle.portmachines.specs.declared.receive.ReceiveState.TheVariants.{PortDisabled}
-use Rattle.portmachines.specs.Machines.{Machines}
-use Rattle.portmachines.specs.Mux.{partner_synchronized, same_mux_state, selected}
-use Rattle.portmachines.specs.Receive.{lacpdu_rows, receive_rows, same_receive_state, start_receive}
-use Rattle.portmachines.specs.Start.{Starts, before_start}
-use Rattle.portmachines.specs.Transmit.{count_down}
-use Rattle.selection.specs.Views.{has_chosen}
-use Rattle.distributor.specs.declared.assignment.Assignment.{Assignment}
-use Rattle.distributor.specs.declared.assignment.Assignment.TheVariants.{Free, On}
-use Rattle.distributor.specs.Calls.{force_result, is_among, move_result}
-use Rattle.distributor.specs.Changes.{after_down}
-use Rattle.distributor.specs.Conversations.{Table, assignment_of, next_identifier}
+use Rattle.lagprogress.proofs.Common.{Bool, Err, List, None, Ok, Option, Result, Some, ap, arith, cond, eqb, false, inl, inr, length, not, refl}
+use Rattle.lagprogress.proofs.Common.{subst, sym, true, ℕ, ◌&&◌, ◌==◌, ◌||◌, ◌∙◌, ◌≡◌, ◌⊎◌, and_parts, nat_tests, none-some, slice_get_cases}
+use Rattle.lagprogress.proofs.Common.{slice_get_within, AggId, State, StateBits, bits_of, with_synchronization, encode_then_decode}
+use Rattle.lagprogress.proofs.Common.{CollectingDistributing, Setup, ReceiveState, PortDisabled, Machines, partner_synchronized, same_mux_state}
+use Rattle.lagprogress.proofs.Common.{selected, lacpdu_rows, receive_rows, same_receive_state, start_receive, Starts, before_start, count_down}
+use Rattle.lagprogress.proofs.Common.{has_chosen, Assignment, Free, On, force_result, is_among, move_result, after_down, Table, assignment_of}
+use Rattle.lagprogress.proofs.Common.{next_identifier, Answer, SystemFault, SystemPort, Call, Configure, Force, FreesIfDown, Move_conversation, Offer}
+use Rattle.lagprogress.proofs.Common.{Receive, Restart, Set_link, Step, Tick, Transmit, changed_party, choice_with_link, IsFirst, configured_numbers}
+use Rattle.lagprogress.proofs.Common.{none_enabled, MuxIsSettled, Offers, system_force_result, system_move_result, aggregator_numbered, distributing}
+use Rattle.lagprogress.proofs.Common.{IsSound, SystemState, port_numbers, Step-frame, rests, all-get, ports_rise, Step-sound, first_sound, Algorithms}
+use Rattle.lagprogress.proofs.Common.{half, KeptByCall, KeptBySettling, OfEach, Step-each, first_each, no, AtPort, at_number, same_place}
+use Rattle.lagprogress.proofs.Common.{settling_leaves, Turns, asks_turn, comes_turn, gives_turn, same_turns, settles_turn, ticks_turn, turns_through}
+use Rattle.lagprogress.proofs.Common.{RowsKeep, fires_keep, runs_keep, EachReachedHasCarriersUp, HasPortUp, carrier_of, held_on}
 use Rattle.distributor.proofs.TableLemmas.{first_free}
-use Rattle.lagsystem.specs.declared.drive.Reply.{Reply as Answer}
-use Rattle.lagsystem.specs.declared.fault.SystemFault.{SystemFault}
-use Rattle.lagsystem.specs.declared.system_ports.SystemPort.{SystemPort}
-use Rattle.lagsystem.specs.Calls.{Call, Configure, Force, FreesIfDown, Move_conversation, Offer, Receive, Restart, Set_link, Step, Tick, Transmit}
-use Rattle.lagsystem.specs.Calls.{changed_party, choice_with_link}
-use Rattle.lagsystem.specs.First.{IsFirst, configured_numbers}
-use Rattle.lagsystem.specs.ModelView.{none_enabled}
-use Rattle.lagsystem.specs.NothingToSettle.{MuxIsSettled}
-use Rattle.lagsystem.specs.Offers.{Offers, system_force_result, system_move_result}
-use Rattle.lagsystem.specs.Readers.{aggregator_numbered, distributing}
-use Rattle.lagsystem.specs.Sound.{IsSound}
-use Rattle.lagsystem.specs.State.{SystemState, port_numbers}
-use Rattle.lagsystem.proofs.Keeps.{Step-frame}
-use Rattle.lagsystem.proofs.Rest.{rests}
-use Rattle.lagsystem.proofs.Rising.{all-get, ports_rise}
-use Rattle.lagsystem.proofs.Sound.{Step-sound, first_sound}
 use Rattle.lagsystem.proofs.Steps.{forced_to, moved_to}
-use Rattle.lagworld.specs.Events.{Algorithms}
-use Rattle.lagworld.specs.State.{half}
-use Rattle.lagprogress.specs.Freed.{EachReachedHasCarriersUp, HasPortUp, carrier_of, held_on}
 use Rattle.lagbeside.specs.Heartbeat.{takes_down}
 use Rattle.lagsystem.specs.declared.drive.Reply.TheVariants as reply
 use Rattle.lagprogress.proofs.Answering.{among_port}
-use Rattle.lagbeside.proofs.EachPort.{KeptByCall, KeptBySettling, OfEach, Step-each, first_each}
 use Rattle.lagprogress.proofs.Freeing.{Stays, held_carries, stays}
-use Rattle.lagbeside.proofs.TableSteps.{Turns, asks_turn, comes_turn, gives_turn, same_turns, settles_turn, ticks_turn, turns_through}
 use Rattle.lagprogress.proofs.Halves.{both_first}
-use Rattle.lagbeside.proofs.Hearing.{no}
 use Rattle.lagprogress.proofs.Linked.{many, events_each}
-use Rattle.lagbeside.proofs.OnePort.{AtPort, at_number, same_place, settling_leaves}
-use Rattle.lagbeside.proofs.Timers.{RowsKeep, fires_keep, runs_keep}
 
 -- the partner of a port in PORT_DISABLED is not synchronized
 

@@ -1,44 +1,16 @@
 -- Selected stays what it is in a bundle, once each end knows its partner.
-use Rattle.std.proofs.Common.{Bool, List, Some, [], ap, arith, false, if◌then◌else◌, inl, inr, not, refl, slice_get, slice_set, subst, suc, sym, true}
-use Rattle.std.proofs.Common.{zero, ℕ, ◌&&◌, ◌||◌, ◌∙◌, ◌∷◌, ◌≡◌, ◌⊎◌}
-use Rattle.std.proofs.lemmas.Bool.{and_parts}
-use Rattle.std.proofs.lemmas.Bool.Decides.{nat_tests}
-use Rattle.std.proofs.lemmas.Option.{none-some}
-use Rattle.std.specs.List.{AllByRecursion}
-use Rattle.lagtypes.specs.declared.party.Choice.{Choice}
-use Rattle.lagtypes.specs.Choices.{is_unselected}
-use Rattle.lagtypes.proofs.SameLemmas.{system-itself}
-use Rattle.slowpdu.specs.declared.pdu.Lacpdu.{Lacpdu}
-use Rattle.slowpdu.specs.Parties.{party_of}
-use Rattle.portmachines.specs.declared.receive.ReceiveState.{ReceiveState}
-use Rattle.portmachines.specs.declared.receive.ReceiveState.TheVariants.{Current, Defaulted, PortDisabled}
-use Rattle.portmachines.specs.Machines.{Machines}
-use Rattle.portmachines.specs.Mux.{mux_rows}
-use Rattle.portmachines.specs.Periodic.{RunsPeriodic}
-use Rattle.portmachines.specs.Receive.{lacpdu_rows, receive_rows, same_receive_state}
-use Rattle.portmachines.specs.Rows.{AtRest, RunsToRest}
-use Rattle.portmachines.specs.Transmit.{count_down}
-use Rattle.selection.specs.Views.{is_eligible}
-use Rattle.lagsystem.specs.declared.system_ports.SystemPort.{SystemPort}
-use Rattle.lagsystem.specs.Calls.{ProcessesLacpdu}
-use Rattle.lagsystem.specs.ModelView.{can_receive, can_receive_in}
-use Rattle.lagsystem.specs.Settling.{ChoosesIn, PortsChangeBy, Settling, ready_of}
-use Rattle.lagsystem.specs.Sound.{IsSound}
-use Rattle.lagsystem.specs.State.{SystemState, aggregators_value}
-use Rattle.lagsystem.specs.Views.{may_choose, selection_view, views}
-use Rattle.lagsystem.proofs.Rest.{last_slots}
-use Rattle.lagbeside.specs.Knowing.{HasRecorded}
-use Rattle.lagbeside.specs.Selecting.{WantsAggregator}
-use Rattle.lagbeside.proofs.Knowing.{recorded, rests_still}
+use Rattle.lagprogress.proofs.Common.{Bool, List, Some, [], ap, arith, false, if◌then◌else◌, inl, inr, not, refl, slice_get, slice_set, subst, suc}
+use Rattle.lagprogress.proofs.Common.{sym, true, zero, ℕ, ◌&&◌, ◌||◌, ◌∙◌, ◌∷◌, ◌≡◌, ◌⊎◌, and_parts, nat_tests, none-some, AllByRecursion, Choice}
+use Rattle.lagprogress.proofs.Common.{is_unselected, system-itself, Lacpdu, party_of, ReceiveState, Current, Defaulted, PortDisabled, Machines}
+use Rattle.lagprogress.proofs.Common.{mux_rows, RunsPeriodic, lacpdu_rows, receive_rows, same_receive_state, AtRest, RunsToRest, count_down}
+use Rattle.lagprogress.proofs.Common.{is_eligible, SystemPort, ProcessesLacpdu, can_receive, can_receive_in, ChoosesIn, PortsChangeBy, Settling}
+use Rattle.lagprogress.proofs.Common.{ready_of, IsSound, SystemState, aggregators_value, may_choose, selection_view, views, last_slots, HasRecorded}
+use Rattle.lagprogress.proofs.Common.{WantsAggregator, OfEach, zip_kept, no, recorded, rests_still, AtPort, mux_leaves, periodic_leaves, eligible}
+use Rattle.lagprogress.proofs.Common.{fires_keep}
 use Rattle.lagprogress.proofs.Lasting.{all_by_place}
 use Rattle.lagprogress.proofs.Climbing.{keeps_selected}
-use Rattle.lagbeside.proofs.EachPort.{OfEach, zip_kept}
 use Rattle.lagprogress.proofs.EndFacts.{SameActor}
-use Rattle.lagbeside.proofs.Hearing.{no}
-use Rattle.lagbeside.proofs.OnePort.{AtPort, mux_leaves, periodic_leaves}
-use Rattle.lagbeside.proofs.Selecting.{eligible}
 use Rattle.lagprogress.proofs.Staying.{SameSeen, nothing_chosen}
-use Rattle.lagbeside.proofs.Timers.{fires_keep}
 
 -- the machines are as they were, in what the Selection Logic reads of them but for the mux machine
 abbrev pub AsRead : Machines → Machines → Type 0

@@ -1,35 +1,16 @@
 -- What a port owes its partner once it is synchronized: an LACPDU that says so.
-use Rattle.std.proofs.Common.{Bool, ap, false, if◌then◌else◌, inl, inr, not, refl, subst, sym, true, ℕ, ◌||◌, ◌∙◌, ◌≡◌, ◌≢◌, ◌≤◌, ◌⊎◌}
-use Rattle.std.proofs.lemmas.Bool.{cases_Bool}
-use Rattle.lagtypes.specs.declared.party.Choice.TheVariants.{Unselected}
-use Rattle.lagtypes.specs.declared.state.StateBits.{StateBits}
-use Rattle.lagtypes.specs.Choices.{is_selected}
-use Rattle.lagtypes.specs.Same.{same_party}
-use Rattle.lagtypes.specs.States.{bits_of, with_synchronization, with_timeout}
-use Rattle.lagtypes.proofs.SameLemmas.{exact_party, party_itself}
-use Rattle.lagtypes.proofs.StateLemmas.{encode_then_decode}
-use Rattle.slowpdu.specs.declared.pdu.Info.{Info}
-use Rattle.slowpdu.specs.declared.pdu.Lacpdu.{Lacpdu}
-use Rattle.slowpdu.specs.Parties.{party_of}
-use Rattle.portmachines.specs.declared.mux.MuxState.TheVariants.{CollectingDistributing}
-use Rattle.portmachines.specs.Machines.{Machines}
-use Rattle.portmachines.specs.Mux.{is_synchronized, mux_rows, partner_synchronized, same_mux_state}
-use Rattle.portmachines.specs.Periodic.{RunsPeriodic, is_silent, partner_short, periodic_rows, timer_expired}
-use Rattle.portmachines.specs.Receive.{default_partner, is_maintained, lacpdu_rows, receive_rows, recorded_synchronization}
-use Rattle.portmachines.specs.Rows.{RunsToRest}
-use Rattle.portmachines.specs.Transmit.{count_down, pdu_of}
-use Rattle.lagsystem.specs.Calls.{ProcessesLacpdu}
-use Rattle.lagsystem.specs.ModelView.{can_receive, can_receive_in}
-use Rattle.lagsystem.proofs.Effects.{named}
-use Rattle.lagbeside.proofs.EachPort.{KeptBySettling}
+use Rattle.lagprogress.proofs.Common.{Bool, ap, false, if◌then◌else◌, inl, inr, not, refl, subst, sym, true, ℕ, ◌||◌, ◌∙◌, ◌≡◌, ◌≢◌, ◌≤◌, ◌⊎◌}
+use Rattle.lagprogress.proofs.Common.{cases_Bool, Unselected, StateBits, is_selected, same_party, bits_of, with_synchronization, with_timeout}
+use Rattle.lagprogress.proofs.Common.{exact_party, party_itself, encode_then_decode, Info, Lacpdu, party_of, CollectingDistributing, Machines}
+use Rattle.lagprogress.proofs.Common.{is_synchronized, mux_rows, partner_synchronized, same_mux_state, RunsPeriodic, is_silent, partner_short}
+use Rattle.lagprogress.proofs.Common.{periodic_rows, timer_expired, default_partner, is_maintained, lacpdu_rows, receive_rows}
+use Rattle.lagprogress.proofs.Common.{recorded_synchronization, RunsToRest, count_down, pdu_of, ProcessesLacpdu, can_receive, can_receive_in, named}
+use Rattle.lagprogress.proofs.Common.{KeptBySettling, no, decoded, AtPort, mux_leaves, periodic_leaves, not_silent, unclear, RowsKeep, fires_keep}
+use Rattle.lagprogress.proofs.Common.{runs_keep}
 use Rattle.lagprogress.proofs.EndFacts.{Along, CanSound, IsEnd, SameActor, Says, Synced, activity, all_true, awake_fires, end_settles, first_true}
 use Rattle.lagprogress.proofs.EndFacts.{maintained}
-use Rattle.lagbeside.proofs.Hearing.{no}
-use Rattle.lagbeside.proofs.Knowing.{decoded}
-use Rattle.lagbeside.proofs.OnePort.{AtPort, mux_leaves, periodic_leaves}
-use Rattle.lagbeside.proofs.Sounding.{rests, unclear, not_silent}
+use Rattle.lagbeside.proofs.Sounding.{rests}
 use Rattle.lagprogress.proofs.Lapsing.{expired_active}
-use Rattle.lagbeside.proofs.Timers.{RowsKeep, fires_keep, runs_keep}
 
 -- SELECTED, in ATTACHED or COLLECTING_DISTRIBUTING, and the actor of the LACPDU is recorded as the partner
 abbrev pub Claims : Lacpdu → Machines → Type 0

@@ -1,39 +1,13 @@
 -- How the mux machine of a SELECTED port climbs, and what a round keeps of what holds of one end.
-use Rattle.std.proofs.Common.{Bool, List, Some, [], ap, arith, false, if◌then◌else◌, inl, inr, not, refl, slice_get, subst, sym}
-use Rattle.std.proofs.Common.{true, ℕ, ◌&&◌, ◌-◌, ◌==◌, ◌||◌, ◌∙◌, ◌∷◌, ◌≡◌, ◌≤◌, ◌⊎◌}
-use Rattle.std.proofs.lemmas.Bool.{and_parts}
-use Rattle.std.proofs.lemmas.Bool.Decides.{nat_tests}
-use Rattle.std.specs.List.{AllByRecursion}
-use Rattle.lagtypes.specs.declared.identifiers.AggId.{AggId}
-use Rattle.lagtypes.specs.declared.party.Choice.{Choice}
-use Rattle.lagtypes.specs.declared.party.Choice.TheVariants.{Selected, Standby, Unselected}
-use Rattle.lagtypes.specs.Choices.{is_selected, is_unselected}
-use Rattle.lagtypes.specs.Same.{same_party}
-use Rattle.lagtypes.proofs.SameLemmas.{party_itself}
-use Rattle.slowpdu.specs.declared.pdu.Lacpdu.{Lacpdu}
-use Rattle.slowpdu.specs.Parties.{party_of}
-use Rattle.portmachines.specs.declared.mux.MuxState.{MuxState}
-use Rattle.portmachines.specs.declared.mux.MuxState.TheVariants.{Attached, CollectingDistributing, Detached, Waiting}
-use Rattle.portmachines.specs.declared.receive.ReceiveState.{ReceiveState}
-use Rattle.portmachines.specs.Machines.{Machines}
-use Rattle.portmachines.specs.Mux.{is_synchronized, mux_rows, partner_synchronized, same_mux_state}
-use Rattle.portmachines.specs.Receive.{default_partner, lacpdu_rows, receive_rows, same_receive_state}
-use Rattle.portmachines.specs.Rows.{AtRest, RunsToRest}
-use Rattle.portmachines.specs.Transmit.{count_down}
-use Rattle.selection.specs.Views.{has_chosen, has_waited, is_detached_or_waiting}
-use Rattle.lagsystem.specs.declared.system_ports.SystemPort.{SystemPort}
-use Rattle.lagsystem.specs.Calls.{ProcessesLacpdu}
-use Rattle.lagsystem.specs.Sound.{IsSound}
-use Rattle.lagsystem.specs.State.{SystemState}
-use Rattle.lagsystem.specs.Views.{stage_of}
-use Rattle.lagbeside.specs.Knowing.{HasRecorded}
-use Rattle.lagbeside.specs.Timers.{IsTimed}
-use Rattle.lagbeside.proofs.EachPort.{KeptBySettling}
+use Rattle.lagprogress.proofs.Common.{Bool, List, Some, [], ap, arith, false, if◌then◌else◌, inl, inr, not, refl, slice_get, subst, sym, true, ℕ}
+use Rattle.lagprogress.proofs.Common.{◌&&◌, ◌-◌, ◌==◌, ◌||◌, ◌∙◌, ◌∷◌, ◌≡◌, ◌≤◌, ◌⊎◌, and_parts, nat_tests, AllByRecursion, AggId, Choice, Selected}
+use Rattle.lagprogress.proofs.Common.{Standby, Unselected, is_selected, is_unselected, same_party, party_itself, Lacpdu, party_of, MuxState, Attached}
+use Rattle.lagprogress.proofs.Common.{CollectingDistributing, Detached, Waiting, ReceiveState, Machines, is_synchronized, mux_rows}
+use Rattle.lagprogress.proofs.Common.{partner_synchronized, same_mux_state, default_partner, lacpdu_rows, receive_rows, same_receive_state, AtRest}
+use Rattle.lagprogress.proofs.Common.{RunsToRest, count_down, has_chosen, has_waited, is_detached_or_waiting, SystemPort, ProcessesLacpdu, IsSound}
+use Rattle.lagprogress.proofs.Common.{SystemState, stage_of, HasRecorded, IsTimed, KeptBySettling, EnabledKeep, no, not_down, times_keep, Known}
+use Rattle.lagprogress.proofs.Common.{counts, rests_still, mux_leaves, periodic_leaves, fires_keep, runs_keep}
 use Rattle.lagprogress.proofs.EndFacts.{Along, IsEnd, SameActor, Synced, activity, not_attached, takes_sync}
-use Rattle.lagbeside.proofs.Hearing.{EnabledKeep, no, not_down, times_keep}
-use Rattle.lagbeside.proofs.Knowing.{Known, counts, rests_still}
-use Rattle.lagbeside.proofs.Timers.{runs_keep, fires_keep}
-use Rattle.lagbeside.proofs.OnePort.{mux_leaves, periodic_leaves}
 use Rattle.lagbeside.proofs.ReadyMembers.{Fine, no_member_waits}
 
 -- while current_while has ticks left the receive machine stays

@@ -1,47 +1,24 @@
 -- How both ends of a cable come to distribute, round by round.
-use Rattle.std.proofs.Common.{Bool, List, Some, ap, arith, false, inl, inr, is_some, not, option_map, refl, slice_get, subst, suc, sym, true, ℕ, ◌&&◌}
-use Rattle.std.proofs.Common.{◌+◌, ◌-◌, ◌||◌, ◌∙◌, ◌≡◌, ◌≤◌, ◌⊎◌}
-use Rattle.std.specs.Prelude.{unwrap_or}
-use Rattle.lagtypes.specs.declared.party.Party.{Party}
-use Rattle.lagtypes.specs.Choices.{is_selected}
-use Rattle.lagtypes.specs.Group.{end_of as group_end, group_of, individual, pair_of}
-use Rattle.lagtypes.specs.Same.{same_group}
-use Rattle.lagtypes.proofs.SameLemmas.{group-itself}
-use Rattle.slowpdu.specs.declared.pdu.Lacpdu.{Lacpdu}
-use Rattle.slowpdu.specs.Parties.{party_of}
-use Rattle.lagmodel.specs.World.{One, Side, Two, peer}
-use Rattle.portmachines.specs.declared.mux.MuxState.TheVariants.{CollectingDistributing}
-use Rattle.portmachines.specs.Machines.{Machines}
-use Rattle.portmachines.specs.Mux.{same_mux_state}
-use Rattle.lagsystem.specs.declared.system_ports.SystemPort.{SystemPort}
-use Rattle.lagsystem.specs.NothingToSettle.{MuxIsSettled}
-use Rattle.lagsystem.specs.Readers.{group_at}
-use Rattle.lagsystem.specs.State.{machines_of}
-use Rattle.lagsystem.proofs.Rising.{all-get}
-use Rattle.lagworld.specs.declared.agreement.Agreement.TheVariants.{Same}
-use Rattle.lagworld.specs.Agreement.{agreement_at, agreement_of, end_facts, first_agreement, is_stamp, same_groups}
-use Rattle.lagworld.specs.Events.{Algorithms}
-use Rattle.lagworld.specs.State.{ItemValue, LinkState, WorldState, change_count_in, half, history_at}
-use Rattle.lagprogress.specs.ComingUp.{Distributes}
-use Rattle.lagprogress.specs.HostRounds.{Clearing, HostRounds, IsHostRound, IsPlayed, PlayedRounds}
-use Rattle.lagprogress.specs.Rounds.{OfPort}
-use Rattle.lagbeside.specs.Timers.{IsTimed}
+use Rattle.lagprogress.proofs.Common.{Bool, List, Some, ap, arith, false, inl, inr, is_some, not, option_map, refl, slice_get, subst, suc, sym, true}
+use Rattle.lagprogress.proofs.Common.{ℕ, ◌&&◌, ◌+◌, ◌-◌, ◌||◌, ◌∙◌, ◌≡◌, ◌≤◌, ◌⊎◌, unwrap_or, Party, is_selected, group_end, group_of, individual}
+use Rattle.lagprogress.proofs.Common.{pair_of, same_group, group-itself, Lacpdu, party_of, One, Side, Two, peer, CollectingDistributing, Machines}
+use Rattle.lagprogress.proofs.Common.{same_mux_state, SystemPort, MuxIsSettled, group_at, machines_of, all-get, Same, agreement_at, agreement_of}
+use Rattle.lagprogress.proofs.Common.{end_facts, first_agreement, is_stamp, same_groups, Algorithms, ItemValue, LinkState, WorldState}
+use Rattle.lagprogress.proofs.Common.{change_count_in, half, history_at, IsTimed, OfEach, AtPort, Sounds, all_leave, Distributes, Clearing}
+use Rattle.lagprogress.proofs.Common.{HostRounds, IsHostRound, IsPlayed, PlayedRounds, OfPort}
 use Rattle.lagprogress.proofs.HostStamps.{stamped_between, stamped_tick}
 use Rattle.lagprogress.proofs.OneCable.{OnCable, cable}
 use Rattle.lagprogress.proofs.Stamps.{Present, Stamped}
 use Rattle.lagprogress.proofs.Claims.{IsNamed, Owes}
 use Rattle.lagprogress.proofs.Climbing.{PartnerInSync, Rising, distributes_now, partner_along, rising_along, rising_first, ticks_partner}
 use Rattle.lagprogress.proofs.Climbing.{ticks_rising}
-use Rattle.lagbeside.proofs.EachPort.{OfEach}
 use Rattle.lagprogress.proofs.EndFacts.{Learnt, Synced, activity, wait_of}
 use Rattle.lagprogress.proofs.EachRound.{hosts_on, played_on}
 use Rattle.lagprogress.proofs.HostKnowing.{FreshAt, able_fresh, awake_peer, fits_before, fits_fresh, knows_peer, stays_fresh, AtIt, beside, mode}
 use Rattle.lagprogress.proofs.HostRound.{holds_on, host_holds, host_nears, of_side}
 use Rattle.lagprogress.proofs.Linked.{EndPort, Fits, Link, at_end, each_map, end_here, end_with, peer_twice}
-use Rattle.lagbeside.proofs.OnePort.{AtPort}
 use Rattle.lagprogress.proofs.OneRound.{Nothing, join, ticked}
 use Rattle.lagprogress.proofs.Starting.{emptied}
-use Rattle.lagbeside.proofs.Sounding.{Sounds, all_leave}
 use Rattle.lagtypes.proofs.GroupLemmas.{groups_from_pairs}
 use Rattle.std.proofs.Math.Bool.{and_comm}
 

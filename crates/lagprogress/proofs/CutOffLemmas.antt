@@ -1,49 +1,22 @@
 -- A port that is cut off hears nothing, and is DEFAULTED in the end.
-use Rattle.std.proofs.Common.{Bool, List, None, Ok, Option, Result, Some, [], ap, arith, false, if◌then◌else◌, inl, inr, not, refl, slice_get}
-use Rattle.std.proofs.Common.{slice_set, subst, sym, true, ℕ, ◌&&◌, ◌++◌, ◌+◌, ◌-◌, ◌==◌, ◌∙◌, ◌∷◌, ◌≡◌, ◌≤◌, ◌⊎◌}
-use Rattle.std.proofs.lemmas.Bool.{cases_Bool}
-use Rattle.std.proofs.lemmas.Bool.Decides.{nat_tests}
-use Rattle.std.proofs.lemmas.Option.{none-some, same_Some}
-use Rattle.std.specs.List.{AllByRecursion}
-use Rattle.slowpdu.specs.declared.pdu.Lacpdu.{Lacpdu}
-use Rattle.lagmodel.specs.World.{One, Side, Two, peer}
-use Rattle.lagmodel.proofs.Base.{value_of}
-use Rattle.portmachines.specs.declared.receive.ReceiveState.{ReceiveState}
-use Rattle.portmachines.specs.Machines.{Machines}
-use Rattle.portmachines.specs.Receive.{receive_rows}
-use Rattle.portmachines.specs.Rows.{RunsToRest}
-use Rattle.portmachines.specs.Transmit.{after_sending, count_down, is_due}
-use Rattle.lagsystem.specs.declared.fault.SystemFault.{SystemFault}
-use Rattle.lagsystem.specs.declared.received.Received.{Received}
-use Rattle.lagsystem.specs.declared.received.Received.TheVariants.{TookLacpdu}
-use Rattle.lagsystem.specs.declared.system_ports.SystemPort.{SystemPort}
-use Rattle.lagsystem.specs.Calls.{Carries, IsFrame, ParsesWhere, Performs, Receive, ReceivesAt, Step, Transmit}
-use Rattle.lagsystem.specs.ModelView.{can_receive_in, none_enabled}
-use Rattle.lagsystem.specs.Sending.{TransmitsAt, TransmitsIf}
-use Rattle.lagsystem.specs.Sound.{CallPromise}
-use Rattle.lagsystem.specs.State.{SystemState, port_index}
-use Rattle.lagsystem.proofs.Rest.{can_receive_at_rest}
-use Rattle.lagsystem.proofs.Rising.{all-get, found_place}
-use Rattle.lagscript.specs.declared.event.Event.{Event}
-use Rattle.lagworld.specs.declared.reply.Reply.{Reply}
-use Rattle.lagworld.specs.Events.{AfterTransmit, Algorithms, WorldSteps, side_of}
-use Rattle.lagworld.specs.State.{HalfState, ItemValue, LinkState, WorldState, accepts, change_link, half, link_at, link_index, port_at, put_on_port}
-use Rattle.lagworld.specs.State.{sent_on, towards, with_half, with_towards}
-use Rattle.lagworld.proofs.Cables.{set_elsewhere, set_here}
-use Rattle.lagworld.proofs.Sides.{position_there}
-use Rattle.lagprogress.specs.CutOff.{CutOffIsDefaulted, IsCutOff}
-use Rattle.lagprogress.specs.HostRounds.{HostRounds, IsHostRound}
-use Rattle.lagprogress.specs.Steady.{IsSteady}
-use Rattle.lagbeside.specs.Timers.{IsTimed, most_current_while, timeout_time}
+use Rattle.lagprogress.proofs.Common.{Bool, List, None, Ok, Option, Result, Some, [], ap, arith, false, if◌then◌else◌, inl, inr, not, refl, slice_get}
+use Rattle.lagprogress.proofs.Common.{slice_set, subst, sym, true, ℕ, ◌&&◌, ◌++◌, ◌+◌, ◌-◌, ◌==◌, ◌∙◌, ◌∷◌, ◌≡◌, ◌≤◌, ◌⊎◌, cases_Bool, nat_tests}
+use Rattle.lagprogress.proofs.Common.{none-some, same_Some, AllByRecursion, Lacpdu, One, Side, Two, peer, value_of, ReceiveState, Machines}
+use Rattle.lagprogress.proofs.Common.{receive_rows, RunsToRest, after_sending, count_down, is_due, SystemFault, Received, TookLacpdu, SystemPort}
+use Rattle.lagprogress.proofs.Common.{Carries, IsFrame, ParsesWhere, Performs, Receive, ReceivesAt, Step, Transmit, can_receive_in, none_enabled}
+use Rattle.lagprogress.proofs.Common.{TransmitsAt, TransmitsIf, CallPromise, SystemState, port_index, can_receive_at_rest, all-get, found_place}
+use Rattle.lagprogress.proofs.Common.{Event, Reply, AfterTransmit, Algorithms, WorldSteps, side_of, HalfState, ItemValue, LinkState, WorldState}
+use Rattle.lagprogress.proofs.Common.{accepts, change_link, half, link_at, link_index, port_at, put_on_port, sent_on, towards, with_half}
+use Rattle.lagprogress.proofs.Common.{with_towards, set_elsewhere, set_here, position_there, IsTimed, most_current_while, timeout_time}
+use Rattle.lagprogress.proofs.Common.{KeptBySettling, OfEach, Step-each, asked_each, Unheard, begins, is_defaulted, no, receives, rested}
+use Rattle.lagprogress.proofs.Common.{unheard_settles, when_up, AtPort, same_place, CutOffIsDefaulted, IsCutOff, HostRounds, IsHostRound, IsSteady}
 use Rattle.lagprogress.proofs.OneRound.{one_of_both}
 use Rattle.lagprogress.proofs.RoundEvents.{asked_half, came_half}
 use Rattle.lagbeside.proofs.Told.{current_within}
-use Rattle.lagbeside.proofs.Hearing.{no, Unheard, begins, counts, is_defaulted, receives, rested, unheard_settles, when_up}
+use Rattle.lagbeside.proofs.Hearing.{counts}
 use Rattle.lagprogress.proofs.EachRound.{EachAt, RoundKeeps, asks_each, delivers_each, own_keeps, own_ticks, hosts_on, hosts_split, hosts_steady}
 use Rattle.lagprogress.proofs.EachRound.{tick_keeps, tick_leaves, tick_makes}
-use Rattle.lagbeside.proofs.EachPort.{KeptBySettling, OfEach, Step-each, asked_each}
 use Rattle.lagprogress.proofs.OneCable.{Comes, Sends, came_off, ticks}
-use Rattle.lagbeside.proofs.OnePort.{AtPort, same_place}
 use Rattle.lagprogress.proofs.HostRound.{KeptBetween, MadeByTick, holds_on, of_side}
 use Rattle.lagprogress.proofs.Quieting.{Quietly, quiet_ports, quietly, IsQuiet}
 use Rattle.lagprogress.proofs.Linked.{peer_twice}

@@ -1,34 +1,18 @@
 -- What a Deliver event leaves of a cable and its ends.
-use Rattle.std.proofs.Common.{Err, List, Ok, Result, Some, inl, inr, refl, slice_get, subst, sym, true, ℕ, ◌∙◌, ◌∷◌, ◌≡◌, ◌≤◌, ◌⊎◌}
-use Rattle.std.proofs.lemmas.Option.{none-some, same_Some}
-use Rattle.std.specs.List.{AllByRecursion}
-use Rattle.slowpdu.specs.declared.pdu.Lacpdu.{Lacpdu}
-use Rattle.lagmodel.specs.World.{Side, peer}
-use Rattle.portmachines.specs.Machines.{Machines}
-use Rattle.lagsystem.specs.declared.fault.SystemFault.{SystemFault}
-use Rattle.lagsystem.specs.declared.received.Received.{Received}
-use Rattle.lagsystem.specs.declared.system_ports.SystemPort.{SystemPort}
-use Rattle.lagsystem.specs.Calls.{Carries, IsFrame, Receive}
-use Rattle.lagsystem.specs.Sound.{CallPromise}
-use Rattle.lagsystem.specs.State.{SystemState, port_index}
-use Rattle.lagsystem.proofs.Rising.{all-get}
-use Rattle.lagworld.specs.declared.reply.Reply.{Reply}
-use Rattle.lagworld.specs.Events.{Algorithms, WorldSteps}
-use Rattle.lagworld.specs.State.{ItemValue, WorldState, half}
+use Rattle.lagprogress.proofs.Common.{Err, List, Ok, Result, Some, inl, inr, refl, slice_get, subst, sym, true, ℕ, ◌∙◌, ◌∷◌, ◌≡◌, ◌≤◌, ◌⊎◌, none-some}
+use Rattle.lagprogress.proofs.Common.{same_Some, AllByRecursion, Lacpdu, Side, peer, Machines, SystemFault, Received, SystemPort, Carries, IsFrame}
+use Rattle.lagprogress.proofs.Common.{Receive, CallPromise, SystemState, port_index, all-get, Reply, Algorithms, WorldSteps, ItemValue, WorldState}
+use Rattle.lagprogress.proofs.Common.{half, OfEach, takes_each, AtPort}
 use Rattle.slowpdu.specs.declared.pdu.Pdu.TheVariants as pdu
 use Rattle.lagsystem.specs.declared.drive.Reply.TheVariants as answer
 use Rattle.lagsystem.specs.declared.received.Received.TheVariants as received
 use Rattle.lagscript.specs.declared.event.Event.TheVariants as event
-use Rattle.lagbeside.proofs.EachPort.{OfEach}
-use Rattle.lagprogress.proofs.EndFacts.{Along, IsEnd, Learnt, Suits, both_along, end_settles, known_along, takes_end, takes_learnt}
-use Rattle.lagprogress.proofs.EndFacts.{wait_of}
+use Rattle.lagprogress.proofs.EndFacts.{Along, IsEnd, Learnt, Suits, both_along, end_settles, known_along, takes_end, takes_learnt, wait_of}
 use Rattle.lagprogress.proofs.Halves.{keeps_steady}
 use Rattle.lagprogress.proofs.OneCable.{Arrives, delivers, put, Beside, response}
-use Rattle.lagbeside.proofs.OnePort.{AtPort}
 use Rattle.lagprogress.proofs.Passing.{marker_carries_none}
 use Rattle.lagprogress.proofs.Linked.{Arrived, EndIs, Fits, Flying, IsGood, Link, along_if, arrival, each_map, each_side, beside_link, place_kept}
 use Rattle.lagprogress.proofs.Linked.{put_other, put_there, gains_has, gains_good, HasLacpdu, AllGood, end_here}
-use Rattle.lagbeside.proofs.Knowing.{takes_each}
 
 -- what goes back
 

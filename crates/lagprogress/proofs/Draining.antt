@@ -1,33 +1,12 @@
 -- How the conversations that are held on a port of a healthy cable are freed, round by round.
-use Rattle.std.proofs.Common.{Bool, Err, List, None, Ok, Option, Result, Some, ap, arith, bytes_eq, cond, eqb, false, inl, inr, ltb, refl, slice_get}
-use Rattle.std.proofs.Common.{subst, sym, true, ℕ, ◌&&◌, ◌+◌, ◌==◌, ◌∙◌, ◌≡◌, ◌⊎◌}
-use Rattle.std.proofs.lemmas.Bool.{cases_Bool}
-use Rattle.std.proofs.lemmas.Bool.Decides.{nat_tests}
-use Rattle.std.proofs.lemmas.Option.{none-some, same_Some}
-use Rattle.slowpdu.specs.declared.pdu.Lacpdu.{Lacpdu}
-use Rattle.slowpdu.specs.Frames.{frame_octets}
-use Rattle.lagmodel.specs.World.{Side, peer}
-use Rattle.portmachines.specs.Transmit.{is_due}
-use Rattle.distributor.specs.declared.assignment.Assignment.{Assignment}
-use Rattle.distributor.specs.declared.assignment.Assignment.TheVariants.{Flushing, Free, On, Wanted}
-use Rattle.distributor.specs.Calls.{is_among}
-use Rattle.distributor.specs.Changes.{after_mark, after_release, after_tick, marker_due}
-use Rattle.distributor.specs.Conversations.{Table, assignment_of}
-use Rattle.lagsystem.specs.declared.fault.SystemFault.{SystemFault}
-use Rattle.lagsystem.specs.declared.received.Received.{Received}
-use Rattle.lagsystem.specs.declared.system_ports.SystemPort.{SystemPort}
-use Rattle.lagsystem.specs.Calls.{Carries, GivesEffect, IsFrame, ParsesWhere, Performs, Receive, ReceivesAt, Releases, Transmit, is_own_response}
-use Rattle.lagsystem.specs.Readers.{aggregator_numbered, distributing}
-use Rattle.lagsystem.specs.Sending.{SendsMarkerOf, TransmitsAt, TransmitsIf}
-use Rattle.lagsystem.specs.Settling.{Settling}
-use Rattle.lagsystem.specs.Sound.{CallPromise}
-use Rattle.lagsystem.specs.State.{SystemState, port_index}
-use Rattle.lagsystem.proofs.Keeps.{ports_table, settling_parts}
-use Rattle.lagsystem.proofs.OneFrame.{effect_one}
-use Rattle.lagsystem.proofs.Performed.{TableChanges, table_changes}
-use Rattle.lagsystem.proofs.Rising.{found_place}
-use Rattle.lagworld.specs.Events.{Algorithms}
-use Rattle.lagworld.specs.State.{ItemValue, WorldState, half}
+use Rattle.lagprogress.proofs.Common.{Bool, Err, List, None, Ok, Option, Result, Some, ap, arith, bytes_eq, cond, eqb, false, inl, inr, ltb, refl}
+use Rattle.lagprogress.proofs.Common.{slice_get, subst, sym, true, ℕ, ◌&&◌, ◌+◌, ◌==◌, ◌∙◌, ◌≡◌, ◌⊎◌, cases_Bool, nat_tests, none-some, same_Some}
+use Rattle.lagprogress.proofs.Common.{Lacpdu, frame_octets, Side, peer, is_due, Assignment, Flushing, Free, On, Wanted, is_among, after_mark}
+use Rattle.lagprogress.proofs.Common.{after_release, after_tick, marker_due, Table, assignment_of, SystemFault, Received, SystemPort, Carries}
+use Rattle.lagprogress.proofs.Common.{GivesEffect, IsFrame, ParsesWhere, Performs, Receive, ReceivesAt, Releases, Transmit, is_own_response}
+use Rattle.lagprogress.proofs.Common.{aggregator_numbered, distributing, SendsMarkerOf, TransmitsAt, TransmitsIf, Settling, CallPromise, SystemState}
+use Rattle.lagprogress.proofs.Common.{port_index, ports_table, settling_parts, effect_one, TableChanges, table_changes, found_place, Algorithms}
+use Rattle.lagprogress.proofs.Common.{ItemValue, WorldState, half}
 use Rattle.std.proofs.lemmas.Slice.Eq.{bytes_eq-Decides}
 use Rattle.slowpdu.specs.declared.pdu.Pdu.TheVariants as pdu
 use Rattle.lagsystem.specs.declared.drive.Reply.TheVariants as answer

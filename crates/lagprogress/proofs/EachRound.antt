@@ -1,32 +1,14 @@
 -- What healthy rounds keep of each port of a system, and of the cables.
-use Rattle.std.proofs.Common.{Bool, List, Some, ap, arith, false, inl, inr, map, refl, slice_get, subst, suc, sym, true, zero, ℕ, ◌+◌, ◌∙◌, ◌≡◌}
-use Rattle.std.proofs.lemmas.Bool.Decides.{nat_tests}
-use Rattle.lagtypes.specs.declared.party.Party.{Party}
-use Rattle.slowpdu.specs.declared.pdu.Lacpdu.{Lacpdu}
-use Rattle.lagmodel.specs.World.{One, Side, Two, end_at, peer}
-use Rattle.portmachines.specs.Machines.{Machines}
-use Rattle.portmachines.specs.Receive.{receive_rows}
-use Rattle.portmachines.specs.Rows.{RunsToRest}
-use Rattle.portmachines.specs.Transmit.{after_sending, count_down}
-use Rattle.distributor.specs.Conversations.{Table}
-use Rattle.lagsystem.specs.declared.system_ports.SystemPort.{SystemPort}
-use Rattle.lagsystem.specs.Calls.{ProcessesLacpdu, Receive}
-use Rattle.lagsystem.specs.State.{SystemState, with_system_ports, with_table}
-use Rattle.lagworld.specs.declared.reply.Reply.{Reply}
-use Rattle.lagworld.specs.Events.{Algorithms, WorldSteps}
-use Rattle.lagworld.specs.ModelWorld.{link_ends}
-use Rattle.lagworld.specs.State.{ItemValue, LinkState, WorldState, half, port_at}
-use Rattle.lagworld.proofs.Cables.{end_is}
-use Rattle.lagprogress.specs.HostRounds.{Clearing, HostRounds, IsHostRound, IsPlayed, NoneIsLeft, PlayedRounds}
-use Rattle.lagprogress.specs.Rounds.{IsRound, Rounds}
-use Rattle.lagprogress.specs.Steady.{IsSteady}
+use Rattle.lagprogress.proofs.Common.{Bool, List, Some, ap, arith, false, inl, inr, map, refl, slice_get, subst, suc, sym, true, zero, ℕ, ◌+◌, ◌∙◌}
+use Rattle.lagprogress.proofs.Common.{◌≡◌, nat_tests, Party, Lacpdu, One, Side, Two, end_at, peer, Machines, receive_rows, RunsToRest, after_sending}
+use Rattle.lagprogress.proofs.Common.{count_down, Table, SystemPort, ProcessesLacpdu, Receive, SystemState, with_system_ports, with_table, Reply}
+use Rattle.lagprogress.proofs.Common.{Algorithms, WorldSteps, link_ends, ItemValue, LinkState, WorldState, half, port_at, end_is, KeptBySettling}
+use Rattle.lagprogress.proofs.Common.{OfEach, Step-each, Tick-each, asked_each, AtPort, settling_leaves, runs_keep, takes_keep, Clearing, HostRounds}
+use Rattle.lagprogress.proofs.Common.{IsHostRound, IsPlayed, NoneIsLeft, PlayedRounds, IsRound, Rounds, IsSteady}
 use Rattle.lagprogress.proofs.Unchanged.{events_keep}
-use Rattle.lagbeside.proofs.EachPort.{KeptBySettling, OfEach, Step-each, asked_each, Tick-each}
 use Rattle.lagprogress.proofs.OneCable.{OnCable, cable, deliver_ends, emits, ticks}
-use Rattle.lagbeside.proofs.OnePort.{AtPort, settling_leaves}
 use Rattle.lagprogress.proofs.OneRound.{ticked}
 use Rattle.lagprogress.proofs.RoundEvents.{asked_half, came_half}
-use Rattle.lagbeside.proofs.Timers.{runs_keep, takes_keep}
 use Rattle.lagprogress.proofs.Reaching.{runs_steady}
 use Rattle.lagprogress.proofs.HostRound.{KeptBetween, MadeByTick, holds_on, of_side}
 use Rattle.lagprogress.proofs.Linked.{peer_twice, each_side}

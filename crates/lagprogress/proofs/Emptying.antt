@@ -1,37 +1,12 @@
 -- A port of a healthy cable is drained of a conversation that is held on it.
-use Rattle.std.proofs.Common.{Bool, Err, IsSome, List, None, Ok, Option, Result, Some, [], ap, arith, cond, eqb, false, inl, inr, length, ltb, refl}
-use Rattle.std.proofs.Common.{subst, suc, sym, true, zero, ℕ, ◌&&◌, ◌+◌, ◌<◌, ◌^◌, ◌∙◌, ◌∷◌, ◌≡◌, ◌≤◌, ◌⊎◌}
-use Rattle.std.proofs.lemmas.Bool.Decides.{nat_tests}
-use Rattle.std.proofs.lemmas.Option.{none-some}
-use Rattle.std.specs.Global.{Vec}
-use Rattle.lagtypes.specs.declared.identifiers.AggId.{AggId}
-use Rattle.lagtypes.specs.declared.party.Choice.{Choice}
-use Rattle.lagtypes.specs.Choices.{is_selected}
-use Rattle.slowpdu.specs.declared.pdu.Lacpdu.{Lacpdu}
-use Rattle.lagmodel.specs.World.{One, Side, peer}
-use Rattle.portmachines.specs.Machines.{Machines}
-use Rattle.portmachines.specs.Transmit.{is_due}
-use Rattle.distributor.specs.declared.assignment.Assignment.{Assignment}
-use Rattle.distributor.specs.Changes.{after_tick, marker_due}
-use Rattle.distributor.specs.Conversations.{IsConversation, Table, assignment_of, next_identifier}
-use Rattle.lagsystem.specs.declared.fault.SystemFault.{SystemFault}
-use Rattle.lagsystem.specs.Calls.{Offer, Receive, Step, Tick, Transmit}
-use Rattle.lagsystem.specs.Offers.{GivesOrRefuses, system_force_result, system_move_result}
-use Rattle.lagsystem.specs.Readers.{number_of_conversation}
-use Rattle.lagsystem.specs.Sending.{TransmitsAt}
-use Rattle.lagsystem.specs.Settling.{Settling}
-use Rattle.lagsystem.specs.Sound.{CallPromise}
-use Rattle.lagsystem.specs.State.{SystemState, machines_of}
-use Rattle.lagsystem.proofs.Keeps.{ports_table, settling_parts}
-use Rattle.lagsystem.proofs.Rising.{found_place}
-use Rattle.lagscript.specs.declared.event.Event.{Event}
-use Rattle.lagworld.specs.declared.reply.Reply.{Reply}
-use Rattle.lagworld.specs.Events.{Algorithms, WorldRuns, WorldSteps, side_of}
-use Rattle.lagworld.specs.State.{ItemValue, WorldState, half, port_at}
-use Rattle.lagprogress.specs.HostFreed.{DrainingRounds, IsDrainingRound, IsNoMoveOf}
-use Rattle.lagprogress.specs.HostRounds.{AfterTick, AtSomeWorld, IsBetweenTicks, IsHostRound, TickOnce}
-use Rattle.lagprogress.specs.Rounds.{NothingInFlight, OfPort}
-use Rattle.lagprogress.specs.Steady.{IsSteady}
+use Rattle.lagprogress.proofs.Common.{Bool, Err, IsSome, List, None, Ok, Option, Result, Some, [], ap, arith, cond, eqb, false, inl, inr, length, ltb}
+use Rattle.lagprogress.proofs.Common.{refl, subst, suc, sym, true, zero, ℕ, ◌&&◌, ◌+◌, ◌<◌, ◌^◌, ◌∙◌, ◌∷◌, ◌≡◌, ◌≤◌, ◌⊎◌, nat_tests, none-some, Vec}
+use Rattle.lagprogress.proofs.Common.{AggId, Choice, is_selected, Lacpdu, One, Side, peer, Machines, is_due, Assignment, after_tick, marker_due}
+use Rattle.lagprogress.proofs.Common.{IsConversation, Table, assignment_of, next_identifier, SystemFault, Offer, Receive, Step, Tick, Transmit}
+use Rattle.lagprogress.proofs.Common.{GivesOrRefuses, system_force_result, system_move_result, number_of_conversation, TransmitsAt, Settling}
+use Rattle.lagprogress.proofs.Common.{CallPromise, SystemState, machines_of, ports_table, settling_parts, found_place, Event, Reply, Algorithms}
+use Rattle.lagprogress.proofs.Common.{WorldRuns, WorldSteps, side_of, ItemValue, WorldState, half, port_at, DrainingRounds, IsDrainingRound}
+use Rattle.lagprogress.proofs.Common.{IsNoMoveOf, AfterTick, AtSomeWorld, IsBetweenTicks, IsHostRound, TickOnce, NothingInFlight, OfPort, IsSteady}
 use Rattle.lagprogress.proofs.Answering.{IsFine, Steady, fine_in_map, turned_by, sends_fine, settles_all, stays_on, went_flights, none_wanted}
 use Rattle.lagprogress.proofs.Answering.{not_wanted, none_due}
 use Rattle.lagprogress.proofs.Climbing.{PartnerInSync, choice_along, partner_along, ticks_choice, ticks_partner}

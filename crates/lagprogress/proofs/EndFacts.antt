@@ -1,36 +1,14 @@
 -- What ticks, receipts and settlings leave of a port at an end of a cable whose other end sends LACPDUs of one kind.
-use Rattle.std.proofs.Common.{Bool, ap, arith, false, if◌then◌else◌, inl, inr, not, refl, subst, sym, true, ℕ, ◌&&◌, ◌-◌, ◌==◌, ◌||◌}
-use Rattle.std.proofs.Common.{◌∙◌, ◌≡◌, ◌≤◌, ◌⊎◌}
-use Rattle.std.proofs.lemmas.Bool.Decides.{nat_tests}
-use Rattle.lagtypes.specs.declared.party.Choice.{Choice}
-use Rattle.lagtypes.specs.declared.party.Choice.TheVariants.{Unselected}
-use Rattle.lagtypes.specs.declared.state.StateBits.{StateBits}
-use Rattle.lagtypes.specs.Choices.{is_selected}
-use Rattle.lagtypes.specs.Same.{same_party}
-use Rattle.lagtypes.specs.States.{bits_of}
-use Rattle.lagtypes.proofs.SameLemmas.{party_itself}
-use Rattle.slowpdu.specs.declared.pdu.Lacpdu.{Lacpdu}
-use Rattle.slowpdu.specs.Parties.{party_of}
-use Rattle.portmachines.specs.declared.mux.MuxState.{MuxState}
-use Rattle.portmachines.specs.declared.mux.MuxState.TheVariants.{Detached, Waiting}
-use Rattle.portmachines.specs.declared.receive.ReceiveState.TheVariants.{Expired}
-use Rattle.portmachines.specs.Machines.{Machines}
-use Rattle.portmachines.specs.Mux.{is_synchronized, mux_rows, partner_synchronized, same_mux_state}
-use Rattle.portmachines.specs.Periodic.{RunsPeriodic, periodic_rows}
-use Rattle.portmachines.specs.Receive.{is_maintained, lacpdu_rows, receive_rows, recorded_synchronization, same_receive_state}
-use Rattle.portmachines.specs.Rows.{AtRest, RunsToRest}
-use Rattle.portmachines.specs.Transmit.{count_down}
-use Rattle.lagsystem.specs.Calls.{ProcessesLacpdu}
-use Rattle.lagsystem.specs.ModelView.{can_receive, can_receive_in}
-use Rattle.lagbeside.specs.Knowing.{HasRecorded}
-use Rattle.lagbeside.specs.Timers.{timeout_time}
-use Rattle.lagbeside.proofs.EachPort.{KeptBySettling}
+use Rattle.lagprogress.proofs.Common.{Bool, ap, arith, false, if◌then◌else◌, inl, inr, not, refl, subst, sym, true, ℕ, ◌&&◌, ◌-◌, ◌==◌, ◌||◌, ◌∙◌}
+use Rattle.lagprogress.proofs.Common.{◌≡◌, ◌≤◌, ◌⊎◌, nat_tests, Choice, Unselected, StateBits, is_selected, same_party, bits_of, party_itself, Lacpdu}
+use Rattle.lagprogress.proofs.Common.{party_of, MuxState, Detached, Waiting, Expired, Machines, is_synchronized, mux_rows, partner_synchronized}
+use Rattle.lagprogress.proofs.Common.{same_mux_state, RunsPeriodic, periodic_rows, is_maintained, lacpdu_rows, receive_rows, recorded_synchronization}
+use Rattle.lagprogress.proofs.Common.{same_receive_state, AtRest, RunsToRest, count_down, ProcessesLacpdu, can_receive, can_receive_in, HasRecorded}
+use Rattle.lagprogress.proofs.Common.{timeout_time, KeptBySettling, EnabledKeep, no, not_down, times_keep, Known, counts, decoded, receive_known}
+use Rattle.lagprogress.proofs.Common.{recorded, AtPort, mux_leaves, periodic_leaves, Calm, Sounds, counts_sounds, mux_sounds, not_silent}
+use Rattle.lagprogress.proofs.Common.{periodic_runs, RowsKeep, runs_keep, takes_keep}
 use Rattle.lagbeside.proofs.Heartbeat.{raised}
-use Rattle.lagbeside.proofs.Hearing.{EnabledKeep, no, not_down, times_keep}
-use Rattle.lagbeside.proofs.Knowing.{Known, counts, decoded, receive_known, receives, recorded}
-use Rattle.lagbeside.proofs.OnePort.{AtPort, mux_leaves, periodic_leaves}
-use Rattle.lagbeside.proofs.Sounding.{Calm, Sounds, counts_sounds, mux_sounds, not_silent, periodic_runs}
-use Rattle.lagbeside.proofs.Timers.{RowsKeep, runs_keep, takes_keep}
+use Rattle.lagbeside.proofs.Knowing.{receives}
 
 -- Activity and Timeout of the actor of an LACPDU
 abbrev pub activity : Lacpdu → Bool

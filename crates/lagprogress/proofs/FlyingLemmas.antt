@@ -1,34 +1,11 @@
 -- How a frame that was sent on a healthy cable stays first on it through a round, until it is handed up.
-use Rattle.std.proofs.Common.{Bool, List, None, Ok, Option, Result, Some, [], ap, arith, false, if◌then◌else◌, inl, inr, map, refl, slice_get, subst}
-use Rattle.std.proofs.Common.{suc, sym, true, ℕ, ◌++◌, ◌==◌, ◌∙◌, ◌∷◌, ◌≡◌, ◌⊎◌}
-use Rattle.std.proofs.lemmas.Bool.{cases_Bool, true≢false}
-use Rattle.std.proofs.lemmas.Bool.Decides.{nat_tests}
-use Rattle.std.proofs.lemmas.Option.{same_Some}
-use Rattle.lagtypes.specs.declared.identifiers.AggId.{AggId}
-use Rattle.lagtypes.specs.declared.party.Choice.{Choice}
-use Rattle.lagtypes.specs.declared.party.Choice.TheVariants.{Selected}
-use Rattle.lagtypes.specs.Choices.{is_selected}
-use Rattle.slowpdu.specs.declared.pdu.Lacpdu.{Lacpdu}
-use Rattle.lagmodel.specs.World.{One, Side, Two, peer}
-use Rattle.portmachines.specs.declared.mux.MuxState.{MuxState}
-use Rattle.portmachines.specs.declared.mux.MuxState.TheVariants.{CollectingDistributing}
-use Rattle.portmachines.specs.Mux.{same_mux_state}
-use Rattle.lagsystem.specs.declared.fault.SystemFault.{SystemFault}
-use Rattle.lagsystem.specs.declared.received.Received.{Received}
-use Rattle.lagsystem.specs.declared.system_ports.SystemPort.{SystemPort}
-use Rattle.lagsystem.specs.Calls.{Data_frame, IsFrame}
-use Rattle.lagsystem.specs.NothingToSettle.{MuxIsSettled}
-use Rattle.lagsystem.specs.Readers.{collecting, selected_aggregator}
-use Rattle.lagsystem.specs.State.{machines_of, port_index}
-use Rattle.lagsystem.proofs.Rising.{all-get, found_place}
-use Rattle.lagscript.specs.declared.event.Event.{Event}
-use Rattle.lagworld.specs.declared.reply.Reply.{Reply}
-use Rattle.lagworld.specs.Events.{Algorithms, WorldRuns, WorldSteps, side_of}
-use Rattle.lagworld.specs.ModelWorld.{link_ends}
-use Rattle.lagworld.specs.State.{ItemValue, LinkState, WorldState, half, port_at, towards}
-use Rattle.lagprogress.specs.Arriving.{HandsUp, Sometime}
-use Rattle.lagprogress.specs.HostRounds.{IsBetweenTicks, TickOnce}
-use Rattle.lagprogress.specs.Rounds.{NothingInFlight, OfPort}
+use Rattle.lagprogress.proofs.Common.{Bool, List, None, Ok, Option, Result, Some, [], ap, arith, false, if◌then◌else◌, inl, inr, map, refl, slice_get}
+use Rattle.lagprogress.proofs.Common.{subst, suc, sym, true, ℕ, ◌++◌, ◌==◌, ◌∙◌, ◌∷◌, ◌≡◌, ◌⊎◌, cases_Bool, true≢false, nat_tests, same_Some, AggId}
+use Rattle.lagprogress.proofs.Common.{Choice, Selected, is_selected, Lacpdu, One, Side, Two, peer, MuxState, CollectingDistributing, same_mux_state}
+use Rattle.lagprogress.proofs.Common.{SystemFault, Received, SystemPort, Data_frame, IsFrame, MuxIsSettled, collecting, selected_aggregator}
+use Rattle.lagprogress.proofs.Common.{machines_of, port_index, all-get, found_place, Event, Reply, Algorithms, WorldRuns, WorldSteps, side_of}
+use Rattle.lagprogress.proofs.Common.{link_ends, ItemValue, LinkState, WorldState, half, port_at, towards, AtPort, HandsUp, Sometime, IsBetweenTicks}
+use Rattle.lagprogress.proofs.Common.{TickOnce, NothingInFlight, OfPort}
 use Rattle.lagprogress.proofs.ArrivingLemmas.{deliver_hands_up}
 use Rattle.lagprogress.proofs.Climbing.{PartnerInSync, distributes_now, partner_along, ticks_partner}
 use Rattle.lagprogress.proofs.EachRound.{same_index}
@@ -36,7 +13,6 @@ use Rattle.lagprogress.proofs.EndFacts.{activity, Along}
 use Rattle.lagprogress.proofs.Linked.{EndIs, Fits, Link, asked_which, found, machines_there}
 use Rattle.lagprogress.proofs.OneCable.{came_off, Arrives, Back, Beside, Comes, OnCable, Went, arrived, asks, cable, deliver_ends, emits, passed_by}
 use Rattle.lagprogress.proofs.OneCable.{port_there, push, put, stays_beside, ticks, towards_there}
-use Rattle.lagbeside.proofs.OnePort.{AtPort}
 use Rattle.lagprogress.proofs.OneRound.{one_of_both, ticked}
 use Rattle.lagsystem.specs.declared.received.Received.TheVariants as received
 use Rattle.lagprogress.proofs.HostRound.{between, left, own_holds, none_ticked, fits_in, peer_holds, KeptBetween, MadeByTick, known_in, of_side}

@@ -1,30 +1,13 @@
 -- No conversation that is not moved stays held on a port of a healthy cable of a bundle.
-use Rattle.std.proofs.Common.{List, None, Option, Some, [], ap, arith, inl, inr, length, refl, subst, suc, sym, zero, ℕ, ◌++◌, ◌+◌, ◌-◌, ◌<◌, ◌∙◌}
-use Rattle.std.proofs.Common.{◌∷◌, ◌≡◌, ◌≤◌, ◌⊎◌}
-use Rattle.std.proofs.lemmas.Bool.Decides.{nat_tests}
-use Rattle.std.proofs.lemmas.Option.{none-some, same_Some}
-use Rattle.std.specs.List.{AllByRecursion}
-use Rattle.slowpdu.proofs.LayoutLemmas.{all-append}
-use Rattle.lagmodel.specs.World.{One, Side, peer}
-use Rattle.lagmodel.proofs.Base.{value_of}
-use Rattle.distributor.specs.declared.assignment.Assignment.{Assignment}
-use Rattle.distributor.specs.declared.assignment.Assignment.TheVariants.{Flushing, On, Wanted}
-use Rattle.distributor.specs.Changes.{after_mark, after_release, after_tick}
-use Rattle.distributor.specs.Conversations.{IsConversation, assignment_of}
-use Rattle.lagsystem.specs.Settling.{held_unless_on}
-use Rattle.lagsystem.specs.State.{SystemState}
-use Rattle.lagscript.specs.declared.event.Event.{Event}
-use Rattle.lagworld.specs.declared.reply.Reply.{Reply}
-use Rattle.lagworld.specs.Events.{Algorithms, WorldSteps, side_of}
-use Rattle.lagworld.specs.State.{LinkState, WorldState, half, port_at}
-use Rattle.lagprogress.specs.Bundle.{BothAreActive, IsBundle, OneIsActive}
-use Rattle.lagprogress.specs.Freed.{CarriersAreUp, HasIdentifierLeft, IsNotHeld, IsNotHeldOn, NoneIsHeld, NoneIsHeldOn, NoneIsHeldOnEnds}
-use Rattle.lagprogress.specs.Freed.{NothingIsHeld, carrier_of, held_on}
-use Rattle.lagprogress.specs.HostFreed.{DrainingRounds, NoneIsHeldOnEndsByHosts, NothingIsHeldByHosts}
-use Rattle.lagprogress.specs.HostRounds.{HostRounds, NoneIsLeft}
-use Rattle.lagprogress.specs.Rounds.{IsDeliver, IsHealthyAt, IsRound, Rounds, asks_all, freed_if_both_active, freed_if_one_is, ticks_of_both}
-use Rattle.lagprogress.specs.Rounds.{up_if_both_active, up_if_one_is}
-use Rattle.lagprogress.specs.Steady.{IsSteady}
+use Rattle.lagprogress.proofs.Common.{List, None, Option, Some, [], ap, arith, inl, inr, length, refl, subst, suc, sym, zero, ℕ, ◌++◌, ◌+◌, ◌-◌, ◌<◌}
+use Rattle.lagprogress.proofs.Common.{◌∙◌, ◌∷◌, ◌≡◌, ◌≤◌, ◌⊎◌, nat_tests, none-some, same_Some, AllByRecursion, all-append, One, Side, peer, value_of}
+use Rattle.lagprogress.proofs.Common.{Assignment, Flushing, On, Wanted, after_mark, after_release, after_tick, IsConversation, assignment_of}
+use Rattle.lagprogress.proofs.Common.{held_unless_on, SystemState, Event, Reply, Algorithms, WorldSteps, side_of, LinkState, WorldState, half}
+use Rattle.lagprogress.proofs.Common.{port_at, AtPort, Turning, Turns, asks_turn, comes_turn, same_turns, ticks_turn, turns_through, BothAreActive}
+use Rattle.lagprogress.proofs.Common.{IsBundle, OneIsActive, CarriersAreUp, HasIdentifierLeft, IsNotHeld, IsNotHeldOn, NoneIsHeld, NoneIsHeldOn}
+use Rattle.lagprogress.proofs.Common.{NoneIsHeldOnEnds, NothingIsHeld, carrier_of, held_on, DrainingRounds, NoneIsHeldOnEndsByHosts}
+use Rattle.lagprogress.proofs.Common.{NothingIsHeldByHosts, HostRounds, NoneIsLeft, IsDeliver, IsHealthyAt, IsRound, Rounds, asks_all}
+use Rattle.lagprogress.proofs.Common.{freed_if_both_active, freed_if_one_is, ticks_of_both, up_if_both_active, up_if_one_is, IsSteady}
 use Rattle.lagprogress.proofs.OneCable.{ticks}
 use Rattle.lagprogress.proofs.RoundEvents.{asked_half, came_half}
 use Rattle.lagprogress.proofs.Bundling.{Meets, Nowhere, awake_of, both_active, one_active, said, ups_of, named_of}
@@ -34,8 +17,6 @@ use Rattle.lagprogress.proofs.EachRound.{splits, zero_on, hosts_steady, played_k
 use Rattle.lagprogress.proofs.Emptying.{rounds_rest}
 use Rattle.lagprogress.proofs.Holding.{Fine}
 use Rattle.lagprogress.proofs.Linked.{each_both, each_map, at_end, end_here, runs_all, each_side}
-use Rattle.lagbeside.proofs.OnePort.{AtPort}
-use Rattle.lagbeside.proofs.TableSteps.{Turning, Turns, asks_turn, comes_turn, same_turns, ticks_turn, turns_through}
 use Rattle.lagprogress.proofs.OneRound.{Nothing}
 use Rattle.lagprogress.proofs.HostRound.{left}
 use Rattle.lagprogress.proofs.HostLoops.{draining_are_host, rounds_are_host_rounds, rounds_are_draining}

@@ -1,48 +1,21 @@
 -- Selected stays what it is in the rounds of a world in which each end of a healthy cable knows its partner.
-use Rattle.std.proofs.Common.{Bool, Err, List, None, Ok, Option, Result, Some, ap, arith, false, inl, inr, refl, slice_get, subst, sym, true, ℕ, ◌-◌}
-use Rattle.std.proofs.Common.{◌∙◌, ◌≡◌, ◌≤◌}
-use Rattle.std.proofs.lemmas.Bool.{cases_Bool}
-use Rattle.std.proofs.lemmas.Option.{none-some, same_Some}
-use Rattle.std.specs.List.{AllByRecursion}
-use Rattle.lagtypes.specs.declared.party.Choice.{Choice}
-use Rattle.slowpdu.specs.declared.pdu.Lacpdu.{Lacpdu}
-use Rattle.lagmodel.specs.World.{One, Side, Two, peer}
-use Rattle.portmachines.specs.Machines.{Machines}
-use Rattle.portmachines.specs.Receive.{receive_rows}
-use Rattle.portmachines.specs.Rows.{RunsToRest}
-use Rattle.portmachines.specs.Transmit.{count_down}
-use Rattle.lagsystem.specs.declared.config.PortConfig.{PortConfig}
-use Rattle.lagsystem.specs.declared.fault.SystemFault.{SystemFault}
-use Rattle.lagsystem.specs.declared.received.Received.{Received}
-use Rattle.lagsystem.specs.declared.system_ports.SystemPort.{SystemPort}
-use Rattle.lagsystem.specs.Calls.{Carries, IsFrame, OnlyPortChangesBy, ProcessesLacpdu, Receive, ReceivesAt, Step, ThenSettles, Tick}
-use Rattle.lagsystem.specs.First.{configured_numbers}
-use Rattle.lagsystem.specs.ModelView.{none_enabled}
-use Rattle.lagsystem.specs.Sound.{CallPromise}
-use Rattle.lagsystem.specs.State.{SystemState, aggregators_value, port_index, port_numbers}
-use Rattle.lagsystem.proofs.Performed.{processes_or_stays}
-use Rattle.lagsystem.proofs.Rest.{rests}
-use Rattle.lagsystem.proofs.Rising.{all-get, found_place}
-use Rattle.lagscript.specs.declared.event.Event.{Event}
-use Rattle.lagworld.specs.declared.reply.Reply.{Reply}
-use Rattle.lagworld.specs.Events.{Algorithms, WorldSteps}
-use Rattle.lagworld.specs.State.{LinkState, WorldState, half, port_at, towards}
-use Rattle.lagprogress.specs.Bundle.{AllHeard, EndsHealthyCable}
-use Rattle.lagprogress.specs.HostRounds.{HostRounds, IsHostRound}
-use Rattle.lagprogress.specs.Rounds.{IsHealthyAt}
-use Rattle.lagprogress.specs.Steady.{IsSteady}
+use Rattle.lagprogress.proofs.Common.{Bool, Err, List, None, Ok, Option, Result, Some, ap, arith, false, inl, inr, refl, slice_get, subst, sym, true}
+use Rattle.lagprogress.proofs.Common.{ℕ, ◌-◌, ◌∙◌, ◌≡◌, ◌≤◌, cases_Bool, none-some, same_Some, AllByRecursion, Choice, Lacpdu, One, Side, Two, peer}
+use Rattle.lagprogress.proofs.Common.{Machines, receive_rows, RunsToRest, count_down, PortConfig, SystemFault, Received, SystemPort, Carries, IsFrame}
+use Rattle.lagprogress.proofs.Common.{OnlyPortChangesBy, ProcessesLacpdu, Receive, ReceivesAt, Step, ThenSettles, Tick, configured_numbers}
+use Rattle.lagprogress.proofs.Common.{none_enabled, CallPromise, SystemState, aggregators_value, port_index, port_numbers, processes_or_stays, rests}
+use Rattle.lagprogress.proofs.Common.{all-get, found_place, Event, Reply, Algorithms, WorldSteps, LinkState, WorldState, half, port_at, towards}
+use Rattle.lagprogress.proofs.Common.{OfEach, asked_each, AtPort, AllHeard, EndsHealthyCable, HostRounds, IsHostRound, IsHealthyAt, IsSteady}
 use Rattle.lagprogress.proofs.Bundling.{Awake, said, Named, names}
 use Rattle.lagprogress.proofs.Choosing.{AllAsRead, AsRead, Chose, down_as_read, down_still, one_as_read, settles_choice, takes_as_read, zip_as_read}
 use Rattle.lagprogress.proofs.Climbing.{ticks_still}
 use Rattle.lagprogress.proofs.Unchanged.{calls_keep}
 use Rattle.lagprogress.proofs.Delivering.{deliver_link}
-use Rattle.lagbeside.proofs.EachPort.{OfEach, asked_each}
 use Rattle.lagprogress.proofs.EachRound.{EachAt, asks_each, delivers_each, hosts_on, tick_keeps}
 use Rattle.lagprogress.proofs.EndFacts.{nothing_along}
 use Rattle.lagprogress.proofs.Halves.{each_is_calls, keeps_steady}
 use Rattle.lagprogress.proofs.Linked.{EndIs, Fits, IsGood, Link, arrival, emit_any, each_side}
 use Rattle.lagprogress.proofs.OneCable.{Comes, alone, cable, towards_there, ticks}
-use Rattle.lagbeside.proofs.OnePort.{AtPort}
 use Rattle.lagprogress.proofs.OneRound.{Nothing}
 use Rattle.lagprogress.proofs.RoundEvents.{asked_half, came_half}
 use Rattle.lagprogress.proofs.HostKnowing.{Fresh, fits_fresh, knows_peer, stays_fresh, fits_before}

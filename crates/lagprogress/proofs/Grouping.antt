@@ -1,51 +1,19 @@
 -- Calls keep the ports of one group in one aggregator: a port that chooses joins the others, and the group of an occupant stays.
-use Rattle.std.proofs.Common.{Bool, List, None, Option, Some, [], ap, arith, cond, false, find, if◌then◌else◌, inl, inr, length, not, option_map}
-use Rattle.std.proofs.Common.{refl, slice_get, slice_set, subst, suc, sym, true, zero, ℕ, ◌&&◌, ◌+◌, ◌==◌, ◌∙◌, ◌∷◌, ◌≡◌, ◌⊎◌}
-use Rattle.std.proofs.lemmas.Bool.{cases_eq}
-use Rattle.std.proofs.lemmas.Bool.Decides.{nat_tests}
-use Rattle.std.proofs.lemmas.Option.{none-some, same_Some}
-use Rattle.std.specs.List.{AllByRecursion, enumerate_from, list_all}
-use Rattle.lagtypes.specs.declared.identifiers.AggId.{AggId}
-use Rattle.lagtypes.specs.declared.identifiers.Key.{Key}
-use Rattle.lagtypes.specs.declared.party.Choice.{Choice}
-use Rattle.lagtypes.specs.declared.party.Choice.TheVariants.{Selected, Standby, Unselected}
-use Rattle.lagtypes.specs.declared.party.Party.{Party}
-use Rattle.lagtypes.specs.Group.{Pair, SamePair, individual, pair_of}
-use Rattle.lagtypes.proofs.SameLemmas.{itself}
-use Rattle.slowpdu.specs.Parties.{party_of}
-use Rattle.portmachines.specs.Machines.{Machines}
-use Rattle.portmachines.specs.Mux.{mux_rows}
-use Rattle.portmachines.specs.Periodic.{RunsPeriodic}
-use Rattle.portmachines.specs.Receive.{receive_rows}
-use Rattle.portmachines.specs.Rows.{RunsToRest}
-use Rattle.portmachines.specs.Transmit.{after_sending, count_down}
-use Rattle.selection.specs.declared.view.PortView.{PortView}
-use Rattle.selection.specs.Choice.{aggregator_of_entry, chosen_if_eligible, has_group_of, has_no_occupant, has_occupant, lowest, occupants}
-use Rattle.selection.specs.Choice.{occupants_share_group, or_else}
-use Rattle.selection.specs.Limits.{AggregatorsValue, has_room}
-use Rattle.selection.specs.Views.{is_eligible, occupies}
-use Rattle.selection.proofs.Equal.{group-test}
-use Rattle.lagsystem.specs.declared.drive.Reply.{Reply as Answer}
-use Rattle.lagsystem.specs.declared.system_ports.SystemPort.{SystemPort}
-use Rattle.lagsystem.specs.Calls.{Call, ChangesParty, OnlyPortChangesBy, ProcessesLacpdu, SetsLink, SetsPortEnabled, Step, ThenSettles, Ticks}
-use Rattle.lagsystem.specs.First.{IsFirst}
-use Rattle.lagsystem.specs.ModelView.{key_of}
-use Rattle.lagsystem.specs.Occupants.{OccupantsAgree, occupied}
-use Rattle.lagsystem.specs.Readers.{aggregator_numbered}
-use Rattle.lagsystem.specs.Settling.{ChoosesIn, PortsChangeBy, Settling, aggregator_for, choice_for, choice_if, choice_in, ready_of, with_choice}
-use Rattle.lagsystem.specs.Sound.{HasPorts, PortsAgree}
-use Rattle.lagsystem.specs.State.{SystemState, aggregators_value, port_index, port_numbers}
-use Rattle.lagsystem.specs.Views.{may_choose, selection_view, views}
-use Rattle.lagsystem.proofs.FirstView.{first_unselected}
-use Rattle.lagsystem.proofs.Keeps.{Keeps, given_number, keeps_link, keeps_place, keeps_tick, numbers_set, promoted_numbers, settling_in}
-use Rattle.lagsystem.proofs.Keeps.{settling_keeps, zip_numbers}
-use Rattle.lagsystem.proofs.Limiting.{next_stands}
-use Rattle.lagsystem.proofs.NoneLeft.{takes_is}
+use Rattle.lagprogress.proofs.Common.{Bool, List, None, Option, Some, [], ap, arith, cond, false, find, if◌then◌else◌, inl, inr, length, not}
+use Rattle.lagprogress.proofs.Common.{option_map, refl, slice_get, slice_set, subst, suc, sym, true, zero, ℕ, ◌&&◌, ◌+◌, ◌==◌, ◌∙◌, ◌∷◌, ◌≡◌, ◌⊎◌}
+use Rattle.lagprogress.proofs.Common.{cases_eq, nat_tests, none-some, same_Some, AllByRecursion, enumerate_from, list_all, AggId, Key, Choice}
+use Rattle.lagprogress.proofs.Common.{Selected, Standby, Unselected, Party, Pair, SamePair, individual, pair_of, itself, party_of, Machines, mux_rows}
+use Rattle.lagprogress.proofs.Common.{RunsPeriodic, receive_rows, RunsToRest, after_sending, count_down, PortView, aggregator_of_entry}
+use Rattle.lagprogress.proofs.Common.{chosen_if_eligible, has_group_of, has_no_occupant, has_occupant, lowest, occupants, occupants_share_group}
+use Rattle.lagprogress.proofs.Common.{or_else, AggregatorsValue, has_room, is_eligible, occupies, group-test, Answer, SystemPort, Call, ChangesParty}
+use Rattle.lagprogress.proofs.Common.{OnlyPortChangesBy, ProcessesLacpdu, SetsLink, SetsPortEnabled, Step, ThenSettles, Ticks, IsFirst, key_of}
+use Rattle.lagprogress.proofs.Common.{OccupantsAgree, occupied, aggregator_numbered, ChoosesIn, PortsChangeBy, Settling, aggregator_for, choice_for}
+use Rattle.lagprogress.proofs.Common.{choice_if, choice_in, ready_of, with_choice, HasPorts, PortsAgree, SystemState, aggregators_value, port_index}
+use Rattle.lagprogress.proofs.Common.{port_numbers, may_choose, selection_view, views, first_unselected, Keeps, given_number, keeps_link, keeps_place}
+use Rattle.lagprogress.proofs.Common.{keeps_tick, numbers_set, promoted_numbers, settling_in, settling_keeps, zip_numbers, next_stands, takes_is}
+use Rattle.lagprogress.proofs.Common.{choices_keep, promotions_keep, Rises, all-get, ports_rise, RunsReady, set_same, Somebody, no_entry, occupies_is}
+use Rattle.lagprogress.proofs.Common.{passed, somebody, GroupsAreWhole}
 use Rattle.lagsystem.proofs.Preserves.{Step-preserves_ports}
-use Rattle.lagsystem.proofs.PromotionLemmas.{choices_keep, promotions_keep}
-use Rattle.lagsystem.proofs.Rising.{Rises, all-get, ports_rise}
-use Rattle.lagsystem.proofs.SettlingLemmas.{RunsReady, set_same}
-use Rattle.lagprogress.specs.Together.{GroupsAreWhole}
 use Rattle.std.specs.Prelude.{◌||◌}
 use Rattle.lagmodel.proofs.Ports.{group_sym, individual_along}
 use Rattle.selection.specs.Joining.{IsOccupant, MayJoin, ends}
@@ -55,7 +23,6 @@ use Rattle.lagsystem.proofs.Occupying.{promotion_agrees, set_cases, set_stays, s
 use Rattle.lagsystem.proofs.Occupying.{sending_stays, taking_stays, tick_stays}
 use Rattle.lagtypes.specs.declared.group.End.{End}
 use Rattle.lagprogress.proofs.Lasting.{own_named}
-use Rattle.lagbeside.proofs.Selecting.{Somebody, no_entry, occupies_is, passed, somebody}
 
 -- The ports of one key and one group, which is not Individual, are in one aggregator. In a sound system no other keys have the group.
 abbrev pub InOne : List SystemPort → Type 0

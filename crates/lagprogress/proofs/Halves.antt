@@ -1,34 +1,17 @@
 -- What an event does to the two systems of a world is what some calls of theirs do.
-use Rattle.std.proofs.Common.{Bool, Err, List, Ok, Option, Result, Some, [], map, refl, slice_set, subst, suc, sym, true, zero, ℕ, ◌++◌, ◌∷◌, ◌≡◌}
-use Rattle.lagtypes.specs.declared.identifiers.AggId.{AggId}
-use Rattle.lagmodel.specs.World.{One, Side, Two}
-use Rattle.cables.specs.declared.item.Stamp.{Stamp}
-use Rattle.lagsystem.specs.declared.config.Config.{Config}
-use Rattle.lagsystem.specs.declared.drive.Reply.{Reply as Answer}
-use Rattle.lagsystem.specs.declared.fault.SystemFault.{SystemFault}
-use Rattle.lagsystem.specs.declared.received.Received.{Received}
-use Rattle.lagsystem.specs.Calls.{Call, Offer, Receive, Restart, Step, TableRun, Tick, Transmit}
-use Rattle.lagsystem.specs.First.{IsFirst}
-use Rattle.lagsystem.specs.State.{SystemState}
-use Rattle.lagsystem.proofs.Sound.{Step-sound, first_sound}
-use Rattle.lagscript.specs.declared.event.Event.{Event}
-use Rattle.lagworld.specs.declared.reply.Reply.{Reply}
-use Rattle.lagworld.specs.Events.{AfterOffer, AfterReceive, AfterTransmit, Algorithms, InHalf, WorldReceives, WorldSteps, with_frame_counted}
-use Rattle.lagworld.specs.Events.{with_link_at, with_stamp_collected}
-use Rattle.lagworld.specs.HalfCalls.{HalfAnswers, HalfTicks, forced_if_accepted}
-use Rattle.lagworld.specs.Making.{AreFirst}
-use Rattle.lagworld.specs.Sound.{IsStart}
-use Rattle.lagworld.specs.State.{HalfState, ItemValue, LinkState, WorldState, emptied, half, port_at, with_half, with_links}
-use Rattle.lagprogress.specs.Steady.{GoesByCalls, IsSteady, IsSteadySystem}
-use Rattle.lagbeside.proofs.OnePort.{calls_each}
+use Rattle.lagprogress.proofs.Common.{Bool, Err, List, Ok, Option, Result, Some, [], map, refl, slice_set, subst, suc, sym, true, zero, ℕ, ◌++◌, ◌∷◌}
+use Rattle.lagprogress.proofs.Common.{◌≡◌, AggId, One, Side, Two, Stamp, Config, Answer, SystemFault, Received, Call, Offer, Receive, Restart, Step}
+use Rattle.lagprogress.proofs.Common.{TableRun, Tick, Transmit, IsFirst, SystemState, Step-sound, first_sound, Event, Reply, AfterOffer, AfterReceive}
+use Rattle.lagprogress.proofs.Common.{AfterTransmit, Algorithms, InHalf, WorldReceives, WorldSteps, with_frame_counted, with_link_at}
+use Rattle.lagprogress.proofs.Common.{with_stamp_collected, HalfAnswers, HalfTicks, forced_if_accepted, AreFirst, IsStart, HalfState, ItemValue}
+use Rattle.lagprogress.proofs.Common.{LinkState, WorldState, emptied, half, port_at, with_half, with_links, Step-each, first_each, calls_each}
+use Rattle.lagprogress.proofs.Common.{TimedAt, timed_kept, timed_settles, timed_starts, GoesByCalls, IsSteady, IsSteadySystem}
 use Rattle.cables.specs.declared.item.Stamp.TheVariants as stamp
 use Rattle.lagsystem.specs.declared.drive.Reply.TheVariants as answer
 use Rattle.lagsystem.proofs.HeldPorts.{Step-free, first_free}
 use Rattle.lagsystem.specs.declared.received.Received.TheVariants as received
 use Rattle.lagworld.proofs.Effects.{DoesEffect, Effect, HalfAsked, Recording, answer_to_force, asks, changes_counted, delivers, does_effect, emits}
 use Rattle.lagworld.proofs.Effects.{if_forced, offers, receives, recorded, restarts, nothing, shrinks, ticks}
-use Rattle.lagbeside.proofs.EachPort.{Step-each, first_each}
-use Rattle.lagbeside.proofs.Timers.{TimedAt, timed_kept, timed_settles, timed_starts}
 
 -- lists of calls
 

@@ -1,20 +1,8 @@
 -- What a healthy round leaves of conversations that are held on a port whose cable is healthy: their markers are answered.
-use Rattle.std.proofs.Common.{Bool, List, Some, ap, arith, cond, drop, eqb, false, inl, inr, length, ltb, refl, sym, true, ℕ, ◌+◌, ◌<◌, ◌∙◌, ◌≡◌, ◌≤◌}
-use Rattle.std.proofs.Common.{◌⊎◌}
-use Rattle.std.proofs.lemmas.Bool.Decides.{nat_tests}
-use Rattle.std.proofs.lemmas.Option.{none-some}
-use Rattle.slowpdu.specs.declared.pdu.Marker.{Marker}
-use Rattle.slowpdu.specs.declared.pdu.MarkerKind.TheVariants.{Information, Response}
-use Rattle.slowpdu.specs.declared.pdu.Pdu.{Pdu}
-use Rattle.slowpdu.proofs.PduLemmas.{no_fault, one_pdu}
-use Rattle.lagmodel.specs.World.{Side, peer}
-use Rattle.distributor.specs.declared.assignment.Assignment.{Assignment}
-use Rattle.distributor.specs.declared.assignment.Assignment.TheVariants.{Flushing, Free, On, Wanted}
-use Rattle.distributor.specs.Calls.{is_among}
-use Rattle.distributor.specs.Changes.{after_mark, after_release, after_tick}
-use Rattle.lagsystem.specs.Calls.{Carries, Data_frame, Faulty, IsFrame, ReceivedFrame, Runt}
-use Rattle.lagsystem.specs.Settling.{held_unless_on}
-use Rattle.lagworld.specs.State.{ItemValue}
+use Rattle.lagprogress.proofs.Common.{Bool, List, Some, ap, arith, cond, drop, eqb, false, inl, inr, length, ltb, refl, sym, true, ℕ, ◌+◌, ◌<◌, ◌∙◌}
+use Rattle.lagprogress.proofs.Common.{◌≡◌, ◌≤◌, ◌⊎◌, nat_tests, none-some, Marker, Information, Response, Pdu, no_fault, one_pdu, Side, peer}
+use Rattle.lagprogress.proofs.Common.{Assignment, Flushing, Free, On, Wanted, is_among, after_mark, after_release, after_tick, Carries, Data_frame}
+use Rattle.lagprogress.proofs.Common.{Faulty, IsFrame, ReceivedFrame, Runt, held_unless_on, ItemValue}
 use Rattle.slowpdu.specs.declared.pdu.Pdu.TheVariants as pdu
 use Rattle.slowpdu.specs.declared.fault.WireFault.{WireFault}
 use Rattle.slowpdu.specs.Faults.{fault_of}

@@ -1,14 +1,7 @@
 -- What a healthy round of hosts leaves of a cable, with what an end has taken.
-use Rattle.std.proofs.Common.{Bool, arith, inl, inr, is_some, refl, subst, sym, true, ℕ, ◌-◌, ◌∙◌, ◌≡◌, ◌≤◌, ◌⊎◌}
-use Rattle.std.specs.List.{AllByRecursion}
-use Rattle.slowpdu.specs.declared.pdu.Lacpdu.{Lacpdu}
-use Rattle.lagmodel.specs.World.{One, Side, Two, peer}
-use Rattle.portmachines.specs.Machines.{Machines}
-use Rattle.lagworld.specs.Agreement.{is_stamp}
-use Rattle.lagworld.specs.Events.{Algorithms}
-use Rattle.lagworld.specs.State.{WorldState, change_count_in, half, history_at, taken_in}
-use Rattle.lagprogress.specs.HostRounds.{IsHostRound}
-use Rattle.lagprogress.specs.Rounds.{NothingInFlight}
+use Rattle.lagprogress.proofs.Common.{Bool, arith, inl, inr, is_some, refl, subst, sym, true, ℕ, ◌-◌, ◌∙◌, ◌≡◌, ◌≤◌, ◌⊎◌, AllByRecursion, Lacpdu, One}
+use Rattle.lagprogress.proofs.Common.{Side, Two, peer, Machines, is_stamp, Algorithms, WorldState, change_count_in, half, history_at, taken_in}
+use Rattle.lagprogress.proofs.Common.{Sounds, IsHostRound, NothingInFlight}
 use Rattle.lagprogress.proofs.Claims.{IsNamed, Wakeful}
 use Rattle.lagprogress.proofs.EndFacts.{Along, CanSound, Learnt, activity, wait_of}
 use Rattle.lagprogress.proofs.HostRound.{holds_on, of_side}
@@ -17,7 +10,6 @@ use Rattle.lagprogress.proofs.HostTelling.{Extra, host_nears_told, host_tells, h
 use Rattle.lagprogress.proofs.Linked.{Fits, Link}
 use Rattle.lagprogress.proofs.OneCable.{IsStamped, cable, towards_there}
 use Rattle.lagprogress.proofs.OneRound.{Passes, ticked}
-use Rattle.lagbeside.proofs.Sounding.{Sounds}
 use Rattle.lagprogress.proofs.Stamps.{Present, Stamped}
 use Rattle.lagprogress.proofs.Telling.{Told, Wakes}
 

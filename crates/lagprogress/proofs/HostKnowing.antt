@@ -1,31 +1,17 @@
 -- How the ends of a cable come to know each other in healthy rounds of hosts.
-use Rattle.std.proofs.Common.{Bool, arith, false, inl, inr, refl, subst, suc, sym, true, zero, ℕ, ◌+◌, ◌-◌, ◌∙◌, ◌≡◌, ◌≤◌, ◌⊎◌}
-use Rattle.std.proofs.lemmas.Bool.{cases_Bool}
-use Rattle.std.proofs.lemmas.Bool.Decides.{nat_tests}
-use Rattle.slowpdu.specs.declared.pdu.Lacpdu.{Lacpdu}
-use Rattle.lagmodel.specs.World.{One, Side, Two, peer}
-use Rattle.portmachines.specs.Machines.{Machines}
-use Rattle.portmachines.specs.Periodic.{periodic_rows}
-use Rattle.portmachines.specs.Rows.{AtRest}
-use Rattle.lagworld.specs.Events.{Algorithms}
-use Rattle.lagworld.specs.State.{LinkState, WorldState, half, port_at}
-use Rattle.lagprogress.specs.Bundle.{BothAreActive, EndsOfEachKnow, OneIsActive}
-use Rattle.lagprogress.specs.HostRounds.{HostRounds, IsHostRound}
-use Rattle.lagprogress.specs.Progress.{EndKnows, Knows}
-use Rattle.lagprogress.specs.Rounds.{AtEnd, NothingInFlight, OfPort, known_if_both_active, known_if_one_is}
-use Rattle.lagbeside.specs.Timers.{IsTimed, timeout_time}
+use Rattle.lagprogress.proofs.Common.{Bool, arith, false, inl, inr, refl, subst, suc, sym, true, zero, ℕ, ◌+◌, ◌-◌, ◌∙◌, ◌≡◌, ◌≤◌, ◌⊎◌, cases_Bool}
+use Rattle.lagprogress.proofs.Common.{nat_tests, Lacpdu, One, Side, Two, peer, Machines, periodic_rows, AtRest, Algorithms, LinkState, WorldState}
+use Rattle.lagprogress.proofs.Common.{half, port_at, IsTimed, timeout_time, OfEach, no, AtPort, Sounds, silence_of, sounds_first, BothAreActive}
+use Rattle.lagprogress.proofs.Common.{EndsOfEachKnow, OneIsActive, HostRounds, IsHostRound, EndKnows, Knows, AtEnd, NothingInFlight, OfPort}
+use Rattle.lagprogress.proofs.Common.{known_if_both_active, known_if_one_is}
 use Rattle.lagprogress.proofs.Claims.{IsNamed, Wakeful, can_wake}
-use Rattle.lagbeside.proofs.EachPort.{OfEach}
 use Rattle.lagprogress.proofs.EndFacts.{Along, CanSound, IsEnd, Learnt, Synced, activity, calm, less_known, short_timeout, wait_of}
-use Rattle.lagbeside.proofs.Hearing.{no}
 use Rattle.lagprogress.proofs.HostRound.{host_keeps, two, two_other, two_there}
 use Rattle.lagprogress.proofs.HostHearing.{host_present, nears, passes, stays_told}
 use Rattle.lagprogress.proofs.Lapsing.{Lapsed, Lasting, Phase, Tails, begins_lasting, lasting_now, lasting_passes}
 use Rattle.lagprogress.proofs.Linked.{EndIs, Fits, Link, each_map, each_side, end_here, of_end, other_ports, peer_twice, with_ports, machines_there}
-use Rattle.lagbeside.proofs.OnePort.{AtPort}
 use Rattle.lagprogress.proofs.OneRound.{Nothing, at_rest, beside_here, forget, join, ticked}
 use Rattle.lagprogress.proofs.Starting.{Ends, emptied, end_of, own_says, said_by, starts, named_at}
-use Rattle.lagbeside.proofs.Sounding.{Sounds, silence_of, sounds_first}
 use Rattle.lagprogress.proofs.Stamps.{Present}
 use Rattle.lagprogress.proofs.Telling.{Told, Wakes}
 

@@ -1,47 +1,22 @@
 -- Which runs are healthy rounds of hosts.
-use Rattle.std.proofs.Common.{Bool, Err, List, None, Ok, Option, Result, Some, [], ap, append_assoc, arith, cond, eqb, false, inl, inr, ltb, refl}
-use Rattle.std.proofs.Common.{slice_get, subst, suc, sym, true, zero, ℕ, ◌++◌, ◌+◌, ◌∙◌, ◌∷◌, ◌≡◌}
-use Rattle.std.proofs.lemmas.Bool.{cases_Bool, false≢true}
-use Rattle.std.proofs.lemmas.Bool.Decides.{nat_tests}
-use Rattle.std.proofs.lemmas.Option.{none-some, same_Some}
-use Rattle.std.specs.List.{AllByRecursion}
-use Rattle.slowpdu.specs.declared.pdu.Pdu.{Pdu}
-use Rattle.slowpdu.specs.Readings.{pdu_in}
-use Rattle.slowpdu.proofs.LayoutLemmas.{all-append}
-use Rattle.lagmodel.specs.World.{One, Side, Two, peer}
-use Rattle.lagmodel.proofs.Base.{value_of}
-use Rattle.portmachines.specs.Machines.{Machines}
-use Rattle.portmachines.specs.Transmit.{after_sending, is_due}
-use Rattle.distributor.specs.declared.assignment.Assignment.{Assignment}
-use Rattle.distributor.specs.declared.assignment.Assignment.TheVariants.{Flushing, Wanted}
-use Rattle.distributor.specs.Changes.{after_mark, marker_due, wants_marker}
-use Rattle.distributor.specs.Conversations.{Table, assignment_of, count_conversations, next_identifier, sum_below}
-use Rattle.lagsystem.specs.declared.fault.SystemFault.{SystemFault}
-use Rattle.lagsystem.specs.declared.system_ports.SystemPort.{SystemPort}
-use Rattle.lagsystem.specs.Calls.{Step, Transmit}
-use Rattle.lagsystem.specs.Sending.{SendsMarkerOf, TransmitsAt, TransmitsIf}
-use Rattle.lagsystem.specs.State.{SystemState, machines_of, port_index}
-use Rattle.lagsystem.proofs.Rising.{all-get, found_place, ports_rise}
-use Rattle.lagscript.specs.declared.event.Event.{Event}
-use Rattle.lagworld.specs.declared.reply.Reply.{Reply}
-use Rattle.lagworld.specs.Events.{AfterTransmit, Algorithms, WorldEmits, WorldRuns, WorldSteps, sent_reply, side_of}
-use Rattle.lagworld.specs.Messages.{payload_in}
-use Rattle.lagworld.specs.State.{HalfState, LinkState, WorldState, half, is_accepted, port_at, with_half}
-use Rattle.lagworld.proofs.Sides.{half_there}
-use Rattle.lagprogress.specs.HostFreed.{AskingInVainIsDraining, AsksInVain, AsksInVainAfterTick, DrainingRounds, IsNoMoveOf, NothingIsDue}
-use Rattle.lagprogress.specs.HostFreed.{RoundIsDraining, sent_nothing}
-use Rattle.lagprogress.specs.HostRounds.{AfterTick, AskingIsHostRound, Asks, AsksAfterTick, AsksIn, AtSomeWorld, Clearing, HostRounds, IsBetweenTicks}
-use Rattle.lagprogress.specs.HostRounds.{IsPlayed, IsTickOf, LoopIsHostRound, NoneIsLeft, RoundIsHostRound, RoundsAreHostRounds, TickOnce}
-use Rattle.lagprogress.specs.Rounds.{AtEnd, IsDeliver, IsHealthyAt, OfPort, Rounds, asks_all, ticks_of_both}
-use Rattle.lagprogress.specs.Steady.{IsSteady}
-use Rattle.lagbeside.proofs.EachPort.{OfEach, Tick-each}
+use Rattle.lagprogress.proofs.Common.{Bool, Err, List, None, Ok, Option, Result, Some, [], ap, append_assoc, arith, cond, eqb, false, inl, inr, ltb}
+use Rattle.lagprogress.proofs.Common.{refl, slice_get, subst, suc, sym, true, zero, ℕ, ◌++◌, ◌+◌, ◌∙◌, ◌∷◌, ◌≡◌, cases_Bool, false≢true, nat_tests}
+use Rattle.lagprogress.proofs.Common.{none-some, same_Some, AllByRecursion, Pdu, pdu_in, all-append, One, Side, Two, peer, value_of, Machines}
+use Rattle.lagprogress.proofs.Common.{after_sending, is_due, Assignment, Flushing, Wanted, after_mark, marker_due, wants_marker, Table, assignment_of}
+use Rattle.lagprogress.proofs.Common.{count_conversations, next_identifier, SystemFault, SystemPort, Step, Transmit, SendsMarkerOf, TransmitsAt}
+use Rattle.lagprogress.proofs.Common.{TransmitsIf, SystemState, machines_of, port_index, all-get, found_place, ports_rise, Event, Reply}
+use Rattle.lagprogress.proofs.Common.{AfterTransmit, Algorithms, WorldEmits, WorldRuns, WorldSteps, sent_reply, side_of, payload_in, HalfState}
+use Rattle.lagprogress.proofs.Common.{LinkState, WorldState, half, is_accepted, port_at, with_half, half_there, OfEach, Tick-each, placed, AtPort}
+use Rattle.lagprogress.proofs.Common.{at_number, AskingInVainIsDraining, AsksInVain, AsksInVainAfterTick, DrainingRounds, IsNoMoveOf, NothingIsDue}
+use Rattle.lagprogress.proofs.Common.{RoundIsDraining, sent_nothing, AfterTick, AskingIsHostRound, Asks, AsksAfterTick, AsksIn, AtSomeWorld, Clearing}
+use Rattle.lagprogress.proofs.Common.{HostRounds, IsBetweenTicks, IsPlayed, IsTickOf, LoopIsHostRound, NoneIsLeft, RoundIsHostRound}
+use Rattle.lagprogress.proofs.Common.{RoundsAreHostRounds, TickOnce, AtEnd, IsDeliver, IsHealthyAt, OfPort, Rounds, asks_all, ticks_of_both, IsSteady}
+use Rattle.distributor.specs.Conversations.{sum_below}
 use Rattle.lagprogress.proofs.EachRound.{EachAt, asks_each, delivers_each, own_keeps, own_ticks, hosts_steady}
 use Rattle.lagprogress.proofs.Halves.{keeps_steady}
 use Rattle.lagprogress.proofs.HostRound.{of_side, turned}
-use Rattle.lagbeside.proofs.Knowing.{placed}
 use Rattle.lagprogress.proofs.Linked.{each_side, found, machines_there, place_kept}
 use Rattle.lagprogress.proofs.OneCable.{Emits, emits, ticks}
-use Rattle.lagbeside.proofs.OnePort.{AtPort, at_number}
 use Rattle.lagprogress.proofs.OneRound.{IsAsk, all_ask, asks_twice, same_ports_then}
 use Rattle.lagprogress.proofs.Passing.{sends_due}
 use Rattle.lagprogress.proofs.Quieting.{quiet_ports}

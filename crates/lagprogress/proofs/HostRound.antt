@@ -1,40 +1,22 @@
 -- What a healthy round of hosts leaves of a cable: an LACPDU of an end is nearer by a tick, or was heard.
-use Rattle.std.proofs.Common.{Bool, List, None, Some, [], ap, arith, false, inl, inr, refl, subst, sym, true, ℕ, ◌-◌, ◌∙◌, ◌∷◌, ◌≡◌, ◌≤◌, ◌⊎◌}
-use Rattle.std.proofs.lemmas.Bool.Decides.{nat_tests}
-use Rattle.std.proofs.lemmas.Option.{same_Some}
-use Rattle.std.specs.List.{AllByRecursion}
-use Rattle.slowpdu.specs.declared.pdu.Lacpdu.{Lacpdu}
-use Rattle.lagmodel.specs.World.{One, Side, Two, peer}
-use Rattle.portmachines.specs.Machines.{Machines}
-use Rattle.portmachines.specs.Periodic.{periodic_rows}
-use Rattle.portmachines.specs.Receive.{receive_rows}
-use Rattle.portmachines.specs.Rows.{AtRest, RunsToRest}
-use Rattle.portmachines.specs.Transmit.{after_sending, count_down, is_due}
-use Rattle.lagsystem.specs.State.{SystemState, machines_of}
-use Rattle.lagscript.specs.declared.event.Event.{Event}
-use Rattle.lagworld.specs.declared.reply.Reply.{Reply}
-use Rattle.lagworld.specs.Events.{Algorithms, WorldRuns, WorldSteps, side_of}
-use Rattle.lagworld.specs.State.{ItemValue, WorldState, half, limit_towards}
-use Rattle.lagprogress.specs.HostRounds.{AfterTick, AtSomeWorld, Clearing, IsBetweenTicks, IsHostRound, IsPlayed, IsTickOf, TickOnce}
-use Rattle.lagprogress.specs.Rounds.{IsHealthyAt, OfPort}
-use Rattle.lagbeside.specs.Timers.{timeout_time}
+use Rattle.lagprogress.proofs.Common.{Bool, List, None, Some, [], ap, arith, false, inl, inr, refl, subst, sym, true, ℕ, ◌-◌, ◌∙◌, ◌∷◌, ◌≡◌, ◌≤◌, ◌⊎◌}
+use Rattle.lagprogress.proofs.Common.{nat_tests, same_Some, AllByRecursion, Lacpdu, One, Side, Two, peer, Machines, periodic_rows, receive_rows}
+use Rattle.lagprogress.proofs.Common.{AtRest, RunsToRest, after_sending, count_down, is_due, SystemState, machines_of, Event, Reply, Algorithms}
+use Rattle.lagprogress.proofs.Common.{WorldRuns, WorldSteps, side_of, ItemValue, WorldState, half, limit_towards, timeout_time, OfEach, Tick-each, no}
+use Rattle.lagprogress.proofs.Common.{counts, AtPort, mux_leaves, periodic_leaves, with_rest, Sounds, AfterTick, AtSomeWorld, Clearing}
+use Rattle.lagprogress.proofs.Common.{IsBetweenTicks, IsHostRound, IsPlayed, IsTickOf, TickOnce, IsHealthyAt, OfPort}
 use Rattle.lagsystem.specs.declared.drive.Reply.TheVariants as answer
 use Rattle.lagscript.specs.declared.event.Event.TheVariants as event
 use Rattle.lagprogress.proofs.Climbing.{known_still}
 use Rattle.lagprogress.proofs.Delivering.{deliver_link}
-use Rattle.lagbeside.proofs.EachPort.{OfEach, Tick-each}
 use Rattle.lagprogress.proofs.EndFacts.{Along, CanSound, IsEnd, Learnt, nothing_along, sounds_along, takes_learnt, ticks_end, short_timeout, wait_of}
 use Rattle.lagprogress.proofs.EndFacts.{activity}
 use Rattle.lagprogress.proofs.Halves.{keeps_steady}
-use Rattle.lagbeside.proofs.Hearing.{no}
-use Rattle.lagbeside.proofs.Knowing.{counts}
 use Rattle.lagprogress.proofs.Linked.{EndIs, Fits, Flying, Left, Link, each_map, each_side, emit_any, end_kept, end_here, of_end, other_ports}
 use Rattle.lagprogress.proofs.Linked.{other_side, at_end, end_with, peer_twice, place_kept, with_ports}
 use Rattle.lagprogress.proofs.OneCable.{OnCable, cable, port_there, ticks, towards_there}
-use Rattle.lagbeside.proofs.OnePort.{AtPort, mux_leaves, periodic_leaves, with_rest}
 use Rattle.lagprogress.proofs.OneRound.{Asked, Nothing, Passes, ask_which, at_rest, beside_here, Later, join, sounds_pass, ticked}
 use Rattle.lagprogress.proofs.Quieting.{IsQuiet, quiet_link}
-use Rattle.lagbeside.proofs.Sounding.{Sounds}
 
 -- numbers of both sides
 

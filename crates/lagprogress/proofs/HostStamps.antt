@@ -1,19 +1,8 @@
 -- What the ends of a cable took last bears the present change counts, in healthy rounds of hosts.
-use Rattle.std.proofs.Common.{Bool, Err, List, Ok, Result, [], ap, inl, inr, is_some, slice_get, subst, sym, ℕ, ◌++◌, ◌∙◌, ◌∷◌, ◌≡◌, ◌≤◌, ◌⊎◌}
-use Rattle.std.proofs.lemmas.Option.{none-some, same_Some}
-use Rattle.std.specs.List.{AllByRecursion}
-use Rattle.slowpdu.specs.declared.pdu.Lacpdu.{Lacpdu}
-use Rattle.slowpdu.proofs.LayoutLemmas.{all-append}
-use Rattle.lagmodel.specs.World.{Side, peer}
-use Rattle.portmachines.specs.Machines.{Machines}
-use Rattle.lagsystem.specs.declared.fault.SystemFault.{SystemFault}
-use Rattle.lagsystem.specs.declared.received.Received.{Received}
-use Rattle.lagsystem.specs.Calls.{Carries, IsFrame, Receive}
-use Rattle.lagsystem.specs.Sound.{CallPromise}
-use Rattle.lagscript.specs.declared.event.Event.{Event}
-use Rattle.lagworld.specs.declared.reply.Reply.{Reply}
-use Rattle.lagworld.specs.Events.{Algorithms, WorldSteps}
-use Rattle.lagworld.specs.State.{ItemValue, WorldState, change_count_in, half, history_at, towards}
+use Rattle.lagprogress.proofs.Common.{Bool, Err, List, Ok, Result, [], ap, inl, inr, is_some, slice_get, subst, sym, ℕ, ◌++◌, ◌∙◌, ◌∷◌, ◌≡◌, ◌≤◌, ◌⊎◌}
+use Rattle.lagprogress.proofs.Common.{none-some, same_Some, AllByRecursion, Lacpdu, all-append, Side, peer, Machines, SystemFault, Received, Carries}
+use Rattle.lagprogress.proofs.Common.{IsFrame, Receive, CallPromise, Event, Reply, Algorithms, WorldSteps, ItemValue, WorldState, change_count_in}
+use Rattle.lagprogress.proofs.Common.{half, history_at, towards}
 use Rattle.slowpdu.specs.declared.pdu.Pdu.TheVariants as pdu
 use Rattle.lagsystem.specs.declared.drive.Reply.TheVariants as answer
 use Rattle.lagscript.specs.declared.event.Event.TheVariants as event

@@ -1,31 +1,12 @@
 -- What calls and settings of hosts leave of both systems.
-use Rattle.std.proofs.Common.{Bool, Err, List, None, Ok, Option, Result, Some, [], ap, false, inl, inr, refl, subst, sym, true, ℕ}
-use Rattle.std.proofs.Common.{◌∙◌, ◌∷◌, ◌≡◌, ◌⊎◌}
-use Rattle.std.proofs.lemmas.Option.{none-some, same_Some}
-use Rattle.lagtypes.specs.declared.identifiers.AggId.{AggId}
-use Rattle.slowpdu.specs.declared.pdu.Lacpdu.{Lacpdu}
-use Rattle.lagmodel.specs.World.{One, Side, Two, peer}
-use Rattle.distributor.specs.Conversations.{next_identifier}
-use Rattle.lagsystem.specs.declared.drive.HostCall.{HostCall}
-use Rattle.lagsystem.specs.declared.drive.HostReply.{HostReply}
-use Rattle.lagsystem.specs.declared.drive.Reply.{Reply as Answer}
-use Rattle.lagsystem.specs.declared.fault.SystemFault.{SystemFault}
-use Rattle.lagsystem.specs.Calls.{Call, Carries, IsFrame, Step}
-use Rattle.lagsystem.specs.Drives.{call_of}
-use Rattle.lagsystem.specs.HostCalls.{HostPromise}
+use Rattle.lagprogress.proofs.Common.{Bool, Err, List, None, Ok, Option, Result, Some, [], ap, false, inl, inr, refl, subst, sym, true, ℕ, ◌∙◌, ◌∷◌}
+use Rattle.lagprogress.proofs.Common.{◌≡◌, ◌⊎◌, none-some, same_Some, AggId, Lacpdu, One, Side, Two, peer, next_identifier, HostCall, HostReply}
+use Rattle.lagprogress.proofs.Common.{Answer, SystemFault, Call, Carries, IsFrame, Step, call_of, HostPromise, SendsMarkerOf, IsSound, SystemState}
+use Rattle.lagprogress.proofs.Common.{port_index, IsOther, TableAlone, host_alone, Step-sound, Algorithms, transmitted_item, with_item_sent}
+use Rattle.lagprogress.proofs.Common.{forced_if_accepted, HalfState, ItemValue, LinkState, WorldState, half, put_on_port, with_half, start_sound}
+use Rattle.lagprogress.proofs.Common.{hosts_keep_headline, PortsAreTimed, Step-each, calls_each, TimedAt, setting_timed, timed_kept, timed_settles}
+use Rattle.lagprogress.proofs.Common.{EachHostReachedIsSteady, EachHostRunKeepsSteady}
 use Rattle.lagsystem.specs.Probing.{ProbesAt, ProbesIf}
-use Rattle.lagsystem.specs.Sending.{SendsMarkerOf}
-use Rattle.lagsystem.specs.Sound.{IsSound}
-use Rattle.lagsystem.specs.State.{SystemState, port_index}
-use Rattle.lagsystem.proofs.HostCallLemmas.{IsOther, TableAlone, host_alone}
-use Rattle.lagsystem.proofs.Sound.{Step-sound}
-use Rattle.lagworld.specs.Events.{Algorithms, transmitted_item, with_item_sent}
-use Rattle.lagworld.specs.HalfCalls.{forced_if_accepted}
-use Rattle.lagworld.specs.State.{HalfState, ItemValue, LinkState, WorldState, half, put_on_port, with_half}
-use Rattle.lagworld.proofs.Starts.{start_sound}
-use Rattle.laghosts.proofs.HostHeadline.{hosts_keep_headline}
-use Rattle.lagprogress.specs.Steady.{EachHostReachedIsSteady, EachHostRunKeepsSteady}
-use Rattle.lagbeside.specs.Timers.{PortsAreTimed}
 use Rattle.slowpdu.specs.declared.pdu.Pdu.TheVariants as pdu
 use Rattle.lagsystem.specs.declared.drive.HostCall.TheVariants as host
 use Rattle.lagsystem.specs.declared.drive.HostReply.TheVariants as told
@@ -35,17 +16,14 @@ use Rattle.lagsystem.proofs.ProbingLemmas.{probes_sound}
 use Rattle.lagsystem.proofs.SettingsKeep.{setting_sound}
 use Rattle.lagworld.specs.Asking.{with_sent_in}
 use Rattle.lagworld.proofs.OneSystem.{after_call}
-use Rattle.laghosts.specs.HostEvents.{AfterNumberedOffer, AfterProbe, CountsHeldIfOk, ForcesPort, HalfTells, HostEvent, HostRuns, HostSteps}
-use Rattle.laghosts.specs.HostEvents.{Leaves, Offers, Plays, Probes, Rests, Sets, numbered_item}
+use Rattle.laghosts.specs.HostEvents.{AfterNumberedOffer, AfterProbe, CountsHeldIfOk, ForcesPort, HalfTells, HostEvent, HostRuns, HostSteps, Leaves}
+use Rattle.laghosts.specs.HostEvents.{Offers, Plays, Probes, Rests, Sets, numbered_item}
 use Rattle.laghosts.proofs.HostHappens.{offered_joint}
-use Rattle.lagbeside.proofs.EachPort.{Step-each}
 use Rattle.lagprogress.proofs.Halves.{each_is_calls, start_steady}
 use Rattle.lagbeside.proofs.HostWaits.{forces_port}
 use Rattle.lagprogress.proofs.Linked.{each_side}
-use Rattle.lagbeside.proofs.OnePort.{calls_each}
 use Rattle.lagprogress.proofs.Passing.{marker_carries_none}
 use Rattle.lagprogress.proofs.Quieting.{Quietly, SendsPlain}
-use Rattle.lagbeside.proofs.Timers.{TimedAt, setting_timed, timed_kept, timed_settles}
 
 -- ---- one system
 

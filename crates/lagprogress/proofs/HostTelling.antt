@@ -1,48 +1,28 @@
 -- In a healthy round of hosts, an end that hears the other is told when the other is synchronized, or the other owes it an LACPDU.
-use Rattle.std.proofs.Common.{Bool, List, Some, [], ap, arith, false, inl, inr, refl, slice_get, subst, sym, true, ℕ, ◌-◌, ◌∙◌, ◌∷◌, ◌≡◌, ◌≤◌, ◌⊎◌}
-use Rattle.std.proofs.lemmas.Bool.{cases_Bool}
-use Rattle.std.proofs.lemmas.Option.{same_Some}
-use Rattle.std.specs.List.{AllByRecursion}
-use Rattle.slowpdu.specs.declared.pdu.Lacpdu.{Lacpdu}
-use Rattle.lagmodel.specs.World.{Side, peer}
-use Rattle.portmachines.specs.Machines.{Machines}
-use Rattle.portmachines.specs.Mux.{partner_synchronized}
-use Rattle.portmachines.specs.Periodic.{periodic_rows}
-use Rattle.portmachines.specs.Receive.{receive_rows}
-use Rattle.portmachines.specs.Rows.{AtRest, RunsToRest}
-use Rattle.portmachines.specs.Transmit.{after_sending, count_down, is_due}
-use Rattle.lagsystem.specs.declared.system_ports.SystemPort.{SystemPort}
-use Rattle.lagsystem.specs.Calls.{Carries, IsFrame, OnlyPortChangesBy, ProcessesLacpdu, ThenSettles}
-use Rattle.lagsystem.specs.State.{SystemState, machines_of}
-use Rattle.lagsystem.proofs.Rising.{found_place}
-use Rattle.lagscript.specs.declared.event.Event.{Event}
-use Rattle.lagworld.specs.declared.reply.Reply.{Reply}
-use Rattle.lagworld.specs.Events.{Algorithms, WorldSteps, side_of}
-use Rattle.lagworld.specs.State.{ItemValue, WorldState, half, towards}
-use Rattle.lagprogress.specs.HostRounds.{AfterTick, Clearing, IsBetweenTicks, IsHostRound, IsPlayed}
-use Rattle.lagprogress.specs.Rounds.{NothingInFlight, OfPort}
-use Rattle.lagbeside.specs.Timers.{timeout_time}
+use Rattle.lagprogress.proofs.Common.{Bool, List, Some, [], ap, arith, false, inl, inr, refl, slice_get, subst, sym, true, ℕ, ◌-◌, ◌∙◌, ◌∷◌, ◌≡◌, ◌≤◌}
+use Rattle.lagprogress.proofs.Common.{◌⊎◌, cases_Bool, same_Some, AllByRecursion, Lacpdu, Side, peer, Machines, partner_synchronized, periodic_rows}
+use Rattle.lagprogress.proofs.Common.{receive_rows, AtRest, RunsToRest, after_sending, count_down, is_due, SystemPort, Carries, IsFrame}
+use Rattle.lagprogress.proofs.Common.{OnlyPortChangesBy, ProcessesLacpdu, ThenSettles, SystemState, machines_of, found_place, Event, Reply}
+use Rattle.lagprogress.proofs.Common.{Algorithms, WorldSteps, side_of, ItemValue, WorldState, half, towards, timeout_time, KeptBySettling, OfEach}
+use Rattle.lagprogress.proofs.Common.{Tick-each, counts, AtPort, Sounds, AfterTick, Clearing, IsBetweenTicks, IsHostRound, IsPlayed, NothingInFlight}
+use Rattle.lagprogress.proofs.Common.{OfPort}
 use Rattle.slowpdu.specs.declared.pdu.Pdu.TheVariants as pdu
 use Rattle.lagsystem.specs.declared.drive.Reply.TheVariants as answer
 use Rattle.lagscript.specs.declared.event.Event.TheVariants as event
 use Rattle.lagprogress.proofs.Claims.{IsNamed, Owes, Owing, Wakeful, owes_ticks, owing_settles, wakeful_along, wakeful_ticks}
 use Rattle.lagprogress.proofs.Climbing.{PartnerInSync, known_still, ticks_partner}
 use Rattle.lagprogress.proofs.Delivering.{Heard, arrived_ports, deliver_link, deliver_moves}
-use Rattle.lagbeside.proofs.EachPort.{KeptBySettling, OfEach, Tick-each}
 use Rattle.lagprogress.proofs.EndFacts.{CanSound, sounds_along, Along, IsEnd, Learnt, activity, nothing_along, short_timeout, ticks_end, wait_of}
 use Rattle.lagprogress.proofs.HostRound.{between, KeptBetween, MadeByTick, Stages, all_ticked, first_on, fits_in, healthy_link, holds_on, known_in}
 use Rattle.lagprogress.proofs.HostRound.{learn_less, Whatever, all_whatever, learnt_along, left, none_ticked, of_side, tick_one, ticks_learnt}
 use Rattle.lagprogress.proofs.HostRound.{two_other, two_there}
-use Rattle.lagbeside.proofs.Knowing.{counts}
 use Rattle.lagprogress.proofs.Linked.{asked_which, at_end, beside_link, emit_any, found, end_with, of_end, with_ports, EndIs, Fits, Flying, IsGood}
 use Rattle.lagprogress.proofs.Linked.{Link, each_both, each_map, each_side, end_here, gains_has, HasLacpdu, other_side, peer_twice, put_other}
 use Rattle.lagprogress.proofs.Linked.{put_there}
 use Rattle.lagprogress.proofs.OneCable.{Arrives, alone, cable, port_there, put, response, ticks, towards_there}
-use Rattle.lagbeside.proofs.OnePort.{AtPort}
 use Rattle.lagprogress.proofs.OneRound.{Later, beside_here, sounds_pass, Nothing, Passes, ask_idle, ask_peer, one_of_both, at_rest, forget, join}
 use Rattle.lagprogress.proofs.OneRound.{ticked}
 use Rattle.lagprogress.proofs.Quieting.{IsQuiet, quiet_link, quiet_ports}
-use Rattle.lagbeside.proofs.Sounding.{Sounds}
 use Rattle.lagprogress.proofs.Telling.{Bears, SaysIt, Tells, arrive_peer, ask_on, came_to, deliver_on, due_on, sync_settles, tells_map, tells_push}
 
 -- what is on the cable of the same ports

@@ -1,40 +1,13 @@
 -- The ports of a key that are one group are in one aggregator.
-use Rattle.std.proofs.Common.{List, Some, ap, arith, refl, slice_get, subst, sym, true, ℕ, ◌∙◌, ◌≡◌, ◌≢◌, ◌≤◌}
-use Rattle.std.proofs.lemmas.Bool.{false≢true}
-use Rattle.std.proofs.lemmas.Option.{none-some}
-use Rattle.lagtypes.specs.declared.identifiers.AggId.{AggId}
-use Rattle.lagtypes.specs.declared.identifiers.Key.{Key}
-use Rattle.lagtypes.specs.declared.party.Choice.{Choice}
-use Rattle.lagtypes.specs.declared.party.Choice.TheVariants.{Selected, Unselected}
-use Rattle.lagtypes.specs.Choices.{is_selected}
-use Rattle.lagmodel.specs.World.{Side}
-use Rattle.portmachines.specs.Machines.{Machines}
-use Rattle.selection.proofs.Equal.{group-test}
-use Rattle.lagsystem.specs.declared.drive.HostCall.{HostCall}
-use Rattle.lagsystem.specs.declared.drive.HostReply.{HostReply}
-use Rattle.lagsystem.specs.declared.drive.Reply.{Reply as Answer}
-use Rattle.lagsystem.specs.declared.system_ports.SystemPort.{SystemPort}
-use Rattle.lagsystem.specs.Calls.{Call, Step}
-use Rattle.lagsystem.specs.Drives.{call_of}
-use Rattle.lagsystem.specs.HostCalls.{HostPromise, HostRun}
-use Rattle.lagsystem.specs.Occupants.{OccupantsAgree, occupied}
-use Rattle.lagsystem.specs.Sound.{IsSound, PortsAgree}
-use Rattle.lagsystem.specs.State.{SystemState, with_table}
-use Rattle.lagsystem.specs.Views.{selection_view}
-use Rattle.lagsystem.proofs.FirstView.{first_unselected}
-use Rattle.lagsystem.proofs.HostCallLemmas.{TableAlone, agrees_beside, host_alone}
-use Rattle.lagsystem.proofs.Rising.{all-get, found_place, ports_rise}
-use Rattle.lagsystem.proofs.Sound.{Step-sound, agrees}
-use Rattle.lagworld.specs.Events.{Algorithms}
-use Rattle.lagworld.specs.State.{LinkState, WorldState, half, port_at}
-use Rattle.lagprogress.specs.Bundle.{BothAreActive, EachLinkComesUp, EndsOfEachKnow, IsBundle, OneIsActive}
-use Rattle.lagprogress.specs.ComingUp.{Distributes}
-use Rattle.lagprogress.specs.HostRounds.{HostRounds}
-use Rattle.lagprogress.specs.Rounds.{IsHealthyAt, known_if_both_active, known_if_one_is, up_if_both_active, up_if_one_is}
-use Rattle.lagprogress.specs.Shared.{AreOneGroup}
-use Rattle.lagprogress.specs.Together.{AreInOneAggregator, CallsKeepGroupsWhole, EachKeyIsInOneAggregator, FirstGroupsAreWhole, GroupsAreWhole}
-use Rattle.lagprogress.specs.Together.{ReachedGroupsAreWhole}
-use Rattle.lagbeside.proofs.OnePort.{AtPort, at_number}
+use Rattle.lagprogress.proofs.Common.{List, Some, ap, arith, refl, slice_get, subst, sym, true, ℕ, ◌∙◌, ◌≡◌, ◌≢◌, ◌≤◌, false≢true, none-some, AggId}
+use Rattle.lagprogress.proofs.Common.{Key, Choice, Selected, Unselected, is_selected, Side, Machines, group-test, HostCall, HostReply, Answer}
+use Rattle.lagprogress.proofs.Common.{SystemPort, Call, Step, call_of, HostPromise, HostRun, OccupantsAgree, occupied, IsSound, PortsAgree}
+use Rattle.lagprogress.proofs.Common.{SystemState, with_table, selection_view, first_unselected, TableAlone, agrees_beside, host_alone, all-get}
+use Rattle.lagprogress.proofs.Common.{found_place, ports_rise, Step-sound, agrees, Algorithms, LinkState, WorldState, half, port_at, AtPort}
+use Rattle.lagprogress.proofs.Common.{at_number, BothAreActive, EachLinkComesUp, EndsOfEachKnow, IsBundle, OneIsActive, Distributes, HostRounds}
+use Rattle.lagprogress.proofs.Common.{IsHealthyAt, known_if_both_active, known_if_one_is, up_if_both_active, up_if_one_is, AreOneGroup}
+use Rattle.lagprogress.proofs.Common.{AreInOneAggregator, CallsKeepGroupsWhole, EachKeyIsInOneAggregator, FirstGroupsAreWhole, GroupsAreWhole}
+use Rattle.lagprogress.proofs.Common.{ReachedGroupsAreWhole}
 use Rattle.lagsystem.specs.declared.drive.HostCall.TheVariants as host
 use Rattle.lagsystem.specs.declared.drive.HostReply.TheVariants as told
 use Rattle.lagsystem.proofs.OccupantSteps.{Step-placed}

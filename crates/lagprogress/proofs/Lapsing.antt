@@ -1,30 +1,13 @@
 -- A port that is kept from silence by an active partner alone: it is CURRENT, or EXPIRED and about to speak.
-use Rattle.std.proofs.Common.{Bool, ap, arith, false, inl, inr, not, refl, subst, sym, true, ℕ, ◌&&◌, ◌+◌, ◌-◌, ◌==◌, ◌∙◌, ◌≡◌, ◌≤◌, ◌⊎◌}
-use Rattle.std.proofs.lemmas.Bool.Decides.{nat_tests}
-use Rattle.lagtypes.specs.declared.party.Choice.{Choice}
-use Rattle.lagtypes.specs.declared.state.State.{State}
-use Rattle.lagtypes.specs.declared.state.StateBits.{StateBits}
-use Rattle.lagtypes.specs.Choices.{is_selected}
-use Rattle.lagtypes.specs.States.{bits_of, with_synchronization, with_timeout}
-use Rattle.lagtypes.proofs.StateLemmas.{encode_then_decode}
-use Rattle.slowpdu.specs.declared.pdu.Lacpdu.{Lacpdu}
-use Rattle.portmachines.specs.declared.receive.ReceiveState.{ReceiveState}
-use Rattle.portmachines.specs.declared.receive.ReceiveState.TheVariants.{Current, Expired, Initialize, PortDisabled}
-use Rattle.portmachines.specs.Machines.{Machines}
-use Rattle.portmachines.specs.Mux.{mux_rows}
-use Rattle.portmachines.specs.Periodic.{RunsPeriodic, periodic_rows}
-use Rattle.portmachines.specs.Receive.{receive_rows, same_receive_state}
-use Rattle.portmachines.specs.Rows.{AtRest, RunsToRest}
-use Rattle.portmachines.specs.Transmit.{count_down, is_due}
-use Rattle.lagbeside.specs.Knowing.{HasRecorded}
-use Rattle.lagbeside.specs.Timers.{IsTimed, timeout_time}
-use Rattle.lagbeside.proofs.OnePort.{mux_leaves, periodic_leaves}
+use Rattle.lagprogress.proofs.Common.{Bool, ap, arith, false, inl, inr, not, refl, subst, sym, true, ℕ, ◌&&◌, ◌+◌, ◌-◌, ◌==◌, ◌∙◌, ◌≡◌, ◌≤◌, ◌⊎◌}
+use Rattle.lagprogress.proofs.Common.{nat_tests, Choice, State, StateBits, is_selected, bits_of, with_synchronization, with_timeout}
+use Rattle.lagprogress.proofs.Common.{encode_then_decode, Lacpdu, ReceiveState, Current, Expired, Initialize, PortDisabled, Machines, mux_rows}
+use Rattle.lagprogress.proofs.Common.{RunsPeriodic, periodic_rows, receive_rows, same_receive_state, AtRest, RunsToRest, count_down, is_due}
+use Rattle.lagprogress.proofs.Common.{HasRecorded, IsTimed, timeout_time, EnabledKeep, no, not_down, times_keep, Recorded, mux_leaves}
+use Rattle.lagprogress.proofs.Common.{periodic_leaves, Calm, Sounds, counts_sounds, mux_sounds, not_gone, not_silent, periodic_runs, sounds_first}
+use Rattle.lagprogress.proofs.Common.{sounds_in_slow, runs_keep, takes_keep}
 use Rattle.lagprogress.proofs.EndFacts.{Along, activity, both_along, constant_along, short_timeout, sounds_takes, takes_known}
-use Rattle.lagbeside.proofs.Hearing.{EnabledKeep, no, not_down, times_keep}
-use Rattle.lagbeside.proofs.Knowing.{Recorded}
 use Rattle.lagprogress.proofs.OneRound.{Passes, still_sounds}
-use Rattle.lagbeside.proofs.Sounding.{Calm, Sounds, counts_sounds, mux_sounds, not_gone, not_silent, periodic_runs, sounds_first, sounds_in_slow}
-use Rattle.lagbeside.proofs.Timers.{runs_keep, takes_keep}
 
 -- EXPIRED for so many ticks more at the least; the partner is active, and Short Timeout stands recorded of it
 abbrev pub Lapsed : ℕ → Machines → Type 0

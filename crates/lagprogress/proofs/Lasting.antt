@@ -1,36 +1,14 @@
 -- What healthy rounds leave of the ports and aggregators of a system.
-use Rattle.std.proofs.Common.{List, Option, Some, [], ap, arith, filter, inl, inr, length, option_map, refl, slice_get, subst, suc, sym, true, zero}
-use Rattle.std.proofs.Common.{ℕ, ◌==◌, ◌∙◌, ◌∷◌, ◌≡◌, ◌≤◌}
-use Rattle.std.proofs.lemmas.Bool.Decides.{nat_tests}
-use Rattle.std.proofs.lemmas.Option.{slice_get_cases, slice_get_within}
-use Rattle.std.specs.List.{AllByRecursion}
-use Rattle.lagtypes.specs.declared.identifiers.Key.{Key}
-use Rattle.lagtypes.specs.declared.party.Party.{Party}
-use Rattle.lagmodel.specs.World.{Side}
-use Rattle.lagmodel.proofs.Uses.{find_at}
-use Rattle.portmachines.specs.Machines.{Machines}
-use Rattle.portmachines.specs.Receive.{receive_rows}
-use Rattle.portmachines.specs.Rows.{RunsToRest}
-use Rattle.portmachines.specs.Transmit.{count_down}
-use Rattle.lagsystem.specs.declared.config.PortConfig.{PortConfig}
-use Rattle.lagsystem.specs.declared.system_ports.SystemPort.{SystemPort}
-use Rattle.lagsystem.specs.First.{configured_numbers}
-use Rattle.lagsystem.specs.ModelView.{model_port_of, model_setup, model_view, number_of_port}
-use Rattle.lagsystem.specs.Sound.{HasPorts, IsSound}
-use Rattle.lagsystem.specs.State.{SystemState, port_numbers}
-use Rattle.lagsystem.proofs.Rising.{all-get, are_numbered, ports_rise}
-use Rattle.lagworld.specs.Events.{Algorithms}
-use Rattle.lagworld.specs.State.{LinkState, WorldState, half, port_at}
-use Rattle.lagprogress.specs.Bundle.{AllHeard, EndsHealthyCable, EnoughAggregators, EnoughLinks}
-use Rattle.lagprogress.specs.HostRounds.{Clearing, HostRounds, NoneIsLeft, PlayedRounds}
-use Rattle.lagprogress.specs.Rounds.{IsHealthyAt}
-use Rattle.lagbeside.specs.Selecting.{aggregators_with, ports_with}
-use Rattle.lagprogress.specs.Steady.{IsSteady}
+use Rattle.lagprogress.proofs.Common.{List, Option, Some, [], ap, arith, filter, inl, inr, length, option_map, refl, slice_get, subst, suc, sym, true}
+use Rattle.lagprogress.proofs.Common.{zero, ℕ, ◌==◌, ◌∙◌, ◌∷◌, ◌≡◌, ◌≤◌, nat_tests, slice_get_cases, slice_get_within, AllByRecursion, Key, Party}
+use Rattle.lagprogress.proofs.Common.{Side, find_at, Machines, receive_rows, RunsToRest, count_down, PortConfig, SystemPort, configured_numbers}
+use Rattle.lagprogress.proofs.Common.{model_port_of, model_setup, model_view, number_of_port, HasPorts, IsSound, SystemState, port_numbers, all-get}
+use Rattle.lagprogress.proofs.Common.{are_numbered, ports_rise, Algorithms, LinkState, WorldState, half, port_at, aggregators_with, ports_with}
+use Rattle.lagprogress.proofs.Common.{count_same, counted, AtPort, at_number, same_place, AllHeard, EndsHealthyCable, EnoughAggregators, EnoughLinks}
+use Rattle.lagprogress.proofs.Common.{Clearing, HostRounds, NoneIsLeft, PlayedRounds, IsHealthyAt, IsSteady}
 use Rattle.lagmodel.specs.Law.{Members}
-use Rattle.lagbeside.proofs.Counting.{count_same, counted}
 use Rattle.lagprogress.proofs.EachRound.{EachAt, RoundKeeps, own_keeps, own_ticks, host_each, played_keep, played_on, played_steady}
 use Rattle.lagprogress.proofs.Linked.{many}
-use Rattle.lagbeside.proofs.OnePort.{AtPort, at_number, same_place}
 use Rattle.lagprogress.proofs.Starting.{Ends, end_of}
 
 -- what stays of each port

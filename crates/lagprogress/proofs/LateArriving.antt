@@ -1,16 +1,9 @@
 -- An LACPDU that was on the cable when a late round began is heard in it.
-use Rattle.std.proofs.Common.{Bool, List, Some, [], arith, false, inl, inr, length, map, refl, subst, suc, sym, true, ℕ, ◌-◌, ◌∙◌, ◌∷◌, ◌≡◌, ◌≤◌, ◌⊎◌}
-use Rattle.slowpdu.specs.declared.pdu.Lacpdu.{Lacpdu}
-use Rattle.lagmodel.specs.World.{Side, peer}
-use Rattle.lagscript.specs.declared.event.Event.{Event}
-use Rattle.lagworld.specs.declared.reply.Reply.{Reply}
-use Rattle.lagworld.specs.Events.{Algorithms, WorldSteps, side_of}
-use Rattle.lagworld.specs.ModelWorld.{link_ends}
-use Rattle.lagworld.specs.State.{ItemValue, WorldState, half}
-use Rattle.lagprogress.specs.LateRounds.{ArriveIn, IsArrivalAt, IsLateRound}
+use Rattle.lagprogress.proofs.Common.{Bool, List, Some, [], arith, false, inl, inr, length, map, refl, subst, suc, sym, true, ℕ, ◌-◌, ◌∙◌, ◌∷◌, ◌≡◌}
+use Rattle.lagprogress.proofs.Common.{◌≤◌, ◌⊎◌, Lacpdu, Side, peer, Event, Reply, Algorithms, WorldSteps, side_of, link_ends, ItemValue, WorldState}
+use Rattle.lagprogress.proofs.Common.{half, KeptBySettling, AtPort, ArriveIn, IsArrivalAt, IsLateRound}
 use Rattle.lagscript.specs.declared.event.Event.TheVariants as event
 use Rattle.lagprogress.proofs.Claims.{IsNamed, Wakeful, wakeful_along}
-use Rattle.lagbeside.proofs.EachPort.{KeptBySettling}
 use Rattle.lagprogress.proofs.EachRound.{joins_kept, joins_tick}
 use Rattle.lagprogress.proofs.Delivering.{arrives_moves}
 use Rattle.lagprogress.proofs.EndFacts.{activity, wait_of}
@@ -23,7 +16,6 @@ use Rattle.lagprogress.proofs.LateFlow.{FlyingIn, IsPlain, between_at, comes_in,
 use Rattle.lagprogress.proofs.LateFlow.{stays_there}
 use Rattle.lagprogress.proofs.Linked.{Fits, Flying, put_there}
 use Rattle.lagprogress.proofs.OneCable.{Arrives, OnCable, cable, put, ticks, towards_there}
-use Rattle.lagbeside.proofs.OnePort.{AtPort}
 use Rattle.lagprogress.proofs.OneRound.{forget, join, ticked}
 use Rattle.lagprogress.proofs.Telling.{back_other}
 

@@ -1,21 +1,9 @@
 -- How the links of a bundle come up and agree in late rounds.
-use Rattle.std.proofs.Common.{Some, arith, inl, inr, slice_get, subst, suc, sym, true, ℕ, ◌+◌, ◌-◌, ◌∙◌, ◌≡◌, ◌≤◌}
-use Rattle.std.proofs.lemmas.Bool.{cases_Bool}
-use Rattle.std.specs.List.{AllByRecursion}
-use Rattle.lagtypes.specs.Choices.{is_selected}
-use Rattle.lagmodel.specs.World.{One, Side}
-use Rattle.lagsystem.specs.declared.system_ports.SystemPort.{SystemPort}
-use Rattle.lagsystem.proofs.Rising.{all-get}
-use Rattle.lagworld.specs.declared.agreement.Agreement.TheVariants.{Same}
-use Rattle.lagworld.specs.Agreement.{agreement_at}
-use Rattle.lagworld.specs.Events.{Algorithms}
-use Rattle.lagworld.specs.Sound.{IsSound as IsWorldSound}
-use Rattle.lagworld.specs.State.{LinkState, WorldState, half, port_at}
-use Rattle.lagprogress.specs.Bundle.{BothAreActive, EachLinkAgrees, EachLinkComesUp, IsBundle, OneIsActive}
-use Rattle.lagprogress.specs.ComingUp.{Distributes}
-use Rattle.lagprogress.specs.LateRounds.{IsLateRound, LateRounds, OldArrive, late_up_if_both_active, late_up_if_one_is}
-use Rattle.lagprogress.specs.Rounds.{AtEnd, IsHealthyAt}
-use Rattle.lagprogress.specs.Steady.{IsSteady}
+use Rattle.lagprogress.proofs.Common.{Some, arith, inl, inr, slice_get, subst, suc, sym, true, ℕ, ◌+◌, ◌-◌, ◌∙◌, ◌≡◌, ◌≤◌, cases_Bool, AllByRecursion}
+use Rattle.lagprogress.proofs.Common.{is_selected, One, Side, SystemPort, all-get, Same, agreement_at, Algorithms, IsWorldSound, LinkState}
+use Rattle.lagprogress.proofs.Common.{WorldState, half, port_at, AtPort, BothAreActive, EachLinkAgrees, EachLinkComesUp, IsBundle, OneIsActive}
+use Rattle.lagprogress.proofs.Common.{Distributes, IsLateRound, LateRounds, OldArrive, late_up_if_both_active, late_up_if_one_is, AtEnd, IsHealthyAt}
+use Rattle.lagprogress.proofs.Common.{IsSteady}
 use Rattle.lagprogress.proofs.Bundling.{Awake, Named, agree_up, apart_ends, both_wake, down_rounds, heard_holds, is_chosen, names, one_wakes, said}
 use Rattle.lagprogress.proofs.Climbing.{Down, Ripe, Rising, climbed}
 use Rattle.lagprogress.proofs.ComingUp.{AreSynced, distributes}
@@ -27,7 +15,6 @@ use Rattle.lagprogress.proofs.LateKnowing.{Fresh, knows_late, late_active_meet, 
 use Rattle.lagprogress.proofs.LateStart.{counts_of, kept_of}
 use Rattle.lagprogress.proofs.Lasting.{IsAsBefore, all_by_place, ends_at, old_port, played_before, still_links}
 use Rattle.lagprogress.proofs.Linked.{at_end, end_here, end_with}
-use Rattle.lagbeside.proofs.OnePort.{AtPort}
 use Rattle.lagprogress.proofs.OneRound.{Nothing}
 use Rattle.lagprogress.proofs.SharedLemmas.{Finds, played_lasted, shared_finds}
 use Rattle.lagprogress.proofs.Starting.{active_at, named_at, starts}

@@ -1,26 +1,13 @@
 -- How both ends of a cable come to distribute in late rounds.
-use Rattle.std.proofs.Common.{Bool, List, [], ap, arith, inl, inr, subst, sym, true, ℕ, ◌+◌, ◌-◌, ◌∙◌, ◌∷◌, ◌≡◌, ◌≤◌, ◌⊎◌}
-use Rattle.std.specs.List.{AllByRecursion}
-use Rattle.lagtypes.specs.Choices.{is_selected}
-use Rattle.slowpdu.specs.declared.pdu.Lacpdu.{Lacpdu}
-use Rattle.lagmodel.specs.World.{One, Side, peer}
-use Rattle.portmachines.specs.Machines.{Machines}
-use Rattle.portmachines.specs.Mux.{is_synchronized, mux_rows}
-use Rattle.portmachines.specs.Receive.{receive_rows}
-use Rattle.portmachines.specs.Rows.{RunsToRest}
-use Rattle.portmachines.specs.Transmit.{count_down}
-use Rattle.lagsystem.specs.declared.system_ports.SystemPort.{SystemPort}
-use Rattle.lagsystem.proofs.Rising.{all-get}
-use Rattle.lagworld.specs.Events.{Algorithms}
-use Rattle.lagworld.specs.State.{ItemValue, WorldState, half}
-use Rattle.lagprogress.specs.LateRounds.{IsLateRound, LateRounds, OldArrive}
-use Rattle.lagbeside.specs.Timers.{IsTimed}
+use Rattle.lagprogress.proofs.Common.{Bool, List, [], ap, arith, inl, inr, subst, sym, true, ℕ, ◌+◌, ◌-◌, ◌∙◌, ◌∷◌, ◌≡◌, ◌≤◌, ◌⊎◌, AllByRecursion}
+use Rattle.lagprogress.proofs.Common.{is_selected, Lacpdu, One, Side, peer, Machines, is_synchronized, mux_rows, receive_rows, RunsToRest, count_down}
+use Rattle.lagprogress.proofs.Common.{SystemPort, all-get, Algorithms, ItemValue, WorldState, half, IsTimed, no, times_keep, AtPort, periodic_leaves}
+use Rattle.lagprogress.proofs.Common.{Sounds, all_leave, IsLateRound, LateRounds, OldArrive}
 use Rattle.lagprogress.proofs.Claims.{IsNamed, Owes}
 use Rattle.lagprogress.proofs.Climbing.{PartnerInSync, Rising, keeps_selected, partner_along, ticks_partner, ticks_still}
 use Rattle.lagprogress.proofs.ComingUp.{AreSynced, rises_first, rises_on}
 use Rattle.lagprogress.proofs.EachRound.{played_on}
 use Rattle.lagprogress.proofs.EndFacts.{Along, IsEnd, Learnt, Synced, activity, synced_mux, wait_of}
-use Rattle.lagbeside.proofs.Hearing.{no, times_keep}
 use Rattle.lagprogress.proofs.HostHearing.{present_of}
 use Rattle.lagprogress.proofs.HostKnowing.{AtIt, beside, mode, wakes_now}
 use Rattle.lagprogress.proofs.HostRound.{host_holds}
@@ -30,9 +17,7 @@ use Rattle.lagprogress.proofs.LateKnowing.{FreshAt, able_late, fits_late, fits_n
 use Rattle.lagprogress.proofs.LateFlow.{Past}
 use Rattle.lagprogress.proofs.LateStart.{counts_of, flush, kept_of}
 use Rattle.lagprogress.proofs.Linked.{Fits, Flying, IsGood, Link, at_end, each_map, end_here, end_with, peer_twice}
-use Rattle.lagbeside.proofs.OnePort.{AtPort, periodic_leaves}
 use Rattle.lagprogress.proofs.OneRound.{Nothing, join, ticked}
-use Rattle.lagbeside.proofs.Sounding.{Sounds, all_leave}
 use Rattle.lagprogress.proofs.Starting.{raised}
 use Rattle.lagprogress.proofs.Telling.{Bears, SaysIt, Tells, tells_map}
 

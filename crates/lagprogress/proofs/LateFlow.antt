@@ -1,26 +1,9 @@
 -- What a run leaves of the items that were on a cable, by the number of them that arrive.
-use Rattle.std.proofs.Common.{Bool, List, None, Option, Result, Some, [], ap, arith, false, inl, inr, length, map, refl, slice_get, subst, suc, sym}
-use Rattle.std.proofs.Common.{true, zero, ℕ, ◌++◌, ◌==◌, ◌∙◌, ◌∷◌, ◌≡◌, ◌⊎◌}
-use Rattle.std.proofs.lemmas.Bool.{cases_Bool}
-use Rattle.std.proofs.lemmas.Bool.Decides.{nat_tests}
-use Rattle.std.proofs.lemmas.Option.{same_Some}
-use Rattle.std.specs.List.{AllByRecursion}
-use Rattle.slowpdu.proofs.LayoutLemmas.{all-append}
-use Rattle.lagmodel.specs.World.{One, Side, end_at, peer}
-use Rattle.lagmodel.proofs.Base.{value_of}
-use Rattle.lagsystem.specs.declared.fault.SystemFault.{SystemFault}
-use Rattle.lagsystem.specs.declared.received.Received.{Received}
-use Rattle.lagsystem.specs.Calls.{Receive}
-use Rattle.lagsystem.specs.Sound.{CallPromise}
-use Rattle.lagsystem.specs.State.{SystemState}
-use Rattle.lagscript.specs.declared.event.Event.{Event}
-use Rattle.lagworld.specs.declared.reply.Reply.{Reply}
-use Rattle.lagworld.specs.Events.{Algorithms, DeliversFrom, WorldRuns, WorldSteps, side_of}
-use Rattle.lagworld.specs.ModelWorld.{link_ends}
-use Rattle.lagworld.specs.State.{ItemValue, LinkState, WorldState, half, towards}
-use Rattle.lagworld.proofs.Cables.{end_is}
-use Rattle.lagprogress.specs.HostRounds.{IsBetweenTicks, TickOnce}
-use Rattle.lagprogress.specs.LateRounds.{ArriveIn, IsArrivalAt}
+use Rattle.lagprogress.proofs.Common.{Bool, List, None, Option, Result, Some, [], ap, arith, false, inl, inr, length, map, refl, slice_get, subst}
+use Rattle.lagprogress.proofs.Common.{suc, sym, true, zero, ℕ, ◌++◌, ◌==◌, ◌∙◌, ◌∷◌, ◌≡◌, ◌⊎◌, cases_Bool, nat_tests, same_Some, AllByRecursion}
+use Rattle.lagprogress.proofs.Common.{all-append, One, Side, end_at, peer, value_of, SystemFault, Received, Receive, CallPromise, SystemState, Event}
+use Rattle.lagprogress.proofs.Common.{Reply, Algorithms, DeliversFrom, WorldRuns, WorldSteps, side_of, link_ends, ItemValue, LinkState, WorldState}
+use Rattle.lagprogress.proofs.Common.{half, towards, end_is, IsBetweenTicks, TickOnce, ArriveIn, IsArrivalAt}
 use Rattle.lagsystem.specs.declared.drive.Reply.TheVariants as answer
 use Rattle.lagscript.specs.declared.event.Event.TheVariants as event
 use Rattle.lagprogress.proofs.Delivering.{responds_none}

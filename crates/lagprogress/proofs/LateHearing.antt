@@ -1,15 +1,8 @@
 -- What a late round leaves of a cable: an LACPDU of an end is nearer, on the cable in the end, or was heard.
-use Rattle.std.proofs.Common.{Bool, List, arith, false, inl, inr, refl, subst, sym, true, ℕ, ◌-◌, ◌≡◌, ◌≤◌, ◌⊎◌}
-use Rattle.slowpdu.specs.declared.pdu.Lacpdu.{Lacpdu}
-use Rattle.lagmodel.specs.World.{One, Side, Two, peer}
-use Rattle.portmachines.specs.Machines.{Machines}
-use Rattle.lagworld.specs.Events.{Algorithms}
-use Rattle.lagworld.specs.State.{ItemValue, WorldState, half}
-use Rattle.lagprogress.specs.HostRounds.{Clearing, IsPlayed}
-use Rattle.lagprogress.specs.LateRounds.{IsLateRound}
+use Rattle.lagprogress.proofs.Common.{Bool, List, arith, false, inl, inr, refl, subst, sym, true, ℕ, ◌-◌, ◌≡◌, ◌≤◌, ◌⊎◌, Lacpdu, One, Side, Two, peer}
+use Rattle.lagprogress.proofs.Common.{Machines, Algorithms, ItemValue, WorldState, half, OfEach, AtPort, Sounds, Clearing, IsPlayed, IsLateRound}
 use Rattle.lagprogress.proofs.Claims.{IsNamed, Owes, Wakeful}
 use Rattle.lagprogress.proofs.Climbing.{PartnerInSync}
-use Rattle.lagbeside.proofs.EachPort.{OfEach}
 use Rattle.lagprogress.proofs.EndFacts.{Along, CanSound, Learnt, activity, sounds_along, wait_of}
 use Rattle.lagprogress.proofs.HostRound.{all_ticked, holds_on, known_in, none_ticked, of_side}
 use Rattle.lagprogress.proofs.HostStamps.{Took-it, same_items, stamped_between, stamped_tick, took_between, took_now, took_tick}
@@ -17,9 +10,7 @@ use Rattle.lagprogress.proofs.HostTelling.{Extra, HasTold, OnWay, stays_on, turn
 use Rattle.lagprogress.proofs.LateArriving.{late_heard}
 use Rattle.lagprogress.proofs.Linked.{Fits, Flying, Link, of_end}
 use Rattle.lagprogress.proofs.OneCable.{OnCable}
-use Rattle.lagbeside.proofs.OnePort.{AtPort}
 use Rattle.lagprogress.proofs.OneRound.{Later, Nothing, Passes, beside_here, join, sounds_pass, ticked}
-use Rattle.lagbeside.proofs.Sounding.{Sounds}
 use Rattle.lagprogress.proofs.Stamps.{Stamped, Took}
 use Rattle.lagprogress.proofs.Telling.{Tells, Wakes}
 

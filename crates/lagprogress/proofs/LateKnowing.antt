@@ -1,19 +1,11 @@
 -- How the ends of a cable come to know each other in late rounds.
-use Rattle.std.proofs.Common.{Bool, arith, false, inl, inr, refl, subst, suc, sym, true, zero, ℕ, ◌+◌, ◌-◌, ◌∙◌, ◌≡◌, ◌≤◌, ◌⊎◌}
-use Rattle.std.proofs.lemmas.Bool.{cases_Bool}
-use Rattle.slowpdu.specs.declared.pdu.Lacpdu.{Lacpdu}
-use Rattle.lagmodel.specs.World.{One, Side, Two, peer}
-use Rattle.lagworld.specs.Events.{Algorithms}
-use Rattle.lagworld.specs.State.{LinkState, WorldState, half, port_at}
-use Rattle.lagprogress.specs.Bundle.{BothAreActive, EndsOfEachKnow, OneIsActive}
-use Rattle.lagprogress.specs.LateRounds.{IsLateRound, LateRounds, late_known_if_both_active, late_known_if_one_is}
-use Rattle.lagprogress.specs.Progress.{EndKnows, Knows}
-use Rattle.lagprogress.specs.Rounds.{AtEnd, OfPort}
-use Rattle.lagbeside.specs.Timers.{timeout_time}
+use Rattle.lagprogress.proofs.Common.{Bool, arith, false, inl, inr, refl, subst, suc, sym, true, zero, ℕ, ◌+◌, ◌-◌, ◌∙◌, ◌≡◌, ◌≤◌, ◌⊎◌, cases_Bool}
+use Rattle.lagprogress.proofs.Common.{Lacpdu, One, Side, Two, peer, Algorithms, LinkState, WorldState, half, port_at, timeout_time, no, AtPort}
+use Rattle.lagprogress.proofs.Common.{Sounds, silence_of, BothAreActive, EndsOfEachKnow, OneIsActive, IsLateRound, LateRounds}
+use Rattle.lagprogress.proofs.Common.{late_known_if_both_active, late_known_if_one_is, EndKnows, Knows, AtEnd, OfPort}
 use Rattle.lagprogress.proofs.Claims.{IsNamed, Wakeful}
 use Rattle.lagprogress.proofs.Climbing.{PartnerInSync}
 use Rattle.lagprogress.proofs.EndFacts.{Along, CanSound, IsEnd, Learnt, activity, short_timeout}
-use Rattle.lagbeside.proofs.Hearing.{no}
 use Rattle.lagprogress.proofs.HostKnowing.{Able, AtIt, can_known, ends_of, fits_first, fits_ticked, learns, lower, mode, some_silence, sounds_now}
 use Rattle.lagprogress.proofs.HostKnowing.{two_less, wait, wakes_now}
 use Rattle.lagprogress.proofs.HostRound.{host_keeps, two, two_other, two_there}
@@ -21,9 +13,7 @@ use Rattle.lagprogress.proofs.LateHearing.{Ahead, Flies, Hears, Said, Whoever, l
 use Rattle.lagprogress.proofs.LateHearing.{late_took}
 use Rattle.lagprogress.proofs.Lapsing.{Lapsed, Lasting, Phase, Tails, begins_lasting, lasting_now, lasting_passes}
 use Rattle.lagprogress.proofs.Linked.{EndIs, Fits, Link, of_end, each_map, each_side, end_here, peer_twice, with_ports}
-use Rattle.lagbeside.proofs.OnePort.{AtPort}
 use Rattle.lagprogress.proofs.OneRound.{Nothing, at_rest, beside_here, forget, join, ticked}
-use Rattle.lagbeside.proofs.Sounding.{Sounds, silence_of}
 use Rattle.lagprogress.proofs.Stamps.{Stamped, Took}
 use Rattle.lagprogress.proofs.Starting.{Ends, active_at, end_of, named_at, said_by, starts}
 use Rattle.lagprogress.proofs.LateStart.{counts_of, first_late, kept_of}

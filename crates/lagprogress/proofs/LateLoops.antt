@@ -1,12 +1,7 @@
 -- Which events are a late round.
-use Rattle.std.proofs.Common.{Bool, List, [], ap, false, inl, inr, length, refl, subst, suc, sym, true, zero, ℕ, ◌++◌, ◌∙◌, ◌∷◌, ◌≡◌}
-use Rattle.lagmodel.specs.World.{One, Side, peer}
-use Rattle.lagscript.specs.declared.event.Event.{Event}
-use Rattle.lagworld.specs.declared.reply.Reply.{Reply}
-use Rattle.lagworld.specs.Events.{Algorithms, WorldRuns, WorldSteps}
-use Rattle.lagworld.specs.State.{ItemValue, WorldState, port_at, towards}
-use Rattle.lagprogress.specs.HostRounds.{IsTickOf, TickOnce}
-use Rattle.lagprogress.specs.LateRounds.{ArriveIn, AskingIsLateRound, HostRoundIsLateRound, OldArrive}
+use Rattle.lagprogress.proofs.Common.{Bool, List, [], ap, false, inl, inr, length, refl, subst, suc, sym, true, zero, ℕ, ◌++◌, ◌∙◌, ◌∷◌, ◌≡◌, One}
+use Rattle.lagprogress.proofs.Common.{Side, peer, Event, Reply, Algorithms, WorldRuns, WorldSteps, ItemValue, WorldState, port_at, towards, IsTickOf}
+use Rattle.lagprogress.proofs.Common.{TickOnce, ArriveIn, AskingIsLateRound, HostRoundIsLateRound, OldArrive}
 use Rattle.lagprogress.proofs.EachRound.{joins_kept}
 use Rattle.lagprogress.proofs.HostLoops.{asking_is_played}
 use Rattle.lagprogress.proofs.LateFlow.{flows, gain_at, stays_there}

@@ -1,19 +1,8 @@
 -- What is known of the items on a cable after a late round: all of them were sent in it.
-use Rattle.std.proofs.Common.{Bool, List, Some, [], ap, arith, false, inl, inr, is_some, length, refl, subst, sym, true, ℕ, ◌++◌, ◌-◌, ◌∙◌, ◌∷◌, ◌≡◌}
-use Rattle.std.proofs.Common.{◌≤◌, ◌⊎◌}
-use Rattle.std.specs.List.{AllByRecursion}
-use Rattle.slowpdu.specs.declared.pdu.Lacpdu.{Lacpdu}
-use Rattle.lagmodel.specs.World.{One, Side, peer}
-use Rattle.portmachines.specs.Machines.{Machines}
-use Rattle.portmachines.specs.Periodic.{periodic_rows}
-use Rattle.portmachines.specs.Receive.{receive_rows}
-use Rattle.portmachines.specs.Rows.{AtRest, RunsToRest}
-use Rattle.portmachines.specs.Transmit.{after_sending, count_down}
-use Rattle.lagworld.specs.Events.{Algorithms}
-use Rattle.lagworld.specs.State.{ItemValue, WorldState, change_count_in, half, history_at}
-use Rattle.lagprogress.specs.LateRounds.{ArriveIn, IsLateRound}
-use Rattle.lagprogress.specs.Rounds.{IsHealthyAt}
-use Rattle.lagbeside.proofs.EachPort.{OfEach}
+use Rattle.lagprogress.proofs.Common.{Bool, List, Some, [], ap, arith, false, inl, inr, is_some, length, refl, subst, sym, true, ℕ, ◌++◌, ◌-◌, ◌∙◌}
+use Rattle.lagprogress.proofs.Common.{◌∷◌, ◌≡◌, ◌≤◌, ◌⊎◌, AllByRecursion, Lacpdu, One, Side, peer, Machines, periodic_rows, receive_rows, AtRest}
+use Rattle.lagprogress.proofs.Common.{RunsToRest, after_sending, count_down, Algorithms, ItemValue, WorldState, change_count_in, half, history_at}
+use Rattle.lagprogress.proofs.Common.{OfEach, AtPort, ArriveIn, IsLateRound, IsHealthyAt}
 use Rattle.lagprogress.proofs.EndFacts.{Along, IsEnd, Suits, Synced, nothing_along}
 use Rattle.lagprogress.proofs.HostRound.{KeptBetween, between, fits_in, healthy_link, host_keeps, known_in, left, none_ticked, all_ticked, of_side}
 use Rattle.lagprogress.proofs.HostRound.{own_holds, peer_holds, two_there}
@@ -21,7 +10,6 @@ use Rattle.lagprogress.proofs.HostStamps.{same_items, stamped_between, stamped_t
 use Rattle.lagprogress.proofs.LateFlow.{Adds, Past, cleared_on, gain_at}
 use Rattle.lagprogress.proofs.Linked.{Fits, IsGood, Link, of_end, other_ports, peer_twice, push_there, told_good}
 use Rattle.lagprogress.proofs.OneCable.{Asks, IsStamped, OnCable, cable, sent_frame, towards_there}
-use Rattle.lagbeside.proofs.OnePort.{AtPort}
 use Rattle.lagprogress.proofs.OneRound.{Nothing, ticked}
 use Rattle.lagprogress.proofs.Stamps.{Stamped}
 use Rattle.lagprogress.proofs.Starting.{raised}

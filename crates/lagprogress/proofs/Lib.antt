@@ -1,3 +1,4 @@
+mod Common
 mod Halves
 mod OvertakingLacpdus
 mod Passing

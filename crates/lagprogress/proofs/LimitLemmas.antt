@@ -1,55 +1,22 @@
 -- How the links of a bundle agree where one system has a limit of links.
-use Rattle.std.proofs.Common.{Bool, Err, IsSome, None, Ok, Option, Some, ap, arith, false, if◌then◌else◌, inl, inr, refl, slice_get, subst, suc, sym}
-use Rattle.std.proofs.Common.{true, ℕ, ◌∙◌, ◌≡◌, ◌⊎◌}
-use Rattle.std.proofs.lemmas.Bool.{cases_Bool}
-use Rattle.lagtypes.specs.declared.identifiers.AggId.{AggId}
-use Rattle.lagtypes.specs.declared.identifiers.SystemId.{SystemId}
-use Rattle.lagtypes.specs.declared.party.Choice.{Choice}
-use Rattle.lagtypes.specs.declared.party.Choice.TheVariants.{Selected, Standby, Unselected}
-use Rattle.lagtypes.specs.declared.party.Party.{Party}
-use Rattle.lagtypes.specs.Choices.{is_selected}
-use Rattle.lagtypes.specs.Same.{same_party}
-use Rattle.slowpdu.specs.declared.pdu.Lacpdu.{Lacpdu}
-use Rattle.slowpdu.specs.Parties.{party_of}
-use Rattle.lagmodel.specs.World.{One, Side, Two, end_at, peer}
-use Rattle.portmachines.specs.declared.port.Setup.{Setup}
-use Rattle.portmachines.specs.Machines.{Machines}
-use Rattle.portmachines.specs.Mux.{selected}
-use Rattle.portmachines.specs.Receive.{default_partner, receive_rows, start_receive}
-use Rattle.portmachines.specs.Rows.{RunsToRest}
-use Rattle.portmachines.specs.Start.{Starts, before_start}
-use Rattle.portmachines.specs.Transmit.{count_down}
-use Rattle.selection.specs.Views.{has_chosen}
-use Rattle.lagsystem.specs.declared.drive.Reply.{Reply as Answer}
-use Rattle.lagsystem.specs.declared.system_ports.SystemPort.{SystemPort}
-use Rattle.lagsystem.specs.Calls.{Call, Configure, ProcessesLacpdu, Receive, Restart, Set_link, SetsPortEnabled, Step, Tick, Transmit, changed_party}
-use Rattle.lagsystem.specs.Calls.{choice_with_link}
-use Rattle.lagsystem.specs.State.{SystemState, port_index}
-use Rattle.lagsystem.proofs.Keeps.{Step-frame}
-use Rattle.lagsystem.proofs.Rising.{all-get, found_place, ports_rise}
-use Rattle.lagworld.specs.declared.agreement.Agreement.TheVariants.{Same}
-use Rattle.lagworld.specs.Agreement.{agreement_at}
-use Rattle.lagworld.specs.Events.{Algorithms}
-use Rattle.lagworld.specs.Sound.{IsSound as IsWorldSound}
-use Rattle.lagworld.specs.State.{LinkState, WorldState, half, port_at}
-use Rattle.lagworld.proofs.Cables.{end_is}
-use Rattle.lagprogress.specs.Bundle.{BothAreActive, OneIsActive}
-use Rattle.lagprogress.specs.HostRounds.{HostRounds, NoneIsLeft}
-use Rattle.lagprogress.specs.Limited.{CarriesOnAll, DownAreUnselected, EachLimitedLinkAgrees, EachReachedHasDownUnselected, EndsAgreed}
-use Rattle.lagprogress.specs.Limited.{IsLimitedBundle, StandsByOthers}
-use Rattle.lagprogress.specs.Progress.{EndKnows, Knows}
-use Rattle.lagprogress.specs.Rounds.{AtEnd, IsHealthyAt, OfPort, up_if_both_active, up_if_one_is}
-use Rattle.lagbeside.specs.Selecting.{StandsByFull, WantsAggregator}
+use Rattle.lagprogress.proofs.Common.{Bool, Err, IsSome, None, Ok, Option, Some, ap, arith, false, if◌then◌else◌, inl, inr, refl, slice_get, subst}
+use Rattle.lagprogress.proofs.Common.{suc, sym, true, ℕ, ◌∙◌, ◌≡◌, ◌⊎◌, cases_Bool, AggId, SystemId, Choice, Selected, Standby, Unselected, Party}
+use Rattle.lagprogress.proofs.Common.{is_selected, same_party, Lacpdu, party_of, One, Side, Two, end_at, peer, Setup, Machines, selected}
+use Rattle.lagprogress.proofs.Common.{default_partner, receive_rows, start_receive, RunsToRest, Starts, before_start, count_down, has_chosen, Answer}
+use Rattle.lagprogress.proofs.Common.{SystemPort, Call, Configure, ProcessesLacpdu, Receive, Restart, Set_link, SetsPortEnabled, Step, Tick, Transmit}
+use Rattle.lagprogress.proofs.Common.{changed_party, choice_with_link, SystemState, port_index, Step-frame, all-get, found_place, ports_rise, Same}
+use Rattle.lagprogress.proofs.Common.{agreement_at, Algorithms, IsWorldSound, LinkState, WorldState, half, port_at, end_is, StandsByFull}
+use Rattle.lagprogress.proofs.Common.{WantsAggregator, KeptByCall, KeptBySettling, OfEach, Step-each, first_each, place_each, settling_each, no}
+use Rattle.lagprogress.proofs.Common.{AtPort, at_number, mux_leaves, periodic_leaves, RowsKeep, runs_keep, takes_keep, BothAreActive, OneIsActive}
+use Rattle.lagprogress.proofs.Common.{HostRounds, NoneIsLeft, CarriesOnAll, DownAreUnselected, EachLimitedLinkAgrees, EachReachedHasDownUnselected}
+use Rattle.lagprogress.proofs.Common.{EndsAgreed, IsLimitedBundle, StandsByOthers, EndKnows, Knows, AtEnd, IsHealthyAt, OfPort, up_if_both_active}
+use Rattle.lagprogress.proofs.Common.{up_if_one_is}
 use Rattle.lagprogress.proofs.Bundling.{never_stands, heard_holds}
-use Rattle.lagbeside.proofs.EachPort.{KeptByCall, KeptBySettling, OfEach, Step-each, first_each, place_each, settling_each}
 use Rattle.lagprogress.proofs.EachRound.{EachAt, RoundKeeps, host_each, hosts_join, hosts_on, hosts_steady, played_keep}
 use Rattle.lagprogress.proofs.Halves.{both_first}
-use Rattle.lagbeside.proofs.Hearing.{no}
 use Rattle.lagprogress.proofs.Linked.{each_side, events_each, machines_there}
-use Rattle.lagbeside.proofs.OnePort.{AtPort, at_number, mux_leaves, periodic_leaves}
 use Rattle.lagprogress.proofs.Starting.{end_of}
 use Rattle.lagprogress.proofs.SharedLemmas.{lasted, shared_finds}
-use Rattle.lagbeside.proofs.Timers.{RowsKeep, runs_keep, takes_keep}
 use Rattle.lagprogress.proofs.HostKnowing.{active_ends_know_by_hosts, ends_know_by_hosts}
 use Rattle.lagprogress.proofs.Pairing.{active_selected_pairs_agree_by_hosts, selected_pairs_agree_by_hosts}
 use Rattle.lagsystem.specs.declared.drive.Reply.TheVariants as reply

@@ -1,50 +1,22 @@
 -- What Emit and Deliver events, and ticks, leave of a world with one cable.
-use Rattle.std.proofs.Common.{Bool, Err, List, None, Ok, Option, Result, Some, [], ap, arith, cond, false, inl, inr, length, nat_lt, not, option_map}
-use Rattle.std.proofs.Common.{refl, slice_get, subst, suc, sym, true, zero, ℕ, ◌++◌, ◌+◌, ◌<◌, ◌==◌, ◌∙◌, ◌∷◌, ◌≡◌, ◌≤◌, ◌⊎◌}
-use Rattle.std.proofs.lemmas.Bool.{cases_Bool}
-use Rattle.std.proofs.lemmas.Bool.Decides.{nat_tests}
-use Rattle.std.proofs.lemmas.List.Quantifiers.{position-Some}
-use Rattle.std.proofs.lemmas.Option.{none-some, same_Some}
-use Rattle.std.specs.List.{AllByRecursion, position_or_len}
-use Rattle.lagtypes.specs.declared.state.StateBits.{StateBits}
-use Rattle.lagtypes.proofs.StateLemmas.{encode_then_decode}
-use Rattle.slowpdu.specs.declared.pdu.Lacpdu.{Lacpdu}
-use Rattle.lagmodel.specs.World.{Side, peer}
-use Rattle.portmachines.specs.declared.mux.MuxState.TheVariants.{CollectingDistributing}
-use Rattle.portmachines.specs.Machines.{Machines}
-use Rattle.portmachines.specs.Mux.{is_synchronized, same_mux_state}
-use Rattle.portmachines.specs.Periodic.{periodic_rows}
-use Rattle.portmachines.specs.Rows.{AtRest}
-use Rattle.portmachines.specs.Transmit.{actor_of, after_sending, is_due, pdu_of}
-use Rattle.distributor.specs.Changes.{marker_due}
-use Rattle.lagsystem.specs.declared.drive.Reply.{Reply as Answer}
-use Rattle.lagsystem.specs.declared.fault.SystemFault.{SystemFault}
-use Rattle.lagsystem.specs.declared.received.Received.{Received}
-use Rattle.lagsystem.specs.declared.system_ports.SystemPort.{SystemPort}
-use Rattle.lagsystem.specs.Calls.{Call, Carries, IsFrame, OnlyPortChangesBy, ProcessesLacpdu, Receive, ReceivesAt, Step, ThenSettles, Transmit}
-use Rattle.lagsystem.specs.First.{configured_numbers}
-use Rattle.lagsystem.specs.NothingToSettle.{PeriodicIsSettled}
-use Rattle.lagsystem.specs.Sending.{IsLacpduOf, SendsMarkerOf, TransmitsAt, TransmitsIf}
-use Rattle.lagsystem.specs.Sound.{CallPromise}
-use Rattle.lagsystem.specs.State.{SystemState, machines_of, port_index, port_numbers, system_port_at}
-use Rattle.lagsystem.proofs.Effects.{named}
-use Rattle.lagsystem.proofs.Performed.{processes_or_stays}
-use Rattle.lagsystem.proofs.Rising.{all-get, found_place, ports_rise}
-use Rattle.lagscript.specs.declared.event.Event.{Event}
-use Rattle.lagworld.specs.declared.reply.Reply.{Reply}
-use Rattle.lagworld.specs.Events.{Algorithms, WorldRuns, WorldSteps, side_of}
-use Rattle.lagworld.specs.State.{ItemValue, WorldState, half}
-use Rattle.lagprogress.specs.Steady.{IsSteady}
-use Rattle.lagbeside.specs.Timers.{IsTimed}
+use Rattle.lagprogress.proofs.Common.{Bool, Err, List, None, Ok, Option, Result, Some, [], ap, arith, cond, false, inl, inr, length, nat_lt, not}
+use Rattle.lagprogress.proofs.Common.{option_map, refl, slice_get, subst, suc, sym, true, zero, ℕ, ◌++◌, ◌+◌, ◌<◌, ◌==◌, ◌∙◌, ◌∷◌, ◌≡◌, ◌≤◌, ◌⊎◌}
+use Rattle.lagprogress.proofs.Common.{cases_Bool, nat_tests, position-Some, none-some, same_Some, AllByRecursion, position_or_len, StateBits}
+use Rattle.lagprogress.proofs.Common.{encode_then_decode, Lacpdu, Side, peer, CollectingDistributing, Machines, is_synchronized, same_mux_state}
+use Rattle.lagprogress.proofs.Common.{periodic_rows, AtRest, actor_of, after_sending, is_due, pdu_of, marker_due, Answer, SystemFault, Received}
+use Rattle.lagprogress.proofs.Common.{SystemPort, Call, Carries, IsFrame, OnlyPortChangesBy, ProcessesLacpdu, Receive, ReceivesAt, Step, ThenSettles}
+use Rattle.lagprogress.proofs.Common.{Transmit, configured_numbers, PeriodicIsSettled, IsLacpduOf, SendsMarkerOf, TransmitsAt, TransmitsIf}
+use Rattle.lagprogress.proofs.Common.{CallPromise, SystemState, machines_of, port_index, port_numbers, system_port_at, named, processes_or_stays}
+use Rattle.lagprogress.proofs.Common.{all-get, found_place, ports_rise, Event, Reply, Algorithms, WorldRuns, WorldSteps, side_of, ItemValue}
+use Rattle.lagprogress.proofs.Common.{WorldState, half, IsTimed, KeptBySettling, OfEach, Step-each, AtPort, at_number, calls_each, same_ports}
+use Rattle.lagprogress.proofs.Common.{IsSteady}
 use Rattle.slowpdu.specs.declared.pdu.Pdu.TheVariants as pdu
 use Rattle.lagsystem.specs.declared.drive.Reply.TheVariants as answer
 use Rattle.lagsystem.specs.declared.received.Received.TheVariants as received
 use Rattle.lagscript.specs.declared.event.Event.TheVariants as event
-use Rattle.lagbeside.proofs.EachPort.{KeptBySettling, OfEach, Step-each}
 use Rattle.lagprogress.proofs.EndFacts.{Along, IsEnd, Suits, activity, end_settles, wait_of}
 use Rattle.lagprogress.proofs.Halves.{each_is_calls, keeps_steady}
 use Rattle.lagprogress.proofs.OneCable.{Asks, Beside, Elsewhere, Gains, OnCable, asks, emits, emits_beside, push, push_each, put, sent_frame}
-use Rattle.lagbeside.proofs.OnePort.{AtPort, same_ports, at_number, calls_each}
 use Rattle.lagprogress.proofs.Passing.{carries_one, lacpdu_is_sent, marker_carries_none, receives_lacpdu, sent_carries}
 pub use Rattle.lagprogress.proofs.OneCable.{each_side}
 

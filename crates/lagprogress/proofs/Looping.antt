@@ -1,26 +1,11 @@
 -- Healthy rounds of hosts that are played.
-use Rattle.std.proofs.Common.{List, None, Option, Some, [], ap, arith, inl, inr, is_some, length, option_map, refl, slice_get, subst, suc, sym, true}
-use Rattle.std.proofs.Common.{zero, ℕ, ◌++◌, ◌+◌, ◌<◌, ◌∙◌, ◌∷◌, ◌≡◌, ◌≤◌}
-use Rattle.std.proofs.lemmas.Bool.{false≢true}
-use Rattle.std.proofs.lemmas.Option.{same_Some, slice_get_within}
-use Rattle.std.specs.List.{AllByRecursion}
-use Rattle.slowpdu.proofs.LayoutLemmas.{all-append}
-use Rattle.lagmodel.specs.World.{One, Side, Two, WorldSetup, end_at}
-use Rattle.lagscript.specs.declared.event.Event.{Event}
-use Rattle.lagworld.specs.declared.fault.WorldFault.{WorldFault}
-use Rattle.lagworld.specs.declared.reply.Reply.{Reply}
-use Rattle.lagworld.specs.Events.{Algorithms, WorldRuns, WorldSteps, cause, cause_or_no_memory, has_system}
-use Rattle.lagworld.specs.ModelWorld.{world_setup}
-use Rattle.lagworld.specs.Readers.{ends_of_cable, ports_joined}
-use Rattle.lagworld.specs.State.{LinkState, WorldState, port_at}
-use Rattle.lagworld.proofs.Cables.{end_is}
-use Rattle.lagprogress.specs.HostFreed.{AsksInVain, DrainingRounds, IsDrainingRound, IsNoMoveOf, sent_nothing}
-use Rattle.lagprogress.specs.HostRounds.{IsBetweenTicks}
-use Rattle.lagprogress.specs.Played.{Delivers, IsOutOfMemoryOrSpent, RefusesDelivery, RunsAll}
-use Rattle.lagprogress.specs.PlayedByHosts.{AsksEnds, AsksOrDelivers, AsksPort, DeliversAndAsks, EmptiesCables, PlaysBetween, PlaysHostPart}
-use Rattle.lagprogress.specs.PlayedByHosts.{PlaysHostRound, StopsBetween}
-use Rattle.lagprogress.specs.Rounds.{IsDeliver, ticks_of_both}
-use Rattle.lagprogress.specs.Steady.{IsSteady}
+use Rattle.lagprogress.proofs.Common.{List, None, Option, Some, [], ap, arith, inl, inr, is_some, length, option_map, refl, slice_get, subst, suc}
+use Rattle.lagprogress.proofs.Common.{sym, true, zero, ℕ, ◌++◌, ◌+◌, ◌<◌, ◌∙◌, ◌∷◌, ◌≡◌, ◌≤◌, false≢true, same_Some, slice_get_within, AllByRecursion}
+use Rattle.lagprogress.proofs.Common.{all-append, One, Side, Two, WorldSetup, end_at, Event, WorldFault, Reply, Algorithms, WorldRuns, WorldSteps}
+use Rattle.lagprogress.proofs.Common.{cause, cause_or_no_memory, has_system, world_setup, ends_of_cable, ports_joined, LinkState, WorldState, port_at}
+use Rattle.lagprogress.proofs.Common.{end_is, AsksInVain, DrainingRounds, IsDrainingRound, IsNoMoveOf, sent_nothing, IsBetweenTicks, Delivers}
+use Rattle.lagprogress.proofs.Common.{IsOutOfMemoryOrSpent, RefusesDelivery, RunsAll, AsksEnds, AsksOrDelivers, AsksPort, DeliversAndAsks}
+use Rattle.lagprogress.proofs.Common.{EmptiesCables, PlaysBetween, PlaysHostPart, PlaysHostRound, StopsBetween, IsDeliver, ticks_of_both, IsSteady}
 use Rattle.lagprogress.proofs.EachRound.{hosts_steady}
 use Rattle.lagprogress.proofs.Linked.{each_side}
 use Rattle.lagprogress.proofs.Played.{as_many, some_within, below_or_same, cable_at, refused_event, runs_append}

@@ -1,27 +1,10 @@
 -- A world that events lead to from one that was made is a bundle, if its links are up as it wants them.
-use Rattle.std.proofs.Common.{Bool, List, None, Option, Some, [], ap, arith, false, if◌then◌else◌, map, refl, subst, suc, sym, true, zero, ℕ, ◌++◌}
-use Rattle.std.proofs.Common.{◌+◌, ◌-◌, ◌∙◌, ◌∷◌, ◌≡◌}
-use Rattle.std.proofs.lemmas.Option.{none-some}
-use Rattle.lagtypes.specs.declared.identifiers.SystemId.{SystemId}
-use Rattle.lagtypes.specs.Same.{same_system}
-use Rattle.lagtypes.proofs.SameLemmas.{system-itself}
-use Rattle.lagmodel.specs.World.{One, Side, Two, WorldSetup}
-use Rattle.lagsystem.specs.declared.config.Config.{Config}
-use Rattle.lagsystem.specs.First.{config_value}
-use Rattle.lagscript.specs.declared.event.Event.{Event}
-use Rattle.lagworld.specs.declared.reply.Reply.{Reply}
-use Rattle.lagworld.specs.Events.{Algorithms, WorldRuns}
-use Rattle.lagworld.specs.Making.{AreFirst}
-use Rattle.lagworld.specs.State.{LinkState, WorldState, half}
-use Rattle.lagworld.proofs.Starts.{start_sound}
-use Rattle.laghosts.proofs.HostHeadline.{hosts_keep_headline}
-use Rattle.lagprogress.specs.Bundle.{EachLinkAgrees, EachLinkComesUp, HostReachedIsBundle, IsBundle, ReachedIsApart, ReachedIsBundle, SystemsDiffer}
-use Rattle.lagprogress.specs.Freed.{CarriersAreUp, NothingIsHeld}
-use Rattle.lagprogress.specs.HostFreed.{DrainingRounds, NothingIsHeldByHosts}
-use Rattle.lagprogress.specs.HostRounds.{HostRounds}
-use Rattle.lagprogress.specs.Played.{EachAgrees, EachDistributes, IsReached, IsReady, LeadsTo, NothingStaysHeld}
-use Rattle.lagprogress.specs.Rounds.{Rounds}
-use Rattle.lagprogress.specs.Steady.{IsSteady}
+use Rattle.lagprogress.proofs.Common.{Bool, List, None, Option, Some, [], ap, arith, false, if◌then◌else◌, map, refl, subst, suc, sym, true, zero, ℕ}
+use Rattle.lagprogress.proofs.Common.{◌++◌, ◌+◌, ◌-◌, ◌∙◌, ◌∷◌, ◌≡◌, none-some, SystemId, same_system, system-itself, One, Side, Two, WorldSetup}
+use Rattle.lagprogress.proofs.Common.{Config, config_value, Event, Reply, Algorithms, WorldRuns, AreFirst, LinkState, WorldState, half, start_sound}
+use Rattle.lagprogress.proofs.Common.{hosts_keep_headline, no, EachLinkAgrees, EachLinkComesUp, HostReachedIsBundle, IsBundle, ReachedIsApart}
+use Rattle.lagprogress.proofs.Common.{ReachedIsBundle, SystemsDiffer, CarriersAreUp, NothingIsHeld, DrainingRounds, NothingIsHeldByHosts, HostRounds}
+use Rattle.lagprogress.proofs.Common.{EachAgrees, EachDistributes, IsReached, IsReady, LeadsTo, NothingStaysHeld, Rounds, IsSteady}
 use Rattle.lagscript.specs.declared.config.BadWorld.TheVariants.{SameSystem}
 use Rattle.cables.specs.declared.item.Item.{Item}
 use Rattle.lagscript.specs.Configs.{refusal_of_all}
@@ -29,7 +12,6 @@ use Rattle.lagworld.specs.Sound.{IsSound}
 use Rattle.lagprogress.proofs.OneLink.{first_none}
 use Rattle.lagprogress.proofs.Carrying.{each_reached_has_carriers_up}
 use Rattle.lagprogress.proofs.Unchanged.{events_keep}
-use Rattle.lagbeside.proofs.Hearing.{no}
 use Rattle.lagprogress.proofs.Reaching.{reached_steady}
 use Rattle.lagprogress.proofs.HostSteady.{host_reached_steady}
 use Rattle.lagprogress.proofs.HostRound.{left}

@@ -1,41 +1,23 @@
 -- A frame that a bundle is offered after its links came up arrives within one round.
-use Rattle.std.proofs.Common.{List, Some, [], ap, arith, map, refl, slice_get, subst, suc, sym, true, zero, ℕ, ◌++◌, ◌+◌, ◌∙◌, ◌∷◌, ◌≡◌, ◌≤◌}
-use Rattle.std.specs.Global.{Vec}
-use Rattle.lagtypes.specs.declared.identifiers.AggId.{AggId}
-use Rattle.slowpdu.specs.declared.pdu.Lacpdu.{Lacpdu}
-use Rattle.lagmodel.specs.World.{One, Side, peer}
-use Rattle.portmachines.specs.Machines.{Machines}
-use Rattle.portmachines.specs.Receive.{receive_rows}
-use Rattle.portmachines.specs.Transmit.{count_down}
-use Rattle.lagsystem.specs.declared.system_ports.SystemPort.{SystemPort}
-use Rattle.lagsystem.specs.Calls.{Data_frame, IsFrame}
-use Rattle.lagsystem.specs.State.{SystemState}
-use Rattle.lagsystem.proofs.Rising.{all-get}
-use Rattle.lagscript.specs.declared.event.Event.{Event}
-use Rattle.lagworld.specs.declared.reply.Reply.{Reply}
-use Rattle.lagworld.specs.Events.{Algorithms, WorldRuns, WorldSteps, side_of}
-use Rattle.lagworld.specs.ModelWorld.{link_ends}
-use Rattle.lagworld.specs.State.{ItemValue, LinkState, WorldState, accepts_at, half, is_accepted, link_at, port_at, put_on_port, towards}
-use Rattle.lagworld.proofs.Cables.{put_ends}
-use Rattle.lagprogress.specs.Arriving.{Arrives, DisabledAreUnsynchronized, EachFrameArrives, EachFrameArrivesByHosts, EachReachedHasUnsynchronized}
-use Rattle.lagprogress.specs.Arriving.{GetsPort, HandsUp, Sometime, TakesFrame}
-use Rattle.lagprogress.specs.Bundle.{BothAreActive, EndsHealthyCable, IsBundle, OneIsActive}
-use Rattle.lagprogress.specs.HostRounds.{HostRounds, IsHostRound, TickOnce}
-use Rattle.lagprogress.specs.Rounds.{IsRound, NothingInFlight, Rounds, asks_all, ticks_of_both, up_if_both_active, up_if_one_is}
+use Rattle.lagprogress.proofs.Common.{List, Some, [], ap, arith, map, refl, slice_get, subst, suc, sym, true, zero, ℕ, ◌++◌, ◌+◌, ◌∙◌, ◌∷◌, ◌≡◌, ◌≤◌}
+use Rattle.lagprogress.proofs.Common.{Vec, AggId, Lacpdu, One, Side, peer, Machines, receive_rows, count_down, SystemPort, Data_frame, IsFrame}
+use Rattle.lagprogress.proofs.Common.{SystemState, all-get, Event, Reply, Algorithms, WorldRuns, WorldSteps, side_of, link_ends, ItemValue, LinkState}
+use Rattle.lagprogress.proofs.Common.{WorldState, accepts_at, half, is_accepted, link_at, port_at, put_on_port, towards, put_ends, OfEach, Step-each}
+use Rattle.lagprogress.proofs.Common.{first_each, AtPort, runs_keep, takes_keep, Arrives, DisabledAreUnsynchronized, EachFrameArrives}
+use Rattle.lagprogress.proofs.Common.{EachFrameArrivesByHosts, EachReachedHasUnsynchronized, GetsPort, HandsUp, Sometime, TakesFrame, BothAreActive}
+use Rattle.lagprogress.proofs.Common.{EndsHealthyCable, IsBundle, OneIsActive, HostRounds, IsHostRound, TickOnce, IsRound, NothingInFlight, Rounds}
+use Rattle.lagprogress.proofs.Common.{asks_all, ticks_of_both, up_if_both_active, up_if_one_is}
 use Rattle.lagprogress.proofs.ArrivingLemmas.{is_data, offer_gets_port}
 use Rattle.lagprogress.proofs.Bundling.{Meets, Nowhere, awake_of, both_active, one_active, said, ups_of, named_of}
 use Rattle.lagprogress.proofs.Carrying.{Lapses, LapsesAt, distributes_up, lapse_first, lapse_kept, lapse_settles, receive_lapses}
 use Rattle.lagprogress.proofs.Climbing.{PartnerInSync}
-use Rattle.lagbeside.proofs.EachPort.{OfEach, Step-each, first_each}
 use Rattle.lagprogress.proofs.EachRound.{EachAt, RoundKeeps, same_index, host_each, hosts_join, hosts_on, hosts_steady}
 use Rattle.lagprogress.proofs.FlyingLemmas.{OnItsWay, in_run}
 use Rattle.lagprogress.proofs.Halves.{both_first, keeps_steady}
 use Rattle.lagprogress.proofs.Linked.{EndIs, IsGood, Link, place_kept, push_there, events_each}
 use Rattle.lagprogress.proofs.OneCable.{OnCable, cable, placed, port_there, push, push_each, puts, takes_all, towards_there}
-use Rattle.lagbeside.proofs.OnePort.{AtPort}
 use Rattle.lagprogress.proofs.OneRound.{join}
 use Rattle.lagprogress.proofs.HostKnowing.{fits_fresh, fits_before}
-use Rattle.lagbeside.proofs.Timers.{runs_keep, takes_keep}
 use Rattle.lagprogress.proofs.ComingUp.{told_now}
 use Rattle.lagprogress.proofs.HostLoops.{rounds_are_host_rounds, round_ticks}
 use Rattle.lagscript.specs.declared.event.Event.TheVariants as event

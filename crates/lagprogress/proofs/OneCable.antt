@@ -1,36 +1,15 @@
 -- What ticks, Emit and Deliver events do to a cable that is whole and has no limit, and what they leave to itself.
-use Rattle.std.proofs.Common.{Bool, Err, List, None, Ok, Option, Result, Some, [], ap, arith, cond, get_or, inl, inr, length, map, nat_lt, not}
-use Rattle.std.proofs.Common.{option_map, position, refl, slice_get, slice_set, subst, suc, sym, true, zero, ℕ, ◌++◌, ◌<◌, ◌==◌, ◌∙◌, ◌∷◌, ◌≡◌, ◌⊎◌}
-use Rattle.std.proofs.lemmas.Bool.{cases_Bool, false≢true}
-use Rattle.std.proofs.lemmas.Bool.Decides.{nat_tests}
-use Rattle.std.proofs.lemmas.List.Quantifiers.{position-Some}
-use Rattle.std.proofs.lemmas.Option.{same_Some, slice_get-get_or, slice_get_within}
-use Rattle.std.specs.List.{AllByRecursion, position_or_len}
-use Rattle.lagtypes.proofs.SameLemmas.{itself}
-use Rattle.slowpdu.specs.declared.pdu.Lacpdu.{Lacpdu}
-use Rattle.slowpdu.specs.Readings.{pdu_in}
-use Rattle.slowpdu.proofs.LayoutLemmas.{all-append}
-use Rattle.lagmodel.specs.World.{IsCabling, One, Side, Two, end_at, peer}
-use Rattle.lagmodel.proofs.Base.{value_of}
-use Rattle.cables.specs.declared.item.Stamp.{Stamp}
-use Rattle.lagsystem.specs.declared.drive.Reply.{Reply as Answer}
-use Rattle.lagsystem.specs.declared.fault.SystemFault.{SystemFault}
-use Rattle.lagsystem.specs.declared.received.Received.{Received}
-use Rattle.lagsystem.specs.Calls.{Call, Carries, IsFrame, Receive, Step, Tick, Transmit}
-use Rattle.lagsystem.specs.Sound.{CallPromise}
-use Rattle.lagsystem.specs.State.{SystemState}
-use Rattle.lagworld.specs.declared.histories.PortHistory.{PortHistory}
-use Rattle.lagworld.specs.declared.reply.Reply.{Reply}
-use Rattle.lagworld.specs.Events.{AfterReceive, AfterTransmit, Algorithms, DeliversFrom, OnLink, WorldEmits, WorldReceives, WorldSteps}
-use Rattle.lagworld.specs.Events.{set_last_lacpdu, side_of, stamp_for, stamped_in, with_link_at, with_stamp_collected}
-use Rattle.lagworld.specs.HalfCalls.{HalfTicks}
-use Rattle.lagworld.specs.Messages.{payload_in, stamp_count}
-use Rattle.lagworld.specs.ModelWorld.{link_ends}
-use Rattle.lagworld.specs.State.{HalfState, ItemValue, LinkState, WorldState, accepts, change_count_in, change_link, half, history_at, limit_towards}
-use Rattle.lagworld.specs.State.{link_at, link_index, port_at, put_on_port, sent_on, towards, with_half, with_links, with_towards}
-use Rattle.lagworld.proofs.Arrives.{read_log}
-use Rattle.lagworld.proofs.Cables.{end_is, mapped_set, put_ends, set_elsewhere, set_here}
-use Rattle.lagworld.proofs.Sides.{half_there, position_there}
+use Rattle.lagprogress.proofs.Common.{Bool, Err, List, None, Ok, Option, Result, Some, [], ap, arith, cond, get_or, inl, inr, length, map, nat_lt}
+use Rattle.lagprogress.proofs.Common.{not, option_map, position, refl, slice_get, slice_set, subst, suc, sym, true, zero, ℕ, ◌++◌, ◌<◌, ◌==◌, ◌∙◌}
+use Rattle.lagprogress.proofs.Common.{◌∷◌, ◌≡◌, ◌⊎◌, cases_Bool, false≢true, nat_tests, position-Some, same_Some, slice_get-get_or, slice_get_within}
+use Rattle.lagprogress.proofs.Common.{AllByRecursion, position_or_len, itself, Lacpdu, pdu_in, all-append, IsCabling, One, Side, Two, end_at, peer}
+use Rattle.lagprogress.proofs.Common.{value_of, Stamp, Answer, SystemFault, Received, Call, Carries, IsFrame, Receive, Step, Tick, Transmit}
+use Rattle.lagprogress.proofs.Common.{CallPromise, SystemState, PortHistory, Reply, AfterReceive, AfterTransmit, Algorithms, DeliversFrom, OnLink}
+use Rattle.lagprogress.proofs.Common.{WorldEmits, WorldReceives, WorldSteps, set_last_lacpdu, side_of, stamp_for, stamped_in, with_link_at}
+use Rattle.lagprogress.proofs.Common.{with_stamp_collected, HalfTicks, payload_in, stamp_count, link_ends, HalfState, ItemValue, LinkState}
+use Rattle.lagprogress.proofs.Common.{WorldState, accepts, change_count_in, change_link, half, history_at, limit_towards, link_at, link_index}
+use Rattle.lagprogress.proofs.Common.{port_at, put_on_port, sent_on, towards, with_half, with_links, with_towards, read_log, end_is, mapped_set}
+use Rattle.lagprogress.proofs.Common.{put_ends, set_elsewhere, set_here, half_there, position_there}
 use Rattle.lagsystem.specs.declared.drive.Reply.TheVariants as answer
 use Rattle.lagsystem.specs.declared.received.Received.TheVariants as received
 use Rattle.lagscript.specs.declared.event.Event.TheVariants as event

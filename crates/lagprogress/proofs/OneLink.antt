@@ -1,21 +1,8 @@
 -- The only cable of a world, and the only ports at its ends: that they are a bundle.
-use Rattle.std.proofs.Common.{Bool, List, None, Option, Some, [], ap, arith, filter, inl, length, refl, slice_get, subst, suc, sym, zero, ℕ, ◌==◌}
-use Rattle.std.proofs.Common.{◌∙◌, ◌∷◌, ◌≡◌, ◌≤◌}
-use Rattle.std.proofs.lemmas.Bool.Decides.{nat_tests}
-use Rattle.lagtypes.specs.declared.identifiers.Key.{Key}
-use Rattle.lagmodel.specs.World.{One, Side, Two}
-use Rattle.lagsystem.specs.declared.config.PortConfig.{PortConfig}
-use Rattle.lagsystem.specs.declared.system_ports.SystemPort.{SystemPort}
-use Rattle.lagsystem.specs.First.{configured_numbers, or_first}
-use Rattle.lagsystem.specs.Sound.{IsSound}
-use Rattle.lagsystem.specs.State.{SystemState}
-use Rattle.lagsystem.proofs.Rising.{found_place}
-use Rattle.lagworld.specs.State.{LinkState, WorldState, half, port_at}
-use Rattle.lagprogress.specs.Bundle.{AllHeard, EnoughAggregators, EnoughLinks, IsBundle, SystemsDiffer}
-use Rattle.lagprogress.specs.ComingUp.{AreApart, HasRoom}
-use Rattle.lagprogress.specs.Rounds.{IsHealthy}
-use Rattle.lagbeside.specs.Selecting.{aggregators_with, ports_with}
-use Rattle.lagprogress.specs.Steady.{IsSteady}
+use Rattle.lagprogress.proofs.Common.{Bool, List, None, Option, Some, [], ap, arith, filter, inl, length, refl, slice_get, subst, suc, sym, zero, ℕ}
+use Rattle.lagprogress.proofs.Common.{◌==◌, ◌∙◌, ◌∷◌, ◌≡◌, ◌≤◌, nat_tests, Key, One, Side, Two, PortConfig, SystemPort, configured_numbers, or_first}
+use Rattle.lagprogress.proofs.Common.{IsSound, SystemState, found_place, LinkState, WorldState, half, port_at, aggregators_with, ports_with, AllHeard}
+use Rattle.lagprogress.proofs.Common.{EnoughAggregators, EnoughLinks, IsBundle, SystemsDiffer, AreApart, HasRoom, IsHealthy, IsSteady}
 use Rattle.lagprogress.proofs.Starting.{apart_at, only_cable, only_cabling}
 use Rattle.lagprogress.proofs.Linked.{many}
 use Rattle.lagprogress.proofs.Lasting.{ends_at, own_system}

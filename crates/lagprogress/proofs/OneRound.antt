@@ -1,35 +1,13 @@
 -- What a healthy round leaves of a cable: an LACPDU of an end is nearer by a tick, or was heard.
-use Rattle.std.proofs.Common.{Bool, Err, List, None, Ok, Option, Result, Some, [], ap, arith, false, inl, inr, refl, slice_get, subst, suc, sym, true}
-use Rattle.std.proofs.Common.{zero, ℕ, ◌++◌, ◌-◌, ◌∙◌, ◌∷◌, ◌≡◌, ◌≤◌, ◌⊎◌}
-use Rattle.std.proofs.lemmas.Bool.{cases_Bool}
-use Rattle.std.proofs.lemmas.Bool.Decides.{nat_tests}
-use Rattle.std.proofs.lemmas.Option.{none-some, same_Some}
-use Rattle.std.specs.List.{AllByRecursion}
-use Rattle.slowpdu.specs.declared.pdu.Lacpdu.{Lacpdu}
-use Rattle.lagmodel.specs.World.{One, Side, Two, peer}
-use Rattle.portmachines.specs.Machines.{Machines}
-use Rattle.portmachines.specs.Periodic.{is_silent, periodic_rows}
-use Rattle.portmachines.specs.Receive.{receive_rows}
-use Rattle.portmachines.specs.Rows.{AtRest, RunsToRest}
-use Rattle.portmachines.specs.Transmit.{count_down, is_due, pdu_of}
-use Rattle.lagsystem.specs.declared.fault.SystemFault.{SystemFault}
-use Rattle.lagsystem.specs.declared.system_ports.SystemPort.{SystemPort}
-use Rattle.lagsystem.specs.Calls.{Step, Transmit}
-use Rattle.lagsystem.specs.Sending.{IsLacpduOf}
-use Rattle.lagsystem.specs.State.{SystemState, port_index}
-use Rattle.lagscript.specs.declared.event.Event.{Event}
-use Rattle.lagworld.specs.declared.reply.Reply.{Reply}
-use Rattle.lagworld.specs.Events.{Algorithms, WorldSteps, side_of}
-use Rattle.lagworld.specs.State.{ItemValue, LinkState, WorldState, half, port_at}
-use Rattle.lagprogress.specs.Rounds.{asks_all, asks_ends}
-use Rattle.lagbeside.specs.Timers.{IsTimed}
-use Rattle.lagbeside.proofs.EachPort.{OfEach}
+use Rattle.lagprogress.proofs.Common.{Bool, Err, List, None, Ok, Option, Result, Some, [], ap, arith, false, inl, inr, refl, slice_get, subst, suc}
+use Rattle.lagprogress.proofs.Common.{sym, true, zero, ℕ, ◌++◌, ◌-◌, ◌∙◌, ◌∷◌, ◌≡◌, ◌≤◌, ◌⊎◌, cases_Bool, nat_tests, none-some, same_Some}
+use Rattle.lagprogress.proofs.Common.{AllByRecursion, Lacpdu, One, Side, Two, peer, Machines, is_silent, periodic_rows, receive_rows, AtRest}
+use Rattle.lagprogress.proofs.Common.{RunsToRest, count_down, is_due, pdu_of, SystemFault, SystemPort, Step, Transmit, IsLacpduOf, SystemState}
+use Rattle.lagprogress.proofs.Common.{port_index, Event, Reply, Algorithms, WorldSteps, side_of, ItemValue, LinkState, WorldState, half, port_at}
+use Rattle.lagprogress.proofs.Common.{IsTimed, OfEach, no, AtPort, Sounds, now_due, asks_all, asks_ends}
 use Rattle.lagprogress.proofs.EndFacts.{Along, CanSound, IsEnd, both_along, calm, nothing_along, sounds_along, ticks_sounds}
-use Rattle.lagbeside.proofs.Hearing.{no}
 use Rattle.lagprogress.proofs.OneCable.{Went}
-use Rattle.lagbeside.proofs.OnePort.{AtPort}
 use Rattle.lagprogress.proofs.Passing.{lacpdu_is_sent, sends_due, sent_carries}
-use Rattle.lagbeside.proofs.Sounding.{Sounds, now_due}
 use Rattle.lagprogress.proofs.Linked.{EndIs, Fits, Flying, Link, each_side, emit_link, HasLacpdu, has_last, asked_which, beside_link, other_side}
 use Rattle.lagprogress.proofs.Linked.{push_there, other_ports, with_ports, both_at, of_end, end_here, at_end, end_with}
 use Rattle.slowpdu.specs.declared.pdu.Pdu.TheVariants as pdu

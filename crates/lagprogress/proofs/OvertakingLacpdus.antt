@@ -1,8 +1,7 @@
 -- What an LACPDU that overtakes leaves as it is: the order of data, and of markers among them.
-use Rattle.std.proofs.Common.{Bool, List, None, Option, Some, [], subst, sym, ℕ, ◌∷◌, ◌≡◌}
-use Rattle.lagtypes.specs.declared.party.Party.{Party}
-use Rattle.lagmodel.specs.World.{IsWorldSetup, Message, One, Side, TakenLacpdu, Two, World, WorldSetup, at_cable, first_world}
-use Rattle.lagmodel.specs.World.{peer, with_messages, Event}
+use Rattle.lagprogress.proofs.Common.{Bool, List, None, Option, Some, [], subst, sym, ℕ, ◌∷◌, ◌≡◌, Party, IsWorldSetup, Message, One, Side}
+use Rattle.lagprogress.proofs.Common.{TakenLacpdu, Two, World, WorldSetup, at_cable, first_world, peer, with_messages}
+use Rattle.lagmodel.specs.World.{Event}
 use Rattle.lagmodel.specs.Overtaking.{Overtakes}
 use Rattle.lagmodel.specs.View.{SystemSetup, View}
 use Rattle.lagmodel.proofs.Events.{happens_kept, lawful_first}

@@ -1,27 +1,10 @@
 -- Cables of which both ends are SELECTED agree, however few aggregators and links there are.
-use Rattle.std.proofs.Common.{List, Some, ap, arith, inl, inr, refl, slice_get, subst, suc, sym, true, ℕ, ◌+◌, ◌-◌, ◌∙◌, ◌≡◌, ◌≤◌, ◌⊎◌}
-use Rattle.std.proofs.lemmas.Bool.{cases_Bool}
-use Rattle.std.specs.List.{AllByRecursion}
-use Rattle.lagtypes.specs.Choices.{is_selected}
-use Rattle.slowpdu.specs.declared.pdu.Lacpdu.{Lacpdu}
-use Rattle.lagmodel.specs.World.{IsCabling, One, Side, peer}
-use Rattle.portmachines.specs.Mux.{selected}
-use Rattle.lagsystem.specs.declared.config.PortConfig.{PortConfig}
-use Rattle.lagsystem.specs.declared.system_ports.SystemPort.{SystemPort}
-use Rattle.lagsystem.specs.NothingToSettle.{MuxIsSettled}
-use Rattle.lagsystem.proofs.Rising.{all-get, ports_rise}
-use Rattle.lagworld.specs.declared.agreement.Agreement.TheVariants.{Same}
-use Rattle.lagworld.specs.Agreement.{agreement_at}
-use Rattle.lagworld.specs.Events.{Algorithms}
-use Rattle.lagworld.specs.ModelWorld.{world_setup}
-use Rattle.lagworld.specs.Sound.{IsSound as IsWorldSound}
-use Rattle.lagworld.specs.State.{LinkState, WorldState, half, port_at}
-use Rattle.lagprogress.specs.Bundle.{AllHeard, BothAreActive, OneIsActive, SelectedPairsAgree, SelectedPairsComeUp}
-use Rattle.lagprogress.specs.ComingUp.{Distributes}
-use Rattle.lagprogress.specs.HostRounds.{HostRounds, NoneIsLeft}
-use Rattle.lagprogress.specs.Rounds.{AtEnd, IsHealthyAt, OfPort, up_if_both_active, up_if_one_is}
-use Rattle.lagprogress.specs.Steady.{IsSteady}
-use Rattle.lagbeside.specs.Timers.{IsTimed}
+use Rattle.lagprogress.proofs.Common.{List, Some, ap, arith, inl, inr, refl, slice_get, subst, suc, sym, true, ℕ, ◌+◌, ◌-◌, ◌∙◌, ◌≡◌, ◌≤◌, ◌⊎◌}
+use Rattle.lagprogress.proofs.Common.{cases_Bool, AllByRecursion, is_selected, Lacpdu, IsCabling, One, Side, peer, selected, PortConfig, SystemPort}
+use Rattle.lagprogress.proofs.Common.{MuxIsSettled, all-get, ports_rise, Same, agreement_at, Algorithms, world_setup, IsWorldSound, LinkState}
+use Rattle.lagprogress.proofs.Common.{WorldState, half, port_at, IsTimed, no, AtPort, at_number, AllHeard, BothAreActive, OneIsActive}
+use Rattle.lagprogress.proofs.Common.{SelectedPairsAgree, SelectedPairsComeUp, Distributes, HostRounds, NoneIsLeft, AtEnd, IsHealthyAt, OfPort}
+use Rattle.lagprogress.proofs.Common.{up_if_both_active, up_if_one_is, IsSteady}
 use Rattle.lagprogress.proofs.Bundling.{agree_up, both_meet, both_wake, heard_holds, one_meet, one_wakes, Named, names}
 use Rattle.lagprogress.proofs.Choosing.{Chose}
 use Rattle.lagprogress.proofs.Climbing.{Down, Ripe, Rising, climbed, down_settles, down_takes, down_ticks, rising_first}
@@ -29,8 +12,6 @@ use Rattle.lagprogress.proofs.ComingUp.{Up, comes_up, climb_first, climb_on, dis
 use Rattle.lagprogress.proofs.EachRound.{EachAt, RoundKeeps, host_each, hosts_on, hosts_split, hosts_steady, played_keep}
 use Rattle.lagprogress.proofs.EndFacts.{Synced, activity}
 use Rattle.lagprogress.proofs.Frozen.{AllChose, AllFresh, Stands, choice_rounds, on_cable}
-use Rattle.lagbeside.proofs.Hearing.{no}
-use Rattle.lagbeside.proofs.OnePort.{AtPort, at_number}
 use Rattle.lagprogress.proofs.OneRound.{Nothing}
 use Rattle.lagprogress.proofs.HostKnowing.{AtIt, Fresh, FreshAt, stays_fresh}
 use Rattle.lagprogress.proofs.Starting.{said_by}

@@ -1,31 +1,12 @@
 -- What a system sends is what it carries; and how an LACPDU goes onto a cable and comes off it.
-use Rattle.std.proofs.Common.{Bool, Err, List, None, Ok, Option, Result, Some, [], ap, arith, drop, refl, slice_get, slice_set, subst, suc, sym, true}
-use Rattle.std.proofs.Common.{ℕ, ◌++◌, ◌∙◌, ◌∷◌, ◌≡◌}
-use Rattle.std.proofs.lemmas.Bool.Decides.{nat_tests}
-use Rattle.std.proofs.lemmas.Option.{none-some, same_Some}
-use Rattle.slowpdu.specs.declared.pdu.Lacpdu.{Lacpdu}
-use Rattle.slowpdu.specs.declared.pdu.Marker.{Marker}
-use Rattle.slowpdu.specs.declared.pdu.Pdu.{Pdu}
-use Rattle.slowpdu.proofs.PduLemmas.{written_pdu}
-use Rattle.lagmodel.specs.World.{One, Side, Two, peer}
-use Rattle.lagmodel.proofs.Base.{value_of}
-use Rattle.portmachines.specs.Transmit.{is_due, pdu_of}
-use Rattle.lagsystem.specs.declared.fault.SystemFault.{SystemFault}
-use Rattle.lagsystem.specs.declared.received.Received.{Received}
-use Rattle.lagsystem.specs.declared.received.Received.TheVariants.{TookLacpdu}
-use Rattle.lagsystem.specs.declared.system_ports.SystemPort.{SystemPort}
-use Rattle.lagsystem.specs.Calls.{Carries, IsFrame, OnlyPortChangesBy, ParsesWhere, Performs, ProcessesLacpdu, ReceivesAt, Step, ThenSettles}
-use Rattle.lagsystem.specs.Calls.{Transmit}
-use Rattle.lagsystem.specs.ModelView.{IsSent}
-use Rattle.lagsystem.specs.Sending.{IsLacpduOf, SendsLacpdu, TransmitsAt, TransmitsIf}
-use Rattle.lagsystem.specs.State.{SystemState, port_index}
-use Rattle.lagsystem.proofs.OneFrame.{effect_one}
-use Rattle.lagworld.specs.declared.reply.Reply.{Reply}
-use Rattle.lagworld.specs.Events.{AfterReceive, AfterTransmit, Algorithms, DeliversFrom, OnLink, WorldEmits, WorldReceives, side_of, with_link_at}
-use Rattle.lagworld.specs.State.{HalfState, ItemValue, LinkState, WorldState, accepts, half, link_index, port_at, put_on_port, towards, with_half}
-use Rattle.lagworld.specs.State.{with_towards}
-use Rattle.lagworld.proofs.Sides.{half_there}
-use Rattle.lagprogress.specs.Passing.{DeliverProcessesLacpdu, EmitSendsLacpdu, EndIsUp, IsHeardOn, IsSentOn}
+use Rattle.lagprogress.proofs.Common.{Bool, Err, List, None, Ok, Option, Result, Some, [], ap, arith, drop, refl, slice_get, slice_set, subst, suc}
+use Rattle.lagprogress.proofs.Common.{sym, true, ℕ, ◌++◌, ◌∙◌, ◌∷◌, ◌≡◌, nat_tests, none-some, same_Some, Lacpdu, Marker, Pdu, written_pdu, One, Side}
+use Rattle.lagprogress.proofs.Common.{Two, peer, value_of, is_due, pdu_of, SystemFault, Received, TookLacpdu, SystemPort, Carries, IsFrame}
+use Rattle.lagprogress.proofs.Common.{OnlyPortChangesBy, ParsesWhere, Performs, ProcessesLacpdu, ReceivesAt, Step, ThenSettles, Transmit, IsSent}
+use Rattle.lagprogress.proofs.Common.{IsLacpduOf, SendsLacpdu, TransmitsAt, TransmitsIf, SystemState, port_index, effect_one, Reply, AfterReceive}
+use Rattle.lagprogress.proofs.Common.{AfterTransmit, Algorithms, DeliversFrom, OnLink, WorldEmits, WorldReceives, side_of, with_link_at, HalfState}
+use Rattle.lagprogress.proofs.Common.{ItemValue, LinkState, WorldState, accepts, half, link_index, port_at, put_on_port, towards, with_half}
+use Rattle.lagprogress.proofs.Common.{with_towards, half_there, DeliverProcessesLacpdu, EmitSendsLacpdu, EndIsUp, IsHeardOn, IsSentOn}
 use Rattle.slowpdu.specs.declared.pdu.Pdu.TheVariants as pdu
 use Rattle.slowpdu.proofs.LacpduLemmas.{one_reading}
 use Rattle.slowpdu.proofs.MarkerLemmas.{not_both}

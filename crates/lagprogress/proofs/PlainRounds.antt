@@ -1,15 +1,8 @@
 -- The laws of healthy rounds, which are rounds of hosts.
-use Rattle.std.proofs.Common.{zero, ℕ}
-use Rattle.lagworld.specs.Events.{Algorithms}
-use Rattle.lagworld.specs.State.{LinkState, WorldState}
-use Rattle.lagprogress.specs.Bundle.{BothAreActive, EachLinkAgrees, EachLinkComesUp, EndsOfEachKnow, OneIsActive, SelectedPairsAgree}
-use Rattle.lagprogress.specs.Bundle.{SelectedPairsComeUp}
-use Rattle.lagprogress.specs.ComingUp.{ActiveLinkComesUp, LinkComesUp}
-use Rattle.lagprogress.specs.CutOff.{CutOffIsDefaulted, EachLinkAgreesBesideCutOffs, EachLinkComesUpBesideCutOffs}
-use Rattle.lagprogress.specs.HostRounds.{HostRounds}
-use Rattle.lagprogress.specs.Limited.{EachLimitedLinkAgrees}
-use Rattle.lagprogress.specs.Progress.{ActiveEndsComeToKnow, EndsComeToKnow}
-use Rattle.lagprogress.specs.Rounds.{Rounds}
+use Rattle.lagprogress.proofs.Common.{zero, ℕ, Algorithms, LinkState, WorldState, BothAreActive, EachLinkAgrees, EachLinkComesUp, EndsOfEachKnow}
+use Rattle.lagprogress.proofs.Common.{OneIsActive, SelectedPairsAgree, SelectedPairsComeUp, ActiveLinkComesUp, LinkComesUp, CutOffIsDefaulted}
+use Rattle.lagprogress.proofs.Common.{EachLinkAgreesBesideCutOffs, EachLinkComesUpBesideCutOffs, HostRounds, EachLimitedLinkAgrees}
+use Rattle.lagprogress.proofs.Common.{ActiveEndsComeToKnow, EndsComeToKnow, Rounds}
 use Rattle.lagprogress.proofs.HostKnowing.{active_ends_know_by_hosts, ends_know_by_hosts}
 use Rattle.lagprogress.proofs.CutOffLemmas.{cut_off_is_defaulted_by_hosts}
 use Rattle.lagprogress.proofs.OneLink.{only_bundle}

@@ -1,27 +1,14 @@
 -- Healthy rounds that are played.
-use Rattle.std.proofs.Common.{Bool, IfErr, IfOk, List, None, Option, Result, Some, [], ap, append_assoc, arith, drop, get_or, inl, inr, is_some}
-use Rattle.std.proofs.Common.{length, map, nat_le, option_map, refl, slice_get, subst, suc, sym, take, true, zero, ℕ, ◌&&◌, ◌++◌, ◌+◌, ◌<◌, ◌∙◌, ◌∷◌}
-use Rattle.std.proofs.Common.{◌≡◌, ◌≤◌, ◌⊎◌}
-use Rattle.std.proofs.lemmas.Bool.{cases_Bool, false≢true}
-use Rattle.std.proofs.lemmas.Bool.Decides.{nat_tests}
-use Rattle.std.proofs.lemmas.Option.{none-some, same_Some, slice_get-get_or, slice_get-map, slice_get_within}
-use Rattle.std.specs.List.{AllByRecursion}
-use Rattle.std.specs.Prelude.{IsErrAnd}
-use Rattle.slowpdu.proofs.LayoutLemmas.{all-append}
-use Rattle.lagmodel.specs.World.{Ends, One, Side, Two, WorldSetup}
-use Rattle.lagmodel.proofs.Base.{value_of}
-use Rattle.lagscript.specs.declared.event.Event.{Event}
-use Rattle.lagworld.specs.declared.fault.WorldFault.{WorldFault}
-use Rattle.lagworld.specs.declared.reply.Reply.{Reply}
-use Rattle.lagworld.specs.Events.{Algorithms, DeliversFrom, WorldRuns, WorldSteps, cause, cause_or_no_memory, first_event_cause, has_cable}
-use Rattle.lagworld.specs.Events.{may_take_memory, most_events, side_of}
-use Rattle.lagworld.specs.ModelWorld.{link_ends, world_setup}
-use Rattle.lagworld.specs.Readers.{ends_of_cable}
-use Rattle.lagworld.specs.Sound.{RefusesNext, next_of}
-use Rattle.lagworld.specs.State.{ItemValue, LinkState, WorldState, element_numbered, towards}
-use Rattle.lagprogress.specs.Played.{Delivers, HasTooManyCables, IsOutOfMemoryOrSpent, NamesNoCable, PlaysPart, RefusesDelivery, RunsAll, RunsPart}
-use Rattle.lagprogress.specs.Played.{found_nothing, most_cables}
-use Rattle.lagprogress.specs.Rounds.{IsDeliver, IsRound, NothingInFlight, Rounds, asks_all, asks_ends, ticks_of_both}
+use Rattle.lagprogress.proofs.Common.{Bool, IfErr, IfOk, List, None, Option, Result, Some, [], ap, append_assoc, arith, drop, get_or, inl, inr}
+use Rattle.lagprogress.proofs.Common.{is_some, length, map, nat_le, option_map, refl, slice_get, subst, suc, sym, take, true, zero, ℕ, ◌&&◌, ◌++◌}
+use Rattle.lagprogress.proofs.Common.{◌+◌, ◌<◌, ◌∙◌, ◌∷◌, ◌≡◌, ◌≤◌, ◌⊎◌, cases_Bool, false≢true, nat_tests, none-some, same_Some, slice_get-get_or}
+use Rattle.lagprogress.proofs.Common.{slice_get-map, slice_get_within, AllByRecursion, IsErrAnd, all-append, Ends, One, Side, Two, WorldSetup}
+use Rattle.lagprogress.proofs.Common.{value_of, Event, WorldFault, Reply, Algorithms, DeliversFrom, WorldRuns, WorldSteps, cause, cause_or_no_memory}
+use Rattle.lagprogress.proofs.Common.{first_event_cause, has_cable, may_take_memory, most_events, side_of, link_ends, world_setup, ends_of_cable}
+use Rattle.lagprogress.proofs.Common.{RefusesNext, next_of, ItemValue, LinkState, WorldState, element_numbered, towards, Delivers, HasTooManyCables}
+use Rattle.lagprogress.proofs.Common.{IsOutOfMemoryOrSpent, NamesNoCable, PlaysPart, RefusesDelivery, RunsAll, RunsPart, found_nothing, IsDeliver}
+use Rattle.lagprogress.proofs.Common.{IsRound, NothingInFlight, Rounds, asks_all, asks_ends, ticks_of_both}
+use Rattle.lagprogress.specs.Played.{most_cables}
 use Rattle.std.proofs.lemmas.List.{length-map, take_more}
 use Rattle.lagscript.specs.declared.event.Event.TheVariants as event
 use Rattle.lagworld.specs.declared.fault.WorldFault.TheVariants.{NoCable}

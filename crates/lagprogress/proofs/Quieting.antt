@@ -1,33 +1,14 @@
 -- A frame that is offered, or a conversation that is moved or forced, leaves the ports, and what their LACPDUs say.
-use Rattle.std.proofs.Common.{Err, List, Ok, Result, Some, [], ap, arith, inl, inr, map, refl, subst, sym, ℕ, ◌++◌, ◌==◌, ◌∙◌, ◌∷◌, ◌≡◌, ◌⊎◌}
-use Rattle.std.proofs.lemmas.Bool.{cases_Bool}
-use Rattle.std.proofs.lemmas.Bool.Decides.{nat_tests}
-use Rattle.std.specs.Global.{Vec}
-use Rattle.lagtypes.specs.declared.identifiers.AggId.{AggId}
-use Rattle.slowpdu.specs.declared.pdu.Lacpdu.{Lacpdu}
-use Rattle.lagmodel.specs.World.{One, Side, Two, peer}
-use Rattle.lagmodel.proofs.Base.{value_of}
-use Rattle.portmachines.specs.Machines.{Machines}
-use Rattle.lagsystem.specs.declared.fault.SystemFault.{SystemFault}
-use Rattle.lagsystem.specs.Calls.{Carries, Force, IsFrame, Move_conversation, Offer, Step}
-use Rattle.lagsystem.specs.Offers.{system_force_result, system_move_result}
-use Rattle.lagsystem.specs.State.{SystemState, port_index}
-use Rattle.lagsystem.proofs.Rest.{becomes_slots, offers_slots}
-use Rattle.lagscript.specs.declared.event.Event.{Event}
-use Rattle.lagworld.specs.declared.reply.Reply.{Reply}
-use Rattle.lagworld.specs.Events.{AfterOffer, Algorithms, InHalf, WorldSteps, offered_item, side_of, with_frame_counted}
-use Rattle.lagworld.specs.HalfCalls.{HalfForces, HalfMoves, forced_if_accepted}
-use Rattle.lagworld.specs.ModelWorld.{link_ends}
-use Rattle.lagworld.specs.State.{HalfState, ItemValue, WorldState, half, put_on_port, with_half}
-use Rattle.lagworld.proofs.Cables.{put_ends}
-use Rattle.lagworld.proofs.Sides.{half_there}
-use Rattle.lagprogress.specs.Steady.{IsSteady}
+use Rattle.lagprogress.proofs.Common.{Err, List, Ok, Result, Some, [], ap, arith, inl, inr, map, refl, subst, sym, ℕ, ◌++◌, ◌==◌, ◌∙◌, ◌∷◌, ◌≡◌, ◌⊎◌}
+use Rattle.lagprogress.proofs.Common.{cases_Bool, nat_tests, Vec, AggId, Lacpdu, One, Side, Two, peer, value_of, Machines, SystemFault, Carries}
+use Rattle.lagprogress.proofs.Common.{Force, IsFrame, Move_conversation, Offer, Step, system_force_result, system_move_result, SystemState}
+use Rattle.lagprogress.proofs.Common.{port_index, becomes_slots, offers_slots, Event, Reply, AfterOffer, Algorithms, InHalf, WorldSteps, offered_item}
+use Rattle.lagprogress.proofs.Common.{side_of, with_frame_counted, HalfForces, HalfMoves, forced_if_accepted, link_ends, HalfState, ItemValue}
+use Rattle.lagprogress.proofs.Common.{WorldState, half, put_on_port, with_half, put_ends, half_there, OfEach, AtPort, IsSteady}
 use Rattle.lagprogress.proofs.ArrivingLemmas.{is_data, same_ports}
-use Rattle.lagbeside.proofs.EachPort.{OfEach}
 use Rattle.lagprogress.proofs.Halves.{keeps_steady}
 use Rattle.lagprogress.proofs.Linked.{EndIs, Flying, HasLacpdu, IsGood, Link, has_on, each_side, place_kept, push_other, push_there, pushed}
 use Rattle.lagprogress.proofs.OneCable.{OnCable, half_logs, push, push_each, put_beside, puts}
-use Rattle.lagbeside.proofs.OnePort.{AtPort}
 use Rattle.slowpdu.specs.declared.pdu.Pdu.TheVariants as pdu
 use Rattle.lagsystem.specs.declared.drive.Reply.TheVariants as answer
 use Rattle.lagscript.specs.declared.event.Event.TheVariants as event

@@ -1,14 +1,7 @@
 -- What holds of each world that events lead to.
-use Rattle.std.proofs.Common.{List, [], arith, subst, sym, ◌∷◌, ◌≤◌}
-use Rattle.lagsystem.specs.declared.config.Config.{Config}
-use Rattle.lagscript.specs.declared.event.Event.{Event}
-use Rattle.lagworld.specs.declared.reply.Reply.{Reply}
-use Rattle.lagworld.specs.Events.{Algorithms, WorldRuns, most_events}
-use Rattle.lagworld.specs.Making.{AreFirst}
-use Rattle.lagworld.specs.Sound.{IsStart, IsSound}
-use Rattle.lagworld.specs.State.{WorldState}
-use Rattle.lagworld.proofs.Starts.{start_sound}
-use Rattle.lagprogress.specs.Steady.{IsSteady, IsSteadySystem}
+use Rattle.lagprogress.proofs.Common.{List, [], arith, subst, sym, ◌∷◌, ◌≤◌, Config, Event, Reply, Algorithms, WorldRuns, most_events, AreFirst}
+use Rattle.lagprogress.proofs.Common.{IsStart, WorldState, start_sound, IsSteady, IsSteadySystem}
+use Rattle.lagworld.specs.Sound.{IsSound}
 use Rattle.lagprogress.proofs.Linked.{events_each}
 use Rattle.lagworld.proofs.Headline.{accepted, rises}
 use Rattle.lagworld.proofs.Keeping.{steps_sound}

@@ -1,11 +1,6 @@
 -- What the events of a round are to one of the systems.
-use Rattle.std.proofs.Common.{List, Option, Result, Some, inl, inr, slice_get, ℕ, ◌≡◌, ◌⊎◌}
-use Rattle.lagmodel.specs.World.{Side}
-use Rattle.lagsystem.specs.declared.fault.SystemFault.{SystemFault}
-use Rattle.lagsystem.specs.Calls.{Step, Transmit}
-use Rattle.lagworld.specs.declared.reply.Reply.{Reply}
-use Rattle.lagworld.specs.Events.{Algorithms, WorldSteps}
-use Rattle.lagworld.specs.State.{LinkState, WorldState, half}
+use Rattle.lagprogress.proofs.Common.{List, Option, Result, Some, inl, inr, slice_get, ℕ, ◌≡◌, ◌⊎◌, Side, SystemFault, Step, Transmit, Reply}
+use Rattle.lagprogress.proofs.Common.{Algorithms, WorldSteps, LinkState, WorldState, half}
 use Rattle.lagprogress.proofs.Linked.{each_side}
 use Rattle.lagprogress.proofs.OneCable.{Comes, came_off, emits}
 use Rattle.lagsystem.specs.declared.drive.Reply.TheVariants as answer

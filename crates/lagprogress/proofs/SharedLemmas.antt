@@ -1,49 +1,18 @@
 -- Ports that know their partners find aggregators, also where there are fewer of them than ports of one group.
-use Rattle.std.proofs.Common.{Bool, Some, ap, arith, false, inl, inr, not, refl, slice_get, subst, sym, true, ℕ, ◌&&◌, ◌==◌, ◌∙◌, ◌≡◌, ◌≢◌, ◌⊎◌}
-use Rattle.std.proofs.lemmas.Bool.{cases_Bool}
-use Rattle.std.proofs.lemmas.Bool.Decides.{nat_tests}
-use Rattle.lagtypes.specs.declared.identifiers.AggId.{AggId}
-use Rattle.lagtypes.specs.declared.identifiers.Key.{Key}
-use Rattle.lagtypes.specs.declared.identifiers.SystemId.{SystemId}
-use Rattle.lagtypes.specs.declared.party.Choice.TheVariants.{Standby, Unselected}
-use Rattle.lagtypes.specs.declared.party.Party.{Party}
-use Rattle.lagtypes.specs.Group.{group_of, individual}
-use Rattle.lagtypes.specs.Same.{same_group}
-use Rattle.lagtypes.proofs.SameLemmas.{group-itself}
-use Rattle.slowpdu.specs.Parties.{party_of}
-use Rattle.lagmodel.specs.World.{Side, peer}
-use Rattle.portmachines.specs.declared.receive.ReceiveState.{ReceiveState}
-use Rattle.portmachines.specs.declared.receive.ReceiveState.TheVariants.{Current, Expired, Initialize, PortDisabled}
-use Rattle.portmachines.specs.Machines.{Machines}
-use Rattle.portmachines.specs.Mux.{mux_rows, selected}
-use Rattle.portmachines.specs.Periodic.{RunsPeriodic}
-use Rattle.portmachines.specs.Receive.{receive_rows, same_receive_state}
-use Rattle.portmachines.specs.Rows.{RunsToRest}
-use Rattle.portmachines.specs.Transmit.{count_down}
-use Rattle.lagsystem.specs.declared.system_ports.SystemPort.{SystemPort}
-use Rattle.lagsystem.specs.ModelView.{none_enabled}
-use Rattle.lagsystem.specs.Sound.{NoneHeld}
-use Rattle.lagsystem.specs.State.{SystemState}
-use Rattle.lagsystem.proofs.Rest.{rests}
-use Rattle.lagsystem.proofs.Rising.{all-get, found_place, ports_rise}
-use Rattle.lagworld.specs.Events.{Algorithms}
-use Rattle.lagworld.specs.State.{LinkState, WorldState, half, port_at}
-use Rattle.lagprogress.specs.Bundle.{AllHeard, EnoughAggregators}
-use Rattle.lagprogress.specs.HostRounds.{Clearing, HostRounds, NoneIsLeft, PlayedRounds}
-use Rattle.lagprogress.specs.Progress.{EndKnows, Knows}
-use Rattle.lagprogress.specs.Rounds.{AtEnd, IsHealthyAt, OfPort}
-use Rattle.lagbeside.specs.Selecting.{StandsByFull, WantsAggregator}
-use Rattle.lagprogress.specs.Shared.{AreOneGroup, DownWereLinkedTo, HasAggregators, LeadToKey}
-use Rattle.lagbeside.specs.Selecting.{SharesGroup}
-use Rattle.lagprogress.specs.Steady.{IsSteady}
+use Rattle.lagprogress.proofs.Common.{Bool, Some, ap, arith, false, inl, inr, not, refl, slice_get, subst, sym, true, ℕ, ◌&&◌, ◌==◌, ◌∙◌, ◌≡◌, ◌≢◌}
+use Rattle.lagprogress.proofs.Common.{◌⊎◌, cases_Bool, nat_tests, AggId, Key, SystemId, Standby, Unselected, Party, group_of, individual, same_group}
+use Rattle.lagprogress.proofs.Common.{group-itself, party_of, Side, peer, ReceiveState, Current, Expired, Initialize, PortDisabled, Machines}
+use Rattle.lagprogress.proofs.Common.{mux_rows, selected, RunsPeriodic, receive_rows, same_receive_state, RunsToRest, count_down, SystemPort}
+use Rattle.lagprogress.proofs.Common.{none_enabled, NoneHeld, SystemState, rests, all-get, found_place, ports_rise, Algorithms, LinkState, WorldState}
+use Rattle.lagprogress.proofs.Common.{half, port_at, SharesGroup, StandsByFull, WantsAggregator, EnabledKeep, no, times_keep, AtPort, at_number}
+use Rattle.lagprogress.proofs.Common.{mux_leaves, periodic_leaves, finds_aggregator, shares_aggregator, AllHeard, EnoughAggregators, Clearing}
+use Rattle.lagprogress.proofs.Common.{HostRounds, NoneIsLeft, PlayedRounds, EndKnows, Knows, AtEnd, IsHealthyAt, OfPort, AreOneGroup}
+use Rattle.lagprogress.proofs.Common.{DownWereLinkedTo, HasAggregators, LeadToKey, IsSteady}
 use Rattle.lagprogress.proofs.Choosing.{down_as_read}
 use Rattle.lagprogress.proofs.EachRound.{EachAt, RoundKeeps, host_each, played_keep, played_on, played_steady}
-use Rattle.lagbeside.proofs.Hearing.{EnabledKeep, no, times_keep}
 use Rattle.lagprogress.proofs.Lasting.{IsAsBefore, ends_at, old_port, own_system, still_enough, still_heard, still_one, played_before, played_alike}
 use Rattle.lagprogress.proofs.Lasting.{Alike}
-use Rattle.lagbeside.proofs.OnePort.{AtPort, at_number, mux_leaves, periodic_leaves}
 use Rattle.lagprogress.proofs.Starting.{end_of}
-use Rattle.lagbeside.proofs.Selecting.{finds_aggregator, shares_aggregator}
 use Rattle.lagprogress.proofs.Linked.{machines_there}
 
 -- where no port is held, this one is not

@@ -1,26 +1,10 @@
 -- What the ends of a cable took last bears the present change counts.
-use Rattle.std.proofs.Common.{Bool, Err, List, Ok, Result, Some, [], ap, arith, eqb, eqb-true, false, inl, inr, is_some, refl, subst, sym, true, ℕ}
-use Rattle.std.proofs.Common.{◌==◌, ◌∙◌, ◌∷◌, ◌≡◌, ◌≤◌, ◌⊎◌}
-use Rattle.std.proofs.lemmas.Bool.{cases_Bool, true≢false}
-use Rattle.std.proofs.lemmas.Bool.Decides.{nat_tests}
-use Rattle.std.specs.List.{AllByRecursion}
-use Rattle.slowpdu.specs.declared.pdu.Lacpdu.{Lacpdu}
-use Rattle.lagmodel.specs.World.{Side, peer}
-use Rattle.lagmodel.proofs.Base.{cond_false, cond_true}
-use Rattle.lagsystem.specs.declared.fault.SystemFault.{SystemFault}
-use Rattle.lagsystem.specs.declared.received.Received.{Received}
-use Rattle.lagsystem.specs.Calls.{Carries, IsFrame, Receive}
-use Rattle.lagsystem.specs.Sound.{CallPromise}
-use Rattle.lagsystem.specs.State.{SystemState, port_index}
-use Rattle.lagsystem.proofs.Performed.{processes_or_stays}
-use Rattle.lagworld.specs.declared.histories.PortHistory.{PortHistory}
-use Rattle.lagworld.specs.declared.reply.Reply.{Reply}
-use Rattle.lagworld.specs.Agreement.{is_stamp}
-use Rattle.lagworld.specs.Events.{Algorithms, WorldSteps, set_last_lacpdu, side_of, stamped_in}
-use Rattle.lagworld.specs.HalfCalls.{set_taken}
-use Rattle.lagworld.specs.Messages.{stamp_count}
-use Rattle.lagworld.specs.State.{ItemValue, WorldState, change_count_in, half, history_at, taken_in}
-use Rattle.lagworld.proofs.Arrives.{count_heard, read_log}
+use Rattle.lagprogress.proofs.Common.{Bool, Err, List, Ok, Result, Some, [], ap, arith, eqb, eqb-true, false, inl, inr, is_some, refl, subst, sym}
+use Rattle.lagprogress.proofs.Common.{true, ℕ, ◌==◌, ◌∙◌, ◌∷◌, ◌≡◌, ◌≤◌, ◌⊎◌, cases_Bool, true≢false, nat_tests, AllByRecursion, Lacpdu, Side, peer}
+use Rattle.lagprogress.proofs.Common.{cond_false, cond_true, SystemFault, Received, Carries, IsFrame, Receive, CallPromise, SystemState, port_index}
+use Rattle.lagprogress.proofs.Common.{processes_or_stays, PortHistory, Reply, is_stamp, Algorithms, WorldSteps, set_last_lacpdu, side_of, stamped_in}
+use Rattle.lagprogress.proofs.Common.{set_taken, stamp_count, ItemValue, WorldState, change_count_in, half, history_at, taken_in, count_heard}
+use Rattle.lagprogress.proofs.Common.{read_log}
 use Rattle.lagworld.specs.declared.histories.StampedLacpdu.{StampedLacpdu}
 use Rattle.lagprogress.proofs.Linked.{asked_which, each_side, is_took, peer_twice, put_other, put_there}
 use Rattle.lagprogress.proofs.OneCable.{Arrives, Back, Beside, IsStamped, OnCable, asks, delivers, logged, push, push_each, put}

@@ -1,34 +1,13 @@
 -- The ends of a cable in the world before the rounds.
-use Rattle.std.proofs.Common.{List, Some, [], ap, arith, map, option_map, refl, slice_get, subst, suc, sym, true, zero, ℕ, ◌<◌, ◌∙◌, ◌∷◌, ◌≡◌, ◌≢◌}
-use Rattle.std.proofs.Common.{◌≤◌, ◌⊎◌}
-use Rattle.std.proofs.lemmas.Bool.Decides.{nat_tests}
-use Rattle.std.specs.List.{AllByRecursion}
-use Rattle.lagtypes.specs.declared.party.Party.{Party}
-use Rattle.lagtypes.specs.declared.state.StateBits.{StateBits}
-use Rattle.lagtypes.proofs.StateLemmas.{encode_then_decode}
-use Rattle.slowpdu.specs.declared.pdu.Lacpdu.{Lacpdu}
-use Rattle.lagmodel.specs.World.{IsCabling, One, Side, Two, end_at, peer}
-use Rattle.lagmodel.proofs.Uses.{find_at}
-use Rattle.portmachines.specs.declared.mux.MuxState.TheVariants.{CollectingDistributing}
-use Rattle.portmachines.specs.Machines.{Machines}
-use Rattle.portmachines.specs.Mux.{is_synchronized, same_mux_state}
-use Rattle.portmachines.specs.Transmit.{actor_of, pdu_of}
-use Rattle.lagsystem.specs.declared.system_ports.SystemPort.{SystemPort}
-use Rattle.lagsystem.specs.ModelView.{model_port_of, number_of_port}
-use Rattle.lagsystem.specs.Sound.{IsSound}
-use Rattle.lagsystem.specs.State.{SystemState, machines_of, port_index}
-use Rattle.lagsystem.proofs.Effects.{named}
-use Rattle.lagsystem.proofs.Rising.{are_numbered, found_place, ports_rise}
-use Rattle.lagworld.specs.ModelWorld.{link_ends, world_setup}
-use Rattle.lagworld.specs.State.{ItemValue, LinkState, WorldState, half, port_at, towards}
-use Rattle.lagprogress.specs.ComingUp.{AreApart}
-use Rattle.lagprogress.specs.Rounds.{AtEnd, IsHealthy, IsHealthyAt, NothingInFlight, OfPort}
-use Rattle.lagprogress.specs.Steady.{IsSteady}
-use Rattle.lagbeside.proofs.EachPort.{OfEach}
+use Rattle.lagprogress.proofs.Common.{List, Some, [], ap, arith, map, option_map, refl, slice_get, subst, suc, sym, true, zero, ℕ, ◌<◌, ◌∙◌, ◌∷◌, ◌≡◌}
+use Rattle.lagprogress.proofs.Common.{◌≢◌, ◌≤◌, ◌⊎◌, nat_tests, AllByRecursion, Party, StateBits, encode_then_decode, Lacpdu, IsCabling, One, Side}
+use Rattle.lagprogress.proofs.Common.{Two, end_at, peer, find_at, CollectingDistributing, Machines, is_synchronized, same_mux_state, actor_of, pdu_of}
+use Rattle.lagprogress.proofs.Common.{SystemPort, model_port_of, number_of_port, IsSound, SystemState, machines_of, port_index, named, are_numbered}
+use Rattle.lagprogress.proofs.Common.{found_place, ports_rise, link_ends, world_setup, ItemValue, LinkState, WorldState, half, port_at, towards}
+use Rattle.lagprogress.proofs.Common.{OfEach, AtPort, at_number, higher, AreApart, AtEnd, IsHealthy, IsHealthyAt, NothingInFlight, OfPort, IsSteady}
 use Rattle.lagprogress.proofs.EndFacts.{Says, Synced, activity}
 use Rattle.lagprogress.proofs.Linked.{EndIs, IsGood, Link, each_side, peer_twice, both_at, machines_there}
 use Rattle.lagprogress.proofs.OneCable.{OnCable, as_cable, cable, towards_there}
-use Rattle.lagbeside.proofs.OnePort.{AtPort, at_number, higher}
 use Rattle.lagprogress.proofs.OneRound.{Nothing}
 use Rattle.lagprogress.proofs.Claims.{IsNamed}
 

@@ -1,33 +1,12 @@
 -- A settling gives no port another value of Selected where what the Selection Logic reads is as it was at rest.
-use Rattle.std.proofs.Common.{Bool, List, None, Some, [], ap, arith, false, if◌then◌else◌, inl, inr, length, not, option_map, refl, slice_get}
-use Rattle.std.proofs.Common.{slice_set, subst, suc, sym, true, zero, ℕ, ◌&&◌, ◌∙◌, ◌∷◌, ◌≡◌}
-use Rattle.std.proofs.lemmas.Bool.{and_parts}
-use Rattle.std.proofs.lemmas.Bool.Decides.{nat_tests}
-use Rattle.std.proofs.lemmas.Option.{none-some, same_Some}
-use Rattle.std.specs.List.{list_all}
-use Rattle.lagtypes.specs.declared.identifiers.AggId.{AggId}
-use Rattle.lagtypes.specs.declared.identifiers.Key.{Key}
-use Rattle.lagtypes.specs.declared.party.Party.{Party}
-use Rattle.slowpdu.specs.Parties.{party_of}
-use Rattle.selection.specs.declared.view.PortView.{PortView}
-use Rattle.selection.specs.Choice.{chosen_if_eligible, has_group_of, has_no_occupant, has_occupant, is_aggregator, lowest, occupants}
-use Rattle.selection.specs.Choice.{occupants_share_group, or_else, ports_that_chose}
-use Rattle.selection.specs.Limits.{is_below}
-use Rattle.selection.specs.Views.{is_eligible, stands_by}
+use Rattle.lagprogress.proofs.Common.{Bool, List, None, Some, [], ap, arith, false, if◌then◌else◌, inl, inr, length, not, option_map, refl, slice_get}
+use Rattle.lagprogress.proofs.Common.{slice_set, subst, suc, sym, true, zero, ℕ, ◌&&◌, ◌∙◌, ◌∷◌, ◌≡◌, and_parts, nat_tests, none-some, same_Some}
+use Rattle.lagprogress.proofs.Common.{list_all, AggId, Key, Party, party_of, PortView, chosen_if_eligible, has_group_of, has_no_occupant}
+use Rattle.lagprogress.proofs.Common.{has_occupant, is_aggregator, lowest, occupants, occupants_share_group, or_else, ports_that_chose, is_below}
+use Rattle.lagprogress.proofs.Common.{is_eligible, stands_by, SystemPort, MuxIsSettled, ChoosesIn, PromotesNext, choice_for, choice_in, with_choice}
+use Rattle.lagprogress.proofs.Common.{IsSound, SystemState, aggregators_value, port_numbers, may_choose, selection_view, views, next_stands, takes_is}
+use Rattle.lagprogress.proofs.Common.{choices_keep, promotions_keep, Rises, all-get, ports_rise, set_same, no, clash, seen_stands, stands, when_is}
 use Rattle.selection.proofs.LimitLemmas.{is_next, none_is_next}
-use Rattle.lagsystem.specs.declared.system_ports.SystemPort.{SystemPort}
-use Rattle.lagsystem.specs.NothingToSettle.{MuxIsSettled}
-use Rattle.lagsystem.specs.Settling.{ChoosesIn, PromotesNext, choice_for, choice_in, with_choice}
-use Rattle.lagsystem.specs.Sound.{IsSound}
-use Rattle.lagsystem.specs.State.{SystemState, aggregators_value, port_numbers}
-use Rattle.lagsystem.specs.Views.{may_choose, selection_view, views}
-use Rattle.lagsystem.proofs.Limiting.{next_stands}
-use Rattle.lagsystem.proofs.NoneLeft.{takes_is}
-use Rattle.lagsystem.proofs.PromotionLemmas.{choices_keep, promotions_keep}
-use Rattle.lagsystem.proofs.Rising.{Rises, all-get, ports_rise}
-use Rattle.lagsystem.proofs.SettlingLemmas.{set_same}
-use Rattle.lagbeside.proofs.Hearing.{no}
-use Rattle.lagbeside.proofs.Selecting.{clash, seen_stands, stands, when_is}
 
 -- the second is read as the first, and may choose only if that may
 pub record SameView (x y : SystemPort) : Type 0 where

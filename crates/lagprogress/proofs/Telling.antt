@@ -1,44 +1,25 @@
 -- Once an end has heard the other, it is told by an LACPDU when the other is synchronized.
-use Rattle.std.proofs.Common.{Bool, Err, List, None, Ok, Option, Result, Some, [], ap, arith, false, inl, inr, refl, slice_get, subst, sym, true, ℕ}
-use Rattle.std.proofs.Common.{◌++◌, ◌∙◌, ◌∷◌, ◌≡◌, ◌≤◌, ◌⊎◌}
-use Rattle.std.proofs.lemmas.Bool.{cases_Bool}
-use Rattle.std.proofs.lemmas.Bool.Decides.{nat_tests}
-use Rattle.std.proofs.lemmas.Option.{none-some, same_Some}
-use Rattle.std.specs.List.{AllByRecursion}
-use Rattle.slowpdu.specs.declared.pdu.Lacpdu.{Lacpdu}
-use Rattle.lagmodel.specs.World.{Side, peer}
-use Rattle.portmachines.specs.Machines.{Machines}
-use Rattle.portmachines.specs.Mux.{partner_synchronized}
-use Rattle.portmachines.specs.Transmit.{after_sending, is_due, pdu_of}
-use Rattle.distributor.specs.Changes.{marker_due}
-use Rattle.lagsystem.specs.declared.fault.SystemFault.{SystemFault}
-use Rattle.lagsystem.specs.declared.received.Received.{Received}
-use Rattle.lagsystem.specs.declared.system_ports.SystemPort.{SystemPort}
-use Rattle.lagsystem.specs.Calls.{Carries, IsFrame, OnlyPortChangesBy, ProcessesLacpdu, Receive, Step, ThenSettles, Transmit}
-use Rattle.lagsystem.specs.Sending.{IsLacpduOf, SendsMarkerOf, TransmitsAt, TransmitsIf}
-use Rattle.lagsystem.specs.Sound.{CallPromise}
-use Rattle.lagsystem.specs.State.{SystemState, port_index}
-use Rattle.lagsystem.proofs.Rising.{all-get, found_place, ports_rise}
-use Rattle.lagworld.specs.declared.reply.Reply.{Reply}
-use Rattle.lagworld.specs.Events.{Algorithms, WorldSteps, side_of}
-use Rattle.lagworld.specs.State.{ItemValue, WorldState, half}
+use Rattle.lagprogress.proofs.Common.{Bool, Err, List, None, Ok, Option, Result, Some, [], ap, arith, false, inl, inr, refl, slice_get, subst, sym}
+use Rattle.lagprogress.proofs.Common.{true, ℕ, ◌++◌, ◌∙◌, ◌∷◌, ◌≡◌, ◌≤◌, ◌⊎◌, cases_Bool, nat_tests, none-some, same_Some, AllByRecursion, Lacpdu}
+use Rattle.lagprogress.proofs.Common.{Side, peer, Machines, partner_synchronized, after_sending, is_due, pdu_of, marker_due, SystemFault, Received}
+use Rattle.lagprogress.proofs.Common.{SystemPort, Carries, IsFrame, OnlyPortChangesBy, ProcessesLacpdu, Receive, Step, ThenSettles, Transmit}
+use Rattle.lagprogress.proofs.Common.{IsLacpduOf, SendsMarkerOf, TransmitsAt, TransmitsIf, CallPromise, SystemState, port_index, all-get, found_place}
+use Rattle.lagprogress.proofs.Common.{ports_rise, Reply, Algorithms, WorldSteps, side_of, ItemValue, WorldState, half, KeptBySettling, OfEach}
+use Rattle.lagprogress.proofs.Common.{asked_each, takes_each, AtPort, at_number, settling_leaves}
 use Rattle.lagprogress.proofs.Claims.{Claims, Owes, Owing, SaysSynced, Wakeful, claim_said, claims_or_not, owes_takes, owing_settles, takes_claim}
 use Rattle.lagprogress.proofs.Claims.{wakeful_along}
 use Rattle.lagprogress.proofs.Climbing.{PartnerInSync}
 use Rattle.lagprogress.proofs.Delivering.{deliver_moves}
-use Rattle.lagbeside.proofs.EachPort.{KeptBySettling, OfEach, asked_each}
 use Rattle.lagprogress.proofs.EndFacts.{Along, IsEnd, SameActor, takes_end}
 use Rattle.lagprogress.proofs.Linked.{Arrived, EndIs, Fits, Flying, IsGood, Link, arrival, asked_which, beside_link, each_both, each_map, each_side}
 use Rattle.lagprogress.proofs.Linked.{elsewhere_each, emit_link, found, peer_twice, push_other, push_there, put_other, put_there}
 use Rattle.lagprogress.proofs.OneCable.{Arrives, Back, Beside, Went, push, put}
-use Rattle.lagbeside.proofs.OnePort.{AtPort, at_number, settling_leaves}
 use Rattle.lagprogress.proofs.OneRound.{flies, same_ports_then}
 use Rattle.lagprogress.proofs.Passing.{carries_one, lacpdu_is_sent, marker_carries_none, sends_due, sent_carries}
 use Rattle.slowpdu.specs.declared.pdu.Pdu.TheVariants as pdu
 use Rattle.lagsystem.specs.declared.drive.Reply.TheVariants as answer
 use Rattle.lagsystem.specs.declared.received.Received.TheVariants as received
 use Rattle.lagscript.specs.declared.event.Event.TheVariants as event
-use Rattle.lagbeside.proofs.Knowing.{takes_each}
 
 -- what is on its way
 

@@ -1,18 +1,7 @@
 -- What no event of a world changes.
-use Rattle.std.proofs.Common.{List, ap, refl, ℕ, ◌∙◌, ◌≡◌}
-use Rattle.lagmodel.specs.World.{Side}
-use Rattle.distributor.specs.Conversations.{Table}
-use Rattle.lagsystem.specs.declared.drive.Reply.{Reply as Answer}
-use Rattle.lagsystem.specs.declared.system_ports.SystemPort.{SystemPort}
-use Rattle.lagsystem.specs.Calls.{Call, Step, TableRun}
-use Rattle.lagsystem.specs.State.{SystemState, with_system_ports, with_table}
-use Rattle.lagsystem.proofs.Keeps.{Step-frame}
-use Rattle.lagscript.specs.declared.event.Event.{Event}
-use Rattle.lagworld.specs.declared.reply.Reply.{Reply}
-use Rattle.lagworld.specs.Events.{Algorithms, WorldRuns}
-use Rattle.lagworld.specs.State.{WorldState, half}
+use Rattle.lagprogress.proofs.Common.{List, ap, refl, ℕ, ◌∙◌, ◌≡◌, Side, Table, Answer, SystemPort, Call, Step, TableRun, SystemState}
+use Rattle.lagprogress.proofs.Common.{with_system_ports, with_table, Step-frame, Event, Reply, Algorithms, WorldRuns, WorldState, half, calls_each}
 use Rattle.lagprogress.proofs.Linked.{events_each}
-use Rattle.lagbeside.proofs.OnePort.{calls_each}
 
 module _ (X : Type 0) (g : SystemState → X)
     (kept : (s : SystemState) (ports : List SystemPort) (t : Table) → g (with_table (with_system_ports s ports) t) ≡ g s) where

@@ -1,5 +1,4 @@
-use Rattle.lagprogress.specs.Bundle.{BothAreActive, OneIsActive}
-use Rattle.lagprogress.specs.Rounds.{up_if_both_active, up_if_one_is}
+use Rattle.lagprogress.proofs.Common.{BothAreActive, OneIsActive, up_if_both_active, up_if_one_is}
 use Rattle.lagprogress.proofs.Bundling.{each_active_link_comes_up_by_hosts, each_link_comes_up_by_hosts}
 use Rattle.lagprogress.proofs.PlainRounds.{come_up}
 use Rattle.lagprogress.proofs.each_link_comes_up.Goals as goal

@@ -1,5 +1,4 @@
-use Rattle.lagprogress.specs.Bundle.{BothAreActive, OneIsActive}
-use Rattle.lagprogress.specs.Rounds.{known_if_both_active, known_if_one_is}
+use Rattle.lagprogress.proofs.Common.{BothAreActive, OneIsActive, known_if_both_active, known_if_one_is}
 use Rattle.lagprogress.proofs.HostKnowing.{active_ends_know_by_hosts, ends_know_by_hosts}
 use Rattle.lagprogress.proofs.PlainRounds.{know}
 use Rattle.lagprogress.proofs.ends_of_each_cable_come_to_know.Goals as goal

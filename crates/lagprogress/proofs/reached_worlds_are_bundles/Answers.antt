@@ -1,4 +1,4 @@
-use Rattle.lagprogress.specs.Bundle.{BothAreActive, OneIsActive}
+use Rattle.lagprogress.proofs.Common.{BothAreActive, OneIsActive}
 use Rattle.lagprogress.proofs.MadeWorlds.{host_reached_is_bundle, reached_apart, reached_is_bundle}
 use Rattle.lagprogress.proofs.reached_worlds_are_bundles.Goals as goal
 

@@ -1,5 +1,4 @@
-use Rattle.lagprogress.specs.Bundle.{BothAreActive, OneIsActive}
-use Rattle.lagprogress.specs.Rounds.{up_if_both_active, up_if_one_is}
+use Rattle.lagprogress.proofs.Common.{BothAreActive, OneIsActive, up_if_both_active, up_if_one_is}
 use Rattle.lagprogress.proofs.Pairing.{active_selected_pairs_agree_by_hosts, active_selected_pairs_come_up_by_hosts, selected_pairs_agree_by_hosts}
 use Rattle.lagprogress.proofs.Pairing.{selected_pairs_come_up_by_hosts}
 use Rattle.lagprogress.proofs.PlainRounds.{pairs_agree, pairs_come_up}

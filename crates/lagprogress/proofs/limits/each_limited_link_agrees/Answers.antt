@@ -1,5 +1,4 @@
-use Rattle.lagprogress.specs.Bundle.{BothAreActive, OneIsActive}
-use Rattle.lagprogress.specs.Rounds.{up_if_both_active, up_if_one_is}
+use Rattle.lagprogress.proofs.Common.{BothAreActive, OneIsActive, up_if_both_active, up_if_one_is}
 use Rattle.lagprogress.proofs.LimitLemmas.{each_active_limited_link_agrees_by_hosts, each_limited_link_agrees_by_hosts}
 use Rattle.lagprogress.proofs.PlainRounds.{limited_agree}
 use Rattle.lagprogress.proofs.limits.each_limited_link_agrees.Goals as goal

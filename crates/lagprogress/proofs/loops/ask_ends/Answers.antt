@@ -1,4 +1,4 @@
-use Rattle.std.proofs.Common.{arith, length, refl, sym, ◌<◌, ◌∙◌}
+use Rattle.lagprogress.proofs.Common.{arith, length, refl, sym, ◌<◌, ◌∙◌}
 use Rattle.lagprogress.proofs.Looping.{asks_all_ends, asks_none, asks_one_more, cable_there, stops_first, stops_second}
 use Rattle.lagprogress.proofs.Played.{on_err}
 use Rattle.lagprogress.proofs.loops.ask_ends.Goals as goal

@@ -1,8 +1,4 @@
-use Rattle.std.proofs.Common.{◌-◌, ◌≡◌, ◌≤◌}
-use Rattle.lagworld.specs.Events.{most_events}
-use Rattle.lagworld.specs.ModelWorld.{world_setup}
-use Rattle.lagworld.specs.Sound.{both_algorithms}
-use Rattle.lagprogress.specs.PlayedByHosts.{AsksEnds}
+use Rattle.lagprogress.proofs.Common.{◌-◌, ◌≡◌, ◌≤◌, most_events, world_setup, both_algorithms, AsksEnds}
 use Rattle.lagprogress.proofs.loops.ask_ends.Given as goal
 
 abbrev pub invariant-loop-asked : goal.invariant-loop-asked

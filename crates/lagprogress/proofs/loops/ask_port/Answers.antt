@@ -1,4 +1,4 @@
-use Rattle.std.proofs.Common.{arith, refl, sym, ◌+◌, ◌∙◌, ◌≡◌, ◌≤◌}
+use Rattle.lagprogress.proofs.Common.{arith, refl, sym, ◌+◌, ◌∙◌, ◌≡◌, ◌≤◌}
 use Rattle.lagprogress.proofs.Looping.{asks_more, asks_port, plays_nothing, refused_ask, stops_asking_port}
 use Rattle.lagprogress.proofs.Played.{on_err}
 use Rattle.lagprogress.proofs.loops.ask_port.Goals as goal

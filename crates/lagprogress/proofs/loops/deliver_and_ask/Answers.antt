@@ -1,4 +1,4 @@
-use Rattle.std.proofs.Common.{refl, suc, ◌∙◌}
+use Rattle.lagprogress.proofs.Common.{refl, suc, ◌∙◌}
 use Rattle.lagprogress.proofs.Looping.{plays_again, plays_both, plays_delivers, stops_delivering_now, stops_later}
 use Rattle.lagprogress.proofs.Played.{on_err}
 use Rattle.lagprogress.proofs.loops.deliver_and_ask.Goals as goal

@@ -1,8 +1,4 @@
-use Rattle.std.proofs.Common.{ℕ, ◌-◌, ◌≡◌}
-use Rattle.lagworld.specs.Events.{most_events}
-use Rattle.lagworld.specs.ModelWorld.{world_setup}
-use Rattle.lagworld.specs.Sound.{both_algorithms}
-use Rattle.lagprogress.specs.PlayedByHosts.{DeliversAndAsks}
+use Rattle.lagprogress.proofs.Common.{ℕ, ◌-◌, ◌≡◌, most_events, world_setup, both_algorithms, DeliversAndAsks}
 use Rattle.lagprogress.proofs.loops.deliver_and_ask.Given as goal
 
 abbrev pub invariant-loop-world : goal.invariant-loop-world

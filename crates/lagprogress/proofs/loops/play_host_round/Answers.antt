@@ -1,5 +1,4 @@
-use Rattle.std.proofs.Common.{arith, inl, inr}
-use Rattle.lagmodel.specs.World.{One}
+use Rattle.lagprogress.proofs.Common.{arith, inl, inr, One}
 use Rattle.lagprogress.proofs.Looping.{host_round_drains, plays_host_round, stops_after_ticks, stops_later}
 use Rattle.lagprogress.proofs.Played.{if_err, if_ok, on_err, too_many}
 use Rattle.lagprogress.proofs.loops.play_host_round.Goals as goal

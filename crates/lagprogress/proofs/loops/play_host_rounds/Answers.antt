@@ -1,12 +1,5 @@
-use Rattle.std.proofs.Common.{arith, subst, ℕ, ◌∙◌, ◌≡◌, ◌≤◌}
-use Rattle.lagmodel.specs.World.{One, Side}
-use Rattle.lagworld.specs.Events.{Algorithms}
-use Rattle.lagworld.specs.State.{WorldState}
-use Rattle.lagprogress.specs.Bundle.{BothAreActive, OneIsActive}
-use Rattle.lagprogress.specs.HostFreed.{DrainingRounds}
-use Rattle.lagprogress.specs.HostRounds.{HostRounds}
-use Rattle.lagprogress.specs.Rounds.{up_if_both_active, up_if_one_is}
-use Rattle.lagprogress.specs.Steady.{IsSteady}
+use Rattle.lagprogress.proofs.Common.{arith, subst, ℕ, ◌∙◌, ◌≡◌, ◌≤◌, One, Side, Algorithms, WorldState, BothAreActive, OneIsActive, DrainingRounds}
+use Rattle.lagprogress.proofs.Common.{HostRounds, up_if_both_active, up_if_one_is, IsSteady}
 use Rattle.lagprogress.proofs.Bundling.{each_active_link_agrees_by_hosts, each_active_link_comes_up_by_hosts, each_link_agrees_by_hosts}
 use Rattle.lagprogress.proofs.Bundling.{each_link_comes_up_by_hosts}
 use Rattle.lagprogress.proofs.Freeing.{none_is_held_where_active_by_hosts, nothing_is_held_by_hosts}

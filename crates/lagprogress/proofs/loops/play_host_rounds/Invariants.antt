@@ -1,9 +1,4 @@
-use Rattle.std.proofs.Common.{ℕ, ◌-◌, ◌≡◌, ◌≤◌}
-use Rattle.lagmodel.specs.World.{Side}
-use Rattle.lagworld.specs.ModelWorld.{world_setup}
-use Rattle.lagworld.specs.Sound.{both_algorithms}
-use Rattle.lagprogress.specs.HostFreed.{DrainingRounds}
-use Rattle.lagprogress.specs.Steady.{IsSteady}
+use Rattle.lagprogress.proofs.Common.{ℕ, ◌-◌, ◌≡◌, ◌≤◌, Side, world_setup, both_algorithms, DrainingRounds, IsSteady}
 use Rattle.lagprogress.proofs.loops.play_host_rounds.Given as goal
 
 abbrev pub invariant-loop-done : goal.invariant-loop-done

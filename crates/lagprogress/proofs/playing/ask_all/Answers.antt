@@ -1,4 +1,4 @@
-use Rattle.std.proofs.Common.{arith, sym, ◌∙◌}
+use Rattle.lagprogress.proofs.Common.{arith, sym, ◌∙◌}
 use Rattle.lagprogress.proofs.Played.{asks_more, asks_part, on_err}
 use Rattle.lagprogress.proofs.playing.ask_all.Goals as goal
 

@@ -1,8 +1,4 @@
-use Rattle.std.proofs.Common.{take, ◌-◌, ◌≡◌, ◌≤◌}
-use Rattle.lagworld.specs.ModelWorld.{world_setup}
-use Rattle.lagworld.specs.Sound.{both_algorithms}
-use Rattle.lagprogress.specs.Played.{RunsAll}
-use Rattle.lagprogress.specs.Rounds.{asks_all}
+use Rattle.lagprogress.proofs.Common.{take, ◌-◌, ◌≡◌, ◌≤◌, world_setup, both_algorithms, RunsAll, asks_all}
 use Rattle.lagprogress.proofs.playing.ask_all.Given as goal
 
 abbrev pub invariant-loop-asked : goal.invariant-loop-asked

@@ -1,4 +1,4 @@
-use Rattle.std.proofs.Common.{◌∙◌}
+use Rattle.lagprogress.proofs.Common.{◌∙◌}
 use Rattle.lagprogress.proofs.Played.{delivers_both, on_err}
 use Rattle.lagprogress.proofs.playing.deliver_all.Goals as goal
 

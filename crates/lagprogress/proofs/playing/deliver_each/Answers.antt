@@ -1,8 +1,5 @@
-use Rattle.std.proofs.Common.{arith, length, refl, ◌+◌, ◌<◌, ◌∙◌, ◌≡◌, ◌≤◌}
-use Rattle.lagmodel.specs.World.{One, Two}
-use Rattle.lagworld.specs.Events.{Algorithms}
-use Rattle.lagworld.specs.Sound.{both_algorithms}
-use Rattle.lagprogress.specs.Played.{IsOutOfMemoryOrSpent, RefusesDelivery}
+use Rattle.lagprogress.proofs.Common.{arith, length, refl, ◌+◌, ◌<◌, ◌∙◌, ◌≡◌, ◌≤◌, One, Two, Algorithms, both_algorithms, IsOutOfMemoryOrSpent}
+use Rattle.lagprogress.proofs.Common.{RefusesDelivery}
 use Rattle.lagprogress.proofs.Played.{delivery_refused, nothing_before, nothing_left, on_err, one_more, quiet_more, refused_delivery}
 use Rattle.lagprogress.proofs.playing.deliver_each.Goals as goal
 

@@ -1,8 +1,4 @@
-use Rattle.std.proofs.Common.{false, true, ◌-◌, ◌<◌, ◌≡◌, ◌≤◌}
-use Rattle.lagworld.specs.Events.{most_events}
-use Rattle.lagworld.specs.ModelWorld.{world_setup}
-use Rattle.lagworld.specs.Sound.{both_algorithms}
-use Rattle.lagprogress.specs.Played.{Delivers}
+use Rattle.lagprogress.proofs.Common.{false, true, ◌-◌, ◌<◌, ◌≡◌, ◌≤◌, most_events, world_setup, both_algorithms, Delivers}
 use Rattle.lagprogress.proofs.Played.{IsQuiet}
 use Rattle.lagprogress.proofs.playing.deliver_each.Given as goal
 

@@ -1,4 +1,4 @@
-use Rattle.std.proofs.Common.{arith, ◌∙◌}
+use Rattle.lagprogress.proofs.Common.{arith, ◌∙◌}
 use Rattle.lagprogress.proofs.Played.{on_err, refused_one, runs_next, stopped_part}
 use Rattle.lagprogress.proofs.playing.play.Goals as goal
 

@@ -1,7 +1,4 @@
-use Rattle.std.proofs.Common.{length, take, ◌-◌, ◌≡◌, ◌≤◌}
-use Rattle.lagworld.specs.ModelWorld.{world_setup}
-use Rattle.lagworld.specs.Sound.{both_algorithms}
-use Rattle.lagprogress.specs.Played.{RunsAll}
+use Rattle.lagprogress.proofs.Common.{length, take, ◌-◌, ◌≡◌, ◌≤◌, world_setup, both_algorithms, RunsAll}
 use Rattle.lagprogress.proofs.playing.play.Given as goal
 
 abbrev pub invariant-loop-acted : goal.invariant-loop-acted

@@ -1,4 +1,4 @@
-use Rattle.std.proofs.Common.{inr}
+use Rattle.lagprogress.proofs.Common.{inr}
 use Rattle.lagprogress.proofs.Played.{if_err, if_ok, on_err, round_played, stops_asking, stops_delivering, stops_ticking, too_many}
 use Rattle.lagprogress.proofs.playing.play_round.Goals as goal
 

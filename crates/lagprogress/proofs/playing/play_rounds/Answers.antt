@@ -1,8 +1,5 @@
-use Rattle.std.proofs.Common.{arith, subst, ℕ, ◌∙◌, ◌≡◌, ◌≤◌}
-use Rattle.lagworld.specs.Events.{Algorithms}
-use Rattle.lagworld.specs.State.{WorldState}
-use Rattle.lagprogress.specs.Bundle.{BothAreActive, OneIsActive}
-use Rattle.lagprogress.specs.Rounds.{Rounds, freed_if_both_active, freed_if_one_is, up_if_both_active, up_if_one_is}
+use Rattle.lagprogress.proofs.Common.{arith, subst, ℕ, ◌∙◌, ◌≡◌, ◌≤◌, Algorithms, WorldState, BothAreActive, OneIsActive, Rounds}
+use Rattle.lagprogress.proofs.Common.{freed_if_both_active, freed_if_one_is, up_if_both_active, up_if_one_is}
 use Rattle.lagprogress.proofs.Bundling.{each_active_link_agrees_by_hosts, each_active_link_comes_up_by_hosts, each_link_agrees_by_hosts}
 use Rattle.lagprogress.proofs.Bundling.{each_link_comes_up_by_hosts}
 use Rattle.lagprogress.proofs.Freeing.{none_is_held_where_active, nothing_is_held}

@@ -1,7 +1,4 @@
-use Rattle.std.proofs.Common.{◌-◌, ◌≡◌, ◌≤◌}
-use Rattle.lagworld.specs.ModelWorld.{world_setup}
-use Rattle.lagworld.specs.Sound.{both_algorithms}
-use Rattle.lagprogress.specs.Rounds.{Rounds}
+use Rattle.lagprogress.proofs.Common.{◌-◌, ◌≡◌, ◌≤◌, world_setup, both_algorithms, Rounds}
 use Rattle.lagprogress.proofs.playing.play_rounds.Given as goal
 
 abbrev pub invariant-loop-done : goal.invariant-loop-done
