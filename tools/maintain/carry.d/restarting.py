@@ -17,7 +17,7 @@ from typing import Callable, Iterator, Sequence
 
 from beside import print_rows, switch_ends
 from booted import BOOTS, Machine
-from bonds import (COMES_BACK, COMES_UP, DEVICE, DIRECT, FLIGHT, FLOWS, MIDDLE, RATE, End, Outcome, Programs, ask_gro, cables, check_order, lay_direct,
+from bonds import (COMES_BACK, COMES_UP, DEVICE, DIRECT, FLIGHT, FLOWS, MIDDLE, RATE, End, Outcome, Programs, ask_gro, cables, check_none_lost, check_order, lay_direct,
                    move_all, run_flows)
 from checking import Failed, Skipped, check, found, within
 from daemon import ENDS, SYSTEM, Daemon, Part
@@ -282,7 +282,7 @@ def check_flows(programs: Programs, kept: Kept, peer: End, what: str) -> None:
     run_flows(programs, 1)
     outcome = run_flows(programs, 2)
     check_order(outcome, what, kept.text(), kept.printed()[-2000:])
-    check(outcome.lost() == 0, f"{what}: {outcome.lost()} frames are lost afterwards", outcome, kept.text(), peer.text())
+    check_none_lost(outcome, kept, peer, f"{what}: {outcome.lost()} frames are lost afterwards")
     if "--fast" in kept.options:
         passed = kept.carry()["fast_conversations"]
         check(passed >= FLOWS // 2, f"{what}: the kernel passes {passed} conversations on", kept.text(), kept.printed()[-2000:])
