@@ -291,6 +291,7 @@ static int check_all(const char *name) {
     check_groups(dropper, LOSE, at);
     check_dropper(dropper);
     CHECK(receive(handover, "02:00:00:00:00:01", OTHER, 0, 60) == GO_ON);
+    CHECK(receive(handover, SLOW_GROUP, ETH_P_SLOW, SUBTYPE_MARKER, 60) == LOSE);
     check_refusals();
     return tell_checks();
 }
