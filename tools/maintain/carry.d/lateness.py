@@ -42,5 +42,5 @@ def waited() -> dict[int, float]:
 
 
 def since(before: dict[int, float]) -> float:
-    """How many seconds the processes that run since then waited, all together: what is late because of the machine is no later than that."""
-    return sum(now - before[process] for process, now in waited().items() if process in before)
+    """How many seconds the processes that run now waited since then, all together: what is late because of the machine is no later than that."""
+    return sum(now - before.get(process, 0.0) for process, now in waited().items())
