@@ -257,7 +257,7 @@ int handover(struct __sk_buff *skb) {
         uint64_t mac;
     } to = {.mac = 0};
     uint32_t type;
-    if (skb->protocol == bpf_htons(ETH_P_SLOW)) return LOSE;
+    if (!skb->vlan_present && skb->protocol == bpf_htons(ETH_P_SLOW)) return LOSE;
     if (!host) return GO_ON;
     (void)read_octets(&frame, 0, &to, ETH_ALEN);
     if (to.mac == bpf_cpu_to_be64(0xffffffffffff0000))
