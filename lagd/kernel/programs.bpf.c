@@ -246,7 +246,8 @@ int chooser(struct __sk_buff *skb) {
     return GO_ON;
 }
 
-/* Where what came up comes in at the TAP device: to whom it is addressed is seen anew, since a member has another address. */
+/* Where what came up comes in at the TAP device: to whom it is addressed is seen anew, since a member has another address. A marker ends here: the
+ * daemon has it already, and where nothing takes it the kernel counts it as a frame that was dropped. */
 SEC("tc")
 int handover(struct __sk_buff *skb) {
     const struct frame frame = {skb};
@@ -256,6 +257,7 @@ int handover(struct __sk_buff *skb) {
         uint64_t mac;
     } to = {.mac = 0};
     uint32_t type;
+    if (!skb->vlan_present && skb->protocol == bpf_htons(ETH_P_SLOW)) return LOSE;
     if (!host) return GO_ON;
     (void)read_octets(&frame, 0, &to, ETH_ALEN);
     if (to.mac == bpf_cpu_to_be64(0xffffffffffff0000))

@@ -12,7 +12,7 @@ import time
 from functools import partial
 from typing import Callable, Iterator
 
-from bonds import (COMES_BACK, COMES_UP, DEVICE, FLOWS, MIDDLE, End, Programs, ask_gro, cables, check_end, check_order, every, lay_direct, move_all, pair,
+from bonds import (COMES_BACK, COMES_UP, DEVICE, FLOWS, MIDDLE, End, Programs, ask_gro, cables, check_end, check_none_lost, check_order, every, lay_direct, move_all, pair,
                    run_flows, several)
 from checking import Skipped, check, within
 from restarting import RESTARTS, hand_over, managed
@@ -102,7 +102,7 @@ def queues_all(programs: Programs) -> None:
         with pair(programs, options=[*way, *ALL], queues=QUEUES) as (_, ours, theirs):
             outcome = run_flows(programs, SECONDS, every(1, SECONDS - 1, move_all(ours)))
             check_order(outcome, f"{name_of(way)}, over cables", ours.text(), theirs.text())
-            check(outcome.lost() == 0, f"{name_of(way)}: none was lost", outcome, ours.text(), theirs.text())
+            check_none_lost(outcome, ours, theirs, f"{name_of(way)}: none was lost")
 
 
 def queues_kept(programs: Programs) -> None:

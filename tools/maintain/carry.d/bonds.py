@@ -17,6 +17,7 @@ from typing import Callable, Iterator, Sequence, TypedDict
 
 from checking import Failed, Skipped, check, command, within
 from daemon import OTHER, SYSTEM, Daemon
+from lateness import since, waited
 from linking import DAEMON, STRICT, build, build_daemon
 from repository import CACHE, MAINTAIN, TOP, WARNINGS
 from spaces import OURS, THEIRS, inside, ip, within_space
@@ -41,6 +42,8 @@ RIGHTS = ("setpriv", "--bounding-set", "-all,+net_raw,+net_admin,+bpf", "--inh-c
 ANSWERS = 5
 # What a run of flows takes beyond the time in which frames are sent.
 AFTER = 2.0
+# For how many seconds a daemon holds a frame at most, while it waits for the answer of a marker.
+HOLDS = 1.0
 
 
 @dataclass
@@ -297,6 +300,8 @@ class Outcome:
     delay_ms: int = 0
     strange: int = 0
     lost_here: int = 0
+    # For how many seconds daemons and cables waited for a processor, all together.
+    waited: float = 0.0
 
     def lost(self) -> int:
         return self.sent - self.refused - self.received
@@ -320,7 +325,7 @@ def run_flows(programs: Programs, seconds: float, events: Sequence[Event] = (), 
     receiver = launch(THEIRS, "receive", devices[1], flows, seconds + AFTER)
     time.sleep(0.3)
     sender = launch(OURS, "send", devices[0], rate, flows, seconds, kind)
-    begin = time.monotonic()
+    begin, before = time.monotonic(), waited()
     try:
         for at, event in events:
             time.sleep(max(0.0, begin + at - time.monotonic()))
@@ -330,7 +335,7 @@ def run_flows(programs: Programs, seconds: float, events: Sequence[Event] = (), 
         for it in (sender, receiver):
             it.kill()
             it.wait()
-    return Outcome(**json.loads(told[0]), **json.loads(told[1]))
+    return Outcome(**json.loads(told[0]), **json.loads(told[1]), waited=since(before))
 
 
 def check_order(outcome: Outcome, what: str, *told: object) -> None:
@@ -338,6 +343,16 @@ def check_order(outcome: Outcome, what: str, *told: object) -> None:
     text = f"{outcome.received:,} of {outcome.sent:,} frames came, {outcome.overtaken} overtaken, {outcome.twice} twice"
     holds = outcome.overtaken == outcome.twice == outcome.strange == 0 and outcome.received > (outcome.sent - outcome.refused) // 4
     check(holds, f"{what}: {text}, longest gap {outcome.gap_ms} ms", outcome, *told)
+
+
+def check_none_lost(outcome: Outcome, ours: End, theirs: End, what: str = "none was lost") -> None:
+    """No frame was lost. Where all that were had waited too long for the answer of a marker, and the machine gave its processors so late
+    that this alone can be why, a line says so, and nothing is counted."""
+    held, lost = ours.carry()["held_too_long"], outcome.lost()
+    if 0 < lost == held and outcome.waited >= HOLDS:
+        print(f"inconclusive: {what}: {held:,} frames were held too long; daemons and cables waited {outcome.waited:.1f} s for a processor", flush=True)
+        return
+    check(lost == 0, what, outcome, ours.text(), theirs.text())
 
 
 def check_end(end: End, name: str) -> None:

@@ -11,7 +11,7 @@ import struct
 import time
 from typing import Any, ContextManager
 
-from bonds import (COMES_BACK, COMES_UP, DEVICE, FLOWS, RIGHTS, Cables, End, Programs, cables, check_end, check_order, check_taken, check_whole,
+from bonds import (COMES_BACK, COMES_UP, DEVICE, FLOWS, RIGHTS, Cables, End, Programs, cables, check_end, check_none_lost, check_order, check_taken, check_whole,
                    every, kernel_count, lay_direct, move_all, pair, run_flows)
 from checking import Failed, Skipped, check, command, within
 from spaces import OURS, THEIRS, inside, ip, packet_socket, within_space
@@ -55,7 +55,7 @@ def offload(programs: Programs) -> None:
         outcome = run_flows(programs, 6, every(1, 5, move_all(ours)))
         check(ours.carry()["moves"] >= 4 * FLOWS, f"{ours.carry()['moves']} moves were made", ours.text())
         check_order(outcome, "with heads before the frames", ours.text())
-        check(outcome.lost() == 0, "none was lost", outcome, ours.text(), theirs.text())
+        check_none_lost(outcome, ours, theirs)
         check_whole(outcome, ours, theirs, cables_lose=False)
 
 
@@ -79,7 +79,7 @@ def fast(programs: Programs) -> None:
         check_fast(ours)
         check(ours.carry()["moves"] >= 9 * FLOWS, f"{ours.carry()['moves']} moves were made", ours.text())
         check_order(outcome, "by the kernel, over cables", ours.text())
-        check(outcome.lost() == 0, "none was lost", outcome, ours.text(), theirs.text())
+        check_none_lost(outcome, ours, theirs)
         check_whole(outcome, ours, theirs, cables_lose=False)
 
 
@@ -287,7 +287,7 @@ def fast_filtered(programs: Programs) -> None:
     with fast_pair(programs, delays=()) as (_, ours, theirs):
         by = drop_slow_frames()
         outcome = run_flows(programs, 8, every(1, 7, move_all(ours)))
-        check(outcome.lost() == 0, f"{by} loses frames of the slow protocols at {DEVICE}: none of {outcome.sent:,} frames is lost", outcome, ours.text(), theirs.text())
+        check_none_lost(outcome, ours, theirs, f"{by} loses frames of the slow protocols at {DEVICE}: none of {outcome.sent:,} frames is lost")
         check_order(outcome, f"{by} loses frames of the slow protocols", ours.text())
         carry = ours.carry()
         check(carry["markers"] == "answered" and carry["forced"] == 0 and carry["moves"] >= 6 * FLOWS, f"each of {carry['moves']} moves was answered", ours.text(), ours.printed())

@@ -12,7 +12,7 @@ from above import PARTS as ABOVE
 from all_queues import PARTS as ALL_QUEUES
 from announced import announced
 from bonds import (COMES_BACK, COMES_UP, DEVICE, FLOWS, PEERS, RIGHTS, Cables, Carry, End, Event, Programs, ask_gro, cables, check_end,
-                   check_order, check_whole, every, lay_direct, move_all, pair, run_flows)
+                   check_none_lost, check_order, check_whole, every, lay_direct, move_all, pair, run_flows)
 from changing import PARTS as CHANGING
 from fast_parts import (fast, fast_away, fast_ends, fast_filtered, fast_hash, fast_overload, fast_refused, fast_requeued, fast_troubles, fast_unfit,
                         fast_unwaited, offload)
@@ -48,7 +48,7 @@ def moves(programs: Programs) -> None:
         moved = ours.carry()["moves"]
         check(moved >= 9 * FLOWS, f"{moved} moves were made")
         check_order(outcome, "with markers", ours.text())
-        check(outcome.lost() == 0, "none was lost", outcome, ours.text(), theirs.text())
+        check_none_lost(outcome, ours, theirs)
         check_whole(outcome, ours, theirs, cables_lose=False)
         busy = ours.busy_conversations()
         check(max(busy) - min(busy) <= 1, f"the links have {busy} busy conversations", ours.text())

@@ -17,7 +17,7 @@ from typing import Callable, Iterator, Sequence
 
 from beside import print_rows, switch_ends
 from booted import BOOTS, Machine
-from bonds import (COMES_BACK, COMES_UP, DEVICE, DIRECT, FLIGHT, FLOWS, MIDDLE, RATE, End, Outcome, Programs, ask_gro, cables, check_order, lay_direct,
+from bonds import (COMES_BACK, COMES_UP, DEVICE, DIRECT, FLIGHT, FLOWS, MIDDLE, RATE, End, Outcome, Programs, ask_gro, cables, check_none_lost, check_order, lay_direct,
                    move_all, run_flows)
 from checking import Failed, Skipped, check, found, within
 from daemon import ENDS, SYSTEM, Daemon, Part
@@ -41,6 +41,8 @@ MOVES_AHEAD = 0.2
 IN_HAND = 4 * 64
 # Frames a second of which no more wait than the kernel keeps for a host, 4096, while systemd starts the daemon.
 SLOW_RATE = 4000
+# For how many seconds systemd and the daemons have to wait for a processor, all together, until frames that are lost meanwhile are no verdict.
+LATE = 1.0
 # Above the files that a program begins with.
 HIGH = 200
 # A manager of services that keeps nothing, and what a daemon has that carries no data.
@@ -282,7 +284,7 @@ def check_flows(programs: Programs, kept: Kept, peer: End, what: str) -> None:
     run_flows(programs, 1)
     outcome = run_flows(programs, 2)
     check_order(outcome, what, kept.text(), kept.printed()[-2000:])
-    check(outcome.lost() == 0, f"{what}: {outcome.lost()} frames are lost afterwards", outcome, kept.text(), peer.text())
+    check_none_lost(outcome, kept, peer, f"{what}: {outcome.lost()} frames are lost afterwards")
     if "--fast" in kept.options:
         passed = kept.carry()["fast_conversations"]
         check(passed >= FLOWS // 2, f"{what}: the kernel passes {passed} conversations on", kept.text(), kept.printed()[-2000:])
@@ -436,9 +438,10 @@ def unit(programs: Programs, words: str) -> Iterator[tuple[Machine, End]]:
         machine = Machine(Part(programs.daemon, folder), BUNDLE % words)
         theirs = End(programs, THEIRS)
         try:
-            if not within(BOOTS, lambda: machine.property("StatusText") == "up, 2 of 2 links carry" and theirs.links() == DIRECT):
+            if not within(BOOTS, lambda: inside(OURS, "ip", "link", "set", DEVICE, "up").returncode == 0):
                 raise Skipped(f"systemd does not run the unit here: {machine.told()[-1500:]}")
-            ip(OURS, "link", "set", DEVICE, "up")
+            if not within(BOOTS, lambda: machine.property("StatusText") == "up, 2 of 2 links carry" and theirs.links() == DIRECT):
+                raise Failed(f"{words}: both links of the unit carry", machine.told())
             yield machine, theirs
         finally:
             theirs.stop()
@@ -455,11 +458,17 @@ def unit_of(programs: Programs, name: str, words: str) -> None:
             outcome = flows_through(programs, partial(machine.run, "systemctl", *command), SLOW_RATE)
             text = f"{name}, {what} under systemd"
             check_order(outcome, text, machine.told())
+            unseen = (seen(theirs), device_number()) == before and machine.main() != main
+            if outcome.waited >= LATE and (outcome.lost() > most or not unseen):
+                print(f"inconclusive: {text}: {outcome.lost()} frames are lost; systemd and daemons waited {outcome.waited:.1f} s for a processor", flush=True)
+                within(BOOTS, lambda: theirs.links() == DIRECT)
+                before = seen(theirs), device_number()
+                continue
             check(outcome.lost() <= most, f"{text}: {outcome.lost()} frames are lost, {most} at most", outcome, machine.told())
             if "fast" in words:
                 passed = found(r"conversations of the kernel: (\d+)", machine.tells("lagd", "--status"))
                 check(int(passed) >= FLOWS // 2, f"{text}: the kernel passes {passed} conversations on", machine.told())
-            check((seen(theirs), device_number()) == before and machine.main() != main, f"{text}: the peer saw nothing, and {DEVICE} is the same device", machine.told())
+            check(unseen, f"{text}: the peer saw nothing, and {DEVICE} is the same device", machine.told())
         machine.run("systemctl", "stop", "lagd@uplink")
         check(within(ENDS, lambda: theirs.links() == 0 and device_number() == ""), f"{name}, stopped: the peer is told, and the device goes", machine.told())
 

@@ -26,8 +26,8 @@ PORT, OCTETS_AT_ONCE = 7000, 1 << 16
 OCTETS, COMES_WITHIN = 40_000_000, 90
 # The most frames of a stream that are looked at on a cable.
 MOST_FRAMES = 2000
-# Packets that a program has cut into segments of one octet, and how many each has.
-SMALL_PACKETS, SMALL_SEGMENTS = 4, 65000
+# Packets that a program has cut, how many octets each has, and those of the smallest segments (TCP_MIN_SND_MSS of Linux).
+SMALL_PACKETS, SMALL_OCTETS, SMALLEST = 4, 65000, 48
 # Of linux/if_packet.h.
 SOL_PACKET, PACKET_VNET_HDR = 263, 15
 
@@ -153,17 +153,20 @@ def packet_to_cut(octets: int, size: int, tags: bytes = b"") -> bytes:
 
 
 def small_segments(programs: Programs) -> None:
-    """Where a packet has very many segments, the daemon does the rest of its work while it cuts it."""
+    """Packets of the smallest segments that Linux makes are cut, and one of smaller ones is unfit."""
     with pair(programs, delays=()) as (_, ours, theirs):
-        before, frames = ours.carry()["from_host"], SMALL_PACKETS * SMALL_SEGMENTS
+        before, frames = ours.carry(), SMALL_PACKETS * -(-SMALL_OCTETS // SMALLEST)
         with packet_socket(OURS, DEVICE, 0) as host:
             host.setsockopt(SOL_PACKET, PACKET_VNET_HDR, 1)
-            for _ in range(SMALL_PACKETS):
-                host.send(packet_to_cut(SMALL_SEGMENTS, 1))
-        taken = [ours.carry()["from_host"] - before for _ in range(3)]
-        check(any(it % SMALL_SEGMENTS for it in taken), "it answers while a packet of 65,000 segments is cut", taken)
-        check(within(COMES_WITHIN, lambda: ours.carry()["from_host"] - before == frames), f"{frames:,} segments are cut of {SMALL_PACKETS} packets",
-              ours.text())
+            for size in (*[SMALLEST] * SMALL_PACKETS, SMALLEST - 1):
+                host.send(packet_to_cut(SMALL_OCTETS, size))
+
+        def taken() -> list[int]:
+            now = ours.carry()
+            return [now["from_host"] - before["from_host"], now["unfit"] - before["unfit"]]
+
+        check(within(COMES_WITHIN, lambda: taken() == [frames + 1, 1]), f"{frames:,} segments are cut of {SMALL_PACKETS} packets, and none of one with smaller ones",
+              taken(), ours.text())
         check_end(ours, "the sending end")
     with pair(programs, delays=()) as (_, ours, theirs):
         with packet_socket(OURS, DEVICE, 0) as host:

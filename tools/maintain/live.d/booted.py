@@ -194,7 +194,7 @@ def comes_back(machine: Machine, theirs: Daemon, what: str, by: str) -> None:
     """The daemon is hurt, and started again."""
     before = machine.main()
     machine.run("systemctl", "kill", "--kill-whom=main", f"--signal={by}", "lagd@uplink")
-    restarted = lambda: machine.main() not in ("", "0", before) and theirs.distributes("b0", "b1")
+    restarted = lambda: machine.main() not in ("", "0", before) and machine.property("ActiveState") == "active" and theirs.distributes("b0", "b1")
     check(within(COMES_UP, restarted), f"{what} is started again", machine.told())
 
 

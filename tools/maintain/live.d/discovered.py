@@ -128,7 +128,7 @@ def link_aggregation(part: Part) -> None:
     both = lambda: first.tells(AGGREGATED, device) and second.tells(AGGREGATED, device)
     check(both(), "the LLDPDUs of both links have one Link Aggregation TLV: aggregated, with the ifIndex of lag0", *told_of(ours, first, second), beside.printed())
     octets = ",".join(f"{it:02X}" for it in [AGGREGATED, *device.to_bytes(4, "big")])
-    check(neighbour(part, "b0") == [octets], "the lldpd of the peer shows it", neighbour(part, "b0"))
+    check(within(TELLS, lambda: neighbour(part, "b0") == [octets]), "the lldpd of the peer shows it", neighbour(part, "b0"))
     old = lambda: [it[4:].hex() for it in first.last() if it.startswith(OLD_IS)]
     check(within(TELLS, lambda: old() == ["0100000000"]), "lldpd's own TLV of IEEE 802.3 beside it says: capable, and in none")
     ip(OURS, "link", "set", "a1", "down")

@@ -153,6 +153,7 @@ def many_markers(part: Part, count: int = 1000) -> None:
     time.sleep(1.2)
     begin, turns = time.monotonic(), 5
     for _ in range(turns):
+        wire.send(lacpdu(STRANGER, 1))  # it stays the partner, however long this takes on a loaded machine
         for _ in range(count // 10):
             wire.send(marker(1), source=ELSEWHERE)
             time.sleep(0.003)

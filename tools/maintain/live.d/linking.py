@@ -210,11 +210,14 @@ def check_header_alone(folder: str) -> None:
     languages.append(("c++", ["c++11", "c++17", "c++20"], ["-Wold-style-cast"]))
     for language, standards, more in languages:
         for compiler in filter(shutil.which, ("gcc", "clang")):
+            if command(compiler, "-x", language, "-fsyntax-only", os.devnull).returncode:
+                print(f"skipped: lag.h in {language}: {compiler} compiles none here (Debian: g++)")
+                continue
             for standard in standards:
                 words = [f"-std={standard}", *WARNINGS, "-Wsign-conversion", *more, "-x", language]
                 told += command(compiler, *words, INCLUDE, "-fsyntax-only", source).stderr
                 count += 1
-    check(not told, f"lag.h has no warning in {count} kinds of C and C++", told)
+    check(not told and count, f"lag.h has no warning in {count} kinds of C and C++", told)
 
 
 def check_warnings() -> None:

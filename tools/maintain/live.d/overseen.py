@@ -59,14 +59,16 @@ def units(part: Part) -> None:
     try:
         theirs = part.theirs(options=["--carry", "lag0"])
         machine.comes_up()
+        check(within(ANSWERS, lambda: machine.run("ip", "link", "set", "lag0", "up").returncode == 0), "the device is set up", machine.told())
         check(within(COMES_UP, lambda: theirs.distributes("b0", "b1")), "both links carry", theirs.text())
         machine.run("ip", "link", "set", "lo", "up")
         for unit in UNITS:
             machine.run("systemctl", "start", unit)
         states = lambda: machine.tells("systemctl", "is-active", *UNITS).split()
         check(within(ANSWERS, lambda: states() == ["active"] * len(UNITS)), f"{', '.join(UNITS)} are active", states(), machine.told())
-        users = machine.tells("sh", "-c", "for unit in lagd-snmp lagd-lldp; do ps -o uid= -p $(systemctl show --value --property MainPID $unit); done").split()
-        check(len(users) == 2 and "0" not in users, "neither unit runs as root", users)
+        users = lambda: machine.tells("sh", "-c", "for unit in lagd-snmp lagd-lldp; do ps -o uid= -p $(systemctl show --value --property MainPID $unit); done").split()
+        # A unit is active before its process has become its user.
+        check(within(ANSWERS, lambda: len(users()) == 2 and "0" not in users()), "neither unit runs as root", users())
         walk = lambda: machine.tells("snmpbulkwalk", "-m", "", "-v2c", "-c", "public", "-On", "127.0.0.1", OBJECTS)
         check(within(COMES_BACK, lambda: walk().count("\n") == 73), "snmpd tells of the bundle, with the lines of the man page", walk(), machine.told())
         check(within(ANSWERS, lambda: shows(machine).count("OUI: 00,80,C2, SubType: 7, Len: 5 03,") == 2), "lldpd has a TLV of both ports", shows(machine), machine.told())

@@ -177,14 +177,19 @@ static void check_unfit(uint64_t member) {
     CHECK(rows[0].word == member && rows[0].passed == 0 && host->left == 0 && rows[0].opaque == 0);
 }
 
-/* A frame of the slow protocols with a tag beside it is data. */
-static void check_beside(uint64_t member) {
+/* A frame of the slow protocols with a tag. */
+static uint8_t *tagged_frame(void) {
     uint8_t *frame = frame_of("ff:ff:ff:ff:ff:ff", ETH_P_8021Q);
     frame[15] = 7;
     frame[16] = ETH_P_SLOW >> 8;
     frame[17] = ETH_P_SLOW & 0xff;
+    return frame;
+}
+
+/* A frame of the slow protocols with a tag beside it is data. */
+static void check_beside(uint64_t member) {
     clear(member);
-    CHECK(run_beside(frame, 64) == ELSEWHERE && rows[0].passed == 1 && host->unfit == 0);
+    CHECK(run_beside(tagged_frame(), 64) == ELSEWHERE && rows[0].passed == 1 && host->unfit == 0);
 }
 
 /* The member of PORT receives a frame to an address, of a type, with an octet behind that. */
@@ -249,6 +254,18 @@ static void check_groups(int tried, int verdict_of_data, uint32_t at) {
     CHECK(receive(tried, "03:80:c2:00:00:0e", OTHER, 0, 60) == verdict_of_data);
 }
 
+/* A marker that came up ends at the device, and all else goes on, a frame of the slow protocols with a tag, too. */
+static void check_handover(int handover) {
+    const uint32_t first = 0;
+    int beside = bpf_map__fd(tagging->maps.sender);
+    clear(0);
+    CHECK(receive(handover, "02:00:00:00:00:01", OTHER, 0, 60) == GO_ON);
+    CHECK(receive(handover, SLOW_GROUP, ETH_P_SLOW, SUBTYPE_MARKER, 60) == LOSE);
+    CHECK(bpf_map_update_elem(beside, &first, &handover, BPF_ANY) == 0);
+    CHECK(run_beside(tagged_frame(), 64) == GO_ON);
+    CHECK(bpf_map_update_elem(beside, &first, &sender, BPF_ANY) == 0);
+}
+
 static void check_dropper(int dropper) {
     clear(0);
     CHECK(receive(dropper, SLOW_GROUP, ETH_P_SLOW, SUBTYPE_LACP, 60) == GO_ON);
@@ -290,7 +307,7 @@ static int check_all(const char *name) {
     check_groups(receiver, ELSEWHERE, at);
     check_groups(dropper, LOSE, at);
     check_dropper(dropper);
-    CHECK(receive(handover, "02:00:00:00:00:01", OTHER, 0, 60) == GO_ON);
+    check_handover(handover);
     check_refusals();
     return tell_checks();
 }

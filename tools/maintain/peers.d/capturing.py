@@ -8,9 +8,7 @@ import socket
 import struct
 import threading
 import time
-from typing import Iterator
 
-from captures import packets
 from spaces import OURS, OUTGOING, packet_socket
 
 EVERY_PROTOCOL, LONGEST = 3, 65535
@@ -69,9 +67,3 @@ class Capture:
 def most_in_a_second(times: list[float]) -> int:
     """How many of these times lie within one second at most."""
     return max((sum(begin <= when < begin + 1 for when in times) for begin in times), default=0)
-
-
-def lines_of(path: str) -> Iterator[str]:
-    """The frames of a capture as lines for check."""
-    with open(path, "rb") as file:
-        yield from (packet.octets.hex() for packet in packets(file))

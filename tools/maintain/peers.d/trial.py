@@ -6,13 +6,14 @@ import os
 import re
 import time
 
-from capturing import Capture, lines_of, most_in_a_second
+from capturing import Capture, most_in_a_second
 from checking import check, command, within
 from daemon import ENDS, Daemon, Part
 from peer import Stranger
-from repository import PROGRAM
+from repository import TOOLS
 from spaces import OURS, drop_spaces, ip, make_spaces
 
+LAGTOOL = os.path.join(TOOLS, "lagtool")
 BOTH = {"b0", "b1"}
 NONE: set[str] = set()
 # Limits of what is waited for, in seconds: a partner of long timeouts is missed after 90 s.
@@ -22,8 +23,9 @@ STEADY, WATCHED = 20, 10
 OTHER_KEY = "99"
 HEADINGS = ["peer", "version", "up", "link down / back", "peer again", "daemon ended / again", "another key"]
 HEADINGS += ["LACPDUs/s out, in (most in 1 s)"]
-# What lagtool check says of a frame that it refuses.
-REFUSED = re.compile(r"\d+ (refused .*|runt|not hex|too long)")
+# What lagtool capture says of a frame that it refuses, and in its end.
+REFUSED = re.compile(r"\d+ \S+ \S+ refused .*")
+SLOW = re.compile(r"packets \d+ slow (\d+) .*")
 
 
 class Trial:
@@ -120,12 +122,10 @@ def check_frames(name: str, paths: list[str]) -> None:
     """Each frame of the captures is one that lagtool reads without a refusal."""
     count, refused = 0, []
     for path in paths:
-        text = f"{path}.lines"
-        with open(text, "w", encoding="utf-8") as out:
-            out.writelines(f"{line}\n" for line in lines_of(path))
-        told = command(PROGRAM, "check", text)
-        os.unlink(text)
-        count += len(told.stdout.splitlines()) - 1
-        refused += [line for line in told.stdout.splitlines() if REFUSED.fullmatch(line)]
-        refused += [] if told.returncode in (0, 1) else [told.stderr]
-    check(count > 0 and not refused, f"{name}: lagtool check reads all {count} frames of {len(paths)} captures", *refused[:5])
+        told = command(LAGTOOL, "capture", path)
+        lines = told.stdout.splitlines() or [""]
+        found = SLOW.fullmatch(lines[-1])
+        count += int(found[1]) if found else 0
+        refused += [line for line in lines if REFUSED.fullmatch(line)]
+        refused += [] if found else [told.stderr]
+    check(count > 0 and not refused, f"{name}: lagtool capture reads all {count} frames of {len(paths)} captures", *refused[:5])

@@ -2,6 +2,11 @@
 
 from __future__ import annotations
 
+import os
+import subprocess
+import sys
+import time
+
 import pytest
 
 import loading
@@ -67,3 +72,42 @@ def test_each_count_of_the_members_counts(capsys: pytest.CaptureFixture[str], na
 def test_an_end_whose_counts_are_one_is_whole(capsys: pytest.CaptureFixture[str]) -> None:
     bonds.check_end(Told(CARRY, DATA), "it")
     assert said(capsys.readouterr().out) == ["passed", "passed"]
+
+
+class Holds(Told):
+    """An end that held so many frames too long."""
+
+    def __init__(self, held: int) -> None:
+        super().__init__({"held_too_long": held}, {})
+
+    def carry(self) -> object:
+        return self.status["carry"]
+
+    def text(self) -> str:
+        return ""
+
+
+@pytest.mark.parametrize(
+    ("lost", "held", "waited", "begins"),
+    [(0, 0, 0.0, "passed"), (0, 0, 9.0, "passed"), (7, 7, 0.9, "FAILED"), (7, 7, 1.0, "inconclusive"), (7, 6, 9.0, "FAILED"), (7, 8, 9.0, "FAILED")],
+)
+def test_what_the_machine_may_have_lost_is_no_verdict(capsys: pytest.CaptureFixture[str], lost: int, held: int, waited: float, begins: str) -> None:
+    end = Holds(held)
+    bonds.check_none_lost(bonds.Outcome(sent=100, received=100 - lost, waited=waited), end, end)
+    assert [line.partition(":")[0] for line in capsys.readouterr().out.splitlines() if not line.startswith(" ")] == [begins]
+
+
+def test_a_process_that_waits_for_a_processor_is_seen() -> None:
+    words = [sys.executable, "-c", "while True: pass"]
+    processor = str(min(os.sched_getaffinity(0)))
+    both = [subprocess.Popen(["taskset", "-c", processor, *words]) for _ in range(2)]
+    try:
+        time.sleep(0.5)
+        before = bonds.waited()
+        time.sleep(1)
+        assert {it.pid for it in both} <= before.keys() and bonds.since(before) > 0.3
+    finally:
+        for it in both:
+            it.kill()
+            it.wait()
+    assert not {it.pid for it in both} & bonds.waited().keys()

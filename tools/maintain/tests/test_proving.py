@@ -70,4 +70,10 @@ def test_a_proof_that_is_stopped_leaves_no_process(ends: signal.Signals, status:
             proof.kill()
     assert proof.returncode == status
     started = [int(it) for it in began.read_text().split()]
-    assert started and not [it for it in started if is_there(it)]
+    assert started
+    # On a loaded machine a process that was killed ends a little later; one that was not sleeps on for minutes.
+    for _ in range(300):
+        if not [it for it in started if is_there(it)]:
+            break
+        time.sleep(0.1)
+    assert not [it for it in started if is_there(it)]

@@ -1,0 +1,46 @@
+"""How long the processes of a run waited for a processor, as the kernel counts it: on a loaded machine frames are late for that reason alone."""
+
+from __future__ import annotations
+
+import glob
+import os
+
+
+def parents() -> dict[int, int]:
+    """The parent of each process."""
+    found: dict[int, int] = {}
+    for path in glob.glob("/proc/[0-9]*/stat"):
+        try:
+            with open(path, encoding="utf-8", errors="replace") as it:
+                words = it.read().rpartition(")")[2].split()
+        except OSError:  # it ended
+            continue
+        found[int(path.split("/")[2])] = int(words[1])
+    return found
+
+
+def below(process: int) -> list[int]:
+    """The processes that a process started, and those that these started."""
+    of, found = parents(), [process]
+    for it in found:
+        found += [child for child, parent in of.items() if parent == it]
+    return found[1:]
+
+
+def waited() -> dict[int, float]:
+    """How many seconds each process of this tool has waited for a processor, with all its threads, since it began."""
+    found: dict[int, float] = {}
+    for process in below(os.getpid()):
+        found[process] = 0.0
+        for path in glob.glob(f"/proc/{process}/task/*/schedstat"):
+            try:
+                with open(path, encoding="utf-8") as it:
+                    found[process] += int(it.read().split()[1]) / 1e9
+            except OSError:
+                continue
+    return found
+
+
+def since(before: dict[int, float]) -> float:
+    """How many seconds the processes that run now waited since then, all together: what is late because of the machine is no later than that."""
+    return sum(now - before.get(process, 0.0) for process, now in waited().items())
