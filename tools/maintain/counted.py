@@ -215,7 +215,7 @@ QUOTES: tuple[Quote, ...] = (
           " frames are held. The marker of line {} goes behind the frames; its response (line {}) frees the conversation,"
           " and line {} sends the next frame on port 2.",
           lines_of_a_move),
-    Quote(CONFORM, "{} tests on 2 links, some 10 min", tests_played),
+    Quote(CONFORM, "{} tests on 2 links, some 12 min", tests_played),
     Quote(CONFORM, "{} pass, {} fail, {} inconclusive, {} skipped", tests_beside_open_vswitch),
     Quote(CONFORMANCE, "[{} of {} tests pass](PEERS.md#conformance). The bench has {} now, of which those of more than 25 s were not run", tests_that_pass),
     Quote(EXAMPLES, "the driver, which starts {} s later|", later_speaker),

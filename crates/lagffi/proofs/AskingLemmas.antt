@@ -1,8 +1,7 @@
 -- A call of a handle that holds a system is a call of that system.
-use Rattle.lagffi.proofs.Common.{subst, sym, Option, Some, ℕ, gives_by, CallsHeldSystem, NotesHeldSystem, OffersToHeldSystem, ReadsHeldSystem}
+use Rattle.lagffi.proofs.Common.{subst, sym, List, Option, Some, ℕ, gives_by, CallsHeldSystem, NotesHeldSystem, OffersToHeldSystem, ReadsHeldSystem}
 use Rattle.lagffi.proofs.Common.{ReadsNotes}
 use mathlib.Core.Path.{◌≡◌}
-use Rattle.std.proofs.Common.{List}
 use Rattle.lagsystem.specs.State.{SystemState}
 use Rattle.dataplane.specs.declared.answering.marker_note.MarkerNote.{MarkerNote}
 use Rattle.lagffi.specs.Holding.{HeldValue}

@@ -1,13 +1,12 @@
 -- The names that proofs of this crate import, passed on from one place. Declares nothing; tools/maintain/proof-imports writes it.
-pub use mathlib.Core.List.{List, [], ◌++◌, ◌∷◌}
+pub use mathlib.Core.List.{[], ◌++◌, ◌∷◌}
 pub use mathlib.Core.Path.{ap, refl, subst, sym, ◌∙◌}
-pub use Rattle.std.proofs.Common.{Bool, Err, IfErr, IfOk, IsTrue, None, Ok, Option, Result, Some, arith, drop, false, get_or, inr, is_some, length}
-pub use Rattle.std.proofs.Common.{length-drop, map, option_map, rules, suc, take, true, vec_capacity, vec_len, zero, ℕ, ◌+◌, ◌<◌, ◌^◌, ◌≡◌, ◌≤◌}
-pub use Rattle.std.proofs.alloc.Calls.{Goes-blank, handle_tells, token, α}
+pub use Rattle.std.proofs.Common.{Bool, Err, IfErr, IfOk, IsTrue, List, None, Ok, Option, Result, Some, arith, drop, false, get_or, inr, is_some}
+pub use Rattle.std.proofs.Common.{length, length-drop, map, option_map, rules, suc, take, true, vec_capacity, vec_len, zero, ℕ, ◌+◌, ◌<◌, ◌^◌, ◌≡◌}
+pub use Rattle.std.proofs.Common.{◌≤◌}
 pub use Rattle.std.specs.List.Sorted.{IsStrictlyIncreasing}
 pub use Rattle.std.specs.Prelude.{IfSome, MatchOption, OnErr}
-pub use Rattle.std_alloc.specs.Box.Ownership.{box_owns}
-pub use Rattle.std_alloc.proofs.BoxSteps.Form.{B, Bx, D, P, R, args, box_ty, box_typed, word, τ}
+pub use Rattle.std_alloc.proofs.BoxSteps.Form.{B, Bx, D, box_typed, word}
 pub use Rattle.std_alloc.proofs.BoxSteps.Steps.{box_in, box_out}
 pub use Rattle.distributor.specs.Calls.{PicksIndexes, index_by_number}
 pub use Rattle.lagsystem.specs.declared.fault.SystemFault.{SystemFault}

@@ -1,6 +1,6 @@
 -- Lists that are made in a loop.
-use Rattle.lagffi.proofs.Common.{get_or, length, map, take, ℕ, ◌+◌, ◌<◌, ◌≡◌}
-use Rattle.std.proofs.Common.{◌++◌, List, [], ◌∷◌, ap, sym, ◌∙◌}
+use Rattle.lagffi.proofs.Common.{List, get_or, length, map, take, ℕ, ◌+◌, ◌<◌, ◌≡◌}
+use Rattle.std.proofs.Common.{◌++◌, [], ◌∷◌, ap, sym, ◌∙◌}
 use Rattle.std.proofs.lemmas.List.{take_more, map-append}
 
 -- one more is made of each item in turn

@@ -1,6 +1,6 @@
 -- Masks of at most 64 bits fit.
-use Rattle.lagffi.proofs.Common.{Bool, arith, drop, false, length, length-drop, suc, true, zero, ℕ, ◌<◌, ◌^◌, ◌≡◌, ◌≤◌, mask}
-use Rattle.std.proofs.Common.{List, [], ◌∷◌}
+use Rattle.lagffi.proofs.Common.{Bool, List, arith, drop, false, length, length-drop, suc, true, zero, ℕ, ◌<◌, ◌^◌, ◌≡◌, ◌≤◌, mask}
+use Rattle.std.proofs.Common.{[], ◌∷◌}
 use mir.Val.{bool_byte}
 use Rattle.std.proofs.lemmas.Nat.{pow_pos}
 

@@ -1,6 +1,6 @@
-use Rattle.lagffi.proofs.Common.{ap, subst, ◌∙◌, length, ℕ, IsStrictlyIncreasing, aggregator_numbered, put_first, number}
+use Rattle.lagffi.proofs.Common.{ap, subst, ◌∙◌, List, length, ℕ, IsStrictlyIncreasing, aggregator_numbered, put_first, number}
 use mathlib.Core.Path.{◌≡◌}
-use Rattle.std.proofs.Common.{List, []}
+use Rattle.std.proofs.Common.{[]}
 use Rattle.std.specs.Bool.{OnFalse}
 use Rattle.lagsystem.specs.Offers.{has_aggregator}
 use Rattle.lagffi.proofs.AskingLemmas.{asked}

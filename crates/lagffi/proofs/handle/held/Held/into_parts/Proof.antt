@@ -1,5 +1,6 @@
 -- `into_parts` moves two fields, and what they own goes with them: the handle holds a system.
-use Rattle.lagffi.proofs.Common.{List, [], ◌++◌, ◌∷◌, refl, subst, sym, IsTrue, None, Option, Some, is_some, B, D, box_typed, word, box_in, box_out}
+use Rattle.lagffi.proofs.Common.{[], ◌++◌, ◌∷◌, refl, subst, sym, IsTrue, None, Option, Some, is_some, B, D, box_typed, word, box_in, box_out}
+use mathlib.Core.List.{List}
 use mathlib.Core.Path.{◌≡◌}
 use mathlib.Core.Bool.{false≢true}
 use seplogic.Ra.Ura.{Ura}

@@ -1,5 +1,7 @@
 -- `none` makes a handle that owns nothing.
-use Rattle.lagffi.proofs.Common.{List, [], ◌++◌, ◌∷◌, refl, subst, sym, None, handle_tells, α}
+use Rattle.lagffi.proofs.Common.{[], ◌++◌, ◌∷◌, refl, subst, sym, None}
+use mathlib.Core.List.{List}
+use Rattle.std.proofs.alloc.Calls.{handle_tells, α}
 use lib.Dec.{lit<}
 use seplogic.Ra.Ura.{Ura}
 use mir.Syntax.{w64}

@@ -1,5 +1,6 @@
 -- `of_parts` moves two fields, and what they own goes with them.
-use Rattle.lagffi.proofs.Common.{List, [], ◌++◌, ◌∷◌, refl, subst, sym, Some, B, D, box_typed, word, box_in, box_out}
+use Rattle.lagffi.proofs.Common.{[], ◌++◌, ◌∷◌, refl, subst, sym, Some, B, D, box_typed, word, box_in, box_out}
+use mathlib.Core.List.{List}
 use seplogic.Ra.Ura.{Ura}
 use mir.Val.{Val}
 use base.Logic.{SProp, ent, emp, id⊢}
