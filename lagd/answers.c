@@ -36,10 +36,9 @@ struct answers_private *make_answers_private(void) {
     return made;
 }
 
-/* Opens what wakes the daemon for a response, where some wait. */
+/* Opens what wakes the daemon for a response. */
 void start_answers(struct lagd *lagd) {
     struct answers_private *own = lagd->answers;
-    if (!lagd->settings.all_queues) return;
     own->timer = timerfd_create(CLOCK_MONOTONIC, TFD_NONBLOCK | TFD_CLOEXEC);
     if (own->timer < 0 || !await_input(lagd, own->timer, RESPONSES)) stop(REFUSED, "no clock", strerror(errno));
 }
@@ -62,15 +61,16 @@ static void wake(struct lagd *lagd) {
     (void)timerfd_settime(own->timer, TFD_TIMER_ABSTIME, &at, NULL);
 }
 
-/* Sends the response to a marker, at once or later; answers false where too many wait. */
-bool answer_marker(struct lagd *lagd, struct link *link, const uint8_t *response) {
-    struct answers_private *own = lagd->answers;
-    struct waiting *waiting = &own->ports[link->settings.number - 1];
+/* Sends the response to a marker. */
+bool answer_at_once(struct lagd *lagd, struct link *link, const uint8_t *response) {
+    send_frame(lagd, link, response);
+    return true;
+}
+
+/* Sends the response to a marker later; answers false where too many wait. */
+bool answer_later(struct lagd *lagd, struct link *link, const uint8_t *response) {
+    struct waiting *waiting = &lagd->answers->ports[link->settings.number - 1];
     struct answer *answer;
-    if (own->timer < 0) {
-        send_frame(lagd, link, response);
-        return true;
-    }
     if (waiting->count == MOST_WAITING) return false;
     answer = &waiting->answers[(waiting->first + waiting->count++) % MOST_WAITING];
     *answer = (struct answer){.due = milliseconds(lagd) + lagd->settings.answer_after + 1, .unread = MOST_UNREAD};

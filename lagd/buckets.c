@@ -43,7 +43,9 @@ struct buckets_private *make_buckets_private(void) {
     return make_room(sizeof(struct buckets_private));
 }
 
-uint64_t team_frames_received(struct lagd *lagd) {
+/* How many frames of the peer came, as the driver told last, or tells now. */
+uint64_t team_frames_received(struct lagd *lagd, bool looks) {
+    if (looks) look_at_driver(lagd);
     return lagd->buckets->frames_received;
 }
 

@@ -35,7 +35,7 @@ static uint16_t aggregator_after(struct lagd *lagd, uint16_t before) {
  * the one with the least group, so that the other end chooses it, too. */
 void choose_aggregator(struct lagd *lagd, struct bundle *now) {
     struct bundle_private *own = lagd->bundle_private;
-    own->chosen_last = now->aggregator = aggregator_after(lagd, keeps_aggregator(lagd) ? own->chosen_last : 0);
+    own->chosen_last = now->aggregator = aggregator_after(lagd, lagd->plane.carrying->keeps_aggregator(lagd) ? own->chosen_last : 0);
     now->carrying = carrying_in(lagd, now->aggregator);
 }
 

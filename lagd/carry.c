@@ -3,7 +3,6 @@
 #include <string.h>
 
 #include "daemon.h"
-#include "team.h"
 
 /* For how long frames of the peer tell that it has the same aggregator, in milliseconds. */
 #define HEARD 3000
@@ -125,19 +124,17 @@ void take_from_host(struct lagd *lagd, uint8_t *packet, size_t length) {
         lagd->carry.counts[UNFIT]++;
 }
 
-/* How many frames of the peer came in an aggregator that was active. */
-static uint64_t heard(struct lagd *lagd) {
-    if (carries_by_team(lagd)) return team_frames_received(lagd);
+/* How many frames of the peer came in an aggregator that was active, of those that come here, or by the kernel. */
+uint64_t frames_handed_up(struct lagd *lagd, bool counts_now) {
+    if (counts_now) lagd->plane.passing->count(lagd);
     return lagd->carry.counts[HANDED_UP] + lagd->carry.counts[HOST_UNTAKEN];
 }
 
 /* Another aggregator is active: nothing has come in it yet. */
-static void forget_heard(struct lagd *lagd) {
+void forget_heard(struct lagd *lagd) {
     struct carry_private *own = lagd->carry_private;
-    if (is_fast(lagd)) take_fast_counts(lagd);
-    if (carries_by_team(lagd)) look_at_driver(lagd);
+    own->heard_before = lagd->plane.carrying->frames_heard(lagd, true);
     own->heard_at = 0;
-    own->heard_before = heard(lagd);
 }
 
 /* A frame came in an aggregator that is not the active one. If no aggregator has more than that one, the peer may send there. It is looked
@@ -152,12 +149,11 @@ void suspect_aggregator(struct lagd *lagd, uint32_t aggregator) {
     lagd->carry.changed = true;
 }
 
-/* Whether the active aggregator stays where another one has as many ports: the peer has it, too, since its frames come there, or there
- * is no data. Ends that differ come together, if both send or neither does: neither has frames of the
+/* Whether the active aggregator stays where another one has as many ports: the peer has it, too, since its frames come there. Ends that differ come together, if both send or neither does: neither has frames of the
  * other one then, and both take the one with the least group. */
-bool keeps_aggregator(struct lagd *lagd) {
+bool hears_peer(struct lagd *lagd) {
     struct carry_private *own = lagd->carry_private;
-    return !carries_data(lagd) || (own->heard_at != 0 && lagd->carry.time - own->heard_at < HEARD);
+    return own->heard_at != 0 && lagd->carry.time - own->heard_at < HEARD;
 }
 
 /* A packet came in an aggregator. */
@@ -199,7 +195,7 @@ static void release(struct lagd *lagd) {
     }
     lagd->carry.waiting = any_left;
     flush_data(lagd);
-    pass_on(lagd);
+    lagd->plane.passing->pass_on(lagd);
 }
 
 /* Notes the ports of the active aggregator that carry, those that are emptied or the others. */
@@ -224,9 +220,19 @@ static void choose_active(struct lagd *lagd) {
         (void)say(lagd, LOG_NOTICE | ABOUT_CARRIER, "carry %s: carrier %s", lagd->settings.carry, lagd->carry.active ? "on" : "off");
     if (before != lagd->carry.active) forget_heard(lagd);
     if (before != lagd->carry.active && lagd->carry.active != 0) announce_soon(lagd);
-    if (carries_by_team(lagd)) return; /* the driver tells its speed, and the carrier comes once it passes data */
+    lagd->plane.carrying->tell_host(lagd);
+}
+
+/* The host sees how fast the ports are that carry, and a carrier where there are some. */
+void tell_speed_and_carrier(struct lagd *lagd) {
     set_speed(lagd, sum_speeds(lagd));
     set_carrier(lagd, lagd->carry.active != 0);
+}
+
+/* Chooses by what the ports are now. */
+void choose_ports(struct lagd *lagd) {
+    take_views(lagd);
+    choose_active(lagd);
 }
 
 /* The last daemon carried in this aggregator, and the peer does, too. The team driver has each bucket where it was: it is told of none before
@@ -235,12 +241,7 @@ void go_on_in(struct lagd *lagd, uint16_t aggregator) {
     struct carry_private *own = lagd->carry_private;
     lagd->carry.time = own->heard_at = milliseconds(lagd);
     lagd->carry.active = own->previous = aggregator;
-    if (!carries_by_team(lagd)) {
-        settle_carry(lagd);
-        return;
-    }
-    take_views(lagd);
-    choose_active(lagd);
+    lagd->plane.carrying->go_on(lagd);
 }
 
 /* Another aggregator is active: what is on a port of the previous one leaves it, behind a marker. Its frames wait until it is free there.
@@ -260,56 +261,59 @@ static void leave_previous(struct lagd *lagd) {
 }
 
 /* Notes whether frames of the peer come in the active aggregator. */
-static void note_heard(struct lagd *lagd) {
+void note_heard(struct lagd *lagd) {
     struct carry_private *own = lagd->carry_private;
-    if (heard(lagd) != own->heard_before && lagd->carry.active != 0) own->heard_at = lagd->carry.time;
-    own->heard_before = heard(lagd);
+    uint64_t heard = lagd->plane.carrying->frames_heard(lagd, false);
+    if (heard != own->heard_before && lagd->carry.active != 0) own->heard_at = lagd->carry.time;
+    own->heard_before = heard;
 }
 
-/* The active aggregator is chosen: what goes on by the TAP device, and the next moves. */
-static void settle_tap(struct lagd *lagd) {
+/* What goes on of the frames that come here, and the next moves. */
+void settle_frames(struct lagd *lagd) {
     struct carry_private *own = lagd->carry_private;
-    withdraw(lagd);
+    choose_ports(lagd);
+    lagd->plane.passing->withdraw(lagd);
     leave_previous(lagd);
-    set_collecting(lagd);
+    lagd->plane.passing->set_collecting(lagd);
     look_at_partner(lagd);
     if (lagd->carry.waiting) release(lagd);
     if (own->to_balance) balance(lagd);
-    if (own->to_balance && is_fast(lagd)) take_host(lagd); /* also where nothing came: what was lost on its way counts no more then */
+    if (own->to_balance) lagd->plane.passing->look_for_losses(lagd);
     own->to_balance = false;
 }
 
 /* After calls that may have changed something: the active aggregator, and what goes on in it. */
 void settle_carry(struct lagd *lagd) {
-    uint16_t before = lagd->carry.active;
-    if (!carries_data(lagd) || lagd->broken || !lagd->carry.changed) return;
+    if (lagd->broken || !lagd->carry.changed) return;
     lagd->carry.changed = false;
-    take_views(lagd);
-    choose_active(lagd);
-    if (!carries_by_team(lagd)) {
-        settle_tap(lagd);
-        return;
-    }
-    settle_buckets(lagd);
-    if (lagd->carry.active != before) forget_heard(lagd); /* until now frames came by the ports of the last one */
+    lagd->plane.carrying->settle(lagd);
+}
+
+/* 100 ms passed: before what the device does then, */
+void begin_carry_tick(struct lagd *lagd) {
+    lagd->carry.time = milliseconds(lagd);
+    pass_tap_tick(lagd);
+    pass_announcing_tick(lagd);
+}
+
+/* and behind it. */
+void end_carry_tick(struct lagd *lagd) {
+    wake_ports(lagd);
+    lagd->carry.changed = lagd->carry_private->to_balance = true;
+}
+
+/* 100 ms passed, where frames come here. */
+void pass_tick_of_frames(struct lagd *lagd) {
+    begin_carry_tick(lagd);
+    lagd->plane.passing->tick(lagd);
+    note_heard(lagd);
+    pass_flight_tick(lagd);
+    count_losses(lagd);
+    lagd->plane.queueing->watch(lagd);
+    end_carry_tick(lagd);
 }
 
 /* 100 ms passed. */
 void pass_carry_tick(struct lagd *lagd) {
-    if (!carries_data(lagd) || lagd->broken) return;
-    lagd->carry.time = milliseconds(lagd);
-    pass_tap_tick(lagd);
-    pass_announcing_tick(lagd);
-    if (carries_by_team(lagd))
-        pass_bucket_tick(lagd);
-    else
-        pass_fast_tick(lagd);
-    note_heard(lagd);
-    if (!carries_by_team(lagd)) {
-        pass_flight_tick(lagd);
-        count_losses(lagd);
-        watch_queues(lagd);
-    }
-    wake_ports(lagd);
-    lagd->carry.changed = lagd->carry_private->to_balance = true;
+    if (!lagd->broken) lagd->plane.carrying->tick(lagd);
 }

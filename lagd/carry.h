@@ -63,12 +63,26 @@ bool ask_state(struct lagd *lagd, uint16_t aggregator, uint16_t number, struct n
 bool ask_ports(struct lagd *lagd, uint16_t aggregator, uint16_t *ports) MUST_USE;
 bool is_held(const struct niw_assignment *state);
 bool is_busy(struct lagd *lagd, const struct conversation *conversation);
+bool hears_peer(struct lagd *lagd);
+uint64_t frames_handed_up(struct lagd *lagd, bool counts_now);
+void forget_heard(struct lagd *lagd);
+void choose_ports(struct lagd *lagd);
+void tell_speed_and_carrier(struct lagd *lagd);
+void settle_frames(struct lagd *lagd);
+void begin_carry_tick(struct lagd *lagd);
+void note_heard(struct lagd *lagd);
+void end_carry_tick(struct lagd *lagd);
+void pass_tick_of_frames(struct lagd *lagd);
 void suspect_aggregator(struct lagd *lagd, uint32_t aggregator);
 void take_from_host(struct lagd *lagd, uint8_t *packet, size_t length);
 void hand_up(struct lagd *lagd, uint32_t aggregator, uint8_t *packet, size_t length);
 
 /* host.c */
 struct iovec;
+void open_tap_plane(struct lagd *lagd);
+void end_tap_plane(struct lagd *lagd);
+void close_members(struct lagd *lagd);
+int passing_member_of(struct lagd *lagd, uint16_t number);
 void take_host(struct lagd *lagd);
 bool is_cutting(struct lagd *lagd);
 bool give_host(struct lagd *lagd, const struct iovec *parts, unsigned count, size_t length);
@@ -83,7 +97,6 @@ size_t head_octets(void);
 size_t packet_room(void);
 uint8_t *make_rooms(void);
 uint8_t *room_at(uint8_t *rooms, unsigned number);
-bool passes_segments(struct lagd *lagd);
 bool has_segments(const uint8_t *packet);
 uint32_t count_segments(const uint8_t *packet, size_t length);
 size_t tag_octets(const uint8_t *frame, size_t length, size_t most);
@@ -118,6 +131,8 @@ void flush_host(struct lagd *lagd);
 /* tap.c */
 int open_tap(struct lagd *lagd, const char *name, const uint8_t *mac);
 void use_team_device(struct lagd *lagd, int index);
+bool give_tap_carrier(struct lagd *lagd, bool on);
+void settle_tap_mtu(struct lagd *lagd);
 void set_carrier(struct lagd *lagd, bool on);
 bool has_carrier(struct lagd *lagd);
 void set_speed(struct lagd *lagd, uint32_t megabits);
@@ -156,7 +171,6 @@ int load_program(struct lagd *lagd, const char *name, const struct fast_maps *ma
 const char *program_fault(void);
 
 /* fast.c */
-bool is_fast(struct lagd *lagd);
 void start_fast(struct lagd *lagd);
 void end_fast(struct lagd *lagd);
 int open_fast_receiver(struct lagd *lagd, const struct link *link);
@@ -245,13 +259,19 @@ bool ask_driver(int index, void *value);
 void load_guard(struct lagd *lagd);
 void gather(struct lagd *lagd, int index);
 void open_guard(struct lagd *lagd, struct link *link, struct guard *guard);
+void keep_from_stack(struct lagd *lagd, const struct link *link, struct guard *guard);
+void run_fast_programs(struct lagd *lagd, const struct link *link, struct guard *guard);
+bool join_queues(struct lagd *lagd, struct link *link, struct guard *guard);
+bool keep_queues(struct lagd *lagd, struct link *link, struct guard *guard);
+void keep_queues_again(struct lagd *lagd, struct link *link, struct guard *guard);
+unsigned count_fifos(int index);
 void look_at_discipline(struct lagd *lagd, struct link *link, struct guard *guard);
 void reopen_guard(struct lagd *lagd, struct link *link, struct guard *guard);
 void close_guard(struct lagd *lagd, const struct link *link, struct guard *guard);
 void put_back(struct lagd *lagd, int index, const uint8_t *mac);
 
 /* spread.c: a member that keeps all its queues */
-void start_spreading(struct lagd *lagd);
+void start_all_queues(struct lagd *lagd);
 void spread(struct lagd *lagd, const struct link *link, struct guard *guard);
 void stop_spreading(struct lagd *lagd, const struct link *link, struct guard *guard);
 void note_channels(const struct link *link, struct guard *guard);
@@ -265,8 +285,7 @@ bool may_spread(struct lagd *lagd, const struct link *link);
 struct msghdr;
 void begin_queues(struct lagd *lagd, uint16_t port, unsigned count);
 void mark_conversation(struct lagd *lagd, uint16_t port, uint16_t number, struct msghdr *message);
-bool send_by_queues(struct lagd *lagd, struct link *link, const uint8_t *marker);
-bool send_by_queues_again(struct lagd *lagd, struct link *link, const uint8_t *marker);
+bool send_by_queues(struct lagd *lagd, struct link *link, const uint8_t *marker, bool again);
 
 /* answers.c: responses to markers that wait */
 void start_answers(struct lagd *lagd);
@@ -276,6 +295,11 @@ void forget_answers(struct lagd *lagd, uint16_t port);
 
 /* members.c */
 void start_members(struct lagd *lagd);
+bool renew_for_discipline(struct lagd *lagd, struct link *link);
+void move_member(struct lagd *lagd, struct link *link, const uint8_t *mac);
+void follow_member_mtu(struct lagd *lagd, struct link *link, uint32_t mtu);
+bool follow_member_queues(struct lagd *lagd, struct link *link);
+bool send_by_one_queue(struct lagd *lagd, struct link *link, const uint8_t *marker, bool again);
 bool give_marker(struct lagd *lagd, struct link *link, const uint8_t *marker, struct msghdr *message);
 void watch_queues(struct lagd *lagd);
 unsigned member_queues(struct lagd *lagd, uint16_t port);
@@ -297,6 +321,7 @@ void end_held(struct lagd *lagd);
 bool count_held(struct lagd *lagd, uint16_t number, uint64_t *waiting) MUST_USE;
 bool none_held(struct lagd *lagd, uint16_t number);
 bool count_all_held(struct lagd *lagd, uint64_t *waiting) MUST_USE;
+unsigned count_frames_waiting(struct lagd *lagd);
 bool oldest_held(struct lagd *lagd, uint16_t number, uint64_t *came);
 bool put_held(struct lagd *lagd, uint16_t number, const uint8_t *packet, size_t length);
 bool drop_held(struct lagd *lagd, uint16_t number, enum carry_count why);

@@ -131,7 +131,7 @@ static void follow(struct lagd *lagd, struct link *link, const struct interface 
     bool up, carrier = (interface->flags & IFF_UP) && (interface->flags & IFF_RUNNING) && (interface->flags & IFF_LOWER_UP), lost = false;
     if (interface->has_mac) follow_address(lagd, link, interface->mac);
     if (!follow_discipline(lagd, link, interface)) return;
-    if (interface->mtu != 0) follow_mtu(lagd, link, interface->mtu);
+    if (interface->mtu != 0) lagd->plane.carrying->follow_mtu(lagd, link, interface->mtu);
     if (interface->counts_losses && interface->losses != link->kernel_losses) {
         uint32_t losses = losses_since(link->kernel_losses, interface->losses);
         link->kernel_losses = interface->losses;
@@ -143,14 +143,14 @@ static void follow(struct lagd *lagd, struct link *link, const struct interface 
     up = carrier && !is_silent(lagd) && is_restored(lagd, link);
     if (up && !link->up) fit_queue(lagd, link, interface->name);
     if (up) take_speed(lagd, link, interface->name);
-    if (up) follow_speed(lagd, link, interface->name);
+    if (up) lagd->plane.carrying->follow_speed(lagd, link, interface->name);
     set_link(lagd, port, up);
 }
 
 /* An interface is there. A port goes by its name, and the TAP device by its number. */
 static void take_present(struct lagd *lagd, const struct interface *interface) {
     bool known = false;
-    if (carries_data(lagd) && interface->index == tap_index(lagd)) {
+    if (interface->index == tap_index(lagd)) {
         lagd->changes->tap_named = true;
         look_at_carry(lagd);
         follow_tap(lagd, interface->carrier, interface->discipline);
@@ -173,7 +173,7 @@ static void take_present(struct lagd *lagd, const struct interface *interface) {
 }
 
 static void take_absent(struct lagd *lagd, const struct interface *interface) {
-    if (interface->index == tap_index(lagd)) lose_tap(lagd);
+    if (interface->index == tap_index(lagd)) lagd->plane.carrying->lose_device(lagd);
     for (uint16_t i = 0; i < lagd->link_count; i++) {
         struct link *link = &lagd->links[i];
         if (link->index != interface->index) continue;
@@ -202,7 +202,7 @@ static void end_answer(struct lagd *lagd, int error) {
     if (error < 0 && !lagd->has_started) stop(REFUSED, "the kernel does not tell of interfaces", strerror(-error));
     own->asking = false;
     own->ask_again = own->ask_again || !whole;
-    if (whole && !own->tap_named) lose_tap(lagd);
+    if (whole && !own->tap_named) lagd->plane.carrying->lose_device(lagd);
     for (uint16_t i = 0; whole && i < lagd->link_count; i++)
         if (lagd->links[i].socket >= 0 && !lagd->links[i].present) lose_link(lagd, &lagd->links[i]);
 }
@@ -238,7 +238,7 @@ static void follow_all_queues(struct lagd *lagd) {
         struct link *link = &lagd->links[i];
         bool changed = link->has_new_queues;
         link->has_new_queues = false;
-        if (changed && !follow_queues(lagd, link)) lose_member(lagd, link);
+        if (changed && !lagd->plane.queueing->follow(lagd, link)) lose_member(lagd, link);
     }
 }
 

@@ -37,6 +37,7 @@ struct lagd {
     bool has_left; /* whether the next daemon goes on from here */
     char report[REPORT_ROOM];
     size_t report_length;
+    struct plane plane;
     struct carry carry;
     struct inherited inherited; /* what the last daemon left; all 0 where there is nothing */
     /* What each file keeps: it alone knows what that is. */

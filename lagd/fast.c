@@ -39,10 +39,6 @@ struct fast_private *make_fast_private(void) {
     return made;
 }
 
-bool is_fast(struct lagd *lagd) {
-    return lagd->fast->rows != NULL;
-}
-
 /* Waits until each program that runs now, and what it does with its frame, is done; answers whether the kernel can. */
 static bool wait_for_programs(void) {
     return syscall(SYS_membarrier, MEMBARRIER_CMD_GLOBAL, 0, 0) == 0;
@@ -113,7 +109,6 @@ void start_fast(struct lagd *lagd) {
 /* Nothing is passed on any more, from the first line on. */
 void end_fast(struct lagd *lagd) {
     struct fast_private *own = lagd->fast;
-    if (!is_fast(lagd)) return;
     open_host(lagd, false);
     for (uint16_t number = 0; number < CONVERSATIONS; number++)
         (void)__atomic_and_fetch(&own->rows[number].word, ~(uint64_t)UINT32_MAX, __ATOMIC_SEQ_CST);
@@ -157,7 +152,6 @@ int open_fast_receiver(struct lagd *lagd, const struct link *link) {
 /* The interface is no member any more. */
 void close_fast_receiver(struct lagd *lagd, const struct link *link) {
     uint64_t word = place_word(link);
-    if (!is_fast(lagd)) return;
     (void)__atomic_compare_exchange_n(place_at(lagd, link), &word, 0, false, __ATOMIC_SEQ_CST, __ATOMIC_SEQ_CST);
 }
 
@@ -203,7 +197,6 @@ static bool count_passed(struct lagd *lagd, struct conversation *conversation) {
 void take_fast_counts(struct lagd *lagd) {
     struct fast_private *own = lagd->fast;
     uint64_t overflowed, unfit;
-    if (!is_fast(lagd)) return;
     for (uint16_t number = 0; number < CONVERSATIONS; number++) (void)count_passed(lagd, &lagd->carry.conversations[number]);
     for (uint16_t i = 0; i < lagd->link_count; i++) {
         struct fast_member now = {
@@ -292,13 +285,13 @@ static bool is_resting(struct lagd *lagd, const struct conversation *conversatio
 
 /* The interface on which the kernel passes a conversation on, or 0. */
 int fast_member_of(struct lagd *lagd, uint16_t number) {
-    return is_fast(lagd) ? (int)(uint32_t)word_of(lagd, number) : 0;
+    return (int)(uint32_t)word_of(lagd, number);
 }
 
 /* The kernel goes on passing what stays on its port, and nothing else of what it passed on for the last daemon. */
 void resume_fast(struct lagd *lagd) {
     bool any = false;
-    for (uint16_t number = 0; is_fast(lagd) && number < CONVERSATIONS; number++) {
+    for (uint16_t number = 0; number < CONVERSATIONS; number++) {
         struct conversation *conversation = &lagd->carry.conversations[number];
         int member = fast_member_of(lagd, number);
         if (member == 0) continue;
@@ -315,13 +308,11 @@ void resume_fast(struct lagd *lagd) {
 
 /* Takes back what is not, or no longer, on the port where the kernel passes it on: before a marker goes there. */
 void withdraw(struct lagd *lagd) {
-    if (!is_fast(lagd)) return;
     take_back(lagd, ask_ports(lagd, lagd->carry.active, lagd->carry.port_of) ? is_wrong : is_any, 0);
 }
 
 /* The link of a port goes down, or its interface: before the library hears of it. */
 void withdraw_port(struct lagd *lagd, uint16_t port) {
-    if (!is_fast(lagd)) return;
     __atomic_store_n(&lagd->fast->entries[port - 1].up_to, 0, __ATOMIC_SEQ_CST);
     take_back(lagd, is_on, port);
     for (uint16_t number = 0; number < CONVERSATIONS; number++) {
@@ -336,7 +327,7 @@ void follow_host_queue(struct lagd *lagd, const char *discipline) {
     struct fast_private *own = lagd->fast;
     bool holds = !keeps_order(discipline) && strcmp(discipline, "pfifo_fast") != 0
         && strcmp(discipline, "noop") != 0; /* it has that one until it is up */
-    if (!is_fast(lagd) || !discipline[0] || holds == own->queue_holds) return;
+    if (!discipline[0] || holds == own->queue_holds) return;
     own->queue_holds = holds;
     if (holds) take_back(lagd, is_any, 0);
     (void)say(lagd, LOG_WARNING | ABOUT_DATA, "carry %s: its queueing discipline is %s: its data %s", lagd->settings.carry, discipline,
@@ -347,8 +338,8 @@ void follow_host_queue(struct lagd *lagd, const char *discipline) {
  * markers, too, which go up behind the data. */
 void set_collecting(struct lagd *lagd) {
     struct fast_private *own = lagd->fast;
-    bool tap_up = is_fast(lagd) && is_tap_up(lagd);
-    for (uint16_t i = 0; is_fast(lagd) && i < lagd->link_count; i++) {
+    bool tap_up = is_tap_up(lagd);
+    for (uint16_t i = 0; i < lagd->link_count; i++) {
         uint16_t port = lagd->links[i].settings.number;
         uint64_t state = 0;
         bool up = tap_up && own->tap_at != 0 && lagd->carry.active != 0 && lagd->links[i].view.aggregator == lagd->carry.active
@@ -363,7 +354,7 @@ void set_collecting(struct lagd *lagd) {
  * nowhere once the peer may have given the links up. */
 void open_host(struct lagd *lagd, bool open) {
     struct timespec now;
-    if (!is_fast(lagd)) return;
+    if (!lagd->fast->host) return; /* its tables are still to be made */
     clock_gettime(CLOCK_MONOTONIC, &now);
     __atomic_store_n(&lagd->fast->host->open_until, open ? (uint64_t)now.tv_sec * 1000000000u + (uint64_t)now.tv_nsec + OPEN_FOR : 0,
         __ATOMIC_SEQ_CST);
@@ -386,7 +377,7 @@ static void pass(struct lagd *lagd, struct conversation *conversation) {
 
 /* After all that was put was sent: what was taken counts no more, and the kernel gets what it may pass on. */
 void pass_on(struct lagd *lagd) {
-    for (uint16_t number = 0; is_fast(lagd) && number < CONVERSATIONS; number++) {
+    for (uint16_t number = 0; number < CONVERSATIONS; number++) {
         struct conversation *conversation = &lagd->carry.conversations[number];
         if (!conversation->fast.touched) continue;
         conversation->fast.touched = false;
@@ -419,7 +410,7 @@ static void confirm_loss(struct lagd *lagd, struct conversation *conversation) {
 void note_read(struct lagd *lagd, unsigned packets, bool drained) {
     struct fast_private *own = lagd->fast;
     int64_t left;
-    if (!is_fast(lagd) || lagd->broken) return;
+    if (lagd->broken) return;
     left = __atomic_sub_fetch(&own->host->left, packets, __ATOMIC_SEQ_CST);
     if (drained && (left > MOST_BETWEEN || left < 0)) (void)__atomic_sub_fetch(&own->host->left, left, __ATOMIC_SEQ_CST);
     for (uint16_t number = 0; drained && !own->queue_holds && number < CONVERSATIONS; number++) {
@@ -445,7 +436,6 @@ static bool suspect(struct lagd *lagd, struct conversation *conversation) {
 /* 100 ms passed. */
 void pass_fast_tick(struct lagd *lagd) {
     bool any = false;
-    if (!is_fast(lagd)) return;
     (void)read_tap_mac(lagd, (uint8_t *)&lagd->fast->host->mac);
     withdraw(lagd);
     open_host(lagd, has_carrier(lagd));

@@ -79,11 +79,18 @@ static void hand_over(struct lagd *lagd, struct link *link, const struct arrival
     if (!is_done(lagd, niw_count_received(&link->counters, arrival->frame, arrival->length, received.what), "niw_count_received")) return;
     if (received.what == NIW_RECEIVED_TOOK_LACPDU && actor) note_actor(lagd, link, actor, arrival->frame);
     if (received.what != NIW_RECEIVED_RESPOND) return;
-    if (!may_answer(lagd, link, arrival) || !answer_marker(lagd, link, response)) note_odd_marker(link, arrival, RESPONSES_UNSENT);
+    if (!may_answer(lagd, link, arrival) || !lagd->plane.queueing->answer(lagd, link, response)) note_odd_marker(link, arrival, RESPONSES_UNSENT);
+}
+
+/* Takes a response of the partner. */
+void take_response(struct lagd *lagd, struct link *link, const struct arrival *arrival, uint32_t id) {
+    (void)id;
+    hand_over(lagd, link, arrival, NULL);
+    note_response(lagd, link);
 }
 
 /* Takes a response to a marker of one queue: the library has the last one that was missing. */
-static void take_response(struct lagd *lagd, struct link *link, const struct arrival *arrival, uint32_t id) {
+void take_response_of_queue(struct lagd *lagd, struct link *link, const struct arrival *arrival, uint32_t id) {
     uint8_t frame[NIW_FRAME];
     struct arrival last = *arrival;
     bool ends = ends_flight(lagd, link, &id);
@@ -95,8 +102,7 @@ static void take_response(struct lagd *lagd, struct link *link, const struct arr
     set_identifier(frame, id);
     last.frame = frame;
     last.length = sizeof frame;
-    hand_over(lagd, link, &last, NULL);
-    note_response(lagd, link);
+    take_response(lagd, link, &last, id);
 }
 
 /* Whether the actor of an LACPDU may be the partner of a link; writes which system it is. */
@@ -130,12 +136,10 @@ void take_frame(struct lagd *lagd, struct link *link, const struct arrival *arri
         note_odd_marker(link, arrival, FOREIGN_RESPONSES);
         return;
     }
-    if (is_response && lagd->settings.all_queues) {
-        take_response(lagd, link, arrival, response.transaction_id);
-        return;
-    }
-    hand_over(lagd, link, arrival, is_lacpdu ? &actor : NULL);
-    if (is_response) note_response(lagd, link);
+    if (is_response)
+        lagd->plane.queueing->take_response(lagd, link, arrival, response.transaction_id);
+    else
+        hand_over(lagd, link, arrival, is_lacpdu ? &actor : NULL);
 }
 
 /* What the kernel tells beside a frame; zeros where it does not. */

@@ -61,7 +61,7 @@ static unsigned queues_of(int index, struct ethtool_channels *channels) {
 }
 
 /* Gives an interface one queue for each direction, where its driver can. */
-static void join_queues(int index) {
+static void give_one_queue(int index) {
     struct ethtool_channels wanted;
     if (queues_of(index, &wanted) <= 1) return;
     wanted.cmd = ETHTOOL_SCHANNELS;
@@ -111,7 +111,7 @@ static void look_before(struct lagd *lagd, const struct link *link, struct kept 
     char path[128];
     *before = (struct kept){.joins = read_joins(link->index).wanted};
     if (queues_of(link->index, &before->queues) <= 1) before->queues = (struct ethtool_channels){0};
-    if (!is_fast(lagd) || !path_of_processors(link->index, path, sizeof path)
+    if (!lagd->plane.passing->steers || !path_of_processors(link->index, path, sizeof path)
         || !read_processors(path, before->steered, sizeof before->steered)
         || is_one(before->steered))
         before->steered[0] = 0;
@@ -123,21 +123,21 @@ static bool is_unqueued(const struct link *link) {
 }
 
 /* How many queues of an interface have a discipline of their own: all of them, where it keeps them. */
-static unsigned fifos_of(struct lagd *lagd, int index) {
-    return lagd->settings.all_queues ? count_entries(index, "tx-") : 1;
+unsigned count_fifos(int index) {
+    return count_entries(index, "tx-");
 }
 
 /* Sees whether what is sent at an interface keeps its order in its queueing discipline. Frames of several segments have to go through
  * that, since it segments them for an interface that cannot: so they get one that does. */
 void look_at_discipline(struct lagd *lagd, struct link *link, struct guard *guard) {
-    bool wants = passes_segments(lagd) || lagd->settings.all_queues, given = false;
+    bool given = false;
     (void)read_discipline(lagd, link->index, link->discipline);
-    if (wants && !is_unqueued(link) && strcmp(link->discipline, "noqueue") != 0)
-        given = give_fifos(lagd, link->index, fifos_of(lagd, link->index), read_speed(link->socket, link->name).megabits);
+    if (lagd->plane.wants_fifo && !is_unqueued(link) && strcmp(link->discipline, "noqueue") != 0)
+        given = give_fifos(lagd, link->index, lagd->plane.queueing->fifos_of(link->index), read_speed(link->socket, link->name).megabits);
     if (given) (void)read_discipline(lagd, link->index, link->discipline);
     link->has_fifos = given && strcmp(link->discipline, "mq") == 0;
     guard->in_order = keeps_order(link->discipline) || link->has_fifos;
-    if (passes_segments(lagd) && !guard->in_order && !is_unqueued(link))
+    if (lagd->plane.segments && !guard->in_order && !is_unqueued(link))
         (void)say(lagd, LOG_WARNING | ABOUT_DATA,
             "port %u %s: its queueing discipline is neither noqueue, bfifo nor pfifo: it loses frames of "
             "several segments, if its card cannot cut them", link->settings.number, link->name);
@@ -145,9 +145,9 @@ void look_at_discipline(struct lagd *lagd, struct link *link, struct guard *guar
 
 /* The link comes up: the queue of its interface, if that is one of the daemon, has the length of its speed from now on. */
 void fit_queue(struct lagd *lagd, const struct link *link, const char *interface) {
-    if (!carries_data(lagd) || !(passes_segments(lagd) || lagd->settings.all_queues)) return;
+    if (!lagd->plane.wants_fifo) return;
     if (link->has_fifos)
-        fit_fifos(lagd, link->index, fifos_of(lagd, link->index), read_speed(link->socket, interface).megabits);
+        fit_fifos(lagd, link->index, lagd->plane.queueing->fifos_of(link->index), read_speed(link->socket, interface).megabits);
     else
         fit_fifo(lagd, link->index, read_speed(link->socket, interface).megabits);
 }
@@ -177,7 +177,7 @@ static void open_fast(struct lagd *lagd, const struct link *link, struct guard *
 }
 
 /* Keeps data from the stack of an interface: by TCX, or, where the kernel has none, by a classifier. */
-static void keep_from_stack(struct lagd *lagd, const struct link *link, struct guard *guard) {
+void keep_from_stack(struct lagd *lagd, const struct link *link, struct guard *guard) {
     uint16_t port = link->settings.number;
     if (lagd->guard->program >= 0) guard->opened = attach_stored(lagd, "guard", lagd->guard->program, link->index, false);
     if (lagd->guard->program >= 0 && guard->opened < 0) guard->classifier = set_classifier(lagd, lagd->guard->program, link->index);
@@ -186,6 +186,12 @@ static void keep_from_stack(struct lagd *lagd, const struct link *link, struct g
             "port %u %s: it has a clsact already: its own network stack has what filters there accept", port, link->name);
     if (guard->opened < 0 && guard->classifier == NO_CLASSIFIER)
         (void)say(lagd, LOG_WARNING | ABOUT_DATA, "port %u %s: its own network stack has its frames, too", port, link->name);
+}
+
+/* Has the kernel pass on what goes and comes at a member, or keep it from the stack. */
+void run_fast_programs(struct lagd *lagd, const struct link *link, struct guard *guard) {
+    open_fast(lagd, link, guard);
+    if (guard->opened < 0) keep_from_stack(lagd, link, guard);
 }
 
 /* Which ways to put frames together may stay: GRO of the kernel, where responses wait for longer than it keeps a frame. Where the daemon
@@ -204,18 +210,29 @@ static void regain_queues(struct lagd *lagd, const struct link *link, struct eth
         (void)part_queues(link->index, before);
 }
 
-/* Lets a member keep all its queues, where it can, or gives it one. */
-static void set_queues(struct lagd *lagd, struct link *link, struct guard *guard) {
-    struct ethtool_channels *before = &guard->before.queues;
-    if (lagd->settings.all_queues) regain_queues(lagd, link, before);
+/* Gives a member one queue. */
+bool join_queues(struct lagd *lagd, struct link *link, struct guard *guard) {
     look_at_discipline(lagd, link, guard);
-    if (lagd->settings.all_queues) {
-        if (is_unqueued(link)) return; /* it is looked at again then */
-        spread(lagd, link, guard);
-        if (guard->spread && has_channels(link->index, before)) *before = (struct ethtool_channels){0};
-        write_settings(lagd, link, &guard->before);
-    }
-    if (!guard->spread) join_queues(link->index);
+    give_one_queue(link->index);
+    return true;
+}
+
+/* Lets a member keep all its queues, where it can, or gives it one; answers false where it has no queue yet: it is looked at again then. */
+bool keep_queues(struct lagd *lagd, struct link *link, struct guard *guard) {
+    struct ethtool_channels *before = &guard->before.queues;
+    regain_queues(lagd, link, before);
+    look_at_discipline(lagd, link, guard);
+    if (is_unqueued(link)) return false;
+    spread(lagd, link, guard);
+    if (guard->spread && has_channels(link->index, before)) *before = (struct ethtool_channels){0};
+    write_settings(lagd, link, &guard->before);
+    if (!guard->spread) give_one_queue(link->index);
+    return true;
+}
+
+/* The same of a member that has another queueing discipline. */
+void keep_queues_again(struct lagd *lagd, struct link *link, struct guard *guard) {
+    (void)keep_queues(lagd, link, guard);
 }
 
 /* Has programs run for the frames of an interface. */
@@ -223,8 +240,7 @@ static void run_programs(struct lagd *lagd, const struct link *link, struct guar
     guard->opened = -1;
     guard->classifier = NO_CLASSIFIER;
     guard->fast = guard->unusual = false;
-    if (is_fast(lagd)) open_fast(lagd, link, guard);
-    if (guard->opened < 0) keep_from_stack(lagd, link, guard);
+    lagd->plane.passing->run_programs(lagd, link, guard);
     if (guard->before.joins != 0) set_joins(link->index, guard->before.joins & joins_allowed(lagd, link, guard));
 }
 
@@ -240,10 +256,7 @@ static void stop_programs(struct lagd *lagd, const struct link *link, struct gua
 /* An interface has another queueing discipline: its programs are chosen anew. What it had before it was a member stays kept. */
 void reopen_guard(struct lagd *lagd, struct link *link, struct guard *guard) {
     stop_programs(lagd, link, guard);
-    if (lagd->settings.all_queues)
-        set_queues(lagd, link, guard);
-    else
-        look_at_discipline(lagd, link, guard);
+    lagd->plane.queueing->set_again(lagd, link, guard);
     run_programs(lagd, link, guard);
     note_channels(link, guard);
 }
@@ -252,21 +265,22 @@ void reopen_guard(struct lagd *lagd, struct link *link, struct guard *guard) {
 void open_guard(struct lagd *lagd, struct link *link, struct guard *guard) {
     struct ethtool_channels queues;
     uint16_t port = link->settings.number;
+    bool has_queues;
     guard->spread = false;
     guard->queues = 1;
     guard->chooser = -1;
     look_before(lagd, link, &guard->before);
     keep_settings(lagd, link, &guard->before);
-    set_queues(lagd, link, guard);
+    has_queues = lagd->plane.queueing->set(lagd, link, guard);
     run_programs(lagd, link, guard);
     note_channels(link, guard);
     if ((read_joins(link->index).on & ~joins_allowed(lagd, link, guard)) != 0)
         (void)say(lagd, LOG_WARNING | ABOUT_DATA, "port %u %s: GRO or LRO stays on, and markers may overtake data", port, link->name);
-    if (link->stacked && !is_fast(lagd))
+    if (link->stacked && !lagd->plane.passing->steers)
         (void)say(lagd, LOG_WARNING | ABOUT_DATA,
             "port %u %s: it stands on another interface, whose queues are not seen: markers may overtake "
             "data", port, link->name);
-    if (!guard->spread && !(lagd->settings.all_queues && is_unqueued(link)) && queues_of(link->index, &queues) > 1)
+    if (!guard->spread && has_queues && queues_of(link->index, &queues) > 1)
         (void)say(lagd, LOG_WARNING | ABOUT_DATA, "port %u %s: it has several queues, and markers may overtake data", port, link->name);
 }
 

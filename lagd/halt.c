@@ -75,7 +75,7 @@ void follow_device(struct lagd *lagd, bool up) {
 
 /* The device was opened. Where no port goes on, no peer has to be told. */
 void start_halt(struct lagd *lagd) {
-    lagd->halt->down = carries_data(lagd) && !is_tap_up(lagd);
+    lagd->halt->down = tap_index(lagd) != 0 && !is_tap_up(lagd);
     lagd->halt->silent = lagd->halt->down && !lagd->resuming;
 }
 

@@ -116,6 +116,12 @@ bool count_all_held(struct lagd *lagd, uint64_t *waiting) {
     return is_done(lagd, counts.status, "niw_queue_counts");
 }
 
+/* How many frames wait in all, as far as that is known. */
+unsigned count_frames_waiting(struct lagd *lagd) {
+    uint64_t waiting;
+    return count_all_held(lagd, &waiting) ? (unsigned)waiting : 0;
+}
+
 /* The slot of a frame that the library tells, or NONE where it tells none. */
 static uint32_t slot_told(struct lagd *lagd, const struct niw_queued *queued, const char *call) {
     return is_done(lagd, queued->status, call) && queued->is ? (uint32_t)queued->frame : NONE;

@@ -6,7 +6,6 @@
 #include <unistd.h>
 
 #include "daemon.h"
-#include "team.h"
 
 /* The most segments of a packet that is cut at once: more than one of a usual stream has. */
 #define MOST_AT_ONCE 128
@@ -41,17 +40,13 @@ struct host_private *make_host_private(void) {
     return made;
 }
 
-bool carries_data(struct lagd *lagd) {
-    return lagd->host->tap >= 0 || carries_by_team(lagd);
-}
-
-/* The TAP device is gone, or it is in another namespace, where interfaces of others have the numbers of our members: first of all nothing
+/* The device is gone, or it is in another namespace, where interfaces of others have the numbers of our members: first of all nothing
  * is passed on any more. Then the peers are told, and the daemon ends, so that whoever started it starts it again, with a new device. */
 void lose_tap(struct lagd *lagd) {
     struct host_private *own = lagd->host;
-    if (!carries_data(lagd) || lagd->broken) return;
+    if (lagd->broken) return;
     lagd->broken = true;
-    end_fast(lagd);
+    lagd->plane.passing->end(lagd);
     forget_tap(lagd);
     drop_stored(lagd, "tap", 0);
     if (own->tap >= 0) await_no_more(lagd, own->tap);
@@ -160,7 +155,7 @@ static unsigned take_next(struct lagd *lagd, uint8_t *packet) {
         lose_tap(lagd);
         return 0;
     }
-    if (length >= (ssize_t)head_octets() && !passes_segments(lagd)) return take_in_turn(lagd, packet, (size_t)length);
+    if (length >= (ssize_t)head_octets() && !lagd->plane.segments) return take_in_turn(lagd, packet, (size_t)length);
     take_from_host(lagd, packet, length < 0 ? 0 : (size_t)length); /* one that cannot be read has no octets */
     return 1;
 }
@@ -178,8 +173,8 @@ void take_host(struct lagd *lagd) {
     take_uncut(lagd, MOST_CUT);
     flush_data(lagd);
     if (left == 0 || is_cutting(lagd)) lagd->carry.more_waits = true;
-    note_read(lagd, got, left > 0);
-    pass_on(lagd);
+    lagd->plane.passing->note_read(lagd, got, left > 0);
+    lagd->plane.passing->pass_on(lagd);
 }
 
 /* Hands a packet up, which lies in parts; answers whether the device took it. */
@@ -189,7 +184,7 @@ bool give_host(struct lagd *lagd, const struct iovec *parts, unsigned count, siz
 
 /* Serves what is ready: a member, or the TAP device, whose frames come after what was released. */
 void serve_data(struct lagd *lagd, uint32_t tag) {
-    if (!carries_data(lagd) || lagd->broken) return;
+    if (lagd->broken) return;
     if (tag == RESPONSES) serve_answers(lagd);
     if (tag >= MEMBERS && tag < RESPONSES) {
         take_data(lagd, (uint16_t)(tag - MEMBERS + 1));
@@ -201,44 +196,55 @@ void serve_data(struct lagd *lagd, uint32_t tag) {
 
 /* The link of a port goes down: nothing goes there from here on. */
 void lose_data(struct lagd *lagd, uint16_t port) {
-    if (!carries_data(lagd)) return;
-    withdraw_port(lagd, port);
+    lagd->plane.passing->withdraw_port(lagd, port);
     forget_answers(lagd, port);
 }
 
-/* Makes the TAP device, and all room that frames ever take, where data is carried. */
-void open_carry(struct lagd *lagd) {
+/* The interface by which the kernel passes a conversation on, or 0. */
+int passing_member_of(struct lagd *lagd, uint16_t number) {
+    return lagd->plane.passing->member_of(lagd, number);
+}
+
+/* Makes the TAP device, and what members are given and have taken away. */
+void open_tap_plane(struct lagd *lagd) {
     struct host_private *own = lagd->host;
-    if (!lagd->settings.carry[0]) return;
-    start_held(lagd);
-    start_members(lagd);
-    if (lagd->settings.plane == PLANE_TEAM) {
-        open_team(lagd, lagd->settings.carry, lagd->settings.config.mac);
-        return;
-    }
     own->packets = make_rooms();
     own->segments = make_rooms();
     own->rooms = make_rooms();
     load_guard(lagd);
-    start_spreading(lagd);
-    start_answers(lagd);
+    lagd->plane.queueing->start(lagd);
     if (call_at_exit(lagd, put_back_members) != 0) stop(REFUSED, "no memory", "for what members had");
     own->tap = open_tap(lagd, lagd->settings.carry, lagd->settings.config.mac);
     gather(lagd, tap_index(lagd));
-    if (lagd->settings.fast) start_fast(lagd);
+    lagd->plane.passing->start(lagd);
     if (!await_input(lagd, own->tap, HOST)) stop(REFUSED, "epoll", strerror(errno));
 }
 
-/* The daemon ends, or the library refused a call: no data goes or comes from here on. Members are as they were before, and the device goes
- * with the program. */
-void end_carry(struct lagd *lagd) {
-    struct host_private *own = lagd->host;
-    if (!carries_data(lagd)) return;
-    if (own->tap >= 0) await_no_more(lagd, own->tap);
+/* Members are as they were before, and the device goes with the program. */
+void end_tap_plane(struct lagd *lagd) {
+    await_no_more(lagd, lagd->host->tap);
     set_carrier(lagd, false);
-    for (uint16_t i = 0; i < lagd->link_count; i++)
-        if (lagd->links[i].socket >= 0) close_member(lagd, &lagd->links[i]);
-    end_team(lagd);
-    end_fast(lagd);
+    close_members(lagd);
+    lagd->plane.passing->end(lagd);
     end_held(lagd);
+}
+
+/* Makes what carries the data, and all room that frames ever take. */
+void open_carry(struct lagd *lagd) {
+    if (!lagd->settings.carry[0]) return;
+    start_held(lagd);
+    start_members(lagd);
+    lagd->plane.carrying->open(lagd);
+}
+
+/* No interface is a member any more. */
+void close_members(struct lagd *lagd) {
+    for (uint16_t i = 0; i < lagd->link_count; i++)
+        if (lagd->links[i].socket >= 0) lagd->plane.carrying->remove(lagd, &lagd->links[i]);
+}
+
+/* The daemon ends, or the library refused a call: no data goes or comes from here on. */
+void end_carry(struct lagd *lagd) {
+    lagd->plane.carrying->end(lagd);
+    lagd->plane = no_plane();
 }

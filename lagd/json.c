@@ -94,7 +94,7 @@ static void add_member(struct lagd *lagd, const struct link *link) {
     add_ends(lagd, &view);
     add_strangers(lagd, link);
     add_counts(lagd, link);
-    write_member_json(lagd, link);
+    lagd->plane.carrying->show_member(lagd, link, AS_JSON);
     add(lagd, ",\"trouble\":");
     add_string(lagd, link->trouble ? strerror(link->trouble) : "");
     add(lagd, "}");
@@ -109,7 +109,7 @@ void write_json(struct lagd *lagd) {
     add(lagd, ",\"key\":%u,\"collector_max_delay\":%u", lagd->settings.key, lagd->settings.config.max_delay);
     add(lagd, ",\"min_links\":%u,\"max_links\":%u,\"seconds\":%" PRIu64 ",", lagd->settings.min_links, lagd->settings.config.max_links,
         seconds_passed(lagd));
-    write_carry_json(lagd);
+    lagd->plane.carrying->show(lagd, AS_JSON);
     add(lagd, "\"ports\":[");
     for (uint16_t i = 0, count = 0; i < lagd->link_count; i++) {
         if (!lagd->links[i].used) continue;

@@ -118,7 +118,6 @@ void forget_settings(struct lagd *lagd, const struct link *link) {
 
 /* The interface is gone for good. One that went to another namespace may come back, and is what it was made then. */
 void forget_interface(struct lagd *lagd, const struct link *link) {
-    if (!carries_data(lagd)) return;
     forget_settings(lagd, link);
     drop_kept(lagd, link, "queues");
 }

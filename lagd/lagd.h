@@ -10,6 +10,7 @@
 
 #include "counts.h"
 #include "lag.h"
+#include "plane.h"
 #include "settings.h"
 
 #define VERSION NIW_VERSION_TEXT
@@ -255,6 +256,8 @@ struct tpacket_auxdata;
 struct tpacket_auxdata aux_of(struct msghdr *message);
 void take_frame(struct lagd *lagd, struct link *link, const struct arrival *arrival);
 void take_frames(struct lagd *lagd, uint16_t port);
+void take_response(struct lagd *lagd, struct link *link, const struct arrival *arrival, uint32_t id);
+void take_response_of_queue(struct lagd *lagd, struct link *link, const struct arrival *arrival, uint32_t id);
 void forget_partner(struct lagd *lagd, struct link *link);
 bool may_be_partner(const struct link *link, const uint8_t *frame, struct system_id *actor);
 void note_actor(struct lagd *lagd, struct link *link, const struct system_id *actor, const uint8_t *frame);
@@ -267,12 +270,16 @@ void note_odd_marker(struct link *link, const struct arrival *arrival, enum coun
 bool may_answer(struct lagd *lagd, struct link *link, const struct arrival *arrival);
 void tell_markers(struct lagd *lagd, struct link *link);
 
+/* How many markers come in the place of one, of a partner whose members have several queues, where ours have: one for each queue. */
+#define MARKERS_AT_ONCE 16
+
 /* queues.c */
 bool ends_flight(struct lagd *lagd, const struct link *link, uint32_t *id);
 void set_identifier(uint8_t *frame, uint32_t id);
 
 /* answers.c */
-bool answer_marker(struct lagd *lagd, struct link *link, const uint8_t *response);
+bool answer_at_once(struct lagd *lagd, struct link *link, const uint8_t *response);
+bool answer_later(struct lagd *lagd, struct link *link, const uint8_t *response);
 
 /* twins.c */
 void look_for_twins(struct lagd *lagd);
@@ -410,6 +417,8 @@ void end_state(struct lagd *lagd);
 void begin_resuming(struct lagd *lagd);
 unsigned resume(struct lagd *lagd);
 void resume_data(struct lagd *lagd, unsigned count);
+void resume_conversations(struct lagd *lagd, bool goes_on);
+void release_former_members(struct lagd *lagd);
 void end_resuming(struct lagd *lagd);
 bool leave_state(struct lagd *lagd);
 
@@ -431,7 +440,6 @@ void follow_tap(struct lagd *lagd, bool has_carrier, const char *discipline);
 
 /* carry.c */
 void look_at_carry(struct lagd *lagd);
-bool keeps_aggregator(struct lagd *lagd);
 void settle_carry(struct lagd *lagd);
 void pass_carry_tick(struct lagd *lagd);
 
@@ -439,7 +447,6 @@ void pass_carry_tick(struct lagd *lagd);
 void lose_tap(struct lagd *lagd);
 void open_carry(struct lagd *lagd);
 void end_carry(struct lagd *lagd);
-bool carries_data(struct lagd *lagd);
 void serve_data(struct lagd *lagd, uint32_t tag);
 void lose_data(struct lagd *lagd, uint16_t port);
 
@@ -452,10 +459,8 @@ void close_member(struct lagd *lagd, struct link *link);
 void forget_member(struct lagd *lagd, uint16_t port);
 void drain_member(struct lagd *lagd, uint16_t port);
 bool reopen_member(struct lagd *lagd, struct link *link);
-bool follow_queues(struct lagd *lagd, struct link *link);
 void follow_address(struct lagd *lagd, struct link *link, const uint8_t *mac);
 void take_marker(struct lagd *lagd, struct link *link, const uint8_t *frame);
-void follow_mtu(struct lagd *lagd, struct link *link, uint32_t mtu);
 void follow_speed(struct lagd *lagd, const struct link *link, const char *interface);
 
 /* moves.c */
@@ -464,11 +469,12 @@ bool can_empty(struct lagd *lagd, uint16_t port);
 bool empty_port(struct lagd *lagd, uint16_t port);
 
 /* carry_show.c */
-void write_carry_text(struct lagd *lagd);
-void write_carry_json(struct lagd *lagd);
-void write_carry_metrics(struct lagd *lagd);
-void write_member_text(struct lagd *lagd, const struct link *link);
-void write_member_json(struct lagd *lagd, const struct link *link);
+void show_carry(struct lagd *lagd, enum form form);
+void show_member(struct lagd *lagd, const struct link *link, enum form form);
+void show_markers(struct lagd *lagd);
+void show_queues(struct lagd *lagd, const struct link *link, enum form form);
+void show_frames_waiting(struct lagd *lagd, enum form form);
+void show_waiting_buckets(struct lagd *lagd, enum form form);
 
 /* report.c: what is written for whoever asks. What 64 ports of the longest names have to tell has less than 2 MiB. */
 #define REPORT_ROOM 4194304

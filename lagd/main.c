@@ -198,6 +198,7 @@ static int run_daemon(struct lagd *lagd, const struct options *options) {
     if (lagd->settings.system_auto) take_own_address(lagd);
     open_folder(lagd, options->folder);
     open_store(lagd);
+    lagd->plane = plane_of(&lagd->settings);
     recall_state(lagd);
     make_system(lagd);
     begin_resuming(lagd);

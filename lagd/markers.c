@@ -11,8 +11,6 @@
 #define SLOT 100
 /* Which part of the responses others get, while the partner is known. */
 #define PART_OF_OTHERS 4
-/* How many come in the place of one, of a partner whose members have several queues, where ours have: one for each queue. */
-#define MARKERS_AT_ONCE 16
 /* How many ticks there are between two lines about Marker PDUs of a link. */
 #define LINE_TICKS (10 * SECOND)
 
@@ -52,7 +50,7 @@ static void pass_slots(struct answered *answered, uint64_t slot) {
  * partner's. */
 bool may_answer(struct lagd *lagd, struct link *link, const struct arrival *arrival) {
     struct answered *answered = &link->markers.answered;
-    unsigned partner = 0, others = 0, most = lagd->settings.marker_responses * (lagd->settings.all_queues ? MARKERS_AT_ONCE : 1u);
+    unsigned partner = 0, others = 0, most = lagd->settings.marker_responses * lagd->plane.queueing->markers_at_once;
     bool other = !is_from_partner(link, arrival);
     pass_slots(answered, milliseconds(lagd) / SLOT);
     for (unsigned i = 0; i < ANSWERED_SLOTS; i++) {

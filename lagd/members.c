@@ -11,7 +11,6 @@
 #include <unistd.h>
 
 #include "daemon.h"
-#include "team.h"
 
 /* Of the frames that wait in a socket. */
 #define SOCKET_ROOM (8 << 20)
@@ -42,7 +41,12 @@ struct members_private {
 };
 
 struct members_private *make_members_private(void) {
-    return make_room(sizeof(struct members_private));
+    struct members_private *made = make_room(sizeof *made);
+    for (unsigned i = 0; i < NIW_MOST_PORTS; i++) {
+        made->members[i].socket = made->members[i].markers = made->members[i].direct = -1;
+        made->members[i].guard.opened = -1;
+    }
+    return made;
 }
 
 static struct member *member_of(struct lagd *lagd, const struct link *link) {
@@ -144,14 +148,9 @@ static int open_markers(struct lagd *lagd, const struct link *link, int index, u
     return -1;
 }
 
-/* No interface is taken up yet. */
+/* Makes room for what comes by members. */
 void start_members(struct lagd *lagd) {
-    struct members_private *own = lagd->members;
-    own->member_packets = make_rooms();
-    for (unsigned i = 0; i < NIW_MOST_PORTS; i++) {
-        own->members[i].socket = own->members[i].markers = own->members[i].direct = -1;
-        own->members[i].guard.opened = -1;
-    }
+    lagd->members->member_packets = make_rooms();
 }
 
 static void close_sockets(struct lagd *lagd, struct member *member) {
@@ -196,11 +195,9 @@ static bool open_or_close(struct lagd *lagd, struct member *member, const struct
     return false;
 }
 
-/* Takes up an interface for data, if data is carried; answers whether it did, and else errno tells why not. */
+/* Takes up an interface for data; answers whether it did, and else errno tells why not. */
 bool open_member(struct lagd *lagd, struct link *link) {
     struct member *member = member_of(lagd, link);
-    if (!carries_data(lagd)) return true;
-    if (carries_by_team(lagd)) return open_team_port(lagd, link);
     if (!filter(link->socket, false)) return false;
     open_guard(lagd, link, &member->guard);
     member->has_marker = false;
@@ -218,7 +215,7 @@ static void count_loss(struct member *member) {
 /* The programs and sockets of a member are chosen anew; answers whether it is still taken up. */
 static bool renew_member(struct lagd *lagd, struct link *link) {
     struct member *member = member_of(lagd, link);
-    withdraw_port(lagd, link->settings.number);
+    lagd->plane.passing->withdraw_port(lagd, link->settings.number);
     count_loss(member);
     close_sockets(lagd, member);
     reopen_guard(lagd, link, &member->guard);
@@ -228,33 +225,42 @@ static bool renew_member(struct lagd *lagd, struct link *link) {
 
 /* The interface has another queueing discipline: how data is sent is seen anew. Answers whether the member is still taken up. */
 bool reopen_member(struct lagd *lagd, struct link *link) {
-    struct member *member = member_of(lagd, link);
     char before[DISCIPLINE_ROOM];
     memcpy(before, link->discipline, sizeof before);
     if (!read_discipline(lagd, link->index, link->discipline) || strcmp(before, link->discipline) == 0) return true;
-    if (!carries_data(lagd) || member->socket < 0) return true;
-    if (is_fast(lagd) || lagd->settings.all_queues) return renew_member(lagd, link);
+    return lagd->plane.carrying->renew(lagd, link);
+}
+
+/* The same of a member. */
+bool renew_for_discipline(struct lagd *lagd, struct link *link) {
+    struct member *member = member_of(lagd, link);
+    if (member->socket < 0) return true;
+    if (lagd->plane.renews) return renew_member(lagd, link);
     look_at_discipline(lagd, link, &member->guard);
     return set_bypass(member->socket, member->guard.in_order);
 }
 
-/* An interface has this MAC address now: what it had before it was a member stays known by that, also where this daemon is killed. */
+/* An interface has this MAC address now. */
 void follow_address(struct lagd *lagd, struct link *link, const uint8_t *mac) {
-    struct member *member = member_of(lagd, link);
     if (memcmp(link->mac, mac, sizeof link->mac) == 0) return;
-    if (carries_data(lagd) && member->socket >= 0) {
-        move_former(lagd, link, mac);
-        write_settings(lagd, link, &member->guard.before);
-    }
+    lagd->plane.carrying->move(lagd, link, mac);
     memcpy(link->mac, mac, sizeof link->mac);
+}
+
+/* What a member had before it was one stays known by its new MAC address, also where this daemon is killed. */
+void move_member(struct lagd *lagd, struct link *link, const uint8_t *mac) {
+    struct member *member = member_of(lagd, link);
+    if (member->socket < 0) return;
+    move_former(lagd, link, mac);
+    write_settings(lagd, link, &member->guard.before);
 }
 
 /* A queueing discipline of an interface came, changed or went: where each queue has one of the daemon, others may have put another one there,
  * or taken theirs away. Answers whether the member is still taken up. */
-bool follow_queues(struct lagd *lagd, struct link *link) {
+bool follow_member_queues(struct lagd *lagd, struct link *link) {
     struct member *member = member_of(lagd, link);
     bool kept = link->has_fifos ? have_order(lagd, link->index) : member->guard.in_order || !may_have_order(lagd, link->index);
-    if (member->socket < 0 || !lagd->settings.all_queues || kept) return true;
+    if (member->socket < 0 || kept) return true;
     (void)say(lagd, LOG_NOTICE | ABOUT_DATA, "port %u %s: its queues were changed", link->settings.number, link->name);
     return renew_member(lagd, link);
 }
@@ -263,7 +269,7 @@ bool follow_queues(struct lagd *lagd, struct link *link) {
  * the others by now. */
 void watch_queues(struct lagd *lagd) {
     struct members_private *own = lagd->members;
-    if (!lagd->settings.all_queues || ticks_passed(lagd) % SECOND != 0) return;
+    if (ticks_passed(lagd) % SECOND != 0) return;
     for (uint16_t i = 0; i < lagd->link_count; i++) {
         struct link *link = &lagd->links[i];
         const struct guard *guard = &own->members[i].guard;
@@ -295,9 +301,8 @@ void count_losses(struct lagd *lagd) {
 /* The interface is gone, or the daemon ends. */
 void close_member(struct lagd *lagd, struct link *link) {
     struct member *member = member_of(lagd, link);
-    if (carries_by_team(lagd)) close_team_port(lagd, link);
-    if (!carries_data(lagd) || member->socket < 0) return;
-    withdraw_port(lagd, link->settings.number);
+    if (member->socket < 0) return;
+    lagd->plane.passing->withdraw_port(lagd, link->settings.number);
     forget_answers(lagd, link->settings.number);
     count_loss(member);
     close_sockets(lagd, member);
@@ -324,10 +329,10 @@ void put_back_members(struct lagd *lagd) {
 }
 
 /* The TAP device takes what each member takes; 0: there is no such member any more. */
-void follow_mtu(struct lagd *lagd, struct link *link, uint32_t mtu) {
+void follow_member_mtu(struct lagd *lagd, struct link *link, uint32_t mtu) {
     struct members_private *own = lagd->members;
     uint32_t least = 0;
-    if (!carries_data(lagd) || carries_by_team(lagd) || member_of(lagd, link)->mtu == mtu) return;
+    if (member_of(lagd, link)->mtu == mtu) return;
     member_of(lagd, link)->mtu = mtu;
     for (uint16_t i = 0; i < lagd->link_count; i++)
         if (own->members[i].mtu > 0 && (least == 0 || own->members[i].mtu < least)) least = own->members[i].mtu;
@@ -336,9 +341,7 @@ void follow_mtu(struct lagd *lagd, struct link *link, uint32_t mtu) {
 
 /* The kernel told of an interface whose link is up, which may have another speed. */
 void follow_speed(struct lagd *lagd, const struct link *link, const char *interface) {
-    uint32_t now;
-    if (!carries_data(lagd)) return;
-    now = read_speed(link->socket, interface).megabits;
+    uint32_t now = read_speed(link->socket, interface).megabits;
     member_of(lagd, link)->megabits = now == (uint32_t)SPEED_UNKNOWN ? 0 : now;
     look_at_carry(lagd);
 }
@@ -397,7 +400,7 @@ void put_data(struct lagd *lagd, uint16_t port, uint16_t number, uint8_t *packet
     if (member->out == BATCH) flush_member(lagd, member);
     member->parts[member->out] = (struct iovec){packet, length};
     member->messages[member->out].msg_hdr = (struct msghdr){.msg_iov = &member->parts[member->out], .msg_iovlen = 1};
-    if (lagd->settings.all_queues) mark_conversation(lagd, port, number, &member->messages[member->out].msg_hdr);
+    lagd->plane.queueing->mark(lagd, port, number, &member->messages[member->out].msg_hdr);
     member->out++;
 }
 
@@ -414,14 +417,19 @@ bool give_marker(struct lagd *lagd, struct link *link, const uint8_t *marker, st
     return is_done(lagd, niw_count_sent(&link->counters, marker, NIW_FRAME), "niw_count_sent");
 }
 
+/* Sends a marker of a member of one queue, for the first time or again. */
+bool send_by_one_queue(struct lagd *lagd, struct link *link, const uint8_t *marker, bool again) {
+    struct msghdr message = {0};
+    (void)again;
+    return give_marker(lagd, link, marker, &message);
+}
+
 /* Sends a marker behind the data of its port, by the same socket: by another one, of another priority, it would overtake them. What the
  * kernel passes on and no longer may is taken back before. */
 static bool send_marker(struct lagd *lagd, struct link *link, const uint8_t *marker, bool again) {
-    struct msghdr message = {0};
     flush_member(lagd, member_of(lagd, link));
-    withdraw(lagd);
-    if (!lagd->settings.all_queues) return give_marker(lagd, link, marker, &message);
-    return again ? send_by_queues_again(lagd, link, marker) : send_by_queues(lagd, link, marker);
+    lagd->plane.passing->withdraw(lagd);
+    return lagd->plane.queueing->send_marker(lagd, link, marker, again);
 }
 
 /* A marker is due on a port. */
@@ -523,7 +531,7 @@ static void take_packets(struct lagd *lagd, uint16_t port, const int *fd, bool o
 /* Takes all that waits at a member, but for a flood, before its port is held: what came before that is collected. */
 void drain_member(struct lagd *lagd, uint16_t port) {
     struct member *member = &lagd->members->members[port - 1];
-    if (!carries_data(lagd) || carries_by_team(lagd) || member->socket < 0) return;
+    if (member->socket < 0) return;
     for (unsigned turn = 0; turn < MOST_DRAINED && !lagd->broken; turn++) {
         lagd->carry.more_waits = false;
         take_data(lagd, port);

@@ -162,7 +162,7 @@ bool begin_hold(struct lagd *lagd, uint16_t port) {
     struct link *link = &lagd->links[port - 1];
     link->leaves_since = milliseconds(lagd);
     link->left_at = 0;
-    link->emptying = (link->held || link->leaving) && carries_data(lagd) && !carries_by_team(lagd) && can_empty(lagd, port);
+    link->emptying = (link->held || link->leaving) && lagd->plane.carrying->can_empty(lagd, port);
     if (link->emptying) {
         look_at_carry(lagd);
         return true;
@@ -265,7 +265,7 @@ bool may_put_in(struct lagd *lagd, const struct link *link) {
 
 /* Whether an interface is no port, as others choose the ports of the device and it is not in there. */
 bool stays_outside(struct lagd *lagd, struct link *link, int master) {
-    bool outside = carries_by_team(lagd) && master != tap_index(lagd) && !may_put_in(lagd, link);
+    bool outside = !may_put_in(lagd, link) && master != tap_index(lagd);
     link->changed = link->changed || link->outside != outside;
     link->outside = outside;
     return outside;
@@ -285,7 +285,7 @@ void tell_taken_out(struct lagd *lagd, struct link *link) {
 void follow_port(struct lagd *lagd, const struct interface *interface) {
     struct port_settings settings = unset_port();
     uint16_t port = 1;
-    if (!lagd->settings.follow || !carries_by_team(lagd) || interface->master != tap_index(lagd) || interface->type != ARPHRD_ETHER) return;
+    if (!lagd->settings.follow || interface->master == 0 || interface->master != tap_index(lagd) || interface->type != ARPHRD_ETHER) return;
     while (port <= lagd->slot_count && lagd->links[port - 1].used) port++;
     if (port > lagd->slot_count) return;
     memcpy(settings.name, interface->name, sizeof interface->name);

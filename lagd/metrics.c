@@ -126,5 +126,5 @@ void write_metrics(struct lagd *lagd) {
         for (uint16_t i = 0; i < lagd->link_count; i++)
             if (lagd->links[i].used) add_port_value(lagd, name, &lagd->links[i], count_at(&lagd->links[i], count));
     }
-    write_carry_metrics(lagd);
+    lagd->plane.carrying->show(lagd, AS_METRICS);
 }

@@ -126,7 +126,7 @@ static uint32_t unanswered(struct lagd *lagd, const struct link *link, struct qu
 }
 
 /* Sends a marker that is due; answers whether all of it went. */
-bool send_by_queues(struct lagd *lagd, struct link *link, const uint8_t *marker) {
+static bool send_anew(struct lagd *lagd, struct link *link, const uint8_t *marker) {
     struct queues_private *own = lagd->queues;
     struct queues *queues = &own->ports[link->settings.number - 1];
     struct flight flight = {identifier_of(marker), unanswered(lagd, link, queues), lagd->carry.time, own->all++};
@@ -137,7 +137,7 @@ bool send_by_queues(struct lagd *lagd, struct link *link, const uint8_t *marker)
 }
 
 /* Sends again what has no response, of each marker that may still get one; answers whether all of it went. */
-bool send_by_queues_again(struct lagd *lagd, struct link *link, const uint8_t *marker) {
+static bool send_again_by_queues(struct lagd *lagd, struct link *link, const uint8_t *marker) {
     struct queues *queues = &lagd->queues->ports[link->settings.number - 1];
     bool done = true;
     for (size_t i = 0; i < MOST_FLIGHTS; i++) {
@@ -149,6 +149,11 @@ bool send_by_queues_again(struct lagd *lagd, struct link *link, const uint8_t *m
         if (flight->waiting != 0) done = send_flight(lagd, link, marker, flight) && done;
     }
     return done;
+}
+
+/* Sends a marker by each queue that may have frames before it, or again by those that have no response; answers whether all of it went. */
+bool send_by_queues(struct lagd *lagd, struct link *link, const uint8_t *marker, bool again) {
+    return again ? send_again_by_queues(lagd, link, marker) : send_anew(lagd, link, marker);
 }
 
 /* A response to the marker of a queue came: answers whether it is the last one that was missing, and gives back the identifier of the library. */

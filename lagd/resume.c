@@ -79,7 +79,7 @@ static void set_other_links(struct lagd *lagd, const bool *back) {
 }
 
 /* What were members, and are no more, get what they had. */
-static void release_former_members(struct lagd *lagd) {
+void release_former_members(struct lagd *lagd) {
     for (unsigned i = 0; i < lagd->inherited.link_count; i++) {
         bool stays = false;
         for (uint16_t port = 0; port < lagd->link_count; port++)
@@ -95,7 +95,7 @@ static void release_former_members(struct lagd *lagd) {
 void begin_resuming(struct lagd *lagd) {
     lagd->resume->began = boottime();
     for (unsigned i = 0; i < lagd->inherited.link_count; i++) lagd->resuming = lagd->resuming || lagd->inherited.links[i].carried;
-    if (lagd->inherited.others && (!lagd->settings.carry[0] || lagd->settings.plane == PLANE_TEAM)) release_former_members(lagd);
+    if (lagd->inherited.others && !lagd->plane.carrying->keeps_members) release_former_members(lagd);
 }
 
 /* Tells what became of the links of the last daemon, if some are there. */
@@ -147,39 +147,42 @@ static uint16_t port_on(struct lagd *lagd, int index) {
     return 0;
 }
 
-/* After the ports: the bundle and its data go on as they were. What the kernel passes on knows best where it goes. */
-void resume_data(struct lagd *lagd, unsigned count) {
-    if (lagd->inherited.bundle.aggregator > lagd->aggregator_count) count = 0;
-    take_views(lagd);
-    if (count > 0) go_on_as(lagd, &lagd->inherited.bundle);
-    if (!carries_data(lagd)) return;
-    if (count > 0) {
+/* After the ports: data goes on where it was, as far as some ports do. What the kernel passes on knows best where it goes. */
+void resume_conversations(struct lagd *lagd, bool goes_on) {
+    if (goes_on) {
         go_on_in(lagd, lagd->inherited.bundle.aggregator);
         go_on_answering(lagd, (enum answering)lagd->inherited.answering);
     }
-    for (uint16_t number = 0; count > 0 && number < CONVERSATIONS; number++) {
-        int member = carries_by_team(lagd) ? bucket_member_of(lagd, number) : fast_member_of(lagd, number);
+    for (uint16_t number = 0; goes_on && number < CONVERSATIONS; number++) {
+        int member = lagd->plane.carrying->member_of(lagd, number);
         uint16_t port = port_on(lagd, member != 0 ? member : lagd->inherited.members[number]);
         if (port != 0) stay(lagd, number, port);
     }
-    resume_fast(lagd);
+    lagd->plane.passing->resume(lagd);
+}
+
+/* After the ports: the bundle and its data go on as they were. */
+void resume_data(struct lagd *lagd, unsigned count) {
+    bool goes_on = count > 0 && lagd->inherited.bundle.aggregator <= lagd->aggregator_count;
+    take_views(lagd);
+    if (goes_on) go_on_as(lagd, &lagd->inherited.bundle);
+    lagd->plane.carrying->resume(lagd, goes_on);
 }
 
 /* All that goes on was taken over: what is left of the last daemon goes. */
 void end_resuming(struct lagd *lagd) {
-    if (carries_data(lagd)) release_former_members(lagd);
+    lagd->plane.carrying->end_resuming(lagd);
     drop_unclaimed(lagd);
 }
 
 /* The next daemon is to go on: answers whether it can. */
 bool leave_state(struct lagd *lagd) {
-    uint64_t waiting = 0;
-    if (carries_data(lagd)) keep_tap(lagd, true);
+    lagd->plane.carrying->keep_device(lagd, true);
     lagd->has_left = save_state(lagd);
-    if (!lagd->has_left && carries_data(lagd)) keep_tap(lagd, false);
+    if (!lagd->has_left) lagd->plane.carrying->keep_device(lagd, false);
     if (!lagd->has_left) return false;
     leave_store(lagd);
-    if (carries_data(lagd) && !count_all_held(lagd, &waiting)) waiting = 0;
-    (void)say(lagd, LOG_NOTICE | ABOUT_HANDOVER, "the next daemon may go on from here; %u frames that waited are lost", (unsigned)waiting);
+    (void)say(lagd, LOG_NOTICE | ABOUT_HANDOVER, "the next daemon may go on from here; %u frames that waited are lost",
+        lagd->plane.carrying->frames_waiting(lagd));
     return true;
 }

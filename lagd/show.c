@@ -80,13 +80,13 @@ static void add_member(struct lagd *lagd, const struct link *link) {
     add_end(lagd, "partner", partner->system_mac,
         (unsigned[]){partner->system_priority, partner->port, partner->port_priority, partner->key}, partner->state);
     add_counts(lagd, link);
-    write_member_text(lagd, link);
+    lagd->plane.carrying->show_member(lagd, link, AS_TEXT);
 }
 
 /* The whole status. */
 void write_text(struct lagd *lagd) {
     add_bundle(lagd);
-    write_carry_text(lagd);
+    lagd->plane.carrying->show(lagd, AS_TEXT);
     for (uint16_t i = 0; i < lagd->link_count; i++)
         if (lagd->links[i].used) add_member(lagd, &lagd->links[i]);
 }

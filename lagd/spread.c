@@ -37,15 +37,14 @@ struct spread_private *make_spread_private(void) {
     return made;
 }
 
-/* Loads the program that chooses queues, while the daemon may. */
-void start_spreading(struct lagd *lagd) {
+/* Loads the program that chooses queues, while the daemon may, and opens what wakes it for responses. */
+void start_all_queues(struct lagd *lagd) {
     struct spread_private *own = lagd->spread;
-    int fault;
-    if (!lagd->settings.all_queues) return;
-    fault = fault_of_programs(lagd);
+    int fault = fault_of_programs(lagd);
     if (fault != 0) stop(REFUSED, "queues=all: no program of an interface, which Linux has from 6.6 on", strerror(fault));
     own->program = load_program(lagd, "chooser", NULL);
     if (own->program < 0) stop(REFUSED, "queues=all: the kernel takes no program", program_fault());
+    start_answers(lagd);
 }
 
 static void name_setting(enum setting setting, unsigned queue, char name[static NAME_OCTETS]) {

@@ -62,11 +62,6 @@ static bool is_way_of_team(const char *given) {
     return length >= sizeof OF_TEAM - 1 && strcmp(given + length - (sizeof OF_TEAM - 1), OF_TEAM) == 0;
 }
 
-/* Whether the next daemon is to take the device away at its end: a daemon made it. */
-static bool is_made(struct lagd *lagd) {
-    return carries_by_team(lagd) ? has_made_team(lagd) : tap_persists(lagd);
-}
-
 static void write_link(FILE *file, const struct link *link) {
     bool carried = link->view.port_status == NIW_PORT_STATUS_DISTRIBUTING && !link->view.defaulted && link->lacpdu_at != 0;
     char mac[32], hex[HEX_ROOM] = "";
@@ -104,13 +99,13 @@ static void write_state(struct lagd *lagd, FILE *file) {
     fprintf(file, "written %" PRIu64 "\n", boottime());
     fprintf(file, "marker %" PRIu32 "\n", is_done(lagd, marker.status, "niw_next_marker") && marker.left ? marker.id : 0);
     fprintf(file, "bundle %u %u %lld\n", lagd->bundle.state, lagd->bundle.aggregator, (long long)lagd->bundle.changed_at);
-    if (carries_data(lagd))
-        fprintf(file, "tap %d %d %" PRIu32 " %u\n", tap_index(lagd), is_made(lagd), mtu_of_administrator(lagd), peer_answering(lagd));
+    if (tap_index(lagd) != 0)
+        fprintf(file, "tap %d %d %" PRIu32 " %u\n", tap_index(lagd), lagd->plane.carrying->has_made_device(lagd), mtu_of_administrator(lagd), peer_answering(lagd));
     write_ports(lagd, file);
     for (uint16_t i = 0; i < lagd->link_count; i++)
         if (lagd->links[i].socket >= 0) write_link(file, &lagd->links[i]);
     memset(lagd->state->members, 0, sizeof lagd->state->members);
-    if (carries_data(lagd)) write_conversations(lagd, file);
+    write_conversations(lagd, file);
     fputs("end\n", file);
 }
 

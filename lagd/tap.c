@@ -12,7 +12,6 @@
 #include <unistd.h>
 
 #include "daemon.h"
-#include "team.h"
 
 /* Of Linux 5.2, and not in older headers: the network namespace of a device. */
 #ifndef TUNGETDEVNETNS
@@ -71,17 +70,16 @@ static bool ask_tap(struct lagd *lagd, unsigned long what, struct ifreq *request
 }
 
 /* Has the device a carrier, or none; answers whether the kernel does so. */
-static bool give_carrier(struct lagd *lagd, bool on) {
-    struct tap_private *own = lagd->tap;
-    return carries_by_team(lagd) ? set_device_carrier(lagd, own->number, on) : ioctl(own->tap, TUNSETCARRIER, &(int){on}) == 0;
+bool give_tap_carrier(struct lagd *lagd, bool on) {
+    return ioctl(lagd->tap->tap, TUNSETCARRIER, &(int){on}) == 0;
 }
 
 /* The carrier of the device, which is on while data is carried. What the kernel refuses has one line, and is tried again at each tick. */
 void set_carrier(struct lagd *lagd, bool on) {
     struct tap_private *own = lagd->tap;
     if (own->carrier == on || own->number == 0) return;
-    if (!on) open_host(lagd, false);
-    if (give_carrier(lagd, on)) {
+    if (!on) lagd->plane.passing->open_host(lagd, false);
+    if (lagd->plane.carrying->give_carrier(lagd, on)) {
         own->carrier = on;
         own->carrier_ticks = 0;
         own->refused = false;
@@ -111,11 +109,11 @@ bool has_carrier(struct lagd *lagd) {
 }
 
 /* The MTU of the device is the longest that each member takes, or a lower one that an administrator set. A higher one would lose frames. */
-static void settle_mtu(struct lagd *lagd) {
+void settle_tap_mtu(struct lagd *lagd) {
     struct tap_private *own = lagd->tap;
     struct ifreq now = {0}, wanted = {0};
     uint32_t mtu, least;
-    if (carries_by_team(lagd) || !ask_tap(lagd, SIOCGIFMTU, &now)) return; /* members have the MTU of a team device */
+    if (!ask_tap(lagd, SIOCGIFMTU, &now)) return;
     mtu = (uint32_t)now.ifr_mtu;
     if (own->set_mtu != 0 && mtu != own->set_mtu) own->less_mtu = mtu < own->most_mtu ? mtu : 0;
     if (own->set_mtu != 0 && mtu != own->set_mtu && mtu > own->most_mtu)
@@ -129,7 +127,7 @@ static void settle_mtu(struct lagd *lagd) {
 /* The longest payload that each member takes is another one now. */
 void limit_mtu(struct lagd *lagd, uint32_t most) {
     lagd->tap->most_mtu = most < LONGEST_PAYLOAD ? most : LONGEST_PAYLOAD;
-    settle_mtu(lagd);
+    settle_tap_mtu(lagd);
 }
 
 uint32_t longest_payload(struct lagd *lagd) {
@@ -140,9 +138,9 @@ uint32_t longest_payload(struct lagd *lagd) {
 void follow_tap(struct lagd *lagd, bool has_now, const char *discipline) {
     struct tap_private *own = lagd->tap;
     own->carrier_told = has_now;
-    follow_host_queue(lagd, discipline);
-    if (own->carrier && has_now) open_host(lagd, true);
-    settle_mtu(lagd);
+    lagd->plane.passing->follow_discipline(lagd, discipline);
+    if (own->carrier && has_now) lagd->plane.passing->open_host(lagd, true);
+    lagd->plane.carrying->settle_mtu(lagd);
 }
 
 /* 100 ms passed. Of a device that is not up the kernel tells no carrier, whoever set one. */
@@ -184,7 +182,7 @@ bool is_tap_up(struct lagd *lagd) {
 static void choose_segments(struct lagd *lagd) {
     struct tap_private *own = lagd->tap;
     unsigned long wanted = TUN_F_CSUM | TUN_F_TSO4 | TUN_F_TSO6 | TUN_F_TSO_ECN;
-    unsigned long more = passes_segments(lagd) ? TUN_F_USO4 | TUN_F_USO6 : 0;
+    unsigned long more = lagd->plane.segments ? TUN_F_USO4 | TUN_F_USO6 : 0;
     if (ioctl(own->tap, TUNSETVNETHDRSZ, &(int){(int)head_octets()}) < 0
         || (ioctl(own->tap, TUNSETOFFLOAD, wanted | more) < 0 && ioctl(own->tap, TUNSETOFFLOAD, wanted) < 0))
         stop(REFUSED, "no frames of several segments", strerror(errno));
@@ -228,8 +226,8 @@ static void set_up(struct lagd *lagd, const uint8_t *mac) {
     choose_segments(lagd);
     queue.ifr_qlen = HOST_QUEUE;
     (void)ask_tap(lagd, SIOCSIFTXQLEN, &queue);
-    settle_mtu(lagd);
-    if (lagd->settings.fast) give_no_queue(lagd, own->number); /* the usual one of a machine may hold frames */
+    settle_tap_mtu(lagd);
+    lagd->plane.passing->set_up_device(lagd, own->number);
 }
 
 /* What waits in the device is lost. */
@@ -318,7 +316,6 @@ void end_tap(int index) {
 void keep_tap(struct lagd *lagd, bool keeps) {
     struct tap_private *own = lagd->tap;
     struct ifreq device = {0};
-    if (carries_by_team(lagd)) return;
     if (own->persists == keeps || ioctl(own->tap, TUNGETIFF, &device) < 0 || (keeps && (has_store() || (device.ifr_flags & IFF_PERSIST))))
         return;
     if (ioctl(own->tap, TUNSETPERSIST, keeps) == 0) own->persists = keeps;

@@ -35,10 +35,6 @@ struct team_private *make_team_private(void) {
     return made;
 }
 
-bool carries_by_team(struct lagd *lagd) {
-    return lagd->team->opened;
-}
-
 bool is_team_port(struct lagd *lagd, uint16_t port) {
     return lagd->team->taken[port - 1];
 }
@@ -148,8 +144,10 @@ static void set_options(struct lagd *lagd, const char *mode_now) {
 }
 
 /* Opens the device: it has no carrier, unless the data of the last daemon goes on. */
-void open_team(struct lagd *lagd, const char *name, const uint8_t *mac) {
+void open_team(struct lagd *lagd) {
     struct team_private *own = lagd->team;
+    const char *name = lagd->settings.carry;
+    const uint8_t *mac = lagd->settings.config.mac;
     struct interface device;
     struct team_now now;
     need(find_team_driver(lagd), "plane=team: this kernel has no team driver");
@@ -248,7 +246,7 @@ void close_team_port(struct lagd *lagd, struct link *link) {
 bool is_still_team_port(struct lagd *lagd, const struct link *link, int master) {
     struct team_private *own = lagd->team;
     struct interface now;
-    if (!own->opened || !own->taken[link - lagd->links] || master == tap_index(lagd) || !ask_interface(lagd, link->index, NULL, &now))
+    if (!own->taken[link - lagd->links] || master == tap_index(lagd) || !ask_interface(lagd, link->index, NULL, &now))
         return true;
     if (now.master == tap_index(lagd)) return true;
     (void)say(lagd, LOG_WARNING | ABOUT_DATA, "port %u %s: it was taken out of %s", link->settings.number, link->name,
@@ -287,4 +285,33 @@ void end_team(struct lagd *lagd) {
     if (own->made && tap_index(lagd) != 0) (void)remove_device(lagd, tap_index(lagd));
     if (own->lock >= 0) close_stored(lagd, "lock", own->locked, own->lock);
     own->opened = false;
+}
+
+/* Has the device a carrier, or none; answers whether the kernel does so. */
+bool give_team_carrier(struct lagd *lagd, bool on) {
+    return set_device_carrier(lagd, tap_index(lagd), on);
+}
+
+/* The daemon ends, or the library refused a call. */
+void end_team_plane(struct lagd *lagd) {
+    set_carrier(lagd, false);
+    close_members(lagd);
+    end_team(lagd);
+    end_held(lagd);
+}
+
+/* After calls that may have changed something: the active aggregator, and by which ports buckets go. */
+void settle_team(struct lagd *lagd) {
+    uint16_t before = lagd->carry.active;
+    choose_ports(lagd);
+    settle_buckets(lagd);
+    if (lagd->carry.active != before) forget_heard(lagd); /* until now frames came by the ports of the last one */
+}
+
+/* 100 ms passed, for all of the data. */
+void pass_tick_of_team(struct lagd *lagd) {
+    begin_carry_tick(lagd);
+    pass_bucket_tick(lagd);
+    note_heard(lagd);
+    end_carry_tick(lagd);
 }

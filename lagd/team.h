@@ -41,11 +41,14 @@ bool read_team(struct lagd *lagd, int index, struct team_now *now);
 size_t make_team_hash(struct lagd *lagd, struct sock_filter steps[static MOST_HASH_STEPS]);
 
 /* team.c */
-bool carries_by_team(struct lagd *lagd);
 bool has_made_team(struct lagd *lagd);
 bool is_team_new(struct lagd *lagd);
 bool has_team_mode(struct lagd *lagd);
-void open_team(struct lagd *lagd, const char *name, const uint8_t *mac);
+void open_team(struct lagd *lagd);
+void end_team_plane(struct lagd *lagd);
+bool give_team_carrier(struct lagd *lagd, bool on);
+void settle_team(struct lagd *lagd);
+void pass_tick_of_team(struct lagd *lagd);
 void end_team(struct lagd *lagd);
 bool open_team_port(struct lagd *lagd, struct link *link);
 void close_team_port(struct lagd *lagd, struct link *link);
@@ -62,7 +65,7 @@ void look_at_driver(struct lagd *lagd);
 void pass_bucket_tick(struct lagd *lagd);
 void forget_port(struct lagd *lagd, uint16_t port);
 int bucket_member_of(struct lagd *lagd, uint16_t number);
-uint64_t team_frames_received(struct lagd *lagd);
+uint64_t team_frames_received(struct lagd *lagd, bool looks);
 unsigned count_waiting_buckets(struct lagd *lagd);
 
 #endif

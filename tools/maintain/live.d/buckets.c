@@ -182,7 +182,7 @@ bool say(struct lagd *lagd, int level, const char *format, ...) {
     return true;
 }
 
-static void choose_ports(void) {
+static void choose_distributing(void) {
     lagd->carry.port_count = 0;
     for (uint16_t port = 1; port <= PORTS; port++)
         if (distributes[port]) lagd->carry.ports[lagd->carry.port_count++] = port;
@@ -239,7 +239,7 @@ static void happen(void) {
 static void settle(void) {
     for (unsigned turn = 0; turn < 8; turn++) {
         lagd->carry.changed = false;
-        choose_ports();
+        choose_distributing();
         settle_buckets(lagd);
         if (!lagd->carry.changed) break;
     }
@@ -252,7 +252,7 @@ static void pass(bool eventful) {
     if (eventful) happen();
     if (eventful) send_some();
     if (!eventful || random_below(4) > 0) count();
-    choose_ports();
+    choose_distributing();
     pass_bucket_tick(lagd);
     settle();
 }

@@ -95,10 +95,7 @@ static unsigned ask(uint32_t id, bool again) {
     set_identifier(frame, id);
     sent = by_mark = 0;
     lagd->carry.time = now;
-    if (again)
-        (void)send_by_queues_again(lagd, &lagd->links[PORT - 1], frame);
-    else
-        (void)send_by_queues(lagd, &lagd->links[PORT - 1], frame);
+    (void)send_by_queues(lagd, &lagd->links[PORT - 1], frame, again);
     return sent;
 }
 
@@ -150,7 +147,7 @@ static void try_answers(void) {
     uint8_t frame[NIW_FRAME] = {0};
     unsigned taken = 0;
     start_answers(lagd);
-    while (taken < 100 && answer_marker(lagd, &lagd->links[PORT - 1], frame)) taken++;
+    while (taken < 100 && answer_later(lagd, &lagd->links[PORT - 1], frame)) taken++;
     check(taken == 64, __func__, "sixty-four responses wait, and no more");
     serve_answers(lagd);
     check(answered == 0, __func__, "none goes before its time");
@@ -163,13 +160,13 @@ static void try_answers(void) {
     note_unread(lagd, PORT, 3, true);
     serve_answers(lagd);
     check(answered == 64, __func__, "then all go");
-    check(answer_marker(lagd, &lagd->links[PORT - 1], frame), __func__, "there is room again");
+    check(answer_later(lagd, &lagd->links[PORT - 1], frame), __func__, "there is room again");
     forget_answers(lagd, PORT);
     now += 10 * AFTER;
     note_unread(lagd, PORT, 0, true);
     serve_answers(lagd);
     check(answered == 64, __func__, "with the link down none goes");
-    check(answer_marker(lagd, &lagd->links[PORT - 1], frame), __func__, "there is room then");
+    check(answer_later(lagd, &lagd->links[PORT - 1], frame), __func__, "there is room then");
     now += AFTER + 1;
     for (unsigned read = 0; read < 32768; read += 64) note_unread(lagd, PORT, 64, false);
     serve_answers(lagd);
@@ -179,7 +176,6 @@ static void try_answers(void) {
 int main(void) {
     lagd->answers = make_answers_private();
     lagd->queues = make_queues_private();
-    lagd->settings.all_queues = true;
     lagd->settings.answer_after = AFTER;
     lagd->link_count = PORT;
     for (uint16_t i = 0; i < lagd->link_count; i++) lagd->links[i].settings.number = (uint16_t)(i + 1);

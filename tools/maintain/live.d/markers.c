@@ -19,6 +19,9 @@ static struct lagd tested, *lagd = &tested;
 
 const char *const program = "markers";
 
+/* Its members have one queue. */
+static const struct queueing ONE_QUEUE = {.markers_at_once = 1};
+
 static uint64_t now = 5 * MINUTE;
 static unsigned lines; /* that were said */
 static uint32_t last_id = FIRST_ID - 1;
@@ -228,6 +231,7 @@ static void check_budgets(void) {
 
 int main(void) {
     lagd->probe = make_probe_private();
+    lagd->plane.queueing = &ONE_QUEUE;
     memcpy(lagd->settings.config.mac, OWN, sizeof OWN);
     check_slow();
     check_mute();

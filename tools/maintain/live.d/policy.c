@@ -303,13 +303,9 @@ struct niw_number conversation_of(struct lagd *lagd, const uint8_t *frame, size_
     (void)length;
     return (struct niw_number){.status = NIW_OK, .number = conversation_at(frame)};
 }
-bool carries_data(struct lagd *lagd) {
-    (void)lagd;
-    return true;
-}
 
 /* and what is of members with several queues, of which there are none here; */
-bool answer_marker(struct lagd *lagd, struct link *link, const uint8_t *response) {
+static bool answer(struct lagd *lagd, struct link *link, const uint8_t *response) {
     send_frame(lagd, link, response);
     return true;
 }
@@ -324,34 +320,17 @@ void set_identifier(uint8_t *frame, uint32_t id) {
     (void)id;
 }
 
-/* and what is not here: the kernel's plane, the team driver, the settings of the device. */
+/* and what is not here: the settings of the device. */
 #define NOTHING(name) \
     void name(struct lagd *lagd) { (void)lagd; }
-#define NEVER(name) \
-    bool name(struct lagd *lagd) { (void)lagd; return false; }
 NOTHING(announce_soon)
 NOTHING(count_losses)
-NOTHING(look_at_driver)
 NOTHING(pass_announcing_tick)
-NOTHING(pass_bucket_tick)
-NOTHING(pass_fast_tick)
-NOTHING(pass_on)
 NOTHING(pass_tap_tick)
-NOTHING(set_collecting)
-NOTHING(settle_buckets)
-NOTHING(take_fast_counts)
-NOTHING(take_host)
-NOTHING(watch_queues)
-NOTHING(withdraw)
-NEVER(carries_by_team)
-NEVER(is_fast)
+static NOTHING(nothing)
 void note_taken(struct conversation *conversation, uint32_t segments) {
     (void)conversation;
     (void)segments;
-}
-uint64_t team_frames_received(struct lagd *lagd) {
-    (void)lagd;
-    return 0;
 }
 uint32_t sum_speeds(struct lagd *lagd) {
     (void)lagd;
@@ -386,6 +365,13 @@ _Noreturn void stop(int status, const char *what, const char *which) {
     exit(status);
 }
 
+/* The plane: frames come here alone, and members have one queue. */
+static const struct carrying FRAMES = {.settle = settle_frames, .tick = pass_tick_of_frames, .keeps_aggregator = hears_peer,
+    .frames_heard = frames_handed_up, .tell_host = tell_speed_and_carrier, .go_on = settle_carry};
+static const struct passing BY_DAEMON = {.count = nothing, .withdraw = nothing, .pass_on = nothing, .set_collecting = nothing,
+    .look_for_losses = nothing, .tick = nothing};
+static const struct queueing ONE_QUEUE = {.watch = nothing, .take_response = take_response, .answer = answer, .markers_at_once = 1};
+
 /* The link of a port is up or down for an end. */
 static void set_link_of(struct end *end, uint16_t port, bool up) {
     struct link *link = &end->lagd.links[port - 1];
@@ -408,6 +394,7 @@ static void make_end(struct end *end, uint8_t which) {
     lagd->flight = make_flight_private();
     lagd->held = make_held_private();
     lagd->probe = make_probe_private();
+    lagd->plane = (struct plane){.carrying = &FRAMES, .passing = &BY_DAEMON, .queueing = &ONE_QUEUE};
     lagd->carry.changed = lagd->has_started = true;
     lagd->link_count = lagd->settings.port_count = PORTS;
     lagd->settings.flight = FLIGHT;
