@@ -22,7 +22,7 @@ void take_own_address(struct lagd *lagd) {
     struct interface interface;
     struct lack lack;
     snprintf(what, sizeof what, "system=auto: %s", name);
-    if (!ask_interface(lagd, 0, name, &interface)) stop(REFUSED, what, strerror(errno));
+    if (!ask_interface(0, name, &interface)) stop(REFUSED, what, strerror(errno));
     if (interface.type != ARPHRD_ETHER) stop(WRONG_WORD, "not an Ethernet interface", name);
     if (!has_system_address(&interface)) stop(REFUSED, what, "it has no MAC address that a system may have");
     memcpy(lagd->settings.config.mac, interface.mac, sizeof interface.mac);

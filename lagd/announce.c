@@ -37,7 +37,6 @@ struct place {
     bool is_known, is_router; /* whether the kernel told what its IPv6 is, and that it is a router */
 };
 
-/* What this file keeps for a daemon. */
 struct announce_private {
     int sender; /* while it is announced */
     struct place places[1 + MOST_ABOVE];
@@ -181,8 +180,8 @@ static void take_address(struct lagd *lagd, const struct nlmsghdr *message) {
         announce_ipv6(lagd, place, address);
 }
 
-static void take_told(struct lagd *lagd, const struct nlmsghdr *message, void *into) {
-    (void)into;
+static void take_told(const struct nlmsghdr *message, void *into) {
+    struct lagd *lagd = into;
     if (message->nlmsg_type == RTM_NEWNETCONF) take_forwarding(lagd, message);
     if (message->nlmsg_type == RTM_NEWADDR) take_address(lagd, message);
     if (message->nlmsg_type == RTM_NEWLINK) take_place(lagd, message);
@@ -191,7 +190,7 @@ static void take_told(struct lagd *lagd, const struct nlmsghdr *message, void *i
 /* Has the kernel tell all that it has of a kind; answers whether it did. The head of an interface is longer than what other kinds want. */
 static bool ask_all(struct lagd *lagd, uint16_t what, uint8_t family) {
     union message question = message_of(what, NLM_F_DUMP, &(struct ifinfomsg){.ifi_family = family}, sizeof(struct ifinfomsg));
-    return ask_list(lagd, NETLINK_ROUTE, &question, take_told, NULL, 0);
+    return ask_list(NETLINK_ROUTE, &question, take_told, lagd, 0);
 }
 
 /* Finds the device, and what stands above it, level by level. */

@@ -19,11 +19,8 @@ struct answer {
     uint8_t frame[NIW_FRAME];
 };
 
-/* Those of a port, in a ring, in the order in which they came. */
-
-/* What this file keeps for a daemon. */
 struct answers_private {
-    struct waiting {
+    struct waiting { /* of a port, in a ring, in the order in which they came */
         unsigned first, count;
         struct answer answers[MOST_WAITING];
     } ports[NIW_MOST_PORTS];
@@ -50,7 +47,7 @@ static struct answer *first_of(struct waiting *waiting) {
 /* Wakes the daemon for the first response that is due: one that waits for its socket is looked at again in a millisecond. */
 static void wake(struct lagd *lagd) {
     struct answers_private *own = lagd->answers;
-    uint64_t now = milliseconds(lagd), next = UINT64_MAX;
+    uint64_t now = milliseconds(), next = UINT64_MAX;
     struct itimerspec at = {{0, 0}, {0, 0}};
     for (uint16_t i = 0; i < lagd->link_count; i++) {
         const struct answer *answer = first_of(&own->ports[i]);
@@ -73,7 +70,7 @@ bool answer_later(struct lagd *lagd, struct link *link, const uint8_t *response)
     struct answer *answer;
     if (waiting->count == MOST_WAITING) return false;
     answer = &waiting->answers[(waiting->first + waiting->count++) % MOST_WAITING];
-    *answer = (struct answer){.due = milliseconds(lagd) + lagd->settings.answer_after + 1, .unread = MOST_UNREAD};
+    *answer = (struct answer){.due = milliseconds() + lagd->settings.answer_after + 1, .unread = MOST_UNREAD};
     memcpy(answer->frame, response, sizeof answer->frame);
     if (waiting->count == 1) wake(lagd);
     return true;
@@ -82,7 +79,7 @@ bool answer_later(struct lagd *lagd, struct link *link, const uint8_t *response)
 /* So many packets were read of the socket of a member, or all that it had. */
 void note_unread(struct lagd *lagd, uint16_t port, unsigned packets, bool drained) {
     struct waiting *waiting = &lagd->answers->ports[port - 1];
-    uint64_t now = waiting->count > 0 ? milliseconds(lagd) : 0;
+    uint64_t now = waiting->count > 0 ? milliseconds() : 0;
     for (unsigned i = 0; i < waiting->count; i++) {
         struct answer *answer = &waiting->answers[(waiting->first + i) % MOST_WAITING];
         if (answer->due > now) return;
@@ -99,7 +96,7 @@ void forget_answers(struct lagd *lagd, uint16_t port) {
 static void answer_due(struct lagd *lagd, uint16_t port) {
     struct waiting *waiting = &lagd->answers->ports[port - 1];
     struct answer *answer = first_of(waiting);
-    uint64_t now = milliseconds(lagd);
+    uint64_t now = milliseconds();
     if (!answer || answer->due > now) return;
     if (!has_fast_member(lagd, port)) take_data(lagd, port);
     while ((answer = first_of(waiting)) && answer->due <= now && (answer->unread == 0 || has_fast_member(lagd, port))) {

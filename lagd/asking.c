@@ -21,8 +21,6 @@
 #define MOST_DAEMONS 256
 #define MOST_ANSWERED 8388608
 
-/* The daemons that are asked. */
-/* What this file keeps for a daemon. */
 struct asking_private {
     struct {
         char path[512];

@@ -21,8 +21,6 @@
 /* What the driver has for a port. */
 enum passes { UNKNOWN, PASSES, PASSES_NOT };
 
-/* The driver counts now and then: so many octets the device had sent at a time, and once the buckets have as many, all is counted up to then. */
-/* What this file keeps for a daemon. */
 struct buckets_private {
     struct bucket {
         uint16_t port;     /* by which its frames go, or 0: not known */
@@ -33,10 +31,10 @@ struct buckets_private {
     int members_at_start[CONVERSATIONS]; /* the interface of each bucket, as the last daemon left it */
     uint16_t previous; /* the aggregator that was active before, or 0 */
     uint64_t frames_received; /* by the device */
+    /* The driver counts now and then: so many octets the device had sent at a time, and once the buckets have as many, all is counted up to then. */
     uint64_t to_count, to_count_at, counted_until, looked_at;
     uint64_t without_bucket; /* octets that went by none */
     unsigned shortages, unseen; /* in turn */
-    struct team_now now; /* of look_at_driver */
 };
 
 struct buckets_private *make_buckets_private(void) {
@@ -102,8 +100,9 @@ static void note_counted(struct lagd *lagd, const struct team_now *now, uint64_t
 /* Looks at what the driver has: at the device before its buckets. Where the device is gone, the kernel tells, too. */
 void look_at_driver(struct lagd *lagd) {
     struct interface device;
+    struct team_now now;
     lagd->buckets->looked_at = lagd->carry.time;
-    if (!ask_interface(lagd, tap_index(lagd), NULL, &device) || !read_team(lagd, tap_index(lagd), &lagd->buckets->now)) {
+    if (!ask_interface(tap_index(lagd), NULL, &device) || !read_team(lagd, tap_index(lagd), &now)) {
         if (++lagd->buckets->unseen == MOST_UNSEEN)
             (void)say(lagd, LOG_WARNING | ABOUT_DATA,
                 "carry %s: the team driver does not tell what it has, so no bucket goes back to its own port: %s", lagd->settings.carry,
@@ -112,16 +111,16 @@ void look_at_driver(struct lagd *lagd) {
     }
     lagd->buckets->unseen = 0;
     lagd->buckets->frames_received = device.frames_received;
-    note_octets(lagd, &lagd->buckets->now);
-    note_changes(lagd, &lagd->buckets->now);
-    note_counted(lagd, &lagd->buckets->now, device.octets_sent);
+    note_octets(lagd, &now);
+    note_changes(lagd, &now);
+    note_counted(lagd, &now, device.octets_sent);
 }
 
 /* What the device has at the start. */
 void start_buckets(struct lagd *lagd) {
     struct buckets_private *own = lagd->buckets;
     struct team_now now;
-    lagd->carry.time = milliseconds(lagd);
+    lagd->carry.time = milliseconds();
     if (!read_team(lagd, tap_index(lagd), &now)) return;
     memcpy(own->members_at_start, now.members, sizeof own->members_at_start);
     note_octets(lagd, &now);

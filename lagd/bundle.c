@@ -2,7 +2,6 @@
 #define _GNU_SOURCE
 #include "daemon.h"
 
-/* What this file keeps for a daemon. */
 struct bundle_private {
     unsigned lines; /* how many changes may still be told */
     bool told; /* whether the first state was */

@@ -7,7 +7,6 @@
 /* For how long frames of the peer tell that it has the same aggregator, in milliseconds. */
 #define HEARD 3000
 
-/* What this file keeps for a daemon. */
 struct carry_private {
     bool to_balance; /* whether a tick passed since the last look at the loads */
     uint16_t previous; /* the aggregator that was active before nothing or another one was, or 0 */
@@ -239,7 +238,7 @@ void choose_ports(struct lagd *lagd) {
  * it is known where its conversation goes on. */
 void go_on_in(struct lagd *lagd, uint16_t aggregator) {
     struct carry_private *own = lagd->carry_private;
-    lagd->carry.time = own->heard_at = milliseconds(lagd);
+    lagd->carry.time = own->heard_at = milliseconds();
     lagd->carry.active = own->previous = aggregator;
     lagd->plane.carrying->go_on(lagd);
 }
@@ -291,7 +290,7 @@ void settle_carry(struct lagd *lagd) {
 
 /* 100 ms passed: before what the device does then, */
 void begin_carry_tick(struct lagd *lagd) {
-    lagd->carry.time = milliseconds(lagd);
+    lagd->carry.time = milliseconds();
     pass_tap_tick(lagd);
     pass_announcing_tick(lagd);
 }

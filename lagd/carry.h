@@ -230,17 +230,17 @@ void forget_interface(struct lagd *lagd, const struct link *link);
 /* traffic.c: queueing disciplines and classifiers of members */
 enum classifier { NO_CLASSIFIER, CLASSIFIER_ALONE, CLASSIFIER_BEHIND_OTHERS };
 bool keeps_order(const char *discipline);
-bool read_discipline(struct lagd *lagd, int index, char name[static DISCIPLINE_ROOM]);
-bool have_order(struct lagd *lagd, int index);
-bool may_have_order(struct lagd *lagd, int index);
-bool give_fifo(struct lagd *lagd, int index, uint32_t megabits);
-bool give_fifos(struct lagd *lagd, int index, unsigned queues, uint32_t megabits);
-void fit_fifo(struct lagd *lagd, int index, uint32_t megabits);
-void fit_fifos(struct lagd *lagd, int index, unsigned queues, uint32_t megabits);
-void take_fifo(struct lagd *lagd, int index);
-void give_no_queue(struct lagd *lagd, int index);
-enum classifier set_classifier(struct lagd *lagd, int program, int index);
-void drop_classifier(struct lagd *lagd, int index);
+bool read_discipline(int index, char name[static DISCIPLINE_ROOM]);
+bool have_order(int index);
+bool may_have_order(int index);
+bool give_fifo(int index, uint32_t megabits);
+bool give_fifos(int index, unsigned queues, uint32_t megabits);
+void fit_fifo(int index, uint32_t megabits);
+void fit_fifos(int index, unsigned queues, uint32_t megabits);
+void take_fifo(int index);
+void give_no_queue(int index);
+enum classifier set_classifier(int program, int index);
+void drop_classifier(int index);
 
 /* guard.c */
 struct guard {

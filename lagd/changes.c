@@ -19,7 +19,6 @@
 #define PATIENCE 10000
 #define MOST_ASKED 1000
 
-/* What this file keeps for a daemon. */
 struct changes_private {
     struct mnl_socket *route; /* NULL: none is open yet */
     uint32_t asked; /* the number of the last question */
@@ -28,7 +27,6 @@ struct changes_private {
     bool ask_again; /* whether something was missed */
     bool suspected; /* whether a carrier may have gone */
     bool tap_named; /* whether the answer that is being read named the TAP device */
-    _Alignas(struct nlmsghdr) uint8_t room[ROOM]; /* of take_changes */
 };
 
 struct changes_private *make_changes_private(void) {
@@ -77,9 +75,9 @@ static bool is_named(const struct interface *interface, const char *name) {
 
 /* At the start an interface cannot be taken up. */
 static _Noreturn void refuse_link(struct lagd *lagd, const struct link *link) {
-    char what[128];
+    char what[128], holder[HOLDER_ROOM];
     if (link->trouble != EADDRINUSE) stop(REFUSED, link->name, strerror(link->trouble));
-    snprintf(what, sizeof what, "another lagd has the interface, %s", holder_of(lagd, link->index));
+    snprintf(what, sizeof what, "another lagd has the interface, %s", holder_of(lagd, link->index, holder));
     stop(REFUSED, what, link->name);
 }
 
@@ -252,16 +250,17 @@ static void miss_changes(struct lagd *lagd) {
  * may send to this socket, too: what does not come from the kernel is not looked at. */
 static void take_all_told(struct lagd *lagd) {
     struct changes_private *own = lagd->changes;
+    _Alignas(struct nlmsghdr) uint8_t room[ROOM];
     for (int turn = 0; turn < MOST_TAKEN; turn++) {
         struct sockaddr_nl from = {0};
         socklen_t length = sizeof from;
-        ssize_t got = recvfrom(mnl_socket_get_fd(own->route), own->room, sizeof own->room, MSG_TRUNC, (struct sockaddr *)&from, &length);
+        ssize_t got = recvfrom(mnl_socket_get_fd(own->route), room, sizeof room, MSG_TRUNC, (struct sockaddr *)&from, &length);
         if (got < 0 && errno != ENOBUFS) return;
         if (got >= 0 && from.nl_pid != 0) continue;
-        if (got < 0 || got > (ssize_t)sizeof own->room)
+        if (got < 0 || got > (ssize_t)sizeof room)
             miss_changes(lagd);
         else
-            take_messages(lagd, own->room, (size_t)got);
+            take_messages(lagd, room, (size_t)got);
     }
 }
 

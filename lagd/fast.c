@@ -18,7 +18,6 @@
 /* For how long frames of the host are taken without a word of the daemon, in nanoseconds: as long as the peer waits for an LACPDU. */
 #define OPEN_FOR 3000000000u
 
-/* What this file keeps for a daemon. */
 struct fast_private {
     struct fast_row *rows;
     struct fast_member *entries;
@@ -317,7 +316,7 @@ void withdraw_port(struct lagd *lagd, uint16_t port) {
     take_back(lagd, is_on, port);
     for (uint16_t number = 0; number < CONVERSATIONS; number++) {
         struct conversation *conversation = &lagd->carry.conversations[number];
-        if (conversation->port == port && conversation->home != 0) conversation->fast.not_before = milliseconds(lagd) + DOWN_WAIT;
+        if (conversation->port == port && conversation->home != 0) conversation->fast.not_before = milliseconds() + DOWN_WAIT;
     }
 }
 

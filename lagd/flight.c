@@ -12,7 +12,6 @@
 #define FIRST_WAKE 10
 #define LAST_WAKE 300
 
-/* What this file keeps for a daemon. */
 struct flight_private {
     uint64_t silent_since[NIW_MOST_PORTS]; /* the time since which a port holds conversations and does not distribute, or 0 */
     unsigned on_defaults[NIW_MOST_PORTS]; /* ticks for which it ran on defaults */

@@ -8,7 +8,6 @@
 
 #include "daemon.h"
 
-/* What this file keeps for a daemon. */
 struct folder_private {
     int opened;
 };

@@ -14,7 +14,6 @@
 
 #include "daemon.h"
 
-/* What this file keeps for a daemon. */
 struct guard_private {
     int program;
 };
@@ -131,10 +130,10 @@ unsigned count_fifos(int index) {
  * that, since it segments them for an interface that cannot: so they get one that does. */
 void look_at_discipline(struct lagd *lagd, struct link *link, struct guard *guard) {
     bool given = false;
-    (void)read_discipline(lagd, link->index, link->discipline);
+    (void)read_discipline(link->index, link->discipline);
     if (lagd->plane.wants_fifo && !is_unqueued(link) && strcmp(link->discipline, "noqueue") != 0)
-        given = give_fifos(lagd, link->index, lagd->plane.queueing->fifos_of(link->index), read_speed(link->socket, link->name).megabits);
-    if (given) (void)read_discipline(lagd, link->index, link->discipline);
+        given = give_fifos(link->index, lagd->plane.queueing->fifos_of(link->index), read_speed(link->socket, link->name).megabits);
+    if (given) (void)read_discipline(link->index, link->discipline);
     link->has_fifos = given && strcmp(link->discipline, "mq") == 0;
     guard->in_order = keeps_order(link->discipline) || link->has_fifos;
     if (lagd->plane.segments && !guard->in_order && !is_unqueued(link))
@@ -147,9 +146,9 @@ void look_at_discipline(struct lagd *lagd, struct link *link, struct guard *guar
 void fit_queue(struct lagd *lagd, const struct link *link, const char *interface) {
     if (!lagd->plane.wants_fifo) return;
     if (link->has_fifos)
-        fit_fifos(lagd, link->index, lagd->plane.queueing->fifos_of(link->index), read_speed(link->socket, interface).megabits);
+        fit_fifos(link->index, lagd->plane.queueing->fifos_of(link->index), read_speed(link->socket, interface).megabits);
     else
-        fit_fifo(lagd, link->index, read_speed(link->socket, interface).megabits);
+        fit_fifo(link->index, read_speed(link->socket, interface).megabits);
 }
 
 /* Why the kernel may not pass on what goes and comes at an interface, or NULL: a marker would overtake the data before it. */
@@ -180,7 +179,7 @@ static void open_fast(struct lagd *lagd, const struct link *link, struct guard *
 void keep_from_stack(struct lagd *lagd, const struct link *link, struct guard *guard) {
     uint16_t port = link->settings.number;
     if (lagd->guard->program >= 0) guard->opened = attach_stored(lagd, "guard", lagd->guard->program, link->index, false);
-    if (lagd->guard->program >= 0 && guard->opened < 0) guard->classifier = set_classifier(lagd, lagd->guard->program, link->index);
+    if (lagd->guard->program >= 0 && guard->opened < 0) guard->classifier = set_classifier(lagd->guard->program, link->index);
     if (guard->classifier == CLASSIFIER_BEHIND_OTHERS)
         (void)say(lagd, LOG_WARNING | ABOUT_DATA,
             "port %u %s: it has a clsact already: its own network stack has what filters there accept", port, link->name);
@@ -247,7 +246,7 @@ static void run_programs(struct lagd *lagd, const struct link *link, struct guar
 static void stop_programs(struct lagd *lagd, const struct link *link, struct guard *guard) {
     if (guard->opened >= 0) detach_stored(lagd, "guard", link->index, guard->opened);
     if (guard->fast) close_fast_receiver(lagd, link);
-    if (guard->classifier != NO_CLASSIFIER) drop_classifier(lagd, link->index);
+    if (guard->classifier != NO_CLASSIFIER) drop_classifier(link->index);
     guard->opened = -1;
     guard->classifier = NO_CLASSIFIER;
     guard->fast = false;
@@ -301,7 +300,7 @@ void close_guard(struct lagd *lagd, const struct link *link, struct guard *guard
     gather_back(lagd, link, done);
     if (before->joins != 0) set_joins(link->index, before->joins);
     if (before->joins != 0) done = (before->joins & ~read_joins(link->index).wanted) == 0 && done;
-    take_fifo(lagd, link->index); /* with all its queues the kernel gives each of them what it chooses */
+    take_fifo(link->index); /* with all its queues the kernel gives each of them what it chooses */
     if (before->steered[0]) done = steer_back(link->index, before->steered) && done;
     if (done) forget_settings(lagd, link);
 }

@@ -6,7 +6,6 @@
 /* How many ticks peers are told at most. Where three LACPDUs went within a second, the next one waits. */
 #define MOST_TICKS 15
 
-/* What this file keeps for a daemon. */
 struct halt_private {
     bool down;      /* whether the device is down */
     bool silent;    /* whether the links are down for the library, too */

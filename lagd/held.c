@@ -25,7 +25,6 @@ struct slot {
     uint8_t packet[];
 };
 
-/* What this file keeps for a daemon. */
 struct held_private {
     struct pool {
         uint8_t *slots;

@@ -23,7 +23,6 @@ struct uncut {
     uint32_t next;  /* the segment that follows */
 };
 
-/* What this file keeps for a daemon. */
 struct host_private {
     int tap;
     uint8_t *packets;  /* for the packets of a batch */
@@ -246,5 +245,5 @@ void close_members(struct lagd *lagd) {
 /* The daemon ends, or the library refused a call: no data goes or comes from here on. */
 void end_carry(struct lagd *lagd) {
     lagd->plane.carrying->end(lagd);
-    lagd->plane = no_plane();
+    choose_no_plane(&lagd->plane);
 }

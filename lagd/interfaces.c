@@ -56,20 +56,19 @@ struct interface read_interface(const struct nlmsghdr *message) {
     return interface;
 }
 
-static void take_told(struct lagd *lagd, const struct nlmsghdr *message, void *into) {
+static void take_told(const struct nlmsghdr *message, void *into) {
     struct interface *interface = into;
-    (void)lagd;
     if (message->nlmsg_type == RTM_NEWLINK) *interface = read_interface(message);
 }
 
 /* Reads what the kernel has of an interface now; answers whether there is one of this number, or of this name or alternative name, where the
  * number is 0, and else errno tells why not. Its other names are not kept. */
-bool ask_interface(struct lagd *lagd, int index, const char *name, struct interface *interface) {
+bool ask_interface(int index, const char *name, struct interface *interface) {
     union message question = message_of_interface(RTM_GETLINK, NLM_F_ACK, index);
     bool told;
     if (index == 0 && name) mnl_attr_put_strz(&question.head, strlen(name) < DEVICE_ROOM ? IFLA_IFNAME : IFLA_ALT_IFNAME, name);
     *interface = (struct interface){0};
-    told = ask_netlink(lagd, NETLINK_ROUTE, &question, take_told, interface);
+    told = ask_netlink(NETLINK_ROUTE, &question, take_told, interface);
     interface->others = NULL;
     if (told && interface->index == 0) errno = EPROTO;
     return told && interface->index != 0;

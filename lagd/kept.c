@@ -17,22 +17,12 @@ static void name_file(const struct link *link, const char *kind, char room[stati
     snprintf(room, 64, "%lu.%d.%s", network_namespace(), link->index, kind);
 }
 
-/* What this file keeps for a daemon. */
-struct kept_private {
-    char text[64]; /* of boot_id */
-};
-
-struct kept_private *make_kept_private(void) {
-    return make_room(sizeof(struct kept_private));
-}
-
 /* The number of this boot; "unknown" where it may not be read, as under the unit, whose folder does not outlive a boot. */
-const char *boot_id(struct lagd *lagd) {
-    struct kept_private *own = lagd->kept;
+const char *boot_id(char room[static BOOT_ROOM]) {
     FILE *file = fopen("/proc/sys/kernel/random/boot_id", "re");
-    if (!file || fscanf(file, "%63s", own->text) != 1) snprintf(own->text, sizeof own->text, "unknown");
+    if (!file || fscanf(file, "%63s", room) != 1) snprintf(room, BOOT_ROOM, "unknown");
     if (file) fclose(file);
-    return own->text;
+    return room;
 }
 
 /* Opens the file of an interface that has this kind of settings; or answers NULL, and errno tells why not. */
@@ -67,7 +57,7 @@ void drop_kept(struct lagd *lagd, const struct link *link, const char *kind) {
 
 /* Reads what an interface had before an earlier daemon changed it; answers whether there is something. */
 static bool recall(struct lagd *lagd, const struct link *link, struct kept *kept) {
-    char boot[64], mac[32], own[32], end[8] = "";
+    char boot[BOOT_ROOM], now[BOOT_ROOM], mac[32], own[32], end[8] = "";
     struct ethtool_channels *queues = &kept->queues;
     int found;
     FILE *file = open_kept(lagd, link, "member", O_RDONLY, "r");
@@ -76,7 +66,7 @@ static bool recall(struct lagd *lagd, const struct link *link, struct kept *kept
     found = fscanf(file, READ_FORM, boot, mac, &kept->joins, &queues->rx_count, &queues->tx_count, &queues->other_count,
         &queues->combined_count, kept->steered, end);
     fclose(file);
-    if (found != 9 || strcmp(end, "end") != 0 || strcmp(boot, boot_id(lagd)) != 0 || strcmp(mac, mac_text(link->mac, own)) != 0)
+    if (found != 9 || strcmp(end, "end") != 0 || strcmp(boot, boot_id(now)) != 0 || strcmp(mac, mac_text(link->mac, own)) != 0)
         return false;
     if (strcmp(kept->steered, "-") == 0) kept->steered[0] = 0;
     return true;
@@ -84,11 +74,11 @@ static bool recall(struct lagd *lagd, const struct link *link, struct kept *kept
 
 /* Keeps what an interface has to get back, for the next daemon, where this one is killed. */
 void write_settings(struct lagd *lagd, const struct link *link, const struct kept *kept) {
-    char mac[32];
+    char boot[BOOT_ROOM], mac[32];
     const struct ethtool_channels *queues = &kept->queues;
     FILE *file = open_kept(lagd, link, "member", O_WRONLY | O_CREAT | O_TRUNC, "w");
     if (file)
-        fprintf(file, FORM, boot_id(lagd), mac_text(link->mac, mac), kept->joins, queues->rx_count, queues->tx_count,
+        fprintf(file, FORM, boot_id(boot), mac_text(link->mac, mac), kept->joins, queues->rx_count, queues->tx_count,
             queues->other_count, queues->combined_count, kept->steered[0] ? kept->steered : "-");
     if (!file || fclose(file) != 0)
         (void)say(lagd, LOG_WARNING | ABOUT_DATA, "port %u %s: if this daemon is killed, nobody knows what the interface had: %s",

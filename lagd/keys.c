@@ -22,7 +22,6 @@ struct speed_key {
     struct speed speed;
 };
 
-/* What this file keeps for a daemon. */
 struct keys_private {
     struct speed_key known[2 * NIW_MOST_PORTS]; /* of each key of a port, and of the bundle */
     uint16_t known_count;

@@ -234,7 +234,8 @@ int open_signals(struct lagd *lagd);
 
 /* locks.c */
 int lock_interface(struct lagd *lagd, int index);
-const char *holder_of(struct lagd *lagd, int index);
+#define HOLDER_ROOM 64
+const char *holder_of(struct lagd *lagd, int index, char room[static HOLDER_ROOM]);
 
 /* links.c */
 bool open_link(struct lagd *lagd, struct link *link, int index);
@@ -330,7 +331,7 @@ void send_again(struct lagd *lagd);
 void pass_tick(struct lagd *lagd);
 uint64_t ticks_passed(struct lagd *lagd);
 uint64_t seconds_passed(struct lagd *lagd);
-uint64_t milliseconds(struct lagd *lagd);
+uint64_t milliseconds(void);
 void expect_lacpdu(struct link *link);
 void tell_end(struct lagd *lagd);
 bool end_is_told(struct lagd *lagd);
@@ -390,7 +391,8 @@ int folder_file(struct lagd *lagd);
 unsigned long network_namespace(void);
 
 /* kept.c */
-const char *boot_id(struct lagd *lagd);
+#define BOOT_ROOM 64
+const char *boot_id(char room[static BOOT_ROOM]);
 
 /* store.c */
 void open_store(struct lagd *lagd);

@@ -29,7 +29,6 @@ size_t escape(char *text, size_t room, const char *from, size_t length, bool lin
     return used;
 }
 
-/* What this file keeps for a daemon. */
 struct lines_private {
     int opened; /* of output */
 };

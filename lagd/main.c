@@ -128,12 +128,14 @@ static void serve_callers(struct lagd *lagd, const struct epoll_event *events, i
 static bool is_end(struct lagd *lagd, int signals, const char *file) {
     struct signalfd_siginfo signal;
     if (read(signals, &signal, sizeof signal) != sizeof signal) return true;
-    if (signal.ssi_signo == SIGUSR2) ask_moves(lagd);
-    if (signal.ssi_signo == SIGUSR2) return false;
-    if (signal.ssi_signo == SIGUSR1) return !leave_state(lagd);
-    if (signal.ssi_signo != SIGHUP || !file) return true;
-    reload(lagd, file);
-    return false;
+    switch (signal.ssi_signo) {
+    case SIGUSR2: ask_moves(lagd); return false;
+    case SIGUSR1: return !leave_state(lagd);
+    case SIGHUP:
+        if (file) reload(lagd, file);
+        return !file;
+    default: return true;
+    }
 }
 
 /* What came in a turn, the clock after the frames that waited. */
@@ -198,7 +200,7 @@ static int run_daemon(struct lagd *lagd, const struct options *options) {
     if (lagd->settings.system_auto) take_own_address(lagd);
     open_folder(lagd, options->folder);
     open_store(lagd);
-    lagd->plane = plane_of(&lagd->settings);
+    choose_plane(&lagd->plane, &lagd->settings);
     recall_state(lagd);
     make_system(lagd);
     begin_resuming(lagd);

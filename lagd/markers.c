@@ -52,7 +52,7 @@ bool may_answer(struct lagd *lagd, struct link *link, const struct arrival *arri
     struct answered *answered = &link->markers.answered;
     unsigned partner = 0, others = 0, most = lagd->settings.marker_responses * lagd->plane.queueing->markers_at_once;
     bool other = !is_from_partner(link, arrival);
-    pass_slots(answered, milliseconds(lagd) / SLOT);
+    pass_slots(answered, milliseconds() / SLOT);
     for (unsigned i = 0; i < ANSWERED_SLOTS; i++) {
         partner += answered->partner[i];
         others += answered->others[i];

@@ -17,7 +17,6 @@
 /* How many batches of a member are taken before its port is held. */
 #define MOST_DRAINED 64
 
-/* What this file keeps for a daemon. */
 struct members_private {
     struct member {
         int socket;  /* -1 while the interface is missing */
@@ -34,10 +33,6 @@ struct members_private {
         struct mmsghdr messages[BATCH];
     } members[NIW_MOST_PORTS];
     uint8_t *member_packets; /* for the packets of a batch */
-    struct mmsghdr messages[BATCH]; /* of take_packets */
-    struct iovec parts[BATCH]; /* of take_packets */
-    struct sockaddr_ll from[BATCH]; /* of take_packets */
-    _Alignas(struct cmsghdr) uint8_t controls[BATCH][CMSG_SPACE(sizeof(struct tpacket_auxdata))]; /* of take_packets */
 };
 
 struct members_private *make_members_private(void) {
@@ -227,7 +222,7 @@ static bool renew_member(struct lagd *lagd, struct link *link) {
 bool reopen_member(struct lagd *lagd, struct link *link) {
     char before[DISCIPLINE_ROOM];
     memcpy(before, link->discipline, sizeof before);
-    if (!read_discipline(lagd, link->index, link->discipline) || strcmp(before, link->discipline) == 0) return true;
+    if (!read_discipline(link->index, link->discipline) || strcmp(before, link->discipline) == 0) return true;
     return lagd->plane.carrying->renew(lagd, link);
 }
 
@@ -259,7 +254,7 @@ void move_member(struct lagd *lagd, struct link *link, const uint8_t *mac) {
  * or taken theirs away. Answers whether the member is still taken up. */
 bool follow_member_queues(struct lagd *lagd, struct link *link) {
     struct member *member = member_of(lagd, link);
-    bool kept = link->has_fifos ? have_order(lagd, link->index) : member->guard.in_order || !may_have_order(lagd, link->index);
+    bool kept = link->has_fifos ? have_order(link->index) : member->guard.in_order || !may_have_order(link->index);
     if (member->socket < 0 || kept) return true;
     (void)say(lagd, LOG_NOTICE | ABOUT_DATA, "port %u %s: its queues were changed", link->settings.number, link->name);
     return renew_member(lagd, link);
@@ -504,17 +499,20 @@ static bool is_unreadable(int got) {
 /* Takes the packets that wait in a socket of a member, some at most. What the kernel tells of links comes before them: what was sent after
  * a link went is not handed up before it. */
 static void take_packets(struct lagd *lagd, uint16_t port, const int *fd, bool only_markers) {
-    struct members_private *own = lagd->members;
     struct link *link = &lagd->links[port - 1];
-    struct member *member = &own->members[port - 1];
+    struct member *member = &lagd->members->members[port - 1];
+    struct mmsghdr messages[BATCH];
+    struct iovec parts[BATCH];
+    struct sockaddr_ll from[BATCH];
+    _Alignas(struct cmsghdr) uint8_t controls[BATCH][CMSG_SPACE(sizeof(struct tpacket_auxdata))];
     int got;
     if (*fd < 0) return;
     for (unsigned i = 0; i < BATCH; i++) {
-        own->parts[i] = (struct iovec){room_at(own->member_packets, i), packet_room()};
-        own->messages[i].msg_hdr = (struct msghdr){.msg_name = &own->from[i], .msg_namelen = sizeof own->from[i],
-            .msg_iov = &own->parts[i], .msg_iovlen = 1, .msg_control = own->controls[i], .msg_controllen = sizeof own->controls[i]};
+        parts[i] = (struct iovec){room_at(lagd->members->member_packets, i), packet_room()};
+        messages[i].msg_hdr = (struct msghdr){.msg_name = &from[i], .msg_namelen = sizeof from[i],
+            .msg_iov = &parts[i], .msg_iovlen = 1, .msg_control = controls[i], .msg_controllen = sizeof controls[i]};
     }
-    got = recvmmsg(*fd, own->messages, BATCH, MSG_DONTWAIT, NULL);
+    got = recvmmsg(*fd, messages, BATCH, MSG_DONTWAIT, NULL);
     if (!only_markers) note_unread(lagd, port, got > 0 ? (unsigned)got : 0, got >= 0 ? got < BATCH : errno == EAGAIN);
     if (is_unreadable(got)) {
         member->counts[DATA_RECEIVED]++;
@@ -524,7 +522,7 @@ static void take_packets(struct lagd *lagd, uint16_t port, const int *fd, bool o
     take_changes(lagd);
     lagd->carry.taken += (unsigned)got;
     if (got == BATCH) lagd->carry.more_waits = true;
-    for (int i = 0; i < got; i++) take_message(lagd, link, &own->messages[i], only_markers);
+    for (int i = 0; i < got; i++) take_message(lagd, link, &messages[i], only_markers);
     flush_host(lagd);
 }
 

@@ -160,7 +160,7 @@ static void end_leaving(struct lagd *lagd, struct link *link) {
  * nothing of ours is on its way there once the peer takes nothing more. */
 bool begin_hold(struct lagd *lagd, uint16_t port) {
     struct link *link = &lagd->links[port - 1];
-    link->leaves_since = milliseconds(lagd);
+    link->leaves_since = milliseconds();
     link->left_at = 0;
     link->emptying = (link->held || link->leaving) && lagd->plane.carrying->can_empty(lagd, port);
     if (link->emptying) {
@@ -174,9 +174,9 @@ bool begin_hold(struct lagd *lagd, uint16_t port) {
 /* A port that is emptied is held, once it is empty, or after a while. */
 static void end_emptying(struct lagd *lagd, uint16_t port) {
     struct link *link = &lagd->links[port - 1];
-    if (link->up && milliseconds(lagd) - link->leaves_since < MOST_WAIT && !empty_port(lagd, port)) return;
+    if (link->up && milliseconds() - link->leaves_since < MOST_WAIT && !empty_port(lagd, port)) return;
     link->emptying = false;
-    link->leaves_since = milliseconds(lagd);
+    link->leaves_since = milliseconds();
     drain_member(lagd, port);
     if (!apply_hold(lagd, port)) return;
     send_due(lagd);
@@ -229,7 +229,7 @@ static uint64_t most_wait(struct lagd *lagd) {
 
 /* Whether a port has left: it is quiet, and was so while its peer may still ask for responses to its markers, or it was waited for long enough. */
 static bool has_left(struct lagd *lagd, struct link *link) {
-    uint64_t now = milliseconds(lagd);
+    uint64_t now = milliseconds();
     if (!link->up) return true;
     if (link->emptying) return false;
     if (link->left_at == 0 && (is_quiet(lagd, link) || now - link->leaves_since >= most_wait(lagd))) link->left_at = now;
@@ -298,7 +298,7 @@ static const char *fault_of(struct lagd *lagd, const char *name) {
     struct interface interface;
     int lock;
     if (strcmp(name, lagd->settings.carry) == 0) return "it is the device itself";
-    if (!ask_interface(lagd, 0, name, &interface)) return "there is no such interface";
+    if (!ask_interface(0, name, &interface)) return "there is no such interface";
     if (interface.type != ARPHRD_ETHER) return "it is no Ethernet interface";
     for (uint16_t i = 0; i < lagd->link_count; i++)
         if (lagd->links[i].used && lagd->links[i].socket >= 0 && lagd->links[i].index == interface.index) return "it is a port by another name";

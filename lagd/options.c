@@ -69,7 +69,6 @@ enum { PORT_WORD_COUNT = sizeof PORT_WORDS / sizeof *PORT_WORDS };
 
 enum { OPTION_ROOM = MOST_BUNDLE_KEYS + sizeof BEFORE_KEYS / sizeof *BEFORE_KEYS + sizeof BEHIND_KEYS / sizeof *BEHIND_KEYS };
 
-/* What this file keeps for a daemon. */
 struct options_private {
     struct option_text rows[OPTION_ROOM];
     size_t row_count;

@@ -92,8 +92,7 @@ static void show_nothing_of(struct lagd *lagd, const struct link *link, enum for
     (void)form;
 }
 
-static void leave_device(struct lagd *lagd, int index) {
-    (void)lagd;
+static void leave_device(int index) {
     (void)index;
 }
 
@@ -180,25 +179,29 @@ static const struct queueing ALL_QUEUES = {
     .answer = answer_later, .show = show_queues, .text = ", all queues", .markers_at_once = MARKERS_AT_ONCE,
 };
 
-/* By which no data is carried. */
-struct plane no_plane(void) {
-    return (struct plane){.carrying = &NO_DEVICE, .passing = &BY_DAEMON, .queueing = &ONE_QUEUE};
+/* No data is carried. */
+void choose_no_plane(struct plane *plane) {
+    plane->carrying = &NO_DEVICE;
+    plane->passing = &BY_DAEMON;
+    plane->queueing = &ONE_QUEUE;
+    plane->segments = plane->wants_fifo = plane->renews = false;
 }
 
-/* What carries the data of these settings. */
-struct plane plane_of(const struct settings *settings) {
-    struct plane plane = no_plane();
-    if (!settings->carry[0]) return plane;
+static void choose_tap(struct plane *plane, const struct settings *settings) {
+    plane->carrying = &TAP_DEVICE;
+    if (settings->fast) plane->passing = &BY_KERNEL;
+    if (settings->all_queues) plane->queueing = &ALL_QUEUES;
+    plane->segments = settings->offload || settings->fast;
+    plane->wants_fifo = plane->segments || settings->all_queues;
+    plane->renews = settings->fast || settings->all_queues;
+}
+
+/* Chooses what carries the data, by the settings. */
+void choose_plane(struct plane *plane, const struct settings *settings) {
+    choose_no_plane(plane);
+    if (!settings->carry[0]) return;
     switch (settings->plane) {
-    case PLANE_TEAM: plane.carrying = &TEAM_DEVICE; break;
-    case PLANE_TAP:
-        plane.carrying = &TAP_DEVICE;
-        if (settings->fast) plane.passing = &BY_KERNEL;
-        if (settings->all_queues) plane.queueing = &ALL_QUEUES;
-        plane.segments = settings->offload || settings->fast;
-        plane.wants_fifo = plane.segments || settings->all_queues;
-        plane.renews = settings->fast || settings->all_queues;
-        break;
+    case PLANE_TAP: choose_tap(plane, settings); break;
+    case PLANE_TEAM: plane->carrying = &TEAM_DEVICE; break;
     }
-    return plane;
 }

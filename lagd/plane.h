@@ -54,7 +54,7 @@ struct carrying {
 struct passing {
     void (*start)(struct lagd *lagd);
     void (*end)(struct lagd *lagd);
-    void (*set_up_device)(struct lagd *lagd, int index);
+    void (*set_up_device)(int index);
     void (*run_programs)(struct lagd *lagd, const struct link *link, struct guard *guard);
     void (*count)(struct lagd *lagd);                         /* what the kernel did since the last time */
     void (*withdraw)(struct lagd *lagd);                      /* what is not, or no longer, where the kernel passes it on */
@@ -98,7 +98,7 @@ struct plane {
 };
 
 /* plane.c */
-struct plane no_plane(void);
-struct plane plane_of(const struct settings *settings);
+void choose_no_plane(struct plane *plane);
+void choose_plane(struct plane *plane, const struct settings *settings);
 
 #endif

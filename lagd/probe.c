@@ -9,7 +9,6 @@
 #define AGAIN 200
 #define LATER 60000
 
-/* What this file keeps for a daemon. */
 struct probe_private {
     enum answering peer, told;
     bool asking; /* whether a marker waits for its response: one that answers none stays MUTE meanwhile */

@@ -23,7 +23,6 @@ struct flight {
     uint64_t place; /* which one it is of all that were sent */
 };
 
-/* What this file keeps for a daemon. */
 struct queues_private {
     struct queues {
         unsigned count; /* by how many the data of the member goes */

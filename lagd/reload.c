@@ -129,27 +129,18 @@ static bool read_again(struct lagd *lagd, const char *file, struct settings *wan
     return !lack.expected;
 }
 
-/* What this file keeps for a daemon. */
-struct reload_private {
-    struct settings wanted; /* of reload */
-};
-
-struct reload_private *make_reload_private(void) {
-    return make_room(sizeof(struct reload_private));
-}
-
 /* Reads the file again. One that is wrong changes nothing. */
 void reload(struct lagd *lagd, const char *file) {
-    struct reload_private *own = lagd->reload;
-    const char *rest;
+    struct settings wanted;
     notify_reloading();
-    if (!read_again(lagd, file, &own->wanted)) {
+    if (!read_again(lagd, file, &wanted)) {
         complain(lagd, "%s: the file is wrong, and nothing is changed", file);
-    } else if (!place_ports(lagd, &own->wanted)) {
+    } else if (!place_ports(lagd, &wanted)) {
         (void)say(lagd, LOG_WARNING | ABOUT_RESTART,
             "%s: more ports than there is room for: a restart of this bundle is needed, and nothing is changed", file);
     } else {
-        unsigned changed = (rest = restart_for(lagd, &own->wanted), take(lagd, &own->wanted));
+        const char *rest = restart_for(lagd, &wanted);
+        unsigned changed = take(lagd, &wanted);
         (void)say(lagd, LOG_NOTICE | ABOUT_RELOAD, "%s: read again, %u ports changed", file, changed);
         if (rest) (void)say(lagd, LOG_WARNING | ABOUT_RESTART, "%s: %s: a restart of this bundle is needed", file, rest);
         send_due(lagd);

@@ -11,7 +11,6 @@
 /* Where an LACPDU has the state of its actor (IEEE 802.1AX-2014, 6.4.2.3). */
 #define ACTOR_STATE (ETH_HLEN + 18)
 
-/* What this file keeps for a daemon. */
 struct resume_private {
     uint64_t began; /* when it was begun, in milliseconds of CLOCK_BOOTTIME */
 };

@@ -275,7 +275,6 @@ static const char *name_of_port_key(size_t index) {
     return PORT_KEYS[index].name;
 }
 
-/* What this file keeps for a daemon. */
 struct settings_private {
     char text[512]; /* of list_words */
 };

@@ -24,14 +24,12 @@
 /* For how long frames may have waited, in milliseconds: with the second in which a state is written. */
 #define MOST_AWAY 3000
 
-/* What this file keeps for a daemon. */
 struct state_private {
     int file; /* the state that was written last, or -1 */
     int members[CONVERSATIONS]; /* the interface of each conversation that it has, or 0 */
     bool over; /* whether the peers are told of the end */
     bool failed; /* whether the last writing did, which has a line */
     char name[NAME_ROOM + 32], new_name[NAME_ROOM + 40];
-    char text[WAY_ROOM]; /* of way */
 };
 
 struct state_private *make_state_private(void) {
@@ -47,13 +45,13 @@ uint64_t boottime(void) {
 }
 
 /* The settings by which the rest means something. */
-static const char *way(struct lagd *lagd) {
+static const char *way(struct lagd *lagd, char room[static WAY_ROOM]) {
     char system[32];
     struct system_id own = {.priority = lagd->settings.config.priority};
     memcpy(own.mac, lagd->settings.config.mac, sizeof own.mac);
-    snprintf(lagd->state->text, sizeof lagd->state->text, "%s/%s/%s/%u/%s", system_text(&own, system), lagd->settings.carry[0]
+    snprintf(room, WAY_ROOM, "%s/%s/%s/%u/%s", system_text(&own, system), lagd->settings.carry[0]
         ? lagd->settings.carry : "-", hash_text(lagd->settings.hash), lagd->settings.hash_seed, way_text(&lagd->settings));
-    return lagd->state->text;
+    return room;
 }
 
 /* Whether settings are those of a bundle whose data the team driver carries. */
@@ -95,7 +93,8 @@ static void write_conversations(struct lagd *lagd, FILE *file) {
 
 static void write_state(struct lagd *lagd, FILE *file) {
     struct niw_marker marker = niw_next_marker(&lagd->own_system);
-    fprintf(file, "lagd %u\nboot %s\nway %s\n", FORM_VERSION, boot_id(lagd), way(lagd));
+    char boot[BOOT_ROOM], room[WAY_ROOM];
+    fprintf(file, "lagd %u\nboot %s\nway %s\n", FORM_VERSION, boot_id(boot), way(lagd, room));
     fprintf(file, "written %" PRIu64 "\n", boottime());
     fprintf(file, "marker %" PRIu32 "\n", is_done(lagd, marker.status, "niw_next_marker") && marker.left ? marker.id : 0);
     fprintf(file, "bundle %u %u %lld\n", lagd->bundle.state, lagd->bundle.aggregator, (long long)lagd->bundle.changed_at);
@@ -287,14 +286,14 @@ static void keep_interfaces(struct lagd *lagd, bool team) {
 /* Reads a state; answers NULL, or why it counts for nothing. */
 static const char *read_state(struct lagd *lagd, FILE *file) {
     unsigned version;
-    char boot[64], given[WAY_ROOM];
+    char boot[BOOT_ROOM], now[BOOT_ROOM], given[WAY_ROOM], room[WAY_ROOM];
     if (fscanf(file, "lagd %u", &version) != 1) return "it is no state of lagd";
     if (version != FORM_VERSION) return "it is of another version";
     if (fscanf(file, " boot %63s way %95s", boot, given) != 2) return "it is cut off";
-    if (strcmp(boot, boot_id(lagd)) != 0) return "it is of another boot";
+    if (strcmp(boot, boot_id(now)) != 0) return "it is of another boot";
     if (!read_rest(lagd, file)) return "it is cut off, or wrong";
     read_changes(lagd, file);
-    if (strcmp(given, way(lagd)) != 0) keep_interfaces(lagd, is_way_of_team(given));
+    if (strcmp(given, way(lagd, room)) != 0) keep_interfaces(lagd, is_way_of_team(given));
     return NULL;
 }
 

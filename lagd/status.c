@@ -34,7 +34,6 @@ struct caller {
     size_t sent, answer_length;
 };
 
-/* What this file keeps for a daemon. */
 struct status_private {
     struct caller callers[MOST_CALLERS];
     int listener;

@@ -20,10 +20,8 @@
 /* What the unit lets it keep. */
 #define MOST_FILES 512
 
-/* A file that the last daemon left. */
-/* What this file keeps for a daemon. */
 struct store_private {
-    struct stored {
+    struct stored { /* a file that the last daemon left */
         char name[NAME_OF_FILE];
         int fd;    /* -1: it is taken, or closed */
         int taken; /* the same, once it is taken, until the manager keeps it no more; else -1 */

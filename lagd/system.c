@@ -6,7 +6,6 @@
 
 #include "daemon.h"
 
-/* What this file keeps for a daemon. */
 struct system_private {
     uint64_t ticks;
     struct timespec began;
@@ -30,9 +29,8 @@ uint64_t seconds_passed(struct lagd *lagd) {
 }
 
 /* The time now, in milliseconds of CLOCK_MONOTONIC. */
-uint64_t milliseconds(struct lagd *lagd) {
+uint64_t milliseconds(void) {
     struct timespec now;
-    (void)lagd;
     clock_gettime(CLOCK_MONOTONIC, &now);
     return (uint64_t)now.tv_sec * 1000 + (uint64_t)now.tv_nsec / 1000000;
 }

@@ -29,7 +29,6 @@
 /* For how many ticks the carrier may be another one than was set: the kernel takes up to a second to tell. */
 #define CARRIER_TICKS 15
 
-/* What this file keeps for a daemon. */
 struct tap_private {
     int tap, asker; /* `asker`: a socket for questions about interfaces */
     int number; /* of the device, its index; 0: there is none */
@@ -227,7 +226,7 @@ static void set_up(struct lagd *lagd, const uint8_t *mac) {
     queue.ifr_qlen = HOST_QUEUE;
     (void)ask_tap(lagd, SIOCSIFTXQLEN, &queue);
     settle_tap_mtu(lagd);
-    lagd->plane.passing->set_up_device(lagd, own->number);
+    lagd->plane.passing->set_up_device(own->number);
 }
 
 /* What waits in the device is lost. */

@@ -23,12 +23,12 @@ struct team_now {
 
 /* team_netlink.c */
 bool find_team_driver(struct lagd *lagd);
-bool make_team_device(struct lagd *lagd, const char *name, const uint8_t *mac, uint32_t mtu);
-bool remove_device(struct lagd *lagd, int index);
-bool set_interface_up(struct lagd *lagd, int index, bool up);
-bool set_master(struct lagd *lagd, int index, int master);
-bool set_address(struct lagd *lagd, int index, const uint8_t *mac);
-bool set_device_carrier(struct lagd *lagd, int index, bool on);
+bool make_team_device(const char *name, const uint8_t *mac, uint32_t mtu);
+bool remove_device(int index);
+bool set_interface_up(int index, bool up);
+bool set_master(int index, int master);
+bool set_address(int index, const uint8_t *mac);
+bool set_device_carrier(int index, bool on);
 bool set_team_text(struct lagd *lagd, int index, const char *name, const char *text);
 bool set_team_number(struct lagd *lagd, int index, const char *name, uint32_t number);
 bool set_team_hash(struct lagd *lagd, int index, const struct sock_filter *steps, size_t count);

@@ -15,7 +15,6 @@
 /* The types of options that are of use here, as include/net/netlink.h of the kernel has them; no header for programs does. */
 enum { TYPE_U32 = 3, TYPE_STRING = 5, TYPE_FLAG = 6, TYPE_BINARY = 11 };
 
-/* What this file keeps for a daemon. */
 struct team_netlink_private {
     uint16_t family; /* the number of the team driver in generic netlink */
 };
@@ -24,8 +23,8 @@ struct team_netlink_private *make_team_netlink_private(void) {
     return make_room(sizeof(struct team_netlink_private));
 }
 
-static bool order(struct lagd *lagd, const union message *wanted) {
-    return ask_netlink(lagd, NETLINK_ROUTE, wanted, NULL, NULL);
+static bool order(const union message *wanted) {
+    return ask_netlink(NETLINK_ROUTE, wanted, NULL, NULL);
 }
 
 static int take_family(const struct nlattr *attribute, void *into) {
@@ -33,8 +32,7 @@ static int take_family(const struct nlattr *attribute, void *into) {
     return MNL_CB_OK;
 }
 
-static void read_family(struct lagd *lagd, const struct nlmsghdr *message, void *into) {
-    (void)lagd;
+static void read_family(const struct nlmsghdr *message, void *into) {
     read_attributes(message, sizeof(struct genlmsghdr), take_family, into);
 }
 
@@ -44,7 +42,7 @@ static bool find_family(struct lagd *lagd) {
     struct genlmsghdr about = {.cmd = CTRL_CMD_GETFAMILY, .version = 1};
     union message question = message_of(GENL_ID_CTRL, NLM_F_ACK, &about, sizeof about);
     mnl_attr_put_strz(&question.head, CTRL_ATTR_FAMILY_NAME, TEAM_GENL_NAME);
-    return ask_netlink(lagd, NETLINK_GENERIC, &question, read_family, &own->family) && own->family != 0;
+    return ask_netlink(NETLINK_GENERIC, &question, read_family, &own->family) && own->family != 0;
 }
 
 /* Finds the driver; answers whether this kernel has one, and else errno tells why not. The kernel loads it for who may ask for a device: with
@@ -52,11 +50,11 @@ static bool find_family(struct lagd *lagd) {
 bool find_team_driver(struct lagd *lagd) {
     static const uint8_t no_address[ETH_ALEN];
     return find_family(lagd)
-        || (!make_team_device(lagd, "team%d", no_address, ETH_DATA_LEN) && errno == EADDRNOTAVAIL && find_family(lagd));
+        || (!make_team_device("team%d", no_address, ETH_DATA_LEN) && errno == EADDRNOTAVAIL && find_family(lagd));
 }
 
 /* Makes a device of the driver; answers whether it did. */
-bool make_team_device(struct lagd *lagd, const char *name, const uint8_t *mac, uint32_t mtu) {
+bool make_team_device(const char *name, const uint8_t *mac, uint32_t mtu) {
     union message wanted = message_of_interface(RTM_NEWLINK, NLM_F_ACK | NLM_F_CREATE | NLM_F_EXCL, 0);
     struct nlattr *nest;
     mnl_attr_put_strz(&wanted.head, IFLA_IFNAME, name);
@@ -65,39 +63,39 @@ bool make_team_device(struct lagd *lagd, const char *name, const uint8_t *mac, u
     nest = mnl_attr_nest_start(&wanted.head, IFLA_LINKINFO);
     mnl_attr_put_strz(&wanted.head, IFLA_INFO_KIND, TEAM_KIND);
     mnl_attr_nest_end(&wanted.head, nest);
-    return order(lagd, &wanted);
+    return order(&wanted);
 }
 
-bool remove_device(struct lagd *lagd, int index) {
+bool remove_device(int index) {
     union message wanted = message_of_interface(RTM_DELLINK, NLM_F_ACK, index);
-    return order(lagd, &wanted);
+    return order(&wanted);
 }
 
 /* Sets an interface up or down. */
-bool set_interface_up(struct lagd *lagd, int index, bool up) {
+bool set_interface_up(int index, bool up) {
     struct ifinfomsg about = {.ifi_index = index, .ifi_flags = up ? IFF_UP : 0, .ifi_change = IFF_UP};
     union message wanted = message_of(RTM_SETLINK, NLM_F_ACK, &about, sizeof about);
-    return order(lagd, &wanted);
+    return order(&wanted);
 }
 
 /* Sets what an attribute says of an interface. */
-static bool set_attribute(struct lagd *lagd, int index, uint16_t type, const void *value, size_t length) {
+static bool set_attribute(int index, uint16_t type, const void *value, size_t length) {
     union message wanted = message_of_interface(RTM_SETLINK, NLM_F_ACK, index);
     mnl_attr_put(&wanted.head, type, length, value);
-    return order(lagd, &wanted);
+    return order(&wanted);
 }
 
 /* Makes an interface a port of another one, or, with 0, of none. */
-bool set_master(struct lagd *lagd, int index, int master) {
-    return set_attribute(lagd, index, IFLA_MASTER, &master, sizeof master);
+bool set_master(int index, int master) {
+    return set_attribute(index, IFLA_MASTER, &master, sizeof master);
 }
 
-bool set_address(struct lagd *lagd, int index, const uint8_t *mac) {
-    return set_attribute(lagd, index, IFLA_ADDRESS, mac, ETH_ALEN);
+bool set_address(int index, const uint8_t *mac) {
+    return set_attribute(index, IFLA_ADDRESS, mac, ETH_ALEN);
 }
 
-bool set_device_carrier(struct lagd *lagd, int index, bool on) {
-    return set_attribute(lagd, index, IFLA_CARRIER, &(uint8_t){on}, 1);
+bool set_device_carrier(int index, bool on) {
+    return set_attribute(index, IFLA_CARRIER, &(uint8_t){on}, 1);
 }
 
 static union message message_of_team(struct lagd *lagd, uint8_t command, unsigned flags, int index) {
@@ -125,7 +123,7 @@ static bool set_option(struct lagd *lagd, int index, const char *name, struct pl
     if (place.number >= 0) mnl_attr_put_u32(&wanted.head, TEAM_ATTR_OPTION_ARRAY_INDEX, (uint32_t)place.number);
     mnl_attr_nest_end(&wanted.head, item);
     mnl_attr_nest_end(&wanted.head, list);
-    return ask_netlink(lagd, NETLINK_GENERIC, &wanted, NULL, NULL) || errno == ESRCH;
+    return ask_netlink(NETLINK_GENERIC, &wanted, NULL, NULL) || errno == ESRCH;
 }
 
 bool set_team_text(struct lagd *lagd, int index, const char *name, const char *text) {
@@ -201,8 +199,7 @@ static int take_list(const struct nlattr *list, void *into) {
     return MNL_CB_OK;
 }
 
-static void take_told(struct lagd *lagd, const struct nlmsghdr *message, void *into) {
-    (void)lagd;
+static void take_told(const struct nlmsghdr *message, void *into) {
     read_attributes(message, sizeof(struct genlmsghdr), take_list, into);
 }
 
@@ -210,5 +207,5 @@ static void take_told(struct lagd *lagd, const struct nlmsghdr *message, void *i
 bool read_team(struct lagd *lagd, int index, struct team_now *now) {
     union message question = message_of_team(lagd, TEAM_CMD_OPTIONS_GET, 0, index);
     *now = (struct team_now){0};
-    return ask_netlink(lagd, NETLINK_GENERIC, &question, take_told, now);
+    return ask_netlink(NETLINK_GENERIC, &question, take_told, now);
 }

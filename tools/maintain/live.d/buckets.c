@@ -125,8 +125,7 @@ bool set_bucket(struct lagd *lagd, int index, uint16_t bucket, int port) {
     return true;
 }
 
-bool ask_interface(struct lagd *lagd, int index, const char *name, struct interface *device) {
-    (void)lagd;
+bool ask_interface(int index, const char *name, struct interface *device) {
     (void)name;
     *device = (struct interface){.index = index, .octets_sent = all_sent};
     return true;
@@ -148,7 +147,7 @@ bool read_team(struct lagd *lagd, int index, struct team_now *now) {
 }
 
 /* What the daemon has beside. */
-uint64_t milliseconds(struct lagd *lagd) {
+uint64_t milliseconds(void) {
     return lagd->carry.time;
 }
 uint64_t ticks_passed(struct lagd *lagd) {

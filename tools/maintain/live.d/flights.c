@@ -26,8 +26,7 @@ static bool is_fast_member;
 static unsigned sent, by_mark, answered, entries = 4;
 static uint32_t ids[64], marks[64];
 
-uint64_t milliseconds(struct lagd *lagd) {
-    (void)lagd;
+uint64_t milliseconds(void) {
     return now;
 }
 

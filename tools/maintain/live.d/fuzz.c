@@ -149,11 +149,12 @@ static void fuzz_caller(const uint8_t *octets, size_t length) {
 /* What the last daemon left, behind the number of this boot; and a daemon that goes on from it. */
 static void fuzz_state(const uint8_t *octets, size_t length) {
     char name[64];
+    char boot[BOOT_ROOM];
     FILE *file;
     snprintf(name, sizeof name, "%s/%lu.%s.state", folder, network_namespace(), lagd->settings.name);
     file = fopen(name, "we");
     if (!file) abort();
-    fprintf(file, "lagd 2\nboot %s\n", boot_id(lagd));
+    fprintf(file, "lagd 2\nboot %s\n", boot_id(boot));
     (void)fwrite(octets, 1, length, file);
     fclose(file);
     lagd->inherited = (struct inherited){0};
@@ -189,11 +190,11 @@ static void fuzz_answers(const uint8_t *octets, size_t length) {
     static struct team_now now;
     waiting_length = length;
     waiting = octets;
-    (void)ask_interface(lagd, 1, NULL, &interface);
+    (void)ask_interface(1, NULL, &interface);
     waiting = octets;
     (void)read_team(lagd, 1, &now);
     waiting = octets;
-    drop_classifier(lagd, 1);
+    drop_classifier(1);
     waiting = NULL;
 }
 

@@ -30,8 +30,7 @@ static bool answered; /* whether the response to the last marker came */
 
 static const uint8_t OWN[6] = {2, 0, 0, 0, 0, 0xaa}, PARTNER[6] = {2, 0, 0, 0, 0, 0xbb}, STRANGER[6] = {2, 0, 0, 0, 0, 0xcc};
 
-uint64_t milliseconds(struct lagd *lagd) {
-    (void)lagd;
+uint64_t milliseconds(void) {
     return now;
 }
 

@@ -152,8 +152,7 @@ static void put_slow(struct end *end, uint16_t port, uint8_t *frame) {
 }
 
 /* What the policy asks of the rest of the daemon: the clock, */
-uint64_t milliseconds(struct lagd *lagd) {
-    (void)lagd;
+uint64_t milliseconds(void) {
     return now;
 }
 uint64_t ticks_passed(struct lagd *lagd) {
@@ -394,7 +393,9 @@ static void make_end(struct end *end, uint8_t which) {
     lagd->flight = make_flight_private();
     lagd->held = make_held_private();
     lagd->probe = make_probe_private();
-    lagd->plane = (struct plane){.carrying = &FRAMES, .passing = &BY_DAEMON, .queueing = &ONE_QUEUE};
+    lagd->plane.carrying = &FRAMES;
+    lagd->plane.passing = &BY_DAEMON;
+    lagd->plane.queueing = &ONE_QUEUE;
     lagd->carry.changed = lagd->has_started = true;
     lagd->link_count = lagd->settings.port_count = PORTS;
     lagd->settings.flight = FLIGHT;
