@@ -37,7 +37,7 @@ struct answers_private *make_answers_private(void) {
 void start_answers(struct lagd *lagd) {
     struct answers_private *own = lagd->answers;
     own->timer = timerfd_create(CLOCK_MONOTONIC, TFD_NONBLOCK | TFD_CLOEXEC);
-    if (own->timer < 0 || !await_input(lagd, own->timer, RESPONSES)) stop(REFUSED, "no clock", strerror(errno));
+    if (own->timer < 0 || !await_input(lagd->epoll_file, own->timer, RESPONSES)) stop(REFUSED, "no clock", strerror(errno));
 }
 
 static struct answer *first_of(struct waiting *waiting) {
@@ -77,8 +77,8 @@ bool answer_later(struct lagd *lagd, struct link *link, const uint8_t *response)
 }
 
 /* So many packets were read of the socket of a member, or all that it had. */
-void note_unread(struct lagd *lagd, uint16_t port, unsigned packets, bool drained) {
-    struct waiting *waiting = &lagd->answers->ports[port - 1];
+void note_unread(struct answers_private *own, uint16_t port, unsigned packets, bool drained) {
+    struct waiting *waiting = &own->ports[port - 1];
     uint64_t now = waiting->count > 0 ? milliseconds() : 0;
     for (unsigned i = 0; i < waiting->count; i++) {
         struct answer *answer = &waiting->answers[(waiting->first + i) % MOST_WAITING];
@@ -88,8 +88,8 @@ void note_unread(struct lagd *lagd, uint16_t port, unsigned packets, bool draine
 }
 
 /* The link of a port is down: whoever asked there asks again. */
-void forget_answers(struct lagd *lagd, uint16_t port) {
-    lagd->answers->ports[port - 1].count = 0;
+void forget_answers(struct answers_private *own, uint16_t port) {
+    own->ports[port - 1].count = 0;
 }
 
 /* Sends what is due on a port, behind the data that came before. */
@@ -98,8 +98,8 @@ static void answer_due(struct lagd *lagd, uint16_t port) {
     struct answer *answer = first_of(waiting);
     uint64_t now = milliseconds();
     if (!answer || answer->due > now) return;
-    if (!has_fast_member(lagd, port)) take_data(lagd, port);
-    while ((answer = first_of(waiting)) && answer->due <= now && (answer->unread == 0 || has_fast_member(lagd, port))) {
+    if (!has_fast_member(lagd->members, port)) take_data(lagd, port);
+    while ((answer = first_of(waiting)) && answer->due <= now && (answer->unread == 0 || has_fast_member(lagd->members, port))) {
         send_frame(lagd, &lagd->links[port - 1], answer->frame);
         waiting->first = (waiting->first + 1) % MOST_WAITING;
         waiting->count--;

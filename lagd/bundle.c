@@ -82,7 +82,7 @@ static void enter(struct lagd *lagd, const struct bundle *now) {
 void look_at_bundle(struct lagd *lagd) {
     struct bundle_private *own = lagd->bundle_private;
     struct bundle now = lagd->bundle;
-    if (!lagd->has_started || (own->lines == 0 && !is_halted(lagd))) return;
+    if (!lagd->has_started || (own->lines == 0 && !is_halted(lagd->halt))) return;
     choose_aggregator(lagd, &now);
     now.state = state_of(lagd, now.carrying);
     now.links = count_links(lagd);

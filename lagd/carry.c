@@ -20,8 +20,8 @@ struct carry_private *make_carry_private(void) {
 }
 
 /* Something was called that may let conversations go or come. */
-void look_at_carry(struct lagd *lagd) {
-    lagd->carry.changed = true;
+void look_at_carry(struct carry *carry) {
+    carry->changed = true;
 }
 
 /* Writes what a conversation of an aggregator is doing; answers whether the library told it. */
@@ -45,9 +45,9 @@ bool is_held(const struct niw_assignment *state) {
 }
 
 /* Whether a conversation had a frame of late, in the active aggregator. */
-bool is_busy(struct lagd *lagd, const struct conversation *conversation) {
-    bool is_recent = conversation->last != 0 && lagd->carry.time - conversation->last < BUSY;
-    return conversation->home == lagd->carry.active && (conversation->used || is_recent);
+bool is_busy(struct carry *carry, const struct conversation *conversation) {
+    bool is_recent = conversation->last != 0 && carry->time - conversation->last < BUSY;
+    return conversation->home == carry->active && (conversation->used || is_recent);
 }
 
 /* Has a frame wait until its conversation goes on. Where there is no room the oldest one of it is lost, or else this one. */
@@ -78,14 +78,14 @@ static enum offered offer(struct lagd *lagd, struct conversation *conversation, 
 
 /* Puts a frame behind those of the port of its conversation. */
 static void send_on(struct lagd *lagd, const struct conversation *conversation, uint8_t *packet, size_t length) {
-    note_sent(lagd, conversation->port);
+    note_sent(lagd->flight, conversation->port);
     put_data(lagd, conversation->port, (uint16_t)(conversation - lagd->carry.conversations), packet, length);
 }
 
 /* Whether a frame of the host may go: of a right length, which each member takes, and none of the slow protocols. */
-static bool is_fit(struct lagd *lagd, const uint8_t *packet, size_t length) {
+static bool is_fit(struct tap_private *own, const uint8_t *packet, size_t length) {
     const uint8_t *frame = packet + head_octets();
-    return has_right_length(packet, length, longest_payload(lagd))
+    return has_right_length(packet, length, longest_payload(own))
         && ((unsigned)frame[12] << 8 | frame[13]) != ETH_P_SLOW;
 }
 
@@ -117,7 +117,7 @@ void take_from_host(struct lagd *lagd, uint8_t *packet, size_t length) {
     conversation = &lagd->carry.conversations[number % CONVERSATIONS];
     note_taken(conversation, count_segments(packet, length));
     if (has_segments(packet)) lagd->carry.counts[SEGMENTED]++;
-    if (is_fit(lagd, packet, length))
+    if (is_fit(lagd->tap, packet, length))
         take_fit(lagd, conversation, (uint16_t)number, packet, length);
     else
         lagd->carry.counts[UNFIT]++;
@@ -218,7 +218,7 @@ static void choose_active(struct lagd *lagd) {
     if ((before == 0) != (lagd->carry.active == 0))
         (void)say(lagd, LOG_NOTICE | ABOUT_CARRIER, "carry %s: carrier %s", lagd->settings.carry, lagd->carry.active ? "on" : "off");
     if (before != lagd->carry.active) forget_heard(lagd);
-    if (before != lagd->carry.active && lagd->carry.active != 0) announce_soon(lagd);
+    if (before != lagd->carry.active && lagd->carry.active != 0) announce_soon(lagd->announce);
     lagd->plane.carrying->tell_host(lagd);
 }
 

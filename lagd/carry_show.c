@@ -9,29 +9,29 @@
 static const struct count_text CARRY_COUNTERS[] = {EACH_CARRY_COUNT(COUNT_TEXT)};
 static const struct count_text MEMBER_COUNTERS[] = {EACH_MEMBER_COUNT(COUNT_TEXT)};
 
-static const char *answering_text(struct lagd *lagd) {
+static const char *answering_text(struct probe_private *own) {
     static const char *const texts[] = {[NOT_ASKED] = "not asked", [ASKED] = "asked", [ANSWERS] = "answered", [MUTE] = "not answered"};
-    return texts[peer_answering(lagd)];
+    return texts[peer_answering(own)];
 }
 
 /* How many conversations of a port are busy. */
-static unsigned count_busy(struct lagd *lagd, uint16_t port) {
+static unsigned count_busy(struct carry *carry, uint16_t port) {
     unsigned busy = 0;
     for (unsigned i = 0; i < CONVERSATIONS; i++)
-        busy += is_busy(lagd, &lagd->carry.conversations[i]) && lagd->carry.conversations[i].port == port;
+        busy += is_busy(carry, &carry->conversations[i]) && carry->conversations[i].port == port;
     return busy;
 }
 
 /* How many conversations the kernel passes on. */
-static unsigned count_fast(struct lagd *lagd) {
+static unsigned count_fast(struct carry *carry) {
     unsigned fast = 0;
-    for (unsigned i = 0; i < CONVERSATIONS; i++) fast += lagd->carry.conversations[i].fast.port > 0;
+    for (unsigned i = 0; i < CONVERSATIONS; i++) fast += carry->conversations[i].fast.port > 0;
     return fast;
 }
 
 /* Whether the peer answers markers. */
 void show_markers(struct lagd *lagd) {
-    add(lagd, "markers %s, ", answering_text(lagd));
+    add(&lagd->report, "markers %s, ", answering_text(lagd->probe));
 }
 
 /* What waits in the daemon, and what does not come there. */
@@ -39,13 +39,13 @@ void show_frames_waiting(struct lagd *lagd, enum form form) {
     uint64_t waiting;
     if (!count_all_held(lagd, &waiting)) return;
     switch (form) {
-    case AS_TEXT: add(lagd, "\n  waiting: %" PRIu64 ", conversations of the kernel: %u\n", waiting, count_fast(lagd)); break;
+    case AS_TEXT: add(&lagd->report, "\n  waiting: %" PRIu64 ", conversations of the kernel: %u\n", waiting, count_fast(&lagd->carry)); break;
     case AS_JSON:
-        add(lagd, "\"markers\":\"%s\",\"waiting\":%" PRIu64 ",\"fast_conversations\":%u", answering_text(lagd), waiting, count_fast(lagd));
+        add(&lagd->report, "\"markers\":\"%s\",\"waiting\":%" PRIu64 ",\"fast_conversations\":%u", answering_text(lagd->probe), waiting, count_fast(&lagd->carry));
         break;
     case AS_METRICS:
         add_bundle_value(lagd, "carry_waiting", "gauge", "how many frames wait", waiting);
-        add_bundle_value(lagd, "carry_fast_conversations", "gauge", "how many conversations the kernel passes on", count_fast(lagd));
+        add_bundle_value(lagd, "carry_fast_conversations", "gauge", "how many conversations the kernel passes on", count_fast(&lagd->carry));
     }
 }
 
@@ -53,8 +53,8 @@ void show_frames_waiting(struct lagd *lagd, enum form form) {
 void show_waiting_buckets(struct lagd *lagd, enum form form) {
     unsigned waiting = count_waiting_buckets(lagd);
     switch (form) {
-    case AS_TEXT: add(lagd, "\n  waiting: %u conversations, until they are still\n", waiting); break;
-    case AS_JSON: add(lagd, "\"waiting_conversations\":%u", waiting); break;
+    case AS_TEXT: add(&lagd->report, "\n  waiting: %u conversations, until they are still\n", waiting); break;
+    case AS_JSON: add(&lagd->report, "\"waiting_conversations\":%u", waiting); break;
     case AS_METRICS:
         add_bundle_value(lagd, "carry_waiting_conversations", "gauge", "how many conversations wait until they are still", waiting);
     }
@@ -62,39 +62,39 @@ void show_waiting_buckets(struct lagd *lagd, enum form form) {
 
 /* By how many queues a member has its data go. */
 void show_queues(struct lagd *lagd, const struct link *link, enum form form) {
-    add(lagd, form == AS_JSON ? ",\"queues\":%u" : " queues %u", member_queues(lagd, link->settings.number));
+    add(&lagd->report, form == AS_JSON ? ",\"queues\":%u" : " queues %u", member_queues(lagd->members, link->settings.number));
 }
 
 static void write_text_of_carry(struct lagd *lagd) {
     const struct carrying *carrying = lagd->plane.carrying;
     unsigned told = 0;
-    add(lagd, "  carry: %s, carrier %s, hash %s, flight %u ms, ", lagd->settings.carry,
-        has_carrier(lagd) ? "on" : is_halted(lagd) ? "off, the device is down" : "off", hash_text(lagd->settings.hash), lagd->settings.flight);
+    add(&lagd->report, "  carry: %s, carrier %s, hash %s, flight %u ms, ", lagd->settings.carry,
+        has_carrier(lagd->tap) ? "on" : is_halted(lagd->halt) ? "off, the device is down" : "off", hash_text(lagd->settings.hash), lagd->settings.flight);
     carrying->show_markers(lagd);
-    add(lagd, "%s%s", way_text(&lagd->settings), lagd->plane.queueing->text);
+    add(&lagd->report, "%s%s", way_text(&lagd->settings), lagd->plane.queueing->text);
     for (unsigned i = carrying->first_count; i < carrying->end_count; i++)
-        add(lagd, "%s %s %" PRIu64, told++ % 5 == 0 ? "\n  data:" : "", CARRY_COUNTERS[i].name, lagd->carry.counts[i]);
+        add(&lagd->report, "%s %s %" PRIu64, told++ % 5 == 0 ? "\n  data:" : "", CARRY_COUNTERS[i].name, lagd->carry.counts[i]);
     carrying->show_waiting(lagd, AS_TEXT);
 }
 
 static void write_json_of_carry(struct lagd *lagd) {
     const struct carrying *carrying = lagd->plane.carrying;
-    add(lagd, "\"carry\":{\"device\":");
-    add_string(lagd, lagd->settings.carry);
-    add(lagd, ",\"up\":%s,\"carrier\":%s,\"aggregator\":%u,\"hash\":\"%s\",", is_halted(lagd) ? "false" : "true",
-        has_carrier(lagd) ? "true" : "false", lagd->carry.active,
+    add(&lagd->report, "\"carry\":{\"device\":");
+    add_string(&lagd->report, lagd->settings.carry);
+    add(&lagd->report, ",\"up\":%s,\"carrier\":%s,\"aggregator\":%u,\"hash\":\"%s\",", is_halted(lagd->halt) ? "false" : "true",
+        has_carrier(lagd->tap) ? "true" : "false", lagd->carry.active,
         hash_text(lagd->settings.hash));
-    add(lagd, "\"flight\":%u,\"way\":\"%s\",", lagd->settings.flight, way_text(&lagd->settings));
+    add(&lagd->report, "\"flight\":%u,\"way\":\"%s\",", lagd->settings.flight, way_text(&lagd->settings));
     carrying->show_waiting(lagd, AS_JSON);
     for (unsigned i = carrying->first_count; i < carrying->end_count; i++)
-        add(lagd, ",\"%s\":%" PRIu64, CARRY_COUNTERS[i].name, lagd->carry.counts[i]);
-    add(lagd, "},");
+        add(&lagd->report, ",\"%s\":%" PRIu64, CARRY_COUNTERS[i].name, lagd->carry.counts[i]);
+    add(&lagd->report, "},");
 }
 
 static void write_metrics_of_carry(struct lagd *lagd) {
     const struct carrying *carrying = lagd->plane.carrying;
     char name[64];
-    add_bundle_value(lagd, "carry_carrier", "gauge", "whether the device has a carrier", has_carrier(lagd));
+    add_bundle_value(lagd, "carry_carrier", "gauge", "whether the device has a carrier", has_carrier(lagd->tap));
     carrying->show_waiting(lagd, AS_METRICS);
     for (unsigned i = carrying->first_count; i < carrying->end_count; i++) {
         bool most = i == LONGEST_QUEUE;
@@ -103,9 +103,9 @@ static void write_metrics_of_carry(struct lagd *lagd) {
     }
     for (unsigned i = 0; i < carrying->member_counts; i++) {
         snprintf(name, sizeof name, "port_%s_total", MEMBER_COUNTERS[i].name);
-        add_head(lagd, name, "counter", MEMBER_COUNTERS[i].help);
+        add_head(&lagd->report, name, "counter", MEMBER_COUNTERS[i].help);
         for (uint16_t link = 0; link < lagd->link_count; link++)
-            if (lagd->links[link].used) add_port_value(lagd, name, &lagd->links[link], member_count(lagd, (uint16_t)(link + 1), i));
+            if (lagd->links[link].used) add_port_value(lagd, name, &lagd->links[link], member_count(lagd->members, (uint16_t)(link + 1), i));
     }
 }
 
@@ -121,11 +121,11 @@ void show_carry(struct lagd *lagd, enum form form) {
 
 /* And of a member, which has no metrics of its own. */
 void show_member(struct lagd *lagd, const struct link *link, enum form form) {
-    add(lagd, form == AS_JSON ? ",\"data\":{\"busy_conversations\":%u" : "  data: busy_conversations %u",
-        count_busy(lagd, link->settings.number));
+    add(&lagd->report, form == AS_JSON ? ",\"data\":{\"busy_conversations\":%u" : "  data: busy_conversations %u",
+        count_busy(&lagd->carry, link->settings.number));
     for (unsigned i = 0; i < lagd->plane.carrying->member_counts; i++)
-        add(lagd, form == AS_JSON ? ",\"%s\":%" PRIu64 : " %s %" PRIu64, MEMBER_COUNTERS[i].name,
-            member_count(lagd, link->settings.number, i));
+        add(&lagd->report, form == AS_JSON ? ",\"%s\":%" PRIu64 : " %s %" PRIu64, MEMBER_COUNTERS[i].name,
+            member_count(lagd->members, link->settings.number, i));
     lagd->plane.queueing->show(lagd, link, form);
-    add(lagd, form == AS_JSON ? "}" : "\n");
+    add(&lagd->report, form == AS_JSON ? "}" : "\n");
 }

@@ -34,8 +34,7 @@ struct changes_private *make_changes_private(void) {
 }
 
 /* Asks for an interface, or with 0 for all of them; answers whether the kernel took the question. The answer comes as changes do. */
-static bool ask_for(struct lagd *lagd, int index, uint32_t number) {
-    struct changes_private *own = lagd->changes;
+static bool ask_for(struct changes_private *own, int index, uint32_t number) {
     union message question = message_of_interface(RTM_GETLINK, index == 0 ? NLM_F_DUMP : 0, index);
     question.head.nlmsg_seq = number;
     mnl_attr_put_u32(&question.head, IFLA_EXT_MASK, RTEXT_FILTER_SKIP_STATS);
@@ -47,7 +46,7 @@ static void ask(struct lagd *lagd) {
     struct changes_private *own = lagd->changes;
     for (uint16_t i = 0; i < lagd->link_count; i++) lagd->links[i].present = false;
     own->tap_named = false;
-    own->asking = ask_for(lagd, 0, ++own->asked);
+    own->asking = ask_for(lagd->changes, 0, ++own->asked);
     if (!own->asking && !lagd->has_started) stop(REFUSED, "the kernel takes no question", strerror(errno));
     own->ask_again = !own->asking;
     own->interrupted = false;
@@ -138,7 +137,7 @@ static void follow(struct lagd *lagd, struct link *link, const struct interface 
         if (lost) set_link(lagd, port, false);
     }
     if (lost || !carrier) forget_carrier(link);
-    up = carrier && !is_silent(lagd) && is_restored(lagd, link);
+    up = carrier && !is_silent(lagd->halt) && is_restored(lagd, link);
     if (up && !link->up) fit_queue(lagd, link, interface->name);
     if (up) take_speed(lagd, link, interface->name);
     if (up) lagd->plane.carrying->follow_speed(lagd, link, interface->name);
@@ -148,9 +147,9 @@ static void follow(struct lagd *lagd, struct link *link, const struct interface 
 /* An interface is there. A port goes by its name, and the TAP device by its number. */
 static void take_present(struct lagd *lagd, const struct interface *interface) {
     bool known = false;
-    if (interface->index == tap_index(lagd)) {
+    if (interface->index == tap_index(lagd->tap)) {
         lagd->changes->tap_named = true;
-        look_at_carry(lagd);
+        look_at_carry(&lagd->carry);
         follow_tap(lagd, interface->carrier, interface->discipline);
         follow_device(lagd, (interface->flags & IFF_UP) != 0);
     }
@@ -171,25 +170,25 @@ static void take_present(struct lagd *lagd, const struct interface *interface) {
 }
 
 static void take_absent(struct lagd *lagd, const struct interface *interface) {
-    if (interface->index == tap_index(lagd)) lagd->plane.carrying->lose_device(lagd);
+    if (interface->index == tap_index(lagd->tap)) lagd->plane.carrying->lose_device(lagd);
     for (uint16_t i = 0; i < lagd->link_count; i++) {
         struct link *link = &lagd->links[i];
         if (link->index != interface->index) continue;
         if (link->socket >= 0) lose_link(lagd, link);
-        if (!interface->moved) forget_interface(lagd, link);
+        if (!interface->moved) forget_interface(lagd->folder, link);
     }
 }
 
 /* Queueing disciplines came or went. Which one an interface has now is asked: of its usual one the kernel does not tell. */
 static void take_discipline(struct lagd *lagd, const struct tcmsg *info) {
-    bool ours = info->tcm_ifindex == tap_index(lagd);
+    bool ours = info->tcm_ifindex == tap_index(lagd->tap);
     for (uint16_t i = 0; i < lagd->link_count; i++) {
         struct link *link = &lagd->links[i];
         if (link->socket < 0 || link->index != info->tcm_ifindex) continue;
         link->has_new_queues = true;
         ours = true;
     }
-    if (ours && info->tcm_parent == TC_H_ROOT && !ask_for(lagd, info->tcm_ifindex, 0)) lagd->changes->ask_again = true;
+    if (ours && info->tcm_parent == TC_H_ROOT && !ask_for(lagd->changes, info->tcm_ifindex, 0)) lagd->changes->ask_again = true;
 }
 
 /* The answer to the last question has ended. What a whole one did not name is gone. One that ends with an error ends the program at
@@ -277,25 +276,25 @@ void watch_changes(struct lagd *lagd) {
 }
 
 /* An interface is to be taken up anew. */
-void look_again(struct lagd *lagd) {
-    lagd->changes->ask_again = true;
+void look_again(struct changes_private *own) {
+    own->ask_again = true;
 }
 
 /* An interface is to be taken up as soon as can be. */
 void ask_now(struct lagd *lagd) {
-    look_again(lagd);
+    look_again(lagd->changes);
     watch_changes(lagd);
 }
 
 /* Something could not be sent: a carrier may have gone. */
-void suspect_carriers(struct lagd *lagd) {
-    lagd->changes->suspected = true;
+void suspect_carriers(struct changes_private *own) {
+    own->suspected = true;
 }
 
 /* Asks for the interface of each link. */
 void ask_links(struct lagd *lagd) {
     for (uint16_t i = 0; i < lagd->link_count; i++)
-        if (lagd->links[i].socket >= 0 && !ask_for(lagd, lagd->links[i].index, 0)) lagd->changes->ask_again = true;
+        if (lagd->links[i].socket >= 0 && !ask_for(lagd->changes, lagd->links[i].index, 0)) lagd->changes->ask_again = true;
 }
 
 /* Looks at carriers, at each tick and where one is suspected: the kernel counts at once that one came or went, but tells of those that go
@@ -307,7 +306,7 @@ void watch_carriers(struct lagd *lagd, bool all) {
     own->suspected = false;
     for (uint16_t i = 0; i < lagd->link_count; i++)
         if (lagd->links[i].socket >= 0 && (has_new_carrier(&lagd->links[i]) || has_waited(lagd, &lagd->links[i])))
-            any = ask_for(lagd, lagd->links[i].index, 0) || any;
+            any = ask_for(lagd->changes, lagd->links[i].index, 0) || any;
     if (any) take_changes(lagd);
 }
 

@@ -35,8 +35,7 @@ struct lagd {
     uint16_t aggregator_count;
     bool resuming; /* whether links that come up are not yet up for the library */
     bool has_left; /* whether the next daemon goes on from here */
-    char report[REPORT_ROOM];
-    size_t report_length;
+    struct report report;
     struct plane plane;
     struct carry carry;
     struct inherited inherited; /* what the last daemon left; all 0 where there is nothing */

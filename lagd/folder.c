@@ -18,8 +18,8 @@ struct folder_private *make_folder_private(void) {
     return made;
 }
 
-int folder_file(struct lagd *lagd) {
-    return lagd->folder->opened;
+int folder_file(struct folder_private *folder) {
+    return folder->opened;
 }
 
 /* The network namespace that this process is in. */

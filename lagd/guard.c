@@ -26,7 +26,7 @@ struct guard_private *make_guard_private(void) {
 
 /* The program that keeps data from the stack of a member is loaded once, while the daemon may. */
 void load_guard(struct lagd *lagd) {
-    lagd->guard->program = load_program(lagd, "dropper", NULL);
+    lagd->guard->program = load_program(&lagd->settings, "dropper", NULL);
 }
 
 /* Asks the driver of an interface something, or for something. */
@@ -195,17 +195,17 @@ void run_fast_programs(struct lagd *lagd, const struct link *link, struct guard 
 
 /* Which ways to put frames together may stay: GRO of the kernel, where responses wait for longer than it keeps a frame. Where the daemon
  * takes the frames, it does not: a socket cannot tell of each frame what it was made of. */
-static unsigned joins_allowed(struct lagd *lagd, const struct link *link, const struct guard *guard) {
-    return guard->spread && guard->fast && keeps_briefly(lagd, link->index) ? JOINED_BY_KERNEL : 0;
+static unsigned joins_allowed(const struct settings *settings, const struct link *link, const struct guard *guard) {
+    return guard->spread && guard->fast && keeps_briefly(settings, link->index) ? JOINED_BY_KERNEL : 0;
 }
 
 /* A member that has one queue, as this daemon or an earlier one gave it, gets back what it had, where it may keep that. How many others give it
  * meanwhile, it is to have behind the daemon. */
-static void regain_queues(struct lagd *lagd, const struct link *link, struct ethtool_channels *before) {
+static void regain_queues(struct folder_private *folder, const struct link *link, struct ethtool_channels *before) {
     struct ethtool_channels now;
     if (queues_of(link->index, &now) > 1)
         *before = now;
-    else if (may_spread(lagd, link))
+    else if (may_spread(folder, link))
         (void)part_queues(link->index, before);
 }
 
@@ -219,7 +219,7 @@ bool join_queues(struct lagd *lagd, struct link *link, struct guard *guard) {
 /* Lets a member keep all its queues, where it can, or gives it one; answers false where it has no queue yet: it is looked at again then. */
 bool keep_queues(struct lagd *lagd, struct link *link, struct guard *guard) {
     struct ethtool_channels *before = &guard->before.queues;
-    regain_queues(lagd, link, before);
+    regain_queues(lagd->folder, link, before);
     look_at_discipline(lagd, link, guard);
     if (is_unqueued(link)) return false;
     spread(lagd, link, guard);
@@ -240,12 +240,12 @@ static void run_programs(struct lagd *lagd, const struct link *link, struct guar
     guard->classifier = NO_CLASSIFIER;
     guard->fast = guard->unusual = false;
     lagd->plane.passing->run_programs(lagd, link, guard);
-    if (guard->before.joins != 0) set_joins(link->index, guard->before.joins & joins_allowed(lagd, link, guard));
+    if (guard->before.joins != 0) set_joins(link->index, guard->before.joins & joins_allowed(&lagd->settings, link, guard));
 }
 
 static void stop_programs(struct lagd *lagd, const struct link *link, struct guard *guard) {
     if (guard->opened >= 0) detach_stored(lagd, "guard", link->index, guard->opened);
-    if (guard->fast) close_fast_receiver(lagd, link);
+    if (guard->fast) close_fast_receiver(lagd->fast, link);
     if (guard->classifier != NO_CLASSIFIER) drop_classifier(link->index);
     guard->opened = -1;
     guard->classifier = NO_CLASSIFIER;
@@ -273,7 +273,7 @@ void open_guard(struct lagd *lagd, struct link *link, struct guard *guard) {
     has_queues = lagd->plane.queueing->set(lagd, link, guard);
     run_programs(lagd, link, guard);
     note_channels(link, guard);
-    if ((read_joins(link->index).on & ~joins_allowed(lagd, link, guard)) != 0)
+    if ((read_joins(link->index).on & ~joins_allowed(&lagd->settings, link, guard)) != 0)
         (void)say(lagd, LOG_WARNING | ABOUT_DATA, "port %u %s: GRO or LRO stays on, and markers may overtake data", port, link->name);
     if (link->stacked && !lagd->plane.passing->steers)
         (void)say(lagd, LOG_WARNING | ABOUT_DATA,
@@ -297,12 +297,12 @@ void close_guard(struct lagd *lagd, const struct link *link, struct guard *guard
     stop_programs(lagd, link, guard);
     stop_spreading(lagd, link, guard);
     done = part_queues(link->index, &before->queues);
-    gather_back(lagd, link, done);
+    gather_back(lagd->folder, link, done);
     if (before->joins != 0) set_joins(link->index, before->joins);
     if (before->joins != 0) done = (before->joins & ~read_joins(link->index).wanted) == 0 && done;
     take_fifo(link->index); /* with all its queues the kernel gives each of them what it chooses */
     if (before->steered[0]) done = steer_back(link->index, before->steered) && done;
-    if (done) forget_settings(lagd, link);
+    if (done) forget_settings(lagd->folder, link);
 }
 
 /* An interface was a member of the last daemon, and is none of this one: it gets what it had, unless somebody else has it by now. */
@@ -314,7 +314,7 @@ void put_back(struct lagd *lagd, int index, const uint8_t *mac) {
     guard.opened = take_stored(lagd, "guard", index);
     guard.chooser = take_stored(lagd, "queues", index);
     memcpy(link.mac, mac, sizeof link.mac);
-    recall_settings(lagd, &link, &guard.before);
+    recall_settings(lagd->folder, &link, &guard.before);
     close_guard(lagd, &link, &guard);
     return_stored(lagd, "lock", index, lock);
 }

@@ -46,9 +46,9 @@ void lose_tap(struct lagd *lagd) {
     if (lagd->broken) return;
     lagd->broken = true;
     lagd->plane.passing->end(lagd);
-    forget_tap(lagd);
+    forget_tap(lagd->tap);
     drop_stored(lagd, "tap", 0);
-    if (own->tap >= 0) await_no_more(lagd, own->tap);
+    if (own->tap >= 0) await_no_more(lagd->epoll_file, own->tap);
     (void)say(lagd, LOG_ERR | ABOUT_CARRIER, "carry %s: the device was deleted, or moved to another namespace; the peers are told, and the "
         "daemon ends", lagd->settings.carry);
 }
@@ -196,7 +196,7 @@ void serve_data(struct lagd *lagd, uint32_t tag) {
 /* The link of a port goes down: nothing goes there from here on. */
 void lose_data(struct lagd *lagd, uint16_t port) {
     lagd->plane.passing->withdraw_port(lagd, port);
-    forget_answers(lagd, port);
+    forget_answers(lagd->answers, port);
 }
 
 /* The interface by which the kernel passes a conversation on, or 0. */
@@ -214,14 +214,14 @@ void open_tap_plane(struct lagd *lagd) {
     lagd->plane.queueing->start(lagd);
     if (call_at_exit(lagd, put_back_members) != 0) stop(REFUSED, "no memory", "for what members had");
     own->tap = open_tap(lagd, lagd->settings.carry, lagd->settings.config.mac);
-    gather(lagd, tap_index(lagd));
+    gather(lagd, tap_index(lagd->tap));
     lagd->plane.passing->start(lagd);
-    if (!await_input(lagd, own->tap, HOST)) stop(REFUSED, "epoll", strerror(errno));
+    if (!await_input(lagd->epoll_file, own->tap, HOST)) stop(REFUSED, "epoll", strerror(errno));
 }
 
 /* Members are as they were before, and the device goes with the program. */
 void end_tap_plane(struct lagd *lagd) {
-    await_no_more(lagd, lagd->host->tap);
+    await_no_more(lagd->epoll_file, lagd->host->tap);
     set_carrier(lagd, false);
     close_members(lagd);
     lagd->plane.passing->end(lagd);
@@ -232,7 +232,7 @@ void end_tap_plane(struct lagd *lagd) {
 void open_carry(struct lagd *lagd) {
     if (!lagd->settings.carry[0]) return;
     start_held(lagd);
-    start_members(lagd);
+    start_members(lagd->members);
     lagd->plane.carrying->open(lagd);
 }
 

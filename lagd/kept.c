@@ -26,12 +26,12 @@ const char *boot_id(char room[static BOOT_ROOM]) {
 }
 
 /* Opens the file of an interface that has this kind of settings; or answers NULL, and errno tells why not. */
-FILE *open_kept(struct lagd *lagd, const struct link *link, const char *kind, int flags, const char *mode) {
+FILE *open_kept(struct folder_private *folder, const struct link *link, const char *kind, int flags, const char *mode) {
     char name[64];
     FILE *file;
     int opened, fault;
     name_file(link, kind, name);
-    opened = openat(folder_file(lagd), name, flags | O_NOFOLLOW | O_CLOEXEC, 0600);
+    opened = openat(folder_file(folder), name, flags | O_NOFOLLOW | O_CLOEXEC, 0600);
     file = opened < 0 ? NULL : fdopen(opened, mode);
     if (file || opened < 0) return file;
     fault = errno;
@@ -41,26 +41,26 @@ FILE *open_kept(struct lagd *lagd, const struct link *link, const char *kind, in
 }
 
 /* Puts a file of an interface in the place of another one; answers whether it did. */
-bool replace_kept(struct lagd *lagd, const struct link *link, const char *from, const char *to) {
+bool replace_kept(struct folder_private *folder, const struct link *link, const char *from, const char *to) {
     char old[64], next[64];
     name_file(link, from, old);
     name_file(link, to, next);
-    return renameat(folder_file(lagd), old, folder_file(lagd), next) == 0;
+    return renameat(folder_file(folder), old, folder_file(folder), next) == 0;
 }
 
 /* What a file of an interface has is of no use any more. */
-void drop_kept(struct lagd *lagd, const struct link *link, const char *kind) {
+void drop_kept(struct folder_private *folder, const struct link *link, const char *kind) {
     char name[64];
     name_file(link, kind, name);
-    (void)unlinkat(folder_file(lagd), name, 0);
+    (void)unlinkat(folder_file(folder), name, 0);
 }
 
 /* Reads what an interface had before an earlier daemon changed it; answers whether there is something. */
-static bool recall(struct lagd *lagd, const struct link *link, struct kept *kept) {
+static bool recall(struct folder_private *folder, const struct link *link, struct kept *kept) {
     char boot[BOOT_ROOM], now[BOOT_ROOM], mac[32], own[32], end[8] = "";
     struct ethtool_channels *queues = &kept->queues;
     int found;
-    FILE *file = open_kept(lagd, link, "member", O_RDONLY, "r");
+    FILE *file = open_kept(folder, link, "member", O_RDONLY, "r");
     if (!file) return false;
     *kept = (struct kept){0};
     found = fscanf(file, READ_FORM, boot, mac, &kept->joins, &queues->rx_count, &queues->tx_count, &queues->other_count,
@@ -76,7 +76,7 @@ static bool recall(struct lagd *lagd, const struct link *link, struct kept *kept
 void write_settings(struct lagd *lagd, const struct link *link, const struct kept *kept) {
     char boot[BOOT_ROOM], mac[32];
     const struct ethtool_channels *queues = &kept->queues;
-    FILE *file = open_kept(lagd, link, "member", O_WRONLY | O_CREAT | O_TRUNC, "w");
+    FILE *file = open_kept(lagd->folder, link, "member", O_WRONLY | O_CREAT | O_TRUNC, "w");
     if (file)
         fprintf(file, FORM, boot_id(boot), mac_text(link->mac, mac), kept->joins, queues->rx_count, queues->tx_count,
             queues->other_count, queues->combined_count, kept->steered[0] ? kept->steered : "-");
@@ -88,7 +88,7 @@ void write_settings(struct lagd *lagd, const struct link *link, const struct kep
 /* Keeps what an interface has now, before it is changed, and adds to it what it had before an earlier daemon changed it. */
 void keep_settings(struct lagd *lagd, const struct link *link, struct kept *kept) {
     struct kept first;
-    if (recall(lagd, link, &first)) {
+    if (recall(lagd->folder, link, &first)) {
         kept->joins |= first.joins;
         if (first.queues.combined_count + first.queues.rx_count + first.queues.tx_count > 0) kept->queues = first.queues;
         if (first.steered[0]) memcpy(kept->steered, first.steered, sizeof kept->steered);
@@ -97,17 +97,17 @@ void keep_settings(struct lagd *lagd, const struct link *link, struct kept *kept
 }
 
 /* What an interface had before an earlier daemon changed it; zeros, where nobody knows. */
-void recall_settings(struct lagd *lagd, const struct link *link, struct kept *kept) {
-    if (!recall(lagd, link, kept)) *kept = (struct kept){0};
+void recall_settings(struct folder_private *folder, const struct link *link, struct kept *kept) {
+    if (!recall(folder, link, kept)) *kept = (struct kept){0};
 }
 
 /* The interface has what it had before. */
-void forget_settings(struct lagd *lagd, const struct link *link) {
-    drop_kept(lagd, link, "member");
+void forget_settings(struct folder_private *folder, const struct link *link) {
+    drop_kept(folder, link, "member");
 }
 
 /* The interface is gone for good. One that went to another namespace may come back, and is what it was made then. */
-void forget_interface(struct lagd *lagd, const struct link *link) {
-    forget_settings(lagd, link);
-    drop_kept(lagd, link, "queues");
+void forget_interface(struct folder_private *folder, const struct link *link) {
+    forget_settings(folder, link);
+    drop_kept(folder, link, "queues");
 }

@@ -115,7 +115,7 @@ bool open_link(struct lagd *lagd, struct link *link, int index) {
     link->lock = lock_interface(lagd, index);
     link->socket = link->lock < 0 ? -1 : open_socket(lagd, index);
     link->index = index;
-    taken = link->socket >= 0 && await_input(lagd, link->socket, link->settings.number) && lagd->plane.carrying->add(lagd, link);
+    taken = link->socket >= 0 && await_input(lagd->epoll_file, link->socket, link->settings.number) && lagd->plane.carrying->add(lagd, link);
     link->trouble = taken ? 0 : errno;
     if (taken) put_stored(lagd, "lock", index, link->lock);
     if (taken) put_stored(lagd, "lacp", index, link->socket);
@@ -180,7 +180,7 @@ void send_frame(struct lagd *lagd, struct link *link, const uint8_t *frame) {
         return;
     }
     link->counts[FAILED_SENT]++;
-    suspect_carriers(lagd);
+    suspect_carriers(lagd->changes);
     if (errno != ENETDOWN && errno != ENXIO) { /* of a link that is down the kernel tells, too */
         link->trouble = errno;
         link->trouble_ticks = TROUBLE_TICKS;

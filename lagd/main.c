@@ -30,25 +30,25 @@
 #define END_TICKS 15
 
 /* Waits for a file descriptor, too; answers whether the kernel takes it. */
-bool await_input(struct lagd *lagd, int fd, uint32_t tag) {
+bool await_input(int epoll_file, int fd, uint32_t tag) {
     struct epoll_event event = {.events = EPOLLIN, .data = {.u32 = tag}};
-    return epoll_ctl(lagd->epoll_file, EPOLL_CTL_ADD, fd, &event) == 0;
+    return epoll_ctl(epoll_file, EPOLL_CTL_ADD, fd, &event) == 0;
 }
 
 /* Waits until it takes what is sent, and for nothing that comes. */
-bool await_output(struct lagd *lagd, int fd, uint32_t tag) {
+bool await_output(int epoll_file, int fd, uint32_t tag) {
     struct epoll_event event = {.events = EPOLLOUT, .data = {.u32 = tag}};
-    return epoll_ctl(lagd->epoll_file, EPOLL_CTL_MOD, fd, &event) == 0;
+    return epoll_ctl(epoll_file, EPOLL_CTL_MOD, fd, &event) == 0;
 }
 
 /* Waits for it no longer. */
-void await_no_more(struct lagd *lagd, int fd) {
-    (void)epoll_ctl(lagd->epoll_file, EPOLL_CTL_DEL, fd, NULL);
+void await_no_more(int epoll_file, int fd) {
+    (void)epoll_ctl(epoll_file, EPOLL_CTL_DEL, fd, NULL);
 }
 
 /* At the start, what cannot be waited for ends the program. */
 static void await_at_start(struct lagd *lagd, int fd, uint32_t tag) {
-    if (!await_input(lagd, fd, tag)) stop(REFUSED, "epoll", strerror(errno));
+    if (!await_input(lagd->epoll_file, fd, tag)) stop(REFUSED, "epoll", strerror(errno));
 }
 
 static int open_clock(void) {
@@ -104,7 +104,7 @@ static void take_all_frames(struct lagd *lagd, const struct epoll_event *events,
     }
     if (!taken) return;
     send_due(lagd);
-    look_at_carry(lagd);
+    look_at_carry(&lagd->carry);
 }
 
 /* Takes the data of all members, and then that of the host. */
@@ -129,7 +129,7 @@ static bool is_end(struct lagd *lagd, int signals, const char *file) {
     struct signalfd_siginfo signal;
     if (read(signals, &signal, sizeof signal) != sizeof signal) return true;
     switch (signal.ssi_signo) {
-    case SIGUSR2: ask_moves(lagd); return false;
+    case SIGUSR2: ask_moves(&lagd->carry); return false;
     case SIGUSR1: return !leave_state(lagd);
     case SIGHUP:
         if (file) reload(lagd, file);
@@ -194,10 +194,10 @@ static int run_daemon(struct lagd *lagd, const struct options *options) {
     unsigned resumed;
     lagd->settings = options->settings;
     (void)prctl(PR_SET_TIMERSLACK, TIMER_SLACK);
-    signals = open_signals(lagd);
+    signals = open_signals(&lagd->settings);
     lagd->epoll_file = epoll_create1(EPOLL_CLOEXEC);
     if (lagd->epoll_file < 0) stop(REFUSED, "epoll", strerror(errno));
-    if (lagd->settings.system_auto) take_own_address(lagd);
+    if (lagd->settings.system_auto) take_own_address(&lagd->settings);
     open_folder(lagd, options->folder);
     open_store(lagd);
     choose_plane(&lagd->plane, &lagd->settings);

@@ -48,8 +48,8 @@ static struct member *member_of(struct lagd *lagd, const struct link *link) {
     return &lagd->members->members[link - lagd->links];
 }
 
-uint64_t member_count(struct lagd *lagd, uint16_t port, enum member_count count) {
-    return lagd->members->members[port - 1].counts[count];
+uint64_t member_count(struct members_private *own, uint16_t port, enum member_count count) {
+    return own->members[port - 1].counts[count];
 }
 
 /* Lets a socket have data and markers, or all slow protocols but markers: so a marker comes in one row with the data before it, and no
@@ -144,8 +144,8 @@ static int open_markers(struct lagd *lagd, const struct link *link, int index, u
 }
 
 /* Makes room for what comes by members. */
-void start_members(struct lagd *lagd) {
-    lagd->members->member_packets = make_rooms();
+void start_members(struct members_private *own) {
+    own->member_packets = make_rooms();
 }
 
 static void close_sockets(struct lagd *lagd, struct member *member) {
@@ -169,10 +169,10 @@ static bool open_sockets(struct lagd *lagd, struct member *member, const struct 
     bool fast = member->guard.fast;
     uint32_t tag = MEMBERS + (uint32_t)(member - lagd->members->members);
     member->socket = open_data(lagd, link->index, &member->guard);
-    if (member->socket < 0 || !fast) return member->socket >= 0 && await_input(lagd, member->socket, tag);
-    member->markers = open_markers(lagd, link, tap_index(lagd), link->settings.number);
+    if (member->socket < 0 || !fast) return member->socket >= 0 && await_input(lagd->epoll_file, member->socket, tag);
+    member->markers = open_markers(lagd, link, tap_index(lagd->tap), link->settings.number);
     member->direct = open_markers(lagd, link, link->index, 0);
-    return member->markers >= 0 && member->direct >= 0 && await_input(lagd, member->markers, tag) && await_input(lagd, member->direct, tag);
+    return member->markers >= 0 && member->direct >= 0 && await_input(lagd->epoll_file, member->markers, tag) && await_input(lagd->epoll_file, member->direct, tag);
 }
 
 /* Opens the sockets of a member whose programs run; answers whether it did. Else, it is no member any more, and errno tells why. */
@@ -180,7 +180,7 @@ static bool open_or_close(struct lagd *lagd, struct member *member, const struct
     int fault;
     if (open_sockets(lagd, member, link)) {
         store_sockets(lagd, member, link->index);
-        begin_queues(lagd, link->settings.number, member->guard.queues);
+        begin_queues(lagd->queues, link->settings.number, member->guard.queues);
         return true;
     }
     fault = errno;
@@ -214,7 +214,7 @@ static bool renew_member(struct lagd *lagd, struct link *link) {
     count_loss(member);
     close_sockets(lagd, member);
     reopen_guard(lagd, link, &member->guard);
-    look_at_carry(lagd);
+    look_at_carry(&lagd->carry);
     return open_or_close(lagd, member, link);
 }
 
@@ -246,7 +246,7 @@ void follow_address(struct lagd *lagd, struct link *link, const uint8_t *mac) {
 void move_member(struct lagd *lagd, struct link *link, const uint8_t *mac) {
     struct member *member = member_of(lagd, link);
     if (member->socket < 0) return;
-    move_former(lagd, link, mac);
+    move_former(lagd->folder, link, mac);
     write_settings(lagd, link, &member->guard.before);
 }
 
@@ -264,28 +264,26 @@ bool follow_member_queues(struct lagd *lagd, struct link *link) {
  * the others by now. */
 void watch_queues(struct lagd *lagd) {
     struct members_private *own = lagd->members;
-    if (ticks_passed(lagd) % SECOND != 0) return;
+    if (ticks_passed(lagd->system) % SECOND != 0) return;
     for (uint16_t i = 0; i < lagd->link_count; i++) {
         struct link *link = &lagd->links[i];
         const struct guard *guard = &own->members[i].guard;
-        bool anew = own->members[i].socket >= 0 && is_spread_anew(lagd, link, guard);
+        bool anew = own->members[i].socket >= 0 && is_spread_anew(lagd->system, link, guard);
         if (anew) (void)say(lagd, LOG_NOTICE | ABOUT_DATA, "port %u %s: its queues were changed", link->settings.number, link->name);
         anew = anew || (own->members[i].socket >= 0 && guard->unusual && has_usual_queues(lagd, guard));
         if (!anew || renew_member(lagd, link)) continue;
-        look_again(lagd);
+        look_again(lagd->changes);
         lose_link(lagd, link);
     }
 }
 
 /* By how many queues of a member its data goes. */
-unsigned member_queues(struct lagd *lagd, uint16_t port) {
-    struct members_private *own = lagd->members;
+unsigned member_queues(struct members_private *own, uint16_t port) {
     return own->members[port - 1].socket < 0 ? 0 : own->members[port - 1].guard.queues;
 }
 
 /* Whether the kernel may pass on what goes on a port. */
-bool has_fast_member(struct lagd *lagd, uint16_t port) {
-    struct members_private *own = lagd->members;
+bool has_fast_member(struct members_private *own, uint16_t port) {
     return own->members[port - 1].socket >= 0 && own->members[port - 1].guard.fast;
 }
 
@@ -298,15 +296,15 @@ void close_member(struct lagd *lagd, struct link *link) {
     struct member *member = member_of(lagd, link);
     if (member->socket < 0) return;
     lagd->plane.passing->withdraw_port(lagd, link->settings.number);
-    forget_answers(lagd, link->settings.number);
+    forget_answers(lagd->answers, link->settings.number);
     count_loss(member);
     close_sockets(lagd, member);
     close_guard(lagd, link, &member->guard);
 }
 
 /* Another interface is to be this member: its counts begin anew. */
-void forget_member(struct lagd *lagd, uint16_t port) {
-    struct member *member = &lagd->members->members[port - 1];
+void forget_member(struct members_private *own, uint16_t port) {
+    struct member *member = &own->members[port - 1];
     memset(member->counts, 0, sizeof member->counts);
     member->mtu = member->megabits = 0;
     member->has_marker = false;
@@ -338,7 +336,7 @@ void follow_member_mtu(struct lagd *lagd, struct link *link, uint32_t mtu) {
 void follow_speed(struct lagd *lagd, const struct link *link, const char *interface) {
     uint32_t now = read_speed(link->socket, interface).megabits;
     member_of(lagd, link)->megabits = now == (uint32_t)SPEED_UNKNOWN ? 0 : now;
-    look_at_carry(lagd);
+    look_at_carry(&lagd->carry);
 }
 
 /* How fast the ports that carry are together, in Mb/s. One whose speed is not known counts nothing; where none is, that is SPEED_UNKNOWN. */
@@ -369,12 +367,12 @@ void note_passed(struct lagd *lagd, uint16_t port, uint64_t frames) {
 }
 
 /* Sends what waits for a member. A frame that the kernel does not take is lost, as on a wire. */
-static void flush_member(struct lagd *lagd, struct member *member) {
+static void flush_member(struct changes_private *own, struct member *member) {
     unsigned at = 0;
     while (at < member->out) {
         int sent = member->socket < 0 ? -1 : sendmmsg(member->socket, member->messages + at, member->out - at, 0);
         if (sent < 0 && member->socket >= 0 && errno == EINTR) continue;
-        if (sent < 0) suspect_carriers(lagd);
+        if (sent < 0) suspect_carriers(own);
         member->counts[sent > 0 ? DATA_SENT : DATA_UNSENT] += sent > 0 ? (unsigned)sent : 1;
         at += sent > 0 ? (unsigned)sent : 1;
     }
@@ -385,14 +383,14 @@ static void flush_member(struct lagd *lagd, struct member *member) {
 void flush_data(struct lagd *lagd) {
     struct members_private *own = lagd->members;
     for (uint16_t i = 0; i < lagd->link_count; i++)
-        if (own->members[i].out > 0) flush_member(lagd, &own->members[i]);
-    free_left(lagd);
+        if (own->members[i].out > 0) flush_member(lagd->changes, &own->members[i]);
+    free_left(lagd->held);
 }
 
 /* Puts a packet of a conversation behind those that wait for a port. It stays where it is until flush_data. */
 void put_data(struct lagd *lagd, uint16_t port, uint16_t number, uint8_t *packet, size_t length) {
     struct member *member = &lagd->members->members[port - 1];
-    if (member->out == BATCH) flush_member(lagd, member);
+    if (member->out == BATCH) flush_member(lagd->changes, member);
     member->parts[member->out] = (struct iovec){packet, length};
     member->messages[member->out].msg_hdr = (struct msghdr){.msg_iov = &member->parts[member->out], .msg_iovlen = 1};
     lagd->plane.queueing->mark(lagd, port, number, &member->messages[member->out].msg_hdr);
@@ -422,7 +420,7 @@ bool send_by_one_queue(struct lagd *lagd, struct link *link, const uint8_t *mark
 /* Sends a marker behind the data of its port, by the same socket: by another one, of another priority, it would overtake them. What the
  * kernel passes on and no longer may is taken back before. */
 static bool send_marker(struct lagd *lagd, struct link *link, const uint8_t *marker, bool again) {
-    flush_member(lagd, member_of(lagd, link));
+    flush_member(lagd->changes, member_of(lagd, link));
     lagd->plane.passing->withdraw(lagd);
     return lagd->plane.queueing->send_marker(lagd, link, marker, again);
 }
@@ -513,7 +511,7 @@ static void take_packets(struct lagd *lagd, uint16_t port, const int *fd, bool o
             .msg_iov = &parts[i], .msg_iovlen = 1, .msg_control = controls[i], .msg_controllen = sizeof controls[i]};
     }
     got = recvmmsg(*fd, messages, BATCH, MSG_DONTWAIT, NULL);
-    if (!only_markers) note_unread(lagd, port, got > 0 ? (unsigned)got : 0, got >= 0 ? got < BATCH : errno == EAGAIN);
+    if (!only_markers) note_unread(lagd->answers, port, got > 0 ? (unsigned)got : 0, got >= 0 ? got < BATCH : errno == EAGAIN);
     if (is_unreadable(got)) {
         member->counts[DATA_RECEIVED]++;
         member->counts[WRONG_LENGTH]++;

@@ -10,7 +10,7 @@
 static uint8_t status_of(struct lagd *lagd, const struct link *link) {
     uint8_t status = link->view.port_status;
     if (link->socket < 0) return link->outside ? OUTSIDE : MISSING;
-    if (is_halted(lagd)) return DEVICE_DOWN;
+    if (is_halted(lagd->halt)) return DEVICE_DOWN;
     if (link->leaving) return LEAVES;
     if (link->waits) return RESTORING;
     if (status != NIW_PORT_STATUS_DISTRIBUTING || !link->view.defaulted) return status;
@@ -40,12 +40,12 @@ struct facts facts_of(struct lagd *lagd, const struct link *link) {
 }
 
 /* Counts what became of a port. Its link that comes up has it EXPIRED, as one does of which no LACPDU came in time. */
-static void count_change(struct lagd *lagd, struct link *link, const struct niw_view *now) {
+static void count_change(const struct settings *settings, struct link *link, const struct niw_view *now) {
     const struct niw_view *before = &link->view;
     if (now->receive_state == NIW_RECEIVE_EXPIRED && before->receive_state == NIW_RECEIVE_CURRENT) link->counts[EXPIRED]++;
     if (now->receive_state == NIW_RECEIVE_DEFAULTED && before->receive_state != NIW_RECEIVE_DEFAULTED) {
         link->counts[DEFAULTED]++;
-        forget_partner(lagd, link);
+        forget_partner(settings, link);
     }
     if (now->mux_state == NIW_MUX_COLLECTING_DISTRIBUTING && before->mux_state != NIW_MUX_COLLECTING_DISTRIBUTING)
         link->counts[DISTRIBUTED]++;
@@ -58,7 +58,7 @@ void take_views(struct lagd *lagd) {
     if (!is_told(lagd, niw_views(&lagd->own_system, views, NIW_MOST_PORTS), "niw_views", &changed)) return;
     for (uint16_t i = 0; i < lagd->link_count; i++) {
         if (!(changed >> i & 1)) continue;
-        count_change(lagd, &lagd->links[i], &views[i]);
+        count_change(&lagd->settings, &lagd->links[i], &views[i]);
         lagd->links[i].view = views[i];
         lagd->links[i].changed = true;
     }

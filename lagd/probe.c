@@ -25,8 +25,8 @@ struct probe_private *make_probe_private(void) {
     return made;
 }
 
-enum answering peer_answering(struct lagd *lagd) {
-    return lagd->probe->peer;
+enum answering peer_answering(struct probe_private *own) {
+    return own->peer;
 }
 
 /* The last daemon found that out of this partner. */
@@ -38,8 +38,7 @@ void go_on_answering(struct lagd *lagd, enum answering last) {
 }
 
 /* The peer did not answer a marker in time. */
-void suspect_partner(struct lagd *lagd) {
-    struct probe_private *own = lagd->probe;
+void suspect_partner(struct probe_private *own) {
     if (own->peer == ANSWERS) own->peer = NOT_ASKED;
 }
 

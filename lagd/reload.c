@@ -15,7 +15,7 @@ static const char *restart_for(struct lagd *lagd, const struct settings *wanted)
     if (wanted->offload != lagd->settings.offload || wanted->fast != lagd->settings.fast) return "another offload or fast";
     if (wanted->all_queues != lagd->settings.all_queues) return "another queues";
     for (uint16_t port = 1; port <= wanted->port_count; port++)
-        if (wanted->ports[port - 1].name[0] && !has_aggregator(lagd, port_of(wanted, port).key)) return "a key that no port had at the start";
+        if (wanted->ports[port - 1].name[0] && !has_aggregator(lagd->keys, port_of(wanted, port).key)) return "a key that no port had at the start";
     return NULL;
 }
 
@@ -26,7 +26,7 @@ static bool change_port(struct lagd *lagd, uint16_t port, const struct settings 
     struct niw_port next = port_of(wanted, port);
     struct niw_change change = {.priority = next.priority, .aggregatable = next.aggregatable};
     struct niw_truth answer;
-    if (has_aggregator(lagd, next.key)) link->key = next.key;
+    if (has_aggregator(lagd->keys, next.key)) link->key = next.key;
     change.key = choose_key(lagd, link);
     answer = niw_configure(&lagd->own_system, port, &change);
     if (!is_done(lagd, answer.status, "niw_configure") || !answer.is) return false;
@@ -66,7 +66,7 @@ static void change_policy(struct lagd *lagd, const struct settings *wanted) {
     lagd->settings.policy = wanted->policy;
     lagd->settings.partner = wanted->partner;
     for (uint16_t i = 0; !same && i < lagd->link_count; i++) {
-        forget_partner(lagd, &lagd->links[i]);
+        forget_partner(&lagd->settings, &lagd->links[i]);
         if (lagd->settings.policy != PARTNER_FIRST || !lagd->links[i].up || lagd->links[i].view.defaulted) continue;
         lagd->links[i].pinned = true;
         lagd->links[i].partner.priority = lagd->links[i].view.partner_priority;
@@ -89,7 +89,7 @@ static bool take_port(struct lagd *lagd, uint16_t port, const struct settings *w
     }
     if (!name[0]) return false;
     if (!link->used) {
-        if (!has_aggregator(lagd, port_of(wanted, port).key)) return false;
+        if (!has_aggregator(lagd->keys, port_of(wanted, port).key)) return false;
         join_port(lagd, port, &wanted->ports[port - 1]);
         return true;
     }
@@ -145,7 +145,7 @@ void reload(struct lagd *lagd, const char *file) {
         if (rest) (void)say(lagd, LOG_WARNING | ABOUT_RESTART, "%s: %s: a restart of this bundle is needed", file, rest);
         send_due(lagd);
         take_views(lagd);
-        look_at_carry(lagd);
+        look_at_carry(&lagd->carry);
     }
     notify_ready(lagd);
 }

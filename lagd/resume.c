@@ -20,10 +20,10 @@ struct resume_private *make_resume_private(void) {
 }
 
 /* What the last daemon left of a link. An interface that was made anew is another one. */
-static const struct inherited_link *inherited_of(struct lagd *lagd, const struct link *link) {
-    for (unsigned i = 0; i < lagd->inherited.link_count; i++)
-        if (lagd->inherited.links[i].index == link->index && memcmp(lagd->inherited.links[i].mac, link->mac, sizeof link->mac) == 0)
-            return &lagd->inherited.links[i];
+static const struct inherited_link *inherited_of(struct inherited *inherited, const struct link *link) {
+    for (unsigned i = 0; i < inherited->link_count; i++)
+        if (inherited->links[i].index == link->index && memcmp(inherited->links[i].mac, link->mac, sizeof link->mac) == 0)
+            return &inherited->links[i];
     return NULL;
 }
 
@@ -39,7 +39,7 @@ static bool is_within(struct lagd *lagd, uint64_t then, uint64_t most) {
 
 /* Whether a port goes on: its carrier did not go, neither end has given the other one up, and its partner may be that. */
 static bool goes_on(struct lagd *lagd, const struct link *link) {
-    const struct inherited_link *was = link->up && !link->held ? inherited_of(lagd, link) : NULL;
+    const struct inherited_link *was = link->up && !link->held ? inherited_of(&lagd->inherited, link) : NULL;
     struct system_id actor;
     return was && was->carried && was->losses == link->kernel_losses
         && is_within(lagd, was->heard, timeout_of(link->settings.short_timeout))
@@ -49,7 +49,7 @@ static bool goes_on(struct lagd *lagd, const struct link *link) {
 
 /* What was saved of a link, as the library has it. */
 static struct niw_saved saved_of(struct lagd *lagd, const struct link *link) {
-    const struct inherited_link *was = inherited_of(lagd, link);
+    const struct inherited_link *was = inherited_of(&lagd->inherited, link);
     struct niw_saved saved = {.port = link->settings.number, .aggregator = was->aggregator};
     saved.age = (uint32_t)((lagd->resume->began - was->heard) / NIW_TICK_MILLISECONDS);
     memcpy(saved.frame, was->lacpdu, sizeof saved.frame);
@@ -58,9 +58,9 @@ static struct niw_saved saved_of(struct lagd *lagd, const struct link *link) {
 
 /* The partner of a link is that of the last daemon. */
 static void recall_partner(struct lagd *lagd, struct link *link) {
-    const struct inherited_link *was = inherited_of(lagd, link);
+    const struct inherited_link *was = inherited_of(&lagd->inherited, link);
     struct system_id actor;
-    if (may_be_partner(link, was->lacpdu, &actor)) note_actor(lagd, link, &actor, was->lacpdu);
+    if (may_be_partner(link, was->lacpdu, &actor)) note_actor(&lagd->settings, link, &actor, was->lacpdu);
     link->lacpdu_at = was->heard;
     link->lacpdus_at[MOST_LACPDUS - 1] = was->spoken;
 }
@@ -100,7 +100,7 @@ void begin_resuming(struct lagd *lagd) {
 /* Tells what became of the links of the last daemon, if some are there. */
 static void tell_links(struct lagd *lagd, unsigned count) {
     unsigned known = 0;
-    for (uint16_t i = 0; i < lagd->link_count; i++) known += lagd->links[i].socket >= 0 && inherited_of(lagd, &lagd->links[i]) != NULL;
+    for (uint16_t i = 0; i < lagd->link_count; i++) known += lagd->links[i].socket >= 0 && inherited_of(&lagd->inherited, &lagd->links[i]) != NULL;
     if (known > 0 && lagd->inherited.others)
         (void)say(lagd, LOG_WARNING | ABOUT_HANDOVER, "the state that the last daemon left is not used: it belongs to other settings");
     else if (known > 0)

@@ -44,7 +44,7 @@ static void give_way(struct lagd *lagd, struct link *last, const struct link *ne
     if (!apply_hold(lagd, last->settings.number)) return;
     (void)say(lagd, LOG_NOTICE | ABOUT_PORT, "port %u %s: it makes way for port %u %s", last->settings.number, last->name,
         next->settings.number, next->name);
-    look_at_carry(lagd);
+    look_at_carry(&lagd->carry);
     send_due(lagd);
     take_views(lagd);
 }
@@ -86,7 +86,7 @@ void limit_links(struct lagd *lagd, uint16_t most) {
 
 /* A second passed. One port gives way at most. */
 void pass_revert_second(struct lagd *lagd) {
-    if (!lagd->settings.revert || is_halted(lagd)) return;
+    if (!lagd->settings.revert || is_halted(lagd->halt)) return;
     take_views(lagd);
     for (uint16_t aggregator = 1; aggregator <= lagd->aggregator_count; aggregator++) {
         struct link *next = next_of(lagd, aggregator), *last = next ? last_of(lagd, aggregator) : NULL;

@@ -232,7 +232,7 @@ static bool is_of(int fd, int index) {
  * is old, or a new one, which takes nothing before it is bound; or -1, and errno. */
 int packet_socket(struct lagd *lagd, const char *kind, int of, int index, int type) {
     int fd = take_stored(lagd, kind, of);
-    if (fd >= 0 && is_of(fd, index) && (type == SOCK_DGRAM || was_away_briefly(lagd))) return fd;
+    if (fd >= 0 && is_of(fd, index) && (type == SOCK_DGRAM || was_away_briefly(&lagd->inherited))) return fd;
     if (fd >= 0) close_stored(lagd, kind, of, fd);
     return socket(AF_PACKET, type | SOCK_NONBLOCK | SOCK_CLOEXEC, 0);
 }

@@ -34,8 +34,8 @@ struct team_private *make_team_private(void) {
     return made;
 }
 
-bool is_team_port(struct lagd *lagd, uint16_t port) {
-    return lagd->team->taken[port - 1];
+bool is_team_port(struct team_private *own, uint16_t port) {
+    return own->taken[port - 1];
 }
 
 /* Whether a daemon made the device. */
@@ -44,8 +44,8 @@ bool has_made_team(struct lagd *lagd) {
 }
 
 /* Whether this daemon made the device, so that nobody has put a port there yet. */
-bool is_team_new(struct lagd *lagd) {
-    return lagd->team->is_new;
+bool is_team_new(struct team_private *own) {
+    return own->is_new;
 }
 
 static void need(bool done, const char *what) {
@@ -53,19 +53,19 @@ static void need(bool done, const char *what) {
 }
 
 /* Whether the driver takes the mode: at a device of its own, which stays. */
-bool has_team_mode(struct lagd *lagd) {
+bool has_team_mode(struct team_netlink_private *own) {
     static const uint8_t mac[ETH_ALEN] = {2, 0, 0, 0, 0, 1};
     struct interface device;
     return make_team_device("team0", mac, ETH_DATA_LEN) && ask_interface(0, "team0", &device)
-        && set_team_text(lagd, device.index, "mode", MODE);
+        && set_team_text(own, device.index, "mode", MODE);
 }
 
 /* The lowest MTU of the interfaces that are there: the driver gives its ports that of the device. */
-static uint32_t least_mtu(struct lagd *lagd) {
+static uint32_t least_mtu(const struct settings *settings) {
     uint32_t least = 0;
-    for (uint16_t i = 0; i < lagd->settings.port_count; i++) {
+    for (uint16_t i = 0; i < settings->port_count; i++) {
         struct interface member;
-        const char *name = lagd->settings.ports[i].name;
+        const char *name = settings->ports[i].name;
         if (name[0] && ask_interface(0, name, &member) && member.mtu != 0 && (least == 0 || member.mtu < least))
             least = member.mtu;
     }
@@ -87,13 +87,13 @@ static void lock_device(struct lagd *lagd, int index) {
 }
 
 /* Whether each port of a device is an interface of this bundle. */
-static bool has_own_ports(struct lagd *lagd, const struct team_now *now) {
+static bool has_own_ports(const struct settings *settings, const struct team_now *now) {
     bool all = true;
     for (unsigned at = 0; at < now->port_count; at++) {
         bool own = false;
-        for (uint16_t i = 0; i < lagd->settings.port_count && !own; i++) {
+        for (uint16_t i = 0; i < settings->port_count && !own; i++) {
             struct interface member;
-            own = lagd->settings.ports[i].name[0] && ask_interface(0, lagd->settings.ports[i].name, &member)
+            own = settings->ports[i].name[0] && ask_interface(0, settings->ports[i].name, &member)
                 && member.index == now->ports[at];
         }
         all = all && own;
@@ -108,10 +108,10 @@ static void take_device(struct lagd *lagd, const struct interface *device, const
     if (strcmp(device->kind, TEAM_KIND) != 0)
         stop(REFUSED, lagd->settings.carry, "an interface of this name is there, and is no team device");
     lock_device(lagd, device->index);
-    need(read_team(lagd, device->index, &now), lagd->settings.carry);
+    need(read_team(lagd->team_netlink, device->index, &now), lagd->settings.carry);
     if (strcmp(now.mode, MODE) != 0 && strcmp(now.mode, NO_MODE) != 0)
         stop(REFUSED, lagd->settings.carry, "a team device of another mode is there");
-    if (!lagd->settings.follow && !has_own_ports(lagd, &now) && !known)
+    if (!lagd->settings.follow && !has_own_ports(&lagd->settings, &now) && !known)
         stop(REFUSED, lagd->settings.carry, "a team device with ports of others is there");
     lagd->team->made = known && lagd->inherited.persists;
     need(known || set_address(device->index, mac), lagd->settings.carry);
@@ -135,11 +135,11 @@ static bool find_device(struct lagd *lagd, const char *name, struct interface *d
 /* Has the driver spread frames over buckets, and tell what each of them sent. */
 static void set_options(struct lagd *lagd, const char *mode_now) {
     struct sock_filter steps[MOST_HASH_STEPS];
-    int index = tap_index(lagd);
-    need(strcmp(mode_now, MODE) == 0 || set_team_text(lagd, index, "mode", MODE), "team: mode " MODE);
-    need(set_team_hash(lagd, index, steps, make_team_hash(lagd, steps)), "team: bpf_hash_func");
-    need(set_team_text(lagd, index, "lb_tx_method", "hash_to_port_mapping"), "team: lb_tx_method");
-    need(set_team_number(lagd, index, "lb_stats_refresh_interval", COUNTED_EVERY), "team: lb_stats_refresh_interval");
+    int index = tap_index(lagd->tap);
+    need(strcmp(mode_now, MODE) == 0 || set_team_text(lagd->team_netlink, index, "mode", MODE), "team: mode " MODE);
+    need(set_team_hash(lagd->team_netlink, index, steps, make_team_hash(&lagd->settings, steps)), "team: bpf_hash_func");
+    need(set_team_text(lagd->team_netlink, index, "lb_tx_method", "hash_to_port_mapping"), "team: lb_tx_method");
+    need(set_team_number(lagd->team_netlink, index, "lb_stats_refresh_interval", COUNTED_EVERY), "team: lb_stats_refresh_interval");
 }
 
 /* Opens the device: it has no carrier, unless the data of the last daemon goes on. */
@@ -149,18 +149,18 @@ void open_team(struct lagd *lagd) {
     const uint8_t *mac = lagd->settings.config.mac;
     struct interface device;
     struct team_now now;
-    need(find_team_driver(lagd), "plane=team: this kernel has no team driver");
+    need(find_team_driver(lagd->team_netlink), "plane=team: this kernel has no team driver");
     if (call_at_exit(lagd, end_team) != 0) stop(REFUSED, "no memory", "for the team device");
     own->opened = true;
     if (find_device(lagd, name, &device)) {
         take_device(lagd, &device, mac);
     } else {
-        need(make_team_device(name, mac, least_mtu(lagd)) && ask_interface(0, name, &device), name);
+        need(make_team_device(name, mac, least_mtu(&lagd->settings)) && ask_interface(0, name, &device), name);
         lock_device(lagd, device.index); /* another one may have taken it at once */
         own->made = own->is_new = true;
         use_team_device(lagd, device.index);
     }
-    need(read_team(lagd, tap_index(lagd), &now), "team");
+    need(read_team(lagd->team_netlink, tap_index(lagd->tap), &now), "team");
     set_options(lagd, now.mode);
     start_buckets(lagd);
 }
@@ -181,14 +181,14 @@ static bool give_address(int index, const uint8_t *mac) {
  * taken up anew. */
 void give_team_addresses(struct lagd *lagd) {
     uint8_t mac[ETH_ALEN];
-    if (!read_tap_mac(lagd, mac)) return;
+    if (!read_tap_mac(lagd->tap, mac)) return;
     for (uint16_t i = 0; i < lagd->link_count; i++) {
         if (!lagd->team->taken[i] || memcmp(lagd->links[i].mac, mac, sizeof mac) == 0 || give_address(lagd->links[i].index, mac))
             continue;
         (void)say(lagd, LOG_WARNING | ABOUT_DATA, "port %u %s: it does not take the address of %s: %s", lagd->links[i].settings.number,
             lagd->links[i].name, lagd->settings.carry, strerror(errno));
         lose_link(lagd, &lagd->links[i]);
-        look_again(lagd);
+        look_again(lagd->changes);
     }
 }
 
@@ -196,7 +196,7 @@ void give_team_addresses(struct lagd *lagd) {
 void leave_team_port(struct lagd *lagd, int index) {
     struct interface port;
     bool up;
-    if (!lagd->team->opened || !ask_interface(index, NULL, &port) || (port.master != 0 && port.master != tap_index(lagd))) return;
+    if (!lagd->team->opened || !ask_interface(index, NULL, &port) || (port.master != 0 && port.master != tap_index(lagd->tap))) return;
     up = port.master == 0 || (port.flags & IFF_UP);
     if ((port.master == 0 || set_master(index, 0)) && up) (void)set_interface_up(index, true);
 }
@@ -204,8 +204,8 @@ void leave_team_port(struct lagd *lagd, int index) {
 /* Makes an interface a new port of the device, which takes it while it is down, and passes no data on it until it is told to: the driver would
  * at once. */
 static bool make_port(struct lagd *lagd, int index, bool up) {
-    return (!up || set_interface_up(index, false)) && set_master(index, tap_index(lagd))
-        && set_port_enabled(lagd, tap_index(lagd), index, false);
+    return (!up || set_interface_up(index, false)) && set_master(index, tap_index(lagd->tap))
+        && set_port_enabled(lagd->team_netlink, tap_index(lagd->tap), index, false);
 }
 
 /* Makes an interface a port of the device; answers whether it is one, and else errno tells why not. One that belongs to another device stays
@@ -215,10 +215,10 @@ bool open_team_port(struct lagd *lagd, struct link *link) {
     struct interface port;
     uint8_t mac[ETH_ALEN];
     bool up, done;
-    if (!ask_interface(link->index, NULL, &port) || !read_tap_mac(lagd, mac)) return false;
+    if (!ask_interface(link->index, NULL, &port) || !read_tap_mac(lagd->tap, mac)) return false;
     up = (port.flags & IFF_UP) != 0;
     errno = EBUSY;
-    if (port.master != tap_index(lagd) && (port.master != 0 || !may_put_in(lagd, link))) return false;
+    if (port.master != tap_index(lagd->tap) && (port.master != 0 || !may_put_in(lagd, link))) return false;
     done = port.master != 0 || make_port(lagd, link->index, up);
     own->taken[link - lagd->links] = done && (memcmp(port.mac, mac, sizeof mac) == 0 || give_address(link->index, mac));
     forget_port(lagd, link->settings.number);
@@ -245,19 +245,19 @@ void close_team_port(struct lagd *lagd, struct link *link) {
 bool is_still_team_port(struct lagd *lagd, const struct link *link, int master) {
     struct team_private *own = lagd->team;
     struct interface now;
-    if (!own->taken[link - lagd->links] || master == tap_index(lagd) || !ask_interface(link->index, NULL, &now))
+    if (!own->taken[link - lagd->links] || master == tap_index(lagd->tap) || !ask_interface(link->index, NULL, &now))
         return true;
-    if (now.master == tap_index(lagd)) return true;
+    if (now.master == tap_index(lagd->tap)) return true;
     (void)say(lagd, LOG_WARNING | ABOUT_DATA, "port %u %s: it was taken out of %s", link->settings.number, link->name,
         lagd->settings.carry);
     return false;
 }
 
 /* The ports that a device has of the last daemon are free. */
-static void free_inherited_ports(struct lagd *lagd, int index) {
+static void free_inherited_ports(struct inherited *inherited, int index) {
     struct interface port;
-    for (unsigned i = 0; i < lagd->inherited.link_count; i++)
-        if (ask_interface(lagd->inherited.links[i].index, NULL, &port) && port.master == index && set_master(port.index, 0))
+    for (unsigned i = 0; i < inherited->link_count; i++)
+        if (ask_interface(inherited->links[i].index, NULL, &port) && port.master == index && set_master(port.index, 0))
             (void)set_interface_up(port.index, true);
 }
 
@@ -266,10 +266,10 @@ static void free_inherited_ports(struct lagd *lagd, int index) {
 void leave_team(struct lagd *lagd, int index, bool with_device) {
     struct interface device;
     int held;
-    if (!find_team_driver(lagd) || !ask_interface(index, NULL, &device) || strcmp(device.kind, TEAM_KIND) != 0) return;
+    if (!find_team_driver(lagd->team_netlink) || !ask_interface(index, NULL, &device) || strcmp(device.kind, TEAM_KIND) != 0) return;
     held = lock_interface(lagd, index);
     if (held < 0) return;
-    free_inherited_ports(lagd, index);
+    free_inherited_ports(&lagd->inherited, index);
     if (with_device) (void)remove_device(index);
     close_stored(lagd, "lock", index, held);
 }
@@ -280,15 +280,15 @@ void end_team(struct lagd *lagd) {
     struct team_private *own = lagd->team;
     if (!own->opened || lagd->has_left) return;
     for (uint16_t i = 0; i < lagd->link_count; i++) close_team_port(lagd, &lagd->links[i]);
-    if (tap_index(lagd) != 0) free_inherited_ports(lagd, tap_index(lagd));
-    if (own->made && tap_index(lagd) != 0) (void)remove_device(tap_index(lagd));
+    if (tap_index(lagd->tap) != 0) free_inherited_ports(&lagd->inherited, tap_index(lagd->tap));
+    if (own->made && tap_index(lagd->tap) != 0) (void)remove_device(tap_index(lagd->tap));
     if (own->lock >= 0) close_stored(lagd, "lock", own->locked, own->lock);
     own->opened = false;
 }
 
 /* Has the device a carrier, or none; answers whether the kernel does so. */
 bool give_team_carrier(struct lagd *lagd, bool on) {
-    return set_device_carrier(tap_index(lagd), on);
+    return set_device_carrier(tap_index(lagd->tap), on);
 }
 
 /* The daemon ends, or the library refused a call. */

@@ -22,28 +22,28 @@ struct team_now {
 };
 
 /* team_netlink.c */
-bool find_team_driver(struct lagd *lagd);
+bool find_team_driver(struct team_netlink_private *own);
 bool make_team_device(const char *name, const uint8_t *mac, uint32_t mtu);
 bool remove_device(int index);
 bool set_interface_up(int index, bool up);
 bool set_master(int index, int master);
 bool set_address(int index, const uint8_t *mac);
 bool set_device_carrier(int index, bool on);
-bool set_team_text(struct lagd *lagd, int index, const char *name, const char *text);
-bool set_team_number(struct lagd *lagd, int index, const char *name, uint32_t number);
-bool set_team_hash(struct lagd *lagd, int index, const struct sock_filter *steps, size_t count);
-bool set_port_enabled(struct lagd *lagd, int index, int port, bool enabled);
-bool set_bucket(struct lagd *lagd, int index, uint16_t bucket, int port);
-bool read_team(struct lagd *lagd, int index, struct team_now *now);
+bool set_team_text(struct team_netlink_private *own, int index, const char *name, const char *text);
+bool set_team_number(struct team_netlink_private *own, int index, const char *name, uint32_t number);
+bool set_team_hash(struct team_netlink_private *own, int index, const struct sock_filter *steps, size_t count);
+bool set_port_enabled(struct team_netlink_private *own, int index, int port, bool enabled);
+bool set_bucket(struct team_netlink_private *own, int index, uint16_t bucket, int port);
+bool read_team(struct team_netlink_private *own, int index, struct team_now *now);
 
 /* team_hash.c */
 #define MOST_HASH_STEPS 256
-size_t make_team_hash(struct lagd *lagd, struct sock_filter steps[static MOST_HASH_STEPS]);
+size_t make_team_hash(const struct settings *settings, struct sock_filter steps[static MOST_HASH_STEPS]);
 
 /* team.c */
 bool has_made_team(struct lagd *lagd);
-bool is_team_new(struct lagd *lagd);
-bool has_team_mode(struct lagd *lagd);
+bool is_team_new(struct team_private *own);
+bool has_team_mode(struct team_netlink_private *own);
 void open_team(struct lagd *lagd);
 void end_team_plane(struct lagd *lagd);
 bool give_team_carrier(struct lagd *lagd, bool on);
@@ -52,7 +52,7 @@ void pass_tick_of_team(struct lagd *lagd);
 void end_team(struct lagd *lagd);
 bool open_team_port(struct lagd *lagd, struct link *link);
 void close_team_port(struct lagd *lagd, struct link *link);
-bool is_team_port(struct lagd *lagd, uint16_t port);
+bool is_team_port(struct team_private *own, uint16_t port);
 bool is_still_team_port(struct lagd *lagd, const struct link *link, int master);
 void give_team_addresses(struct lagd *lagd);
 void leave_team(struct lagd *lagd, int index, bool with_device);

@@ -37,8 +37,7 @@ static void read_family(const struct nlmsghdr *message, void *into) {
 }
 
 /* Asks for the number of the driver; answers whether it is there. */
-static bool find_family(struct lagd *lagd) {
-    struct team_netlink_private *own = lagd->team_netlink;
+static bool find_family(struct team_netlink_private *own) {
     struct genlmsghdr about = {.cmd = CTRL_CMD_GETFAMILY, .version = 1};
     union message question = message_of(GENL_ID_CTRL, NLM_F_ACK, &about, sizeof about);
     mnl_attr_put_strz(&question.head, CTRL_ATTR_FAMILY_NAME, TEAM_GENL_NAME);
@@ -47,10 +46,10 @@ static bool find_family(struct lagd *lagd) {
 
 /* Finds the driver; answers whether this kernel has one, and else errno tells why not. The kernel loads it for who may ask for a device: with
  * an address that none may have there is none, and by a name that it is to complete none is taken. */
-bool find_team_driver(struct lagd *lagd) {
+bool find_team_driver(struct team_netlink_private *own) {
     static const uint8_t no_address[ETH_ALEN];
-    return find_family(lagd)
-        || (!make_team_device("team%d", no_address, ETH_DATA_LEN) && errno == EADDRNOTAVAIL && find_family(lagd));
+    return find_family(own)
+        || (!make_team_device("team%d", no_address, ETH_DATA_LEN) && errno == EADDRNOTAVAIL && find_family(own));
 }
 
 /* Makes a device of the driver; answers whether it did. */
@@ -98,9 +97,9 @@ bool set_device_carrier(int index, bool on) {
     return set_attribute(index, IFLA_CARRIER, &(uint8_t){on}, 1);
 }
 
-static union message message_of_team(struct lagd *lagd, uint8_t command, unsigned flags, int index) {
+static union message message_of_team(struct team_netlink_private *own, uint8_t command, unsigned flags, int index) {
     struct genlmsghdr about = {.cmd = command, .version = TEAM_GENL_VERSION};
-    union message message = message_of(lagd->team_netlink->family, flags, &about, sizeof about);
+    union message message = message_of(own->family, flags, &about, sizeof about);
     mnl_attr_put_u32(&message.head, TEAM_ATTR_TEAM_IFINDEX, (uint32_t)index);
     return message;
 }
@@ -112,8 +111,8 @@ struct place {
 };
 
 /* Sets an option. The kernel tells who listens to changes; that nobody does is an error for it, though the option is set. */
-static bool set_option(struct lagd *lagd, int index, const char *name, struct place place, uint8_t type, const void *value, size_t length) {
-    union message wanted = message_of_team(lagd, TEAM_CMD_OPTIONS_SET, NLM_F_ACK, index);
+static bool set_option(struct team_netlink_private *own, int index, const char *name, struct place place, uint8_t type, const void *value, size_t length) {
+    union message wanted = message_of_team(own, TEAM_CMD_OPTIONS_SET, NLM_F_ACK, index);
     struct nlattr *list = mnl_attr_nest_start(&wanted.head, TEAM_ATTR_LIST_OPTION);
     struct nlattr *item = mnl_attr_nest_start(&wanted.head, TEAM_ATTR_ITEM_OPTION);
     mnl_attr_put_strz(&wanted.head, TEAM_ATTR_OPTION_NAME, name);
@@ -126,28 +125,28 @@ static bool set_option(struct lagd *lagd, int index, const char *name, struct pl
     return ask_netlink(NETLINK_GENERIC, &wanted, NULL, NULL) || errno == ESRCH;
 }
 
-bool set_team_text(struct lagd *lagd, int index, const char *name, const char *text) {
-    return set_option(lagd, index, name, (struct place){0, -1}, TYPE_STRING, text, strlen(text) + 1);
+bool set_team_text(struct team_netlink_private *own, int index, const char *name, const char *text) {
+    return set_option(own, index, name, (struct place){0, -1}, TYPE_STRING, text, strlen(text) + 1);
 }
 
-bool set_team_number(struct lagd *lagd, int index, const char *name, uint32_t number) {
-    return set_option(lagd, index, name, (struct place){0, -1}, TYPE_U32, &number, sizeof number);
+bool set_team_number(struct team_netlink_private *own, int index, const char *name, uint32_t number) {
+    return set_option(own, index, name, (struct place){0, -1}, TYPE_U32, &number, sizeof number);
 }
 
 /* The program by which the driver finds the bucket of a frame. */
-bool set_team_hash(struct lagd *lagd, int index, const struct sock_filter *steps, size_t count) {
-    return set_option(lagd, index, "bpf_hash_func", (struct place){0, -1}, TYPE_BINARY, steps, count * sizeof *steps);
+bool set_team_hash(struct team_netlink_private *own, int index, const struct sock_filter *steps, size_t count) {
+    return set_option(own, index, "bpf_hash_func", (struct place){0, -1}, TYPE_BINARY, steps, count * sizeof *steps);
 }
 
 /* Whether a port passes data, in either direction. */
-bool set_port_enabled(struct lagd *lagd, int index, int port, bool enabled) {
-    return set_option(lagd, index, "enabled", (struct place){port, -1}, TYPE_FLAG, enabled ? "" : NULL, 0);
+bool set_port_enabled(struct team_netlink_private *own, int index, int port, bool enabled) {
+    return set_option(own, index, "enabled", (struct place){port, -1}, TYPE_FLAG, enabled ? "" : NULL, 0);
 }
 
 /* The frames of a bucket go by a port from now on. */
-bool set_bucket(struct lagd *lagd, int index, uint16_t bucket, int port) {
+bool set_bucket(struct team_netlink_private *own, int index, uint16_t bucket, int port) {
     uint32_t value = (uint32_t)port;
-    return set_option(lagd, index, "lb_tx_hash_to_port_mapping", (struct place){0, bucket}, TYPE_U32, &value, sizeof value);
+    return set_option(own, index, "lb_tx_hash_to_port_mapping", (struct place){0, bucket}, TYPE_U32, &value, sizeof value);
 }
 
 /* One option: a name, and what it has. A flag that is not set has no value. */
@@ -204,8 +203,8 @@ static void take_told(const struct nlmsghdr *message, void *into) {
 }
 
 /* Reads the options of a device; answers whether it could. */
-bool read_team(struct lagd *lagd, int index, struct team_now *now) {
-    union message question = message_of_team(lagd, TEAM_CMD_OPTIONS_GET, 0, index);
+bool read_team(struct team_netlink_private *own, int index, struct team_now *now) {
+    union message question = message_of_team(own, TEAM_CMD_OPTIONS_GET, 0, index);
     *now = (struct team_now){0};
     return ask_netlink(NETLINK_GENERIC, &question, take_told, now);
 }

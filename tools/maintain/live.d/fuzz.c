@@ -30,19 +30,19 @@ static int wire[2];                             /* the packet socket of the firs
 static const uint8_t *waiting;                  /* what waits there, or is the answer of the kernel; or NULL */
 static size_t waiting_length;
 
-bool await_input(struct lagd *lagd, int fd, uint32_t tag) {
-    (void)lagd;
+bool await_input(int epoll_file, int fd, uint32_t tag) {
+    (void)epoll_file;
     (void)fd;
     (void)tag;
     return true;
 }
 
-bool await_output(struct lagd *lagd, int fd, uint32_t tag) {
-    return await_input(lagd, fd, tag);
+bool await_output(int epoll_file, int fd, uint32_t tag) {
+    return await_input(epoll_file, fd, tag);
 }
 
-void await_no_more(struct lagd *lagd, int fd) {
-    (void)lagd;
+void await_no_more(int epoll_file, int fd) {
+    (void)epoll_file;
     (void)fd;
 }
 
@@ -192,7 +192,7 @@ static void fuzz_answers(const uint8_t *octets, size_t length) {
     waiting = octets;
     (void)ask_interface(1, NULL, &interface);
     waiting = octets;
-    (void)read_team(lagd, 1, &now);
+    (void)read_team(lagd->team_netlink, 1, &now);
     waiting = octets;
     drop_classifier(1);
     waiting = NULL;

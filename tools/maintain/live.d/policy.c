@@ -155,8 +155,8 @@ static void put_slow(struct end *end, uint16_t port, uint8_t *frame) {
 uint64_t milliseconds(void) {
     return now;
 }
-uint64_t ticks_passed(struct lagd *lagd) {
-    (void)lagd;
+uint64_t ticks_passed(struct system_private *own) {
+    (void)own;
     return now / TICK;
 }
 uint64_t boottime(void) {
@@ -176,7 +176,7 @@ void flush_data(struct lagd *lagd) {
     struct end *end = end_of(lagd);
     for (unsigned i = 0; i < end->out_count; i++) (void)put_on_wire(end, end->out[i].port, end->out[i].packet, OCTETS);
     end->out_count = 0;
-    free_left(lagd);
+    free_left(lagd->held);
 }
 void take_marker(struct lagd *lagd, struct link *link, const uint8_t *frame) {
     struct end *end = end_of(lagd);
@@ -293,8 +293,8 @@ bool has_right_length(const uint8_t *packet, size_t length, uint32_t mtu) {
     (void)packet;
     return length <= mtu + ETH_HLEN;
 }
-uint32_t longest_payload(struct lagd *lagd) {
-    (void)lagd;
+uint32_t longest_payload(struct tap_private *own) {
+    (void)own;
     return ETH_DATA_LEN;
 }
 struct niw_number conversation_of(struct lagd *lagd, const uint8_t *frame, size_t length) {
@@ -308,8 +308,8 @@ static bool answer(struct lagd *lagd, struct link *link, const uint8_t *response
     send_frame(lagd, link, response);
     return true;
 }
-bool ends_flight(struct lagd *lagd, const struct link *link, uint32_t *id) {
-    (void)lagd;
+bool ends_flight(struct queues_private *own, const struct link *link, uint32_t *id) {
+    (void)own;
     (void)link;
     (void)id;
     return false;
@@ -322,11 +322,13 @@ void set_identifier(uint8_t *frame, uint32_t id) {
 /* and what is not here: the settings of the device. */
 #define NOTHING(name) \
     void name(struct lagd *lagd) { (void)lagd; }
-NOTHING(announce_soon)
 NOTHING(count_losses)
 NOTHING(pass_announcing_tick)
 NOTHING(pass_tap_tick)
 static NOTHING(nothing)
+void announce_soon(struct announce_private *own) {
+    (void)own;
+}
 void note_taken(struct conversation *conversation, uint32_t segments) {
     (void)conversation;
     (void)segments;
@@ -345,8 +347,8 @@ void run_hook(struct lagd *lagd, const char *path, enum bundle_state before) {
     (void)before;
 }
 /* The device is up here, and no port comes or goes. */
-bool is_halted(struct lagd *lagd) {
-    (void)lagd;
+bool is_halted(struct halt_private *own) {
+    (void)own;
     return false;
 }
 
@@ -376,9 +378,9 @@ static void set_link_of(struct end *end, uint16_t port, bool up) {
     struct link *link = &end->lagd.links[port - 1];
     if (link->up == up) return;
     link->up = up;
-    if (!up) forget_partner(&end->lagd, link);
+    if (!up) forget_partner(&end->lagd.settings, link);
     if (!is_done(&end->lagd, niw_set_link(&end->lagd.own_system, port, up), "niw_set_link")) return;
-    look_at_carry(&end->lagd);
+    look_at_carry(&end->lagd.carry);
     send_due(&end->lagd);
     take_views(&end->lagd);
     settle_carry(&end->lagd);
@@ -577,7 +579,7 @@ static void happen(struct end *end) {
     uint16_t port = (uint16_t)(1 + below(PORTS));
     if (what < weather.burst) send_burst(end, what < 20 ? BATCH : 6);
     for (bool more = below(1000) < weather.changes; more; more = below(2) == 0) change_cable((uint16_t)(1 + below(PORTS)));
-    if (what >= 710 && what < 713) ask_moves(&end->lagd);
+    if (what >= 710 && what < 713) ask_moves(&end->lagd.carry);
     if (what == 720) end->mute_until = now + below(20000);
     if (what == 721) end->mute_until = 0;
     if (what == 722) end->short_until = now + below(300);
