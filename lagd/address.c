@@ -16,7 +16,7 @@ static bool has_system_address(const struct interface *interface) {
 
 /* Takes the address of the first interface for the system. Where that is not possible, or it is that of the wanted partner, the
  * program ends. */
-void take_own_address(struct settings *settings) {
+void read_own_address(struct settings *settings) {
     const char *name = settings->ports[0].name;
     char what[NAME_ROOM + 16];
     struct interface interface;

@@ -124,7 +124,7 @@ static bool is_above(struct announce_private *own, const struct interface *inter
 }
 
 /* The kernel told of an interface, which may stand on those that are known. */
-static void take_place(struct announce_private *own, const struct nlmsghdr *message) {
+static void read_place(struct announce_private *own, const struct nlmsghdr *message) {
     struct interface interface = read_interface(message);
     struct place *place = place_of(own, interface.index);
     if (!place && interface.has_mac && own->place_count < 1 + MOST_ABOVE && is_above(own, &interface)) {
@@ -144,7 +144,7 @@ static int note_attribute(const struct nlattr *attribute, void *into) {
 }
 
 /* The kernel told whether an interface is one of a router: hosts forget a router whose advertisement says that it is none. */
-static void take_forwarding(struct announce_private *own, const struct nlmsghdr *message) {
+static void read_forwarding(struct announce_private *own, const struct nlmsghdr *message) {
     const struct nlattr *told[MOST_TYPE + 1] = {0};
     const int *index, *forwarding;
     struct place *place;
@@ -158,7 +158,7 @@ static void take_forwarding(struct announce_private *own, const struct nlmsghdr 
 }
 
 /* The kernel told of an address. One of IPv6 that may be another host's is not announced. */
-static void take_address(struct announce_private *own, const struct nlmsghdr *message) {
+static void read_address(struct announce_private *own, const struct nlmsghdr *message) {
     const struct nlattr *told[MOST_TYPE + 1] = {0};
     const struct ifaddrmsg *about = mnl_nlmsg_get_payload(message);
     const struct place *place;
@@ -176,17 +176,17 @@ static void take_address(struct announce_private *own, const struct nlmsghdr *me
         announce_ipv6(own, place, address);
 }
 
-static void take_told(const struct nlmsghdr *message, void *into) {
+static void read_told(const struct nlmsghdr *message, void *into) {
     struct lagd *lagd = into;
-    if (message->nlmsg_type == RTM_NEWNETCONF) take_forwarding(lagd->announce, message);
-    if (message->nlmsg_type == RTM_NEWADDR) take_address(lagd->announce, message);
-    if (message->nlmsg_type == RTM_NEWLINK) take_place(lagd->announce, message);
+    if (message->nlmsg_type == RTM_NEWNETCONF) read_forwarding(lagd->announce, message);
+    if (message->nlmsg_type == RTM_NEWADDR) read_address(lagd->announce, message);
+    if (message->nlmsg_type == RTM_NEWLINK) read_place(lagd->announce, message);
 }
 
 /* Has the kernel tell all that it has of a kind; answers whether it did. The head of an interface is longer than what other kinds want. */
 static bool ask_all(struct lagd *lagd, uint16_t what, uint8_t family) {
     union message question = message_of(what, NLM_F_DUMP, &(struct ifinfomsg){.ifi_family = family}, sizeof(struct ifinfomsg));
-    return ask_list(NETLINK_ROUTE, &question, take_told, lagd, 0);
+    return ask_list(NETLINK_ROUTE, &question, read_told, lagd, 0);
 }
 
 /* Finds the device, and what stands above it, level by level. */

@@ -98,7 +98,7 @@ static void answer_due(struct lagd *lagd, uint16_t port) {
     struct answer *answer = first_of(waiting);
     uint64_t now = milliseconds();
     if (!answer || answer->due > now) return;
-    if (!has_fast_member(lagd->members, port)) take_data(lagd, port);
+    if (!has_fast_member(lagd->members, port)) receive_data(lagd, port);
     while ((answer = first_of(waiting)) && answer->due <= now && (answer->unread == 0 || has_fast_member(lagd->members, port))) {
         send_frame(lagd, &lagd->links[port - 1], answer->frame);
         waiting->first = (waiting->first + 1) % MOST_WAITING;

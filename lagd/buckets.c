@@ -171,7 +171,7 @@ static void lose_port(struct lagd *lagd, uint16_t port) {
 }
 
 /* The driver refused what it was told of a port. Where the kernel has no memory, the next tick tells it again. */
-static void take_refusal(struct lagd *lagd, uint16_t port) {
+static void note_refusal(struct lagd *lagd, uint16_t port) {
     struct buckets_private *own = lagd->buckets;
     bool is_short = errno == ENOBUFS || errno == ENOMEM;
     own->shortages = is_short ? own->shortages + 1 : 0;
@@ -186,7 +186,7 @@ static bool set_passes(struct lagd *lagd, uint16_t port, bool wanted) {
     enum passes now = wanted ? PASSES : PASSES_NOT;
     if (own->passes[port - 1] == now) return true;
     if (!set_port_enabled(lagd->team_netlink, tap_index(lagd->tap), lagd->links[port - 1].index, wanted)) {
-        take_refusal(lagd, port);
+        note_refusal(lagd, port);
         return false;
     }
     own->passes[port - 1] = now;
@@ -200,7 +200,7 @@ static bool place_buckets(struct lagd *lagd) {
         uint16_t port = place(lagd, number);
         if (port == 0 || port == own->buckets[number].port) continue;
         if (!set_bucket(lagd->team_netlink, tap_index(lagd->tap), number, lagd->links[port - 1].index)) {
-            take_refusal(lagd, port);
+            note_refusal(lagd, port);
             return false;
         }
         if (own->buckets[number].port != 0) lagd->carry.counts[MOVES]++;

@@ -90,7 +90,7 @@ static bool is_fit(struct tap_private *own, const uint8_t *packet, size_t length
 }
 
 /* A frame of a conversation came. It overtakes none that waits. */
-static void take_fit(struct lagd *lagd, struct conversation *conversation, uint16_t number, uint8_t *packet, size_t length) {
+static void accept_fit(struct lagd *lagd, struct conversation *conversation, uint16_t number, uint8_t *packet, size_t length) {
     enum offered offered = LOST;
     if (lagd->carry.active != 0) {
         conversation->used = true;
@@ -102,7 +102,7 @@ static void take_fit(struct lagd *lagd, struct conversation *conversation, uint1
 }
 
 /* A packet came from the host. */
-void take_from_host(struct lagd *lagd, uint8_t *packet, size_t length) {
+void accept_from_host(struct lagd *lagd, uint8_t *packet, size_t length) {
     uint64_t number;
     struct conversation *conversation;
     lagd->carry.counts[FROM_HOST]++;
@@ -118,7 +118,7 @@ void take_from_host(struct lagd *lagd, uint8_t *packet, size_t length) {
     note_taken(conversation, count_segments(packet, length));
     if (has_segments(packet)) lagd->carry.counts[SEGMENTED]++;
     if (is_fit(lagd->tap, packet, length))
-        take_fit(lagd, conversation, (uint16_t)number, packet, length);
+        accept_fit(lagd, conversation, (uint16_t)number, packet, length);
     else
         lagd->carry.counts[UNFIT]++;
 }
@@ -173,7 +173,7 @@ static bool release_one(struct lagd *lagd, struct conversation *conversation, ui
     if (offered == WAITS) return false;
     conversation->fast.touched = true;
     if (offered == LOST) return drop_held(lagd, number, NONE_CARRIES);
-    packet = take_held(lagd, number, &length);
+    packet = remove_held(lagd, number, &length);
     if (!packet) return false;
     conversation->used = true; /* from now on it is on its way */
     send_on(lagd, conversation, packet, length);
@@ -230,7 +230,7 @@ void tell_speed_and_carrier(struct lagd *lagd) {
 
 /* Chooses by what the ports are now. */
 void choose_ports(struct lagd *lagd) {
-    take_views(lagd);
+    read_views(lagd);
     choose_active(lagd);
 }
 

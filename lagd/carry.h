@@ -74,7 +74,7 @@ void note_heard(struct lagd *lagd);
 void end_carry_tick(struct lagd *lagd);
 void pass_tick_of_frames(struct lagd *lagd);
 void suspect_aggregator(struct lagd *lagd, uint32_t aggregator);
-void take_from_host(struct lagd *lagd, uint8_t *packet, size_t length);
+void accept_from_host(struct lagd *lagd, uint8_t *packet, size_t length);
 void hand_up(struct lagd *lagd, uint32_t aggregator, uint8_t *packet, size_t length);
 
 /* host.c */
@@ -83,7 +83,7 @@ void open_tap_plane(struct lagd *lagd);
 void end_tap_plane(struct lagd *lagd);
 void close_members(struct lagd *lagd);
 int passing_member_of(struct lagd *lagd, uint16_t number);
-void take_host(struct lagd *lagd);
+void read_host(struct lagd *lagd);
 bool is_cutting(struct lagd *lagd);
 bool give_host(struct lagd *lagd, const struct iovec *parts, unsigned count, size_t length);
 
@@ -155,7 +155,7 @@ void pass_announcing_tick(struct lagd *lagd);
 void *make_map(uint32_t size, uint32_t count, int *map);
 int attach_program(int program, int index, bool egress);
 bool exchange_program(int attached, int program, int index);
-void *take_map(uint32_t size, uint32_t count, int map);
+void *map_again(uint32_t size, uint32_t count, int map);
 void detach_program(int attached);
 uint32_t program_keeper(int attached);
 
@@ -180,7 +180,7 @@ void pass_on(struct lagd *lagd);
 void withdraw(struct lagd *lagd);
 void withdraw_port(struct lagd *lagd, uint16_t port);
 void set_collecting(struct lagd *lagd);
-void take_fast_counts(struct lagd *lagd);
+void count_fast_frames(struct lagd *lagd);
 void pass_fast_tick(struct lagd *lagd);
 void note_read(struct lagd *lagd, unsigned packets, bool drained);
 void open_host(struct lagd *lagd, bool open);
@@ -237,7 +237,7 @@ bool give_fifo(int index, uint32_t megabits);
 bool give_fifos(int index, unsigned queues, uint32_t megabits);
 void fit_fifo(int index, uint32_t megabits);
 void fit_fifos(int index, unsigned queues, uint32_t megabits);
-void take_fifo(int index);
+void drop_fifo(int index);
 void give_no_queue(int index);
 enum classifier set_classifier(int program, int index);
 void drop_classifier(int index);
@@ -310,7 +310,7 @@ void add_fast_counts(struct lagd *lagd, uint16_t port, const struct fast_member 
 void note_passed(struct lagd *lagd, uint16_t port, uint64_t frames);
 void put_data(struct lagd *lagd, uint16_t port, uint16_t number, uint8_t *packet, size_t length);
 void flush_data(struct lagd *lagd);
-void take_data(struct lagd *lagd, uint16_t port);
+void receive_data(struct lagd *lagd, uint16_t port);
 bool send_marker_again(struct lagd *lagd, uint16_t port);
 void count_losses(struct lagd *lagd);
 uint64_t member_count(struct members_private *own, uint16_t port, enum member_count count);
@@ -325,7 +325,7 @@ unsigned count_frames_waiting(struct lagd *lagd);
 bool oldest_held(struct lagd *lagd, uint16_t number, uint64_t *came);
 bool put_held(struct lagd *lagd, uint16_t number, const uint8_t *packet, size_t length);
 bool drop_held(struct lagd *lagd, uint16_t number, enum carry_count why);
-uint8_t *take_held(struct lagd *lagd, uint16_t number, size_t *length);
+uint8_t *remove_held(struct lagd *lagd, uint16_t number, size_t *length);
 void free_left(struct held_private *own);
 
 /* moves.c */

@@ -139,13 +139,13 @@ static void follow(struct lagd *lagd, struct link *link, const struct interface 
     if (lost || !carrier) forget_carrier(link);
     up = carrier && !is_silent(lagd->halt) && is_restored(lagd, link);
     if (up && !link->up) fit_queue(lagd, link, interface->name);
-    if (up) take_speed(lagd, link, interface->name);
+    if (up) apply_speed(lagd, link, interface->name);
     if (up) lagd->plane.carrying->follow_speed(lagd, link, interface->name);
     set_link(lagd, port, up);
 }
 
 /* An interface is there. A port goes by its name, and the TAP device by its number. */
-static void take_present(struct lagd *lagd, const struct interface *interface) {
+static void follow_present(struct lagd *lagd, const struct interface *interface) {
     bool known = false;
     if (interface->index == tap_index(lagd->tap)) {
         lagd->changes->tap_named = true;
@@ -169,7 +169,7 @@ static void take_present(struct lagd *lagd, const struct interface *interface) {
     if (!known) follow_port(lagd, interface);
 }
 
-static void take_absent(struct lagd *lagd, const struct interface *interface) {
+static void follow_absent(struct lagd *lagd, const struct interface *interface) {
     if (interface->index == tap_index(lagd->tap)) lagd->plane.carrying->lose_device(lagd);
     for (uint16_t i = 0; i < lagd->link_count; i++) {
         struct link *link = &lagd->links[i];
@@ -180,7 +180,7 @@ static void take_absent(struct lagd *lagd, const struct interface *interface) {
 }
 
 /* Queueing disciplines came or went. Which one an interface has now is asked: of its usual one the kernel does not tell. */
-static void take_discipline(struct lagd *lagd, const struct tcmsg *info) {
+static void note_discipline(struct lagd *lagd, const struct tcmsg *info) {
     bool ours = info->tcm_ifindex == tap_index(lagd->tap);
     for (uint16_t i = 0; i < lagd->link_count; i++) {
         struct link *link = &lagd->links[i];
@@ -205,7 +205,7 @@ static void end_answer(struct lagd *lagd, int error) {
 }
 
 /* Takes one message. A bridge tells of its ports in messages of its own family, which say nothing of their links. */
-static void take_message(struct lagd *lagd, const struct nlmsghdr *message) {
+static void parse_change(struct lagd *lagd, const struct nlmsghdr *message) {
     struct changes_private *own = lagd->changes;
     const struct ifinfomsg *info = mnl_nlmsg_get_payload(message);
     const struct tcmsg *discipline = mnl_nlmsg_get_payload(message);
@@ -215,18 +215,18 @@ static void take_message(struct lagd *lagd, const struct nlmsghdr *message) {
     bool answers = own->asking && message->nlmsg_seq == own->asked && message->nlmsg_pid == mnl_socket_get_portid(own->route);
     if (answers && (message->nlmsg_flags & NLM_F_DUMP_INTR)) own->interrupted = true;
     if (answers && (type == NLMSG_DONE || type == NLMSG_ERROR)) end_answer(lagd, error_of(message));
-    if ((type == RTM_NEWQDISC || type == RTM_DELQDISC) && length >= sizeof *discipline) take_discipline(lagd, discipline);
+    if ((type == RTM_NEWQDISC || type == RTM_DELQDISC) && length >= sizeof *discipline) note_discipline(lagd, discipline);
     if ((type != RTM_NEWLINK && type != RTM_DELLINK) || length < sizeof *info || info->ifi_family != AF_UNSPEC) return;
     interface = read_interface(message);
-    if (type == RTM_NEWLINK && interface.name[0]) take_present(lagd, &interface);
-    if (type == RTM_DELLINK) take_absent(lagd, &interface);
+    if (type == RTM_NEWLINK && interface.name[0]) follow_present(lagd, &interface);
+    if (type == RTM_DELLINK) follow_absent(lagd, &interface);
 }
 
 /* Takes the messages of `length` octets, in their order. */
-void take_messages(struct lagd *lagd, const void *messages, size_t length) {
+void read_messages(struct lagd *lagd, const void *messages, size_t length) {
     int left = (int)length;
     for (const struct nlmsghdr *message = messages; is_whole(message, left); message = mnl_nlmsg_next(message, &left))
-        take_message(lagd, message);
+        parse_change(lagd, message);
 }
 
 /* Sees the queues anew whose disciplines changed, once for all that was told at a time. */
@@ -247,7 +247,7 @@ static void miss_changes(struct lagd *lagd) {
 
 /* Takes what the kernel told, up to its end. Where it had no room for some, it says so, and all is asked again. Any program of the machine
  * may send to this socket, too: what does not come from the kernel is not looked at. */
-static void take_all_told(struct lagd *lagd) {
+static void receive_all(struct lagd *lagd) {
     struct changes_private *own = lagd->changes;
     _Alignas(struct nlmsghdr) uint8_t room[ROOM];
     for (int turn = 0; turn < MOST_TAKEN; turn++) {
@@ -259,13 +259,13 @@ static void take_all_told(struct lagd *lagd) {
         if (got < 0 || got > (ssize_t)sizeof room)
             miss_changes(lagd);
         else
-            take_messages(lagd, room, (size_t)got);
+            read_messages(lagd, room, (size_t)got);
     }
 }
 
 /* Takes what the kernel told. */
-void take_changes(struct lagd *lagd) {
-    take_all_told(lagd);
+void receive_changes(struct lagd *lagd) {
+    receive_all(lagd);
     follow_all_queues(lagd);
 }
 
@@ -307,7 +307,7 @@ void watch_carriers(struct lagd *lagd, bool all) {
     for (uint16_t i = 0; i < lagd->link_count; i++)
         if (lagd->links[i].socket >= 0 && (has_new_carrier(&lagd->links[i]) || has_waited(lagd, &lagd->links[i])))
             any = ask_for(lagd->changes, lagd->links[i].index, 0) || any;
-    if (any) take_changes(lagd);
+    if (any) receive_changes(lagd);
 }
 
 /* Opens the changes of interfaces, and takes up those that are there. */
@@ -319,7 +319,7 @@ int open_changes(struct lagd *lagd) {
     for (ask(lagd); own->asking || own->ask_again; watch_changes(lagd)) {
         if (poll(&(struct pollfd){mnl_socket_get_fd(own->route), POLLIN, 0}, 1, PATIENCE) != 1) stop(REFUSED, "no answer", "interfaces");
         if (own->asked > MOST_ASKED) stop(REFUSED, "no whole answer", "interfaces");
-        take_changes(lagd);
+        receive_changes(lagd);
     }
     return mnl_socket_get_fd(own->route);
 }

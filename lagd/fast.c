@@ -64,8 +64,8 @@ static int keep_program(struct lagd *lagd, const char *kind, int program, bool e
 /* A table that the programs share with the daemon: that of the last daemon, where that left one for this device, or a new one. */
 static void *open_map(struct lagd *lagd, int number, uint32_t size, uint32_t count, int *map) {
     void *at;
-    *map = take_stored(lagd, "map", number);
-    at = *map >= 0 && lagd->inherited.tap != 0 && lagd->inherited.tap == lagd->fast->tap_at ? take_map(size, count, *map) : NULL;
+    *map = claim_stored(lagd, "map", number);
+    at = *map >= 0 && lagd->inherited.tap != 0 && lagd->inherited.tap == lagd->fast->tap_at ? map_again(size, count, *map) : NULL;
     if (at) return at;
     if (*map >= 0) close_stored(lagd, "map", number, *map);
     at = make_map(size, count, map);
@@ -173,7 +173,7 @@ static void subtract(struct fast_private *own, uint16_t number, uint32_t segment
 }
 
 /* Takes off what overflowed. */
-static void take_overflowed(struct lagd *lagd, struct conversation *conversation) {
+static void subtract_overflowed(struct lagd *lagd, struct conversation *conversation) {
     uint64_t overflowed = __atomic_load_n(&lagd->fast->rows[number_in(&lagd->carry, conversation)].overflowed, __ATOMIC_ACQUIRE);
     if (overflowed == conversation->fast.overflowed) return;
     subtract(lagd->fast, number_in(&lagd->carry, conversation), (uint32_t)(overflowed - conversation->fast.overflowed));
@@ -193,7 +193,7 @@ static bool count_passed(struct lagd *lagd, struct conversation *conversation) {
 }
 
 /* Counts what the kernel did since the last time. */
-void take_fast_counts(struct lagd *lagd) {
+void count_fast_frames(struct lagd *lagd) {
     struct fast_private *own = lagd->fast;
     uint64_t overflowed, unfit;
     for (uint16_t number = 0; number < CONVERSATIONS; number++) (void)count_passed(lagd, &lagd->carry.conversations[number]);
@@ -239,7 +239,7 @@ static void wait_or_end(struct lagd *lagd) {
 }
 
 /* Takes the rows back that are chosen; once that is done, all that they passed on is with the members, and counted. */
-static void take_back(struct lagd *lagd, bool (*is_chosen)(struct lagd *lagd, const struct conversation *conversation, uint16_t port),
+static void withdraw_chosen(struct lagd *lagd, bool (*is_chosen)(struct lagd *lagd, const struct conversation *conversation, uint16_t port),
     uint16_t port) {
     bool taken[CONVERSATIONS] = {false}, any = false;
     for (uint16_t number = 0; number < CONVERSATIONS; number++) {
@@ -307,13 +307,13 @@ void resume_fast(struct lagd *lagd) {
 
 /* Takes back what is not, or no longer, on the port where the kernel passes it on: before a marker goes there. */
 void withdraw(struct lagd *lagd) {
-    take_back(lagd, ask_ports(lagd, lagd->carry.active, lagd->carry.port_of) ? is_wrong : is_any, 0);
+    withdraw_chosen(lagd, ask_ports(lagd, lagd->carry.active, lagd->carry.port_of) ? is_wrong : is_any, 0);
 }
 
 /* The link of a port goes down, or its interface: before the library hears of it. */
 void withdraw_port(struct lagd *lagd, uint16_t port) {
     __atomic_store_n(&lagd->fast->entries[port - 1].up_to, 0, __ATOMIC_SEQ_CST);
-    take_back(lagd, is_on, port);
+    withdraw_chosen(lagd, is_on, port);
     for (uint16_t number = 0; number < CONVERSATIONS; number++) {
         struct conversation *conversation = &lagd->carry.conversations[number];
         if (conversation->port == port && conversation->home != 0) conversation->fast.not_before = milliseconds() + DOWN_WAIT;
@@ -328,7 +328,7 @@ void follow_host_queue(struct lagd *lagd, const char *discipline) {
         && strcmp(discipline, "noop") != 0; /* it has that one until it is up */
     if (!discipline[0] || holds == own->queue_holds) return;
     own->queue_holds = holds;
-    if (holds) take_back(lagd, is_any, 0);
+    if (holds) withdraw_chosen(lagd, is_any, 0);
     (void)say(lagd, LOG_WARNING | ABOUT_DATA, "carry %s: its queueing discipline is %s: its data %s", lagd->settings.carry, discipline,
         holds ? "stays with the daemon, since that discipline may hold frames" : "may go by the kernel");
 }
@@ -380,7 +380,7 @@ void pass_on(struct lagd *lagd) {
         struct conversation *conversation = &lagd->carry.conversations[number];
         if (!conversation->fast.touched) continue;
         conversation->fast.touched = false;
-        take_overflowed(lagd, conversation);
+        subtract_overflowed(lagd, conversation);
         if (conversation->fast.taken > 0) subtract(lagd->fast, number, conversation->fast.taken);
         if (conversation->fast.taken > 0) conversation->fast.suspected = false;
         conversation->fast.taken = 0;
@@ -422,7 +422,7 @@ void note_read(struct lagd *lagd, unsigned packets, bool drained) {
 static bool suspect(struct lagd *lagd, struct conversation *conversation) {
     struct fast_row *row = &lagd->fast->rows[number_in(&lagd->carry, conversation)];
     uint64_t word, opaque;
-    take_overflowed(lagd, conversation);
+    subtract_overflowed(lagd, conversation);
     word = word_of(lagd->fast, number_in(&lagd->carry, conversation));
     opaque = __atomic_load_n(&row->opaque, __ATOMIC_SEQ_CST);
     if (conversation->fast.port > 0 || conversation->used || conversation->fast.suspected || (word == 0 && opaque == 0)) return false;
@@ -438,8 +438,8 @@ void pass_fast_tick(struct lagd *lagd) {
     (void)read_tap_mac(lagd->tap, (uint8_t *)&lagd->fast->host->mac);
     withdraw(lagd);
     open_host(lagd, has_carrier(lagd->tap));
-    take_fast_counts(lagd);
-    if (peer_answering(lagd->probe) == MUTE) take_back(lagd, is_resting, 0);
+    count_fast_frames(lagd);
+    if (peer_answering(lagd->probe) == MUTE) withdraw_chosen(lagd, is_resting, 0);
     for (uint16_t number = 0; number < CONVERSATIONS; number++) any = suspect(lagd, &lagd->carry.conversations[number]) || any;
     if (any) wait_or_end(lagd);
 }

@@ -83,14 +83,14 @@ static void hand_over(struct lagd *lagd, struct link *link, const struct arrival
 }
 
 /* Takes a response of the partner. */
-void take_response(struct lagd *lagd, struct link *link, const struct arrival *arrival, uint32_t id) {
+void accept_response(struct lagd *lagd, struct link *link, const struct arrival *arrival, uint32_t id) {
     (void)id;
     hand_over(lagd, link, arrival, NULL);
     note_response(lagd, link);
 }
 
 /* Takes a response to a marker of one queue: the library has the last one that was missing. */
-void take_response_of_queue(struct lagd *lagd, struct link *link, const struct arrival *arrival, uint32_t id) {
+void accept_response_of_queue(struct lagd *lagd, struct link *link, const struct arrival *arrival, uint32_t id) {
     uint8_t frame[NIW_FRAME];
     struct arrival last = *arrival;
     bool ends = ends_flight(lagd->queues, link, &id);
@@ -102,7 +102,7 @@ void take_response_of_queue(struct lagd *lagd, struct link *link, const struct a
     set_identifier(frame, id);
     last.frame = frame;
     last.length = sizeof frame;
-    take_response(lagd, link, &last, id);
+    accept_response(lagd, link, &last, id);
 }
 
 /* Whether the actor of an LACPDU may be the partner of a link; writes which system it is. */
@@ -113,7 +113,7 @@ bool may_be_partner(const struct link *link, const uint8_t *frame, struct system
 
 /* Takes a frame. The slow protocols have one address, which no bridge passes on: a frame to any other one comes from anybody. Their
  * frames have no VLAN tag. The kernel calls one with a tag another host's, or shows it as a frame of the VLAN's interface. */
-void take_frame(struct lagd *lagd, struct link *link, const struct arrival *arrival) {
+void accept_frame(struct lagd *lagd, struct link *link, const struct arrival *arrival) {
     struct system_id actor;
     struct niw_pdu response;
     bool is_lacpdu, is_response;
@@ -137,7 +137,7 @@ void take_frame(struct lagd *lagd, struct link *link, const struct arrival *arri
         return;
     }
     if (is_response)
-        lagd->plane.queueing->take_response(lagd, link, arrival, response.transaction_id);
+        lagd->plane.queueing->accept_response(lagd, link, arrival, response.transaction_id);
     else
         hand_over(lagd, link, arrival, is_lacpdu ? &actor : NULL);
 }
@@ -155,7 +155,7 @@ struct tpacket_auxdata aux_of(struct msghdr *message) {
 }
 
 /* Takes the frames that wait at an interface, MOST_TAKEN of them at most. */
-void take_frames(struct lagd *lagd, uint16_t port) {
+void receive_frames(struct lagd *lagd, uint16_t port) {
     struct link *link = &lagd->links[port - 1];
     uint8_t frame[LONGEST_FRAME];
     for (int turn = 0; turn < MOST_TAKEN && link->socket >= 0; turn++) {
@@ -171,7 +171,7 @@ void take_frames(struct lagd *lagd, uint16_t port) {
         if (got < 0) return;
         if (from.sll_pkttype == PACKET_OUTGOING) continue; /* an old kernel shows what was sent */
         arrival.tagged = (aux_of(&message).tp_status & TP_STATUS_VLAN_VALID) != 0;
-        take_frame(lagd, link, &arrival);
+        accept_frame(lagd, link, &arrival);
     }
 }
 

@@ -300,7 +300,7 @@ void close_guard(struct lagd *lagd, const struct link *link, struct guard *guard
     gather_back(lagd->folder, link, done);
     if (before->joins != 0) set_joins(link->index, before->joins);
     if (before->joins != 0) done = (before->joins & ~read_joins(link->index).wanted) == 0 && done;
-    take_fifo(link->index); /* with all its queues the kernel gives each of them what it chooses */
+    drop_fifo(link->index); /* with all its queues the kernel gives each of them what it chooses */
     if (before->steered[0]) done = steer_back(link->index, before->steered) && done;
     if (done) forget_settings(lagd->folder, link);
 }
@@ -311,8 +311,8 @@ void put_back(struct lagd *lagd, int index, const uint8_t *mac) {
     struct guard guard = {.classifier = CLASSIFIER_ALONE};
     int lock = lock_interface(lagd, index);
     if (lock < 0) return;
-    guard.opened = take_stored(lagd, "guard", index);
-    guard.chooser = take_stored(lagd, "queues", index);
+    guard.opened = claim_stored(lagd, "guard", index);
+    guard.chooser = claim_stored(lagd, "queues", index);
     memcpy(link.mac, mac, sizeof link.mac);
     recall_settings(lagd->folder, &link, &guard.before);
     close_guard(lagd, &link, &guard);

@@ -43,7 +43,7 @@ static void begin_halt(struct lagd *lagd) {
     for (uint16_t i = 0; i < lagd->link_count; i++) expect_lacpdu(&lagd->links[i]);
     hold_ports(lagd);
     send_due(lagd);
-    take_views(lagd);
+    read_views(lagd);
     lagd->halt->ticks = 0;
     if (end_is_told(lagd)) fall_silent(lagd);
 }

@@ -80,7 +80,7 @@ void end_held(struct lagd *lagd) {
 }
 
 /* A slot that is not in use, or NONE. */
-static uint32_t take_slot(struct held_private *own, struct pool *pool) {
+static uint32_t claim_slot(struct held_private *own, struct pool *pool) {
     uint32_t at = pool->idle;
     if (at != NONE)
         pool->idle = slot_of(own, at)->next;
@@ -139,7 +139,7 @@ bool oldest_held(struct lagd *lagd, uint16_t number, uint64_t *came) {
 /* Puts a packet behind those of its conversation; answers whether there was room. */
 bool put_held(struct lagd *lagd, uint16_t number, const uint8_t *packet, size_t length) {
     struct held_private *own = lagd->held;
-    uint32_t at = take_slot(lagd->held, length > SMALL_ROOM ? &own->large : &own->small), status;
+    uint32_t at = claim_slot(lagd->held, length > SMALL_ROOM ? &own->large : &own->small), status;
     if (at == NONE) return false;
     status = niw_queue_put(&own->queues, number, at);
     if (status == NIW_CONVERSATION_FULL || status == NIW_ALL_FULL || !is_done(lagd, status, "niw_queue_put")) {
@@ -165,7 +165,7 @@ bool drop_held(struct lagd *lagd, uint16_t number, enum carry_count why) {
 
 /* Takes the oldest frame of a conversation out, to be sent; answers NULL where none is told. Its packet stays where it is until
  * free_left. */
-uint8_t *take_held(struct lagd *lagd, uint16_t number, size_t *length) {
+uint8_t *remove_held(struct lagd *lagd, uint16_t number, size_t *length) {
     struct held_private *own = lagd->held;
     struct niw_queued queued = niw_queue_next(&own->queues, number);
     uint32_t at = slot_told(lagd, &queued, "niw_queue_next");

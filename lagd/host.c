@@ -59,13 +59,13 @@ bool is_cutting(struct lagd *lagd) {
 }
 
 /* Takes segments of a packet from this one on, so many at most; answers how many. */
-static unsigned take_segments(struct lagd *lagd, const struct cut *cut, uint32_t from, unsigned most) {
+static unsigned cut_segments(struct lagd *lagd, const struct cut *cut, uint32_t from, unsigned most) {
     struct host_private *own = lagd->host;
     unsigned taken = 0;
     for (; taken < most && from + taken < cut->count && !lagd->broken; taken++) {
         uint8_t *packet = room_at(own->segments, taken % BATCH);
         if (taken > 0 && taken % BATCH == 0) flush_data(lagd);
-        take_from_host(lagd, packet, put_segment(cut, from + taken, packet));
+        accept_from_host(lagd, packet, put_segment(cut, from + taken, packet));
     }
     flush_data(lagd);
     return taken;
@@ -96,27 +96,27 @@ static unsigned wait_uncut(struct lagd *lagd, const uint8_t *packet, size_t leng
 
 /* Takes a packet whose segments and checksum the host left to a card, but one of more segments than are cut at once; answers how many frames it
  * has. A packet that cannot be cut has no octets. */
-static unsigned take_whole(struct lagd *lagd, uint8_t *packet, size_t length) {
+static unsigned accept_whole(struct lagd *lagd, uint8_t *packet, size_t length) {
     struct cut cut;
     if (has_segments(packet)) {
         lagd->carry.counts[SEGMENTED]++;
-        if (read_cut(packet, length, &cut)) return take_segments(lagd, &cut, 0, cut.count);
+        if (read_cut(packet, length, &cut)) return cut_segments(lagd, &cut, 0, cut.count);
         length = 0;
     }
     finish_sum(packet, length);
-    take_from_host(lagd, packet, length);
+    accept_from_host(lagd, packet, length);
     return 1;
 }
 
 /* Takes of the packets that wait, the oldest ones first, so many segments at most. */
-static void take_uncut(struct lagd *lagd, unsigned most) {
+static void cut_waiting(struct lagd *lagd, unsigned most) {
     struct host_private *own = lagd->host;
     for (unsigned taken = 0; taken < most && is_cutting(lagd);) {
         struct uncut *uncut = &own->waiting[own->first];
         unsigned now;
         if (uncut->cut.count > 0 && uncut->next == 0) lagd->carry.counts[SEGMENTED]++;
-        now = uncut->cut.count > 0 ? take_segments(lagd, &uncut->cut, uncut->next, most - taken)
-                                   : take_whole(lagd, room_at(own->rooms, own->first), uncut->length);
+        now = uncut->cut.count > 0 ? cut_segments(lagd, &uncut->cut, uncut->next, most - taken)
+                                   : accept_whole(lagd, room_at(own->rooms, own->first), uncut->length);
         uncut->next += now;
         taken += now;
         if (uncut->next < uncut->cut.count) continue;
@@ -134,18 +134,18 @@ static bool is_long(const uint8_t *packet, size_t length) {
 
 /* Takes a packet of a host that leaves segments and checksums to a card: one of many segments waits, and those of its conversation behind it;
  * answers how many frames it has. */
-static unsigned take_in_turn(struct lagd *lagd, uint8_t *packet, size_t length) {
+static unsigned accept_in_turn(struct lagd *lagd, uint8_t *packet, size_t length) {
     size_t head = head_octets();
     struct niw_number number;
-    if (length < head + ETH_HLEN || (!is_cutting(lagd) && !is_long(packet, length))) return take_whole(lagd, packet, length);
+    if (length < head + ETH_HLEN || (!is_cutting(lagd) && !is_long(packet, length))) return accept_whole(lagd, packet, length);
     number = conversation_of(lagd, packet + head, length - head);
     if (number.status != NIW_OK || (lagd->host->of_one[number.number % CONVERSATIONS] == 0 && !is_long(packet, length)))
-        return take_whole(lagd, packet, length);
+        return accept_whole(lagd, packet, length);
     return wait_uncut(lagd, packet, length, (uint16_t)(number.number % CONVERSATIONS));
 }
 
 /* Takes one packet of the TAP device; answers how many frames it has, or 0 where there is none. */
-static unsigned take_next(struct lagd *lagd, uint8_t *packet) {
+static unsigned read_next(struct lagd *lagd, uint8_t *packet) {
     ssize_t length;
     if (lagd->broken) return 0;
     length = read(lagd->host->tap, packet, packet_room());
@@ -154,22 +154,22 @@ static unsigned take_next(struct lagd *lagd, uint8_t *packet) {
         lose_tap(lagd);
         return 0;
     }
-    if (length >= (ssize_t)head_octets() && !lagd->plane.segments) return take_in_turn(lagd, packet, (size_t)length);
-    take_from_host(lagd, packet, length < 0 ? 0 : (size_t)length); /* one that cannot be read has no octets */
+    if (length >= (ssize_t)head_octets() && !lagd->plane.segments) return accept_in_turn(lagd, packet, (size_t)length);
+    accept_from_host(lagd, packet, length < 0 ? 0 : (size_t)length); /* one that cannot be read has no octets */
     return 1;
 }
 
 /* Takes the packets that wait in the TAP device, some at most, and then of those that wait to be cut. */
-void take_host(struct lagd *lagd) {
+void read_host(struct lagd *lagd) {
     unsigned got = 0, left = BATCH;
     for (; left > 0; got++) {
-        unsigned frames = take_next(lagd, room_at(lagd->host->packets, got));
+        unsigned frames = read_next(lagd, room_at(lagd->host->packets, got));
         if (frames == 0) break;
         lagd->carry.taken += frames;
         left -= frames < left ? frames : left;
     }
     flush_data(lagd);
-    take_uncut(lagd, MOST_CUT);
+    cut_waiting(lagd, MOST_CUT);
     flush_data(lagd);
     if (left == 0 || is_cutting(lagd)) lagd->carry.more_waits = true;
     lagd->plane.passing->note_read(lagd, got, left > 0);
@@ -186,11 +186,11 @@ void serve_data(struct lagd *lagd, uint32_t tag) {
     if (lagd->broken) return;
     if (tag == RESPONSES) serve_answers(lagd);
     if (tag >= MEMBERS && tag < RESPONSES) {
-        take_data(lagd, (uint16_t)(tag - MEMBERS + 1));
+        receive_data(lagd, (uint16_t)(tag - MEMBERS + 1));
         if (lagd->carry.changed) send_due(lagd);
     }
     settle_carry(lagd);
-    if (tag == HOST) take_host(lagd);
+    if (tag == HOST) read_host(lagd);
 }
 
 /* The link of a port goes down: nothing goes there from here on. */

@@ -165,7 +165,7 @@ static void give_key(struct lagd *lagd, struct link *link) {
 }
 
 /* The link of a port comes up: it has the key of its speed from now on. */
-void take_speed(struct lagd *lagd, struct link *link, const char *interface) {
+void apply_speed(struct lagd *lagd, struct link *link, const char *interface) {
     struct speed now;
     if (!lagd->settings.key_by_speed || link->up) return;
     now = read_speed(link->socket, interface);

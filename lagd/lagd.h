@@ -252,7 +252,7 @@ const char *read_port(struct lagd *lagd, char *text, struct settings *settings);
 int check_machine(struct lagd *lagd, const struct options *options);
 
 /* address.c */
-void take_own_address(struct settings *settings);
+void read_own_address(struct settings *settings);
 
 /* signals.c */
 int open_signals(const struct settings *settings);
@@ -280,10 +280,10 @@ struct arrival {
 struct msghdr;
 struct tpacket_auxdata;
 struct tpacket_auxdata aux_of(struct msghdr *message);
-void take_frame(struct lagd *lagd, struct link *link, const struct arrival *arrival);
-void take_frames(struct lagd *lagd, uint16_t port);
-void take_response(struct lagd *lagd, struct link *link, const struct arrival *arrival, uint32_t id);
-void take_response_of_queue(struct lagd *lagd, struct link *link, const struct arrival *arrival, uint32_t id);
+void accept_frame(struct lagd *lagd, struct link *link, const struct arrival *arrival);
+void receive_frames(struct lagd *lagd, uint16_t port);
+void accept_response(struct lagd *lagd, struct link *link, const struct arrival *arrival, uint32_t id);
+void accept_response_of_queue(struct lagd *lagd, struct link *link, const struct arrival *arrival, uint32_t id);
 void forget_partner(const struct settings *settings, struct link *link);
 bool may_be_partner(const struct link *link, const uint8_t *frame, struct system_id *actor);
 void note_actor(const struct settings *settings, struct link *link, const struct system_id *actor, const uint8_t *frame);
@@ -324,8 +324,8 @@ void limit_links(struct lagd *lagd, uint16_t most);
 
 /* changes.c */
 int open_changes(struct lagd *lagd);
-void take_changes(struct lagd *lagd);
-void take_messages(struct lagd *lagd, const void *messages, size_t length);
+void receive_changes(struct lagd *lagd);
+void read_messages(struct lagd *lagd, const void *messages, size_t length);
 void watch_changes(struct lagd *lagd);
 void look_again(struct changes_private *own);
 void suspect_carriers(struct changes_private *own);
@@ -341,7 +341,7 @@ uint16_t free_key(struct lagd *lagd, uint16_t behind, const struct link *but);
 uint16_t choose_key(struct lagd *lagd, const struct link *link);
 struct speed read_speed(int socket, const char *name);
 bool write_speed(int socket, const char *name, uint32_t megabits);
-void take_speed(struct lagd *lagd, struct link *link, const char *interface);
+void apply_speed(struct lagd *lagd, struct link *link, const char *interface);
 const char *speed_text(const struct speed *speed, char room[static 40]);
 
 /* system.c */
@@ -390,7 +390,7 @@ void halt_if_down(struct lagd *lagd);
 void pass_halt_tick(struct lagd *lagd);
 
 /* ports.c */
-void take_views(struct lagd *lagd);
+void read_views(struct lagd *lagd);
 void print_changes(struct lagd *lagd);
 bool print_change(struct lagd *lagd, struct link *link);
 struct facts facts_of(struct lagd *lagd, const struct link *link);
@@ -423,7 +423,7 @@ const char *boot_id(char room[static BOOT_ROOM]);
 void open_store(struct lagd *lagd);
 bool has_store(void);
 void put_stored(struct lagd *lagd, const char *kind, int number, int fd);
-int take_stored(struct lagd *lagd, const char *kind, int number);
+int claim_stored(struct lagd *lagd, const char *kind, int number);
 void return_stored(struct lagd *lagd, const char *kind, int number, int fd);
 void drop_stored(struct lagd *lagd, const char *kind, int number);
 void close_stored(struct lagd *lagd, const char *kind, int number, int fd);
@@ -455,7 +455,7 @@ bool leave_state(struct lagd *lagd);
 /* How the answer begins to who has no place. */
 #define REFUSAL "refused: "
 void open_status(struct lagd *lagd, const char *folder);
-void take_callers(struct lagd *lagd);
+void accept_callers(struct lagd *lagd);
 void serve_caller(struct lagd *lagd, uint32_t caller);
 void pass_tick_of_callers(struct lagd *lagd);
 void tell_watchers(struct status_private *own, const char *line, size_t length);
@@ -487,7 +487,7 @@ void forget_member(struct members_private *own, uint16_t port);
 void drain_member(struct lagd *lagd, uint16_t port);
 bool reopen_member(struct lagd *lagd, struct link *link);
 void follow_address(struct lagd *lagd, struct link *link, const uint8_t *mac);
-void take_marker(struct lagd *lagd, struct link *link, const uint8_t *frame);
+void send_new_marker(struct lagd *lagd, struct link *link, const uint8_t *frame);
 void follow_speed(struct lagd *lagd, const struct link *link, const char *interface);
 
 /* moves.c */

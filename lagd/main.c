@@ -60,7 +60,7 @@ static int open_clock(void) {
 
 /* Tells what changed. */
 static void tell_changes(struct lagd *lagd) {
-    take_views(lagd);
+    read_views(lagd);
     print_changes(lagd);
     look_at_bundle(lagd);
 }
@@ -94,12 +94,12 @@ static struct ready ready_of(const struct epoll_event *events, int count) {
 }
 
 /* Takes the frames of all ports, and sends once what they made due. */
-static void take_all_frames(struct lagd *lagd, const struct epoll_event *events, int count) {
+static void serve_all_frames(struct lagd *lagd, const struct epoll_event *events, int count) {
     bool taken = false;
     for (int i = 0; i < count; i++) {
         uint32_t port = events[i].data.u32;
         if (port > NIW_MOST_PORTS || lagd->links[port - 1].socket < 0) continue;
-        take_frames(lagd, (uint16_t)port);
+        receive_frames(lagd, (uint16_t)port);
         taken = true;
     }
     if (!taken) return;
@@ -108,7 +108,7 @@ static void take_all_frames(struct lagd *lagd, const struct epoll_event *events,
 }
 
 /* Takes the data of all members, and then that of the host. */
-static void take_all_data(struct lagd *lagd, const struct epoll_event *events, int count) {
+static void serve_all_data(struct lagd *lagd, const struct epoll_event *events, int count) {
     bool host = is_cutting(lagd);
     for (int i = 0; i < count; i++) {
         host |= events[i].data.u32 == HOST;
@@ -140,11 +140,11 @@ static bool is_end(struct lagd *lagd, int signals, const char *file) {
 
 /* What came in a turn, the clock after the frames that waited. */
 static void serve(struct lagd *lagd, const struct epoll_event *events, int count, struct ready ready, int clock) {
-    if (ready.change) take_changes(lagd);
-    take_all_frames(lagd, events, count);
-    take_all_data(lagd, events, count);
+    if (ready.change) receive_changes(lagd);
+    serve_all_frames(lagd, events, count);
+    serve_all_data(lagd, events, count);
     serve_callers(lagd, events, count);
-    if (ready.caller) take_callers(lagd);
+    if (ready.caller) accept_callers(lagd);
     watch_carriers(lagd, ready.tick);
     if (ready.tick) pass_time(lagd, clock);
     settle_carry(lagd);
@@ -197,7 +197,7 @@ static int run_daemon(struct lagd *lagd, const struct options *options) {
     signals = open_signals(&lagd->settings);
     lagd->epoll_file = epoll_create1(EPOLL_CLOEXEC);
     if (lagd->epoll_file < 0) stop(REFUSED, "epoll", strerror(errno));
-    if (lagd->settings.system_auto) take_own_address(&lagd->settings);
+    if (lagd->settings.system_auto) read_own_address(&lagd->settings);
     open_folder(lagd, options->folder);
     open_store(lagd);
     choose_plane(&lagd->plane, &lagd->settings);

@@ -426,7 +426,7 @@ static bool send_marker(struct lagd *lagd, struct link *link, const uint8_t *mar
 }
 
 /* A marker is due on a port. */
-void take_marker(struct lagd *lagd, struct link *link, const uint8_t *frame) {
+void send_new_marker(struct lagd *lagd, struct link *link, const uint8_t *frame) {
     struct member *member = member_of(lagd, link);
     memcpy(member->marker, frame, sizeof member->marker);
     member->has_marker = true;
@@ -441,7 +441,7 @@ bool send_marker_again(struct lagd *lagd, uint16_t port) {
 }
 
 /* Hands a frame of data to the library, and up. */
-static void take_one(struct lagd *lagd, struct link *link, uint8_t *packet, size_t length) {
+static void deliver(struct lagd *lagd, struct link *link, uint8_t *packet, size_t length) {
     struct member *member = member_of(lagd, link);
     uint8_t response[NIW_FRAME];
     size_t octets = length - head_octets() < LONGEST_SHOWN ? length - head_octets() : LONGEST_SHOWN;
@@ -454,16 +454,16 @@ static void take_one(struct lagd *lagd, struct link *link, uint8_t *packet, size
 }
 
 /* A marker goes the way of all slow protocols. One that the kernel handed up to the TAP device came by its member. */
-static void take_slow(struct lagd *lagd, struct link *link, const struct sockaddr_ll *from, bool handed_up, const uint8_t *frame,
+static void accept_slow(struct lagd *lagd, struct link *link, const struct sockaddr_ll *from, bool handed_up, const uint8_t *frame,
     size_t length) {
     struct arrival arrival = {frame, length, from->sll_pkttype, handed_up ? link->index : from->sll_ifindex, false};
     flush_host(lagd); /* what came before it */
-    take_frame(lagd, link, &arrival);
+    accept_frame(lagd, link, &arrival);
     lagd->carry.changed = true;
 }
 
 /* Takes a packet that came: a marker alone, without a head, where the kernel hands up the data. */
-static void take_message(struct lagd *lagd, struct link *link, struct mmsghdr *message, bool handed_up) {
+static void accept_packet(struct lagd *lagd, struct link *link, struct mmsghdr *message, bool handed_up) {
     struct member *member = member_of(lagd, link);
     const struct sockaddr_ll *from = message->msg_hdr.msg_name;
     struct tpacket_auxdata aux = aux_of(&message->msg_hdr);
@@ -472,7 +472,7 @@ static void take_message(struct lagd *lagd, struct link *link, struct mmsghdr *m
     bool tagged = (aux.tp_status & TP_STATUS_VLAN_VALID) != 0;
     if (from->sll_pkttype == PACKET_OUTGOING) return; /* an old kernel shows what was sent */
     if (!tagged && length >= head + ETH_HLEN && ((unsigned)packet[head + 12] << 8 | packet[head + 13]) == ETH_P_SLOW) {
-        take_slow(lagd, link, from, handed_up, packet + head, length - head);
+        accept_slow(lagd, link, from, handed_up, packet + head, length - head);
         return;
     }
     if (handed_up) return;
@@ -486,7 +486,7 @@ static void take_message(struct lagd *lagd, struct link *link, struct mmsghdr *m
     if (message->msg_hdr.msg_flags & MSG_TRUNC || !has_right_length(packet, length, member->mtu != 0 ? member->mtu : ETH_DATA_LEN))
         member->counts[WRONG_LENGTH]++;
     else
-        take_one(lagd, link, packet, length);
+        deliver(lagd, link, packet, length);
 }
 
 /* The kernel has a frame of segments that it cannot describe: it is lost. */
@@ -496,7 +496,7 @@ static bool is_unreadable(int got) {
 
 /* Takes the packets that wait in a socket of a member, some at most. What the kernel tells of links comes before them: what was sent after
  * a link went is not handed up before it. */
-static void take_packets(struct lagd *lagd, uint16_t port, const int *fd, bool only_markers) {
+static void receive_packets(struct lagd *lagd, uint16_t port, const int *fd, bool only_markers) {
     struct link *link = &lagd->links[port - 1];
     struct member *member = &lagd->members->members[port - 1];
     struct mmsghdr messages[BATCH];
@@ -517,10 +517,10 @@ static void take_packets(struct lagd *lagd, uint16_t port, const int *fd, bool o
         member->counts[WRONG_LENGTH]++;
     }
     if (got <= 0) return;
-    take_changes(lagd);
+    receive_changes(lagd);
     lagd->carry.taken += (unsigned)got;
     if (got == BATCH) lagd->carry.more_waits = true;
-    for (int i = 0; i < got; i++) take_message(lagd, link, &messages[i], only_markers);
+    for (int i = 0; i < got; i++) accept_packet(lagd, link, &messages[i], only_markers);
     flush_host(lagd);
 }
 
@@ -530,18 +530,18 @@ void drain_member(struct lagd *lagd, uint16_t port) {
     if (member->socket < 0) return;
     for (unsigned turn = 0; turn < MOST_DRAINED && !lagd->broken; turn++) {
         lagd->carry.more_waits = false;
-        take_data(lagd, port);
+        receive_data(lagd, port);
         if (!lagd->carry.more_waits) return;
     }
 }
 
 /* Takes what waits at a member. */
-void take_data(struct lagd *lagd, uint16_t port) {
+void receive_data(struct lagd *lagd, uint16_t port) {
     struct member *member = &lagd->members->members[port - 1];
     if (member->markers < 0) {
-        take_packets(lagd, port, &member->socket, false);
+        receive_packets(lagd, port, &member->socket, false);
         return;
     }
-    take_packets(lagd, port, &member->markers, true);
-    take_packets(lagd, port, &member->direct, true);
+    receive_packets(lagd, port, &member->markers, true);
+    receive_packets(lagd, port, &member->direct, true);
 }

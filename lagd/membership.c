@@ -56,7 +56,7 @@ static void mark_taken(struct lagd *lagd, bool *taken, bool with_left) {
 }
 
 /* The lowest number that no port has, which has it from now on; 0 where there is none. */
-static uint16_t take_number(struct lagd *lagd, bool *taken) {
+static uint16_t claim_number(struct lagd *lagd, bool *taken) {
     uint16_t number = 1;
     while (number <= lagd->slot_count && taken[number - 1]) number++;
     if (number > lagd->slot_count) return 0;
@@ -75,7 +75,7 @@ static bool number_ports(struct lagd *lagd, const struct port_settings *given, u
         if (numbers[i] > 0) taken[numbers[i] - 1] = true;
     }
     for (uint16_t i = 0; i < count; i++)
-        if (numbers[i] == 0 && (numbers[i] = take_number(lagd, taken)) == 0) return false;
+        if (numbers[i] == 0 && (numbers[i] = claim_number(lagd, taken)) == 0) return false;
     return true;
 }
 
@@ -180,7 +180,7 @@ static void end_emptying(struct lagd *lagd, uint16_t port) {
     drain_member(lagd, port);
     if (!apply_hold(lagd, port)) return;
     send_due(lagd);
-    take_views(lagd);
+    read_views(lagd);
     look_at_carry(&lagd->carry);
 }
 
@@ -196,7 +196,7 @@ void leave_port(struct lagd *lagd, uint16_t port) {
     (void)say(lagd, LOG_NOTICE | ABOUT_PORT, "port %u %s: it leaves the bundle", port, link->name);
     if (!begin_hold(lagd, port)) return;
     send_due(lagd);
-    take_views(lagd);
+    read_views(lagd);
     link->changed = true;
     look_at_carry(&lagd->carry);
 }
@@ -340,7 +340,7 @@ static bool hold_by_word(struct lagd *lagd, struct link *link, bool hold) {
         if (!hold_port(lagd, port, hold)) return true;
         lagd->settings.ports[port - 1].hold = hold;
         send_due(lagd);
-        take_views(lagd);
+        read_views(lagd);
         look_at_carry(&lagd->carry);
     }
     return !hold || has_left(lagd, link);

@@ -129,7 +129,7 @@ static void expect(const char *expected, const char *name, const char *value) {
 }
 
 /* An option that is a key of the bundle. */
-static void take_option(struct lagd *lagd, int letter, const char *text) {
+static void apply_option(struct lagd *lagd, int letter, const char *text) {
     struct options_private *own = lagd->options;
     const struct option_text *row = own->rows;
     while (row->letter != letter) row++;
@@ -145,7 +145,7 @@ static void choose(struct options_private *own, enum action action) {
 }
 
 /* One file is run, or looked at. */
-static void take_file(struct options_private *own, const char *file) {
+static void note_file(struct options_private *own, const char *file) {
     if (own->options.file) stop(WRONG_WORD, "usage", "one file, by --config or by --check; lagd --help tells more");
     own->options.file = file;
 }
@@ -175,8 +175,8 @@ static void read_option(struct lagd *lagd, int option, const char *last) {
     struct options_private *own = lagd->options;
     const char letter[] = {'-', (char)optopt, 0};
     switch (option) {
-    case 'c': take_file(lagd->options, optarg); break;
-    case 'k': choose(lagd->options, CHECK); take_file(lagd->options, optarg); break;
+    case 'c': note_file(lagd->options, optarg); break;
+    case 'k': choose(lagd->options, CHECK); note_file(lagd->options, optarg); break;
     case 'f': own->options.folder = optarg; break;
     case 's': choose(lagd->options, SHOW); break;
     case 'w': choose(lagd->options, WATCH); break;
@@ -189,7 +189,7 @@ static void read_option(struct lagd *lagd, int option, const char *last) {
     case 'h': print_help(lagd); end_printing();
     case 'V': print_version(); end_printing();
     case '?': case ':': stop(WRONG_WORD, "not an option, or its word is missing", optopt ? letter : last);
-    default: take_option(lagd, option, optarg); break;
+    default: apply_option(lagd, option, optarg); break;
     }
 }
 

@@ -161,21 +161,21 @@ static const struct passing BY_DAEMON = {
 };
 
 static const struct passing BY_KERNEL = {
-    .start = start_fast, .end = end_fast, .set_up_device = give_no_queue, .run_programs = run_fast_programs, .count = take_fast_counts,
+    .start = start_fast, .end = end_fast, .set_up_device = give_no_queue, .run_programs = run_fast_programs, .count = count_fast_frames,
     .withdraw = withdraw, .withdraw_port = withdraw_port, .pass_on = pass_on, .note_read = note_read, .open_host = open_host,
-    .follow_discipline = follow_host_queue, .set_collecting = set_collecting, .look_for_losses = take_host, .tick = pass_fast_tick,
+    .follow_discipline = follow_host_queue, .set_collecting = set_collecting, .look_for_losses = read_host, .tick = pass_fast_tick,
     .member_of = fast_member_of, .resume = resume_fast, .steers = true,
 };
 
 static const struct queueing ONE_QUEUE = {
     .start = do_nothing, .fifos_of = has_one_queue, .set = join_queues, .set_again = look_at_discipline, .follow = leave_link,
-    .watch = do_nothing, .mark = mark_nothing, .send_marker = send_by_one_queue, .take_response = take_response, .answer = answer_at_once,
+    .watch = do_nothing, .mark = mark_nothing, .send_marker = send_by_one_queue, .accept_response = accept_response, .answer = answer_at_once,
     .show = show_nothing_of, .text = "", .markers_at_once = 1,
 };
 
 static const struct queueing ALL_QUEUES = {
     .start = start_all_queues, .fifos_of = count_fifos, .set = keep_queues, .set_again = keep_queues_again, .follow = follow_member_queues,
-    .watch = watch_queues, .mark = mark_conversation, .send_marker = send_by_queues, .take_response = take_response_of_queue,
+    .watch = watch_queues, .mark = mark_conversation, .send_marker = send_by_queues, .accept_response = accept_response_of_queue,
     .answer = answer_later, .show = show_queues, .text = ", all queues", .markers_at_once = MARKERS_AT_ONCE,
 };
 

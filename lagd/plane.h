@@ -81,7 +81,7 @@ struct queueing {
     void (*watch)(struct lagd *lagd);
     void (*mark)(struct lagd *lagd, uint16_t port, uint16_t number, struct msghdr *message);
     bool (*send_marker)(struct lagd *lagd, struct link *link, const uint8_t *marker, bool again);
-    void (*take_response)(struct lagd *lagd, struct link *link, const struct arrival *arrival, uint32_t id);
+    void (*accept_response)(struct lagd *lagd, struct link *link, const struct arrival *arrival, uint32_t id);
     bool (*answer)(struct lagd *lagd, struct link *link, const uint8_t *response); /* false where too many wait */
     void (*show)(struct lagd *lagd, const struct link *link, enum form form);
     const char *text;         /* behind the way, in the status */

@@ -52,7 +52,7 @@ static void count_change(const struct settings *settings, struct link *link, con
 }
 
 /* Takes what the library tells of the ports that changed. */
-void take_views(struct lagd *lagd) {
+void read_views(struct lagd *lagd) {
     struct niw_view views[NIW_MOST_PORTS];
     uint64_t changed;
     if (!is_told(lagd, niw_views(&lagd->own_system, views, NIW_MOST_PORTS), "niw_views", &changed)) return;

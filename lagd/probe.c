@@ -69,7 +69,7 @@ static void ask_peer(struct lagd *lagd) {
     if (own->peer == NOT_ASKED) own->peer = ASKED;
     own->asked_on = lagd->carry.ports[0];
     own->asked_at = own->sent_at = lagd->carry.time;
-    take_marker(lagd, &lagd->links[own->asked_on - 1], marker);
+    send_new_marker(lagd, &lagd->links[own->asked_on - 1], marker);
 }
 
 /* Sends the marker again: a cable may lose one. */

@@ -75,7 +75,7 @@ static void change_policy(struct lagd *lagd, const struct settings *wanted) {
 }
 
 /* A port is another one than it was: it goes, comes or changes. Answers whether anything differs. */
-static bool take_port(struct lagd *lagd, uint16_t port, const struct settings *wanted) {
+static bool apply_port(struct lagd *lagd, uint16_t port, const struct settings *wanted) {
     const struct link *link = &lagd->links[port - 1];
     const char *name = wanted->ports[port - 1].name;
     bool was_leaving = link->leaving;
@@ -100,9 +100,9 @@ static bool take_port(struct lagd *lagd, uint16_t port, const struct settings *w
 }
 
 /* Takes what can be changed; answers how many ports have something else now. */
-static unsigned take(struct lagd *lagd, const struct settings *wanted) {
+static unsigned apply_settings(struct lagd *lagd, const struct settings *wanted) {
     unsigned changed = 0;
-    for (uint16_t port = 1; port <= lagd->slot_count; port++) changed += take_port(lagd, port, wanted);
+    for (uint16_t port = 1; port <= lagd->slot_count; port++) changed += apply_port(lagd, port, wanted);
     limit_links(lagd, wanted->config.max_links);
     change_policy(lagd, wanted);
     lagd->settings.partner_required = wanted->partner_required;
@@ -140,11 +140,11 @@ void reload(struct lagd *lagd, const char *file) {
             "%s: more ports than there is room for: a restart of this bundle is needed, and nothing is changed", file);
     } else {
         const char *rest = restart_for(lagd, &wanted);
-        unsigned changed = take(lagd, &wanted);
+        unsigned changed = apply_settings(lagd, &wanted);
         (void)say(lagd, LOG_NOTICE | ABOUT_RELOAD, "%s: read again, %u ports changed", file, changed);
         if (rest) (void)say(lagd, LOG_WARNING | ABOUT_RESTART, "%s: %s: a restart of this bundle is needed", file, rest);
         send_due(lagd);
-        take_views(lagd);
+        read_views(lagd);
         look_at_carry(&lagd->carry);
     }
     notify_ready(lagd);

@@ -163,7 +163,7 @@ void resume_conversations(struct lagd *lagd, bool goes_on) {
 /* After the ports: the bundle and its data go on as they were. */
 void resume_data(struct lagd *lagd, unsigned count) {
     bool goes_on = count > 0 && lagd->inherited.bundle.aggregator <= lagd->aggregator_count;
-    take_views(lagd);
+    read_views(lagd);
     if (goes_on) go_on_as(lagd, &lagd->inherited.bundle);
     lagd->plane.carrying->resume(lagd, goes_on);
 }

@@ -88,7 +88,7 @@ static void refuse(int fd, const char *why) {
     (void)send(fd, text, (size_t)length, MSG_NOSIGNAL | MSG_DONTWAIT);
 }
 
-static void take_caller(struct lagd *lagd, int fd) {
+static void accept_one(struct lagd *lagd, int fd) {
     struct ucred who = {0};
     socklen_t length = sizeof who;
     const char *why = NULL;
@@ -102,14 +102,14 @@ static void take_caller(struct lagd *lagd, int fd) {
 }
 
 /* Takes connections, in the order in which they came. Those for which there is no room now are taken at the next tick. */
-void take_callers(struct lagd *lagd) {
+void accept_callers(struct lagd *lagd) {
     struct status_private *own = lagd->status;
     while (own->left_in_tick > 0) {
         int fd = accept4(own->listener, NULL, NULL, SOCK_NONBLOCK | SOCK_CLOEXEC);
         if (fd < 0 && (errno == EAGAIN || errno == EINTR || errno == ECONNABORTED)) return;
         if (fd < 0) break; /* without a file for it, it waits for the next tick */
         own->left_in_tick--;
-        take_caller(lagd, fd);
+        accept_one(lagd, fd);
     }
     if (own->listens) await_no_more(lagd->epoll_file, own->listener);
     own->listens = false;

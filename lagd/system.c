@@ -110,7 +110,7 @@ void make_system(struct lagd *lagd) {
     make_keys(lagd, lagd->system->keys);
     if (!is_done(lagd, put_system(lagd, NULL, 0).status, "niw_new")) return;
     hold_ports(lagd);
-    take_views(lagd);
+    read_views(lagd);
 }
 
 /* Sends what is due on a port. */
@@ -120,7 +120,7 @@ static void send_due_of(struct lagd *lagd, uint16_t port) {
         struct niw_sent due = niw_transmit(&lagd->own_system, port, frame, sizeof frame);
         if (!is_done(lagd, due.status, "niw_transmit") || !due.is) return;
         if (due.what == NIW_SENT_MARKER)
-            take_marker(lagd, &lagd->links[port - 1], frame);
+            send_new_marker(lagd, &lagd->links[port - 1], frame);
         else
             send_frame(lagd, &lagd->links[port - 1], frame);
     }
@@ -157,7 +157,7 @@ void set_link(struct lagd *lagd, uint16_t port, bool up) {
     if (!is_done(lagd, niw_set_link(&lagd->own_system, port, up), "niw_set_link")) return;
     look_at_carry(&lagd->carry);
     send_due(lagd);
-    take_views(lagd);
+    read_views(lagd);
     (void)print_change(lagd, link);
 }
 
@@ -191,7 +191,7 @@ static void pass_second(struct lagd *lagd) {
 
 /* 100 ms passed for churn detection: by what the library tells of the ports after its own tick. */
 static void watch_churn(struct lagd *lagd) {
-    take_views(lagd);
+    read_views(lagd);
     for (uint16_t i = 0; i < lagd->link_count; i++) {
         const struct niw_view *view = &lagd->links[i].view;
         if (!is_done(lagd, niw_churn_tick(&lagd->links[i].churn, view->up, view->state, view->partner_state), "niw_churn_tick")) return;

@@ -234,10 +234,10 @@ static void lose_waiting(struct tap_private *own) {
 
 /* Takes the device that the last daemon left with the manager of services, whatever an administrator named it since, and the frames that
  * wait there unless they are old; answers whether there is one. Its carrier goes where nothing goes on. */
-static bool take_inherited(struct lagd *lagd, const char *name, const uint8_t *mac) {
+static bool open_inherited(struct lagd *lagd, const char *name, const uint8_t *mac) {
     struct tap_private *own = lagd->tap;
     struct ifreq device = {0};
-    int fd = take_stored(lagd, "tap", 0);
+    int fd = claim_stored(lagd, "tap", 0);
     if (fd < 0) return false;
     if (!is_here(fd, &device)
         || (lagd->inherited.tap == 0 ? strcmp(device.ifr_name, name) != 0 : index_of(lagd->tap, device.ifr_name) != lagd->inherited.tap)) {
@@ -281,7 +281,7 @@ int open_tap(struct lagd *lagd, const char *name, const uint8_t *mac) {
     struct tap_private *own = lagd->tap;
     own->asker = socket(AF_UNIX, SOCK_DGRAM | SOCK_CLOEXEC, 0);
     if (own->asker < 0) stop(REFUSED, "no TAP device", strerror(errno));
-    if (!take_inherited(lagd, name, mac)) make_tap(lagd, name, mac);
+    if (!open_inherited(lagd, name, mac)) make_tap(lagd, name, mac);
     put_stored(lagd, "tap", 0, own->tap);
     return own->tap;
 }

@@ -102,7 +102,7 @@ static bool has_own_ports(const struct settings *settings, const struct team_now
 }
 
 /* Takes a device that is there: that of the last daemon, or one that is of no use to others. */
-static void take_device(struct lagd *lagd, const struct interface *device, const uint8_t *mac) {
+static void adopt_device(struct lagd *lagd, const struct interface *device, const uint8_t *mac) {
     struct team_now now;
     bool known = device->index == lagd->inherited.tap;
     if (strcmp(device->kind, TEAM_KIND) != 0)
@@ -121,7 +121,7 @@ static void take_device(struct lagd *lagd, const struct interface *device, const
 /* Finds the device of the last daemon, whatever an administrator named it since, or else one of this name; answers whether there is one. A
  * TAP device of the last daemon goes. */
 static bool find_device(struct lagd *lagd, const char *name, struct interface *device) {
-    int tap = take_stored(lagd, "tap", 0);
+    int tap = claim_stored(lagd, "tap", 0);
     if (tap >= 0) close_stored(lagd, "tap", 0, tap);
     if (lagd->inherited.tap != 0 && ask_interface(lagd->inherited.tap, NULL, device) && strcmp(device->kind, TEAM_KIND) == 0)
         return true;
@@ -153,7 +153,7 @@ void open_team(struct lagd *lagd) {
     if (call_at_exit(lagd, end_team) != 0) stop(REFUSED, "no memory", "for the team device");
     own->opened = true;
     if (find_device(lagd, name, &device)) {
-        take_device(lagd, &device, mac);
+        adopt_device(lagd, &device, mac);
     } else {
         need(make_team_device(name, mac, least_mtu(&lagd->settings)) && ask_interface(0, name, &device), name);
         lock_device(lagd, device.index); /* another one may have taken it at once */

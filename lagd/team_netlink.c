@@ -27,13 +27,13 @@ static bool order(const union message *wanted) {
     return ask_netlink(NETLINK_ROUTE, wanted, NULL, NULL);
 }
 
-static int take_family(const struct nlattr *attribute, void *into) {
+static int parse_family(const struct nlattr *attribute, void *into) {
     if (mnl_attr_get_type(attribute) == CTRL_ATTR_FAMILY_ID) (void)copy_value(attribute, into, sizeof(uint16_t));
     return MNL_CB_OK;
 }
 
 static void read_family(const struct nlmsghdr *message, void *into) {
-    read_attributes(message, sizeof(struct genlmsghdr), take_family, into);
+    read_attributes(message, sizeof(struct genlmsghdr), parse_family, into);
 }
 
 /* Asks for the number of the driver; answers whether it is there. */
@@ -156,7 +156,7 @@ struct option {
     struct place place;
 };
 
-static int take_part(const struct nlattr *part, void *into) {
+static int parse_part(const struct nlattr *part, void *into) {
     struct option *option = into;
     switch (mnl_attr_get_type(part)) {
     case TEAM_ATTR_OPTION_NAME: copy_text(part, option->name, sizeof option->name); break;
@@ -185,26 +185,26 @@ static void note_option(struct team_now *now, const struct option *option) {
     if (strcmp(option->name, "lb_hash_stats") == 0) (void)copy_value(option->value, &now->octets[number], sizeof now->octets[number]);
 }
 
-static int take_option(const struct nlattr *item, void *into) {
+static int parse_option(const struct nlattr *item, void *into) {
     struct option option = {.place = {0, -1}};
     if (mnl_attr_get_type(item) != TEAM_ATTR_ITEM_OPTION) return MNL_CB_OK;
-    (void)mnl_attr_parse_nested(item, take_part, &option);
+    (void)mnl_attr_parse_nested(item, parse_part, &option);
     note_option(into, &option);
     return MNL_CB_OK;
 }
 
-static int take_list(const struct nlattr *list, void *into) {
-    if (mnl_attr_get_type(list) == TEAM_ATTR_LIST_OPTION) (void)mnl_attr_parse_nested(list, take_option, into);
+static int parse_list(const struct nlattr *list, void *into) {
+    if (mnl_attr_get_type(list) == TEAM_ATTR_LIST_OPTION) (void)mnl_attr_parse_nested(list, parse_option, into);
     return MNL_CB_OK;
 }
 
-static void take_told(const struct nlmsghdr *message, void *into) {
-    read_attributes(message, sizeof(struct genlmsghdr), take_list, into);
+static void parse_team(const struct nlmsghdr *message, void *into) {
+    read_attributes(message, sizeof(struct genlmsghdr), parse_list, into);
 }
 
 /* Reads the options of a device; answers whether it could. */
 bool read_team(struct team_netlink_private *own, int index, struct team_now *now) {
     union message question = message_of_team(own, TEAM_CMD_OPTIONS_GET, 0, index);
     *now = (struct team_now){0};
-    return ask_netlink(NETLINK_GENERIC, &question, take_told, now);
+    return ask_netlink(NETLINK_GENERIC, &question, parse_team, now);
 }

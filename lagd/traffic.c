@@ -80,20 +80,20 @@ struct disciplines {
     unsigned queues; /* how many that send have one of their own, below that of the daemon */
 };
 
-static int take_kind(const struct nlattr *attribute, void *into) {
+static int read_kind(const struct nlattr *attribute, void *into) {
     if (mnl_attr_get_type(attribute) == TCA_KIND) copy_text(attribute, into, DISCIPLINE_ROOM);
     return MNL_CB_OK;
 }
 
 /* Sees one of them: the root, one of a queue, or one below that. A tbf has one row. */
-static void take_one(const struct nlmsghdr *message, void *into) {
+static void parse_discipline(const struct nlmsghdr *message, void *into) {
     struct disciplines *seen = into;
     const struct tcmsg *about = mnl_nlmsg_get_payload(message);
     char kind[DISCIPLINE_ROOM] = "";
     bool in_order;
     if (message->nlmsg_type != RTM_NEWQDISC || mnl_nlmsg_get_payload_len(message) < sizeof *about) return;
     if (about->tcm_ifindex != seen->index || about->tcm_parent == TC_H_CLSACT) return;
-    read_attributes(message, sizeof *about, take_kind, kind);
+    read_attributes(message, sizeof *about, read_kind, kind);
     in_order = about->tcm_parent == TC_H_ROOT ? about->tcm_handle == FIFO && strcmp(kind, "mq") == 0 : strcmp(kind, "tbf") == 0;
     in_order = in_order || keeps_order(kind);
     seen->queues += TC_H_MAJ(about->tcm_parent) == FIFO && TC_H_MIN(about->tcm_parent) <= seen->sends;
@@ -105,7 +105,7 @@ static void take_one(const struct nlmsghdr *message, void *into) {
 static struct disciplines read_disciplines(int index) {
     union message question = question_of(RTM_GETQDISC, NLM_F_DUMP, index, 0, 0);
     struct disciplines seen = {index, count_entries(index, "tx-"), true, true, 0};
-    if (!ask_list(NETLINK_ROUTE, &question, take_one, &seen, sizeof seen)) seen.in_order = seen.changeable = false;
+    if (!ask_list(NETLINK_ROUTE, &question, parse_discipline, &seen, sizeof seen)) seen.in_order = seen.changeable = false;
     return seen;
 }
 
@@ -126,7 +126,7 @@ bool give_fifos(int index, unsigned queues, uint32_t megabits) {
     bool given;
     if (queues <= 1) return give_fifo(index, megabits);
     given = give_queues(index);
-    if (!given) take_fifo(index);
+    if (!given) drop_fifo(index);
     if (!given && !give_queues(index)) return false;
     fit_fifos(index, queues, megabits);
     return have_order(index);
@@ -145,7 +145,7 @@ void fit_fifos(int index, unsigned queues, uint32_t megabits) {
 }
 
 /* The kernel gives an interface what it chooses by itself, if its queue is one of the daemon. */
-void take_fifo(int index) {
+void drop_fifo(int index) {
     union message question = question_of(RTM_DELQDISC, 0, index, TC_H_ROOT, FIFO);
     (void)order(&question);
 }
@@ -185,7 +185,7 @@ static bool is_own(const struct nlmsghdr *message) {
         && about->tcm_parent == TC_H_MAKE(TC_H_CLSACT, TC_H_MIN_INGRESS);
 }
 
-static void take_filter(const struct nlmsghdr *message, void *into) {
+static void parse_filter(const struct nlmsghdr *message, void *into) {
     bool *alone = into;
     *alone = *alone && is_own(message);
 }
@@ -194,7 +194,7 @@ static void take_filter(const struct nlmsghdr *message, void *into) {
 static bool has_own_alone(int index, uint32_t direction) {
     union message question = question_of(RTM_GETTFILTER, NLM_F_DUMP, index, TC_H_MAKE(TC_H_CLSACT, direction), 0);
     bool alone = true;
-    return ask_list(NETLINK_ROUTE, &question, take_filter, &alone, sizeof alone) && alone;
+    return ask_list(NETLINK_ROUTE, &question, parse_filter, &alone, sizeof alone) && alone;
 }
 
 /* The classifier goes: with its place, if the daemon made that and nobody else uses it by now. */

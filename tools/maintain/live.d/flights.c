@@ -52,7 +52,7 @@ void stop(int status, const char *what, const char *which) {
     _Exit(status);
 }
 
-void take_data(struct lagd *lagd, uint16_t port) {
+void receive_data(struct lagd *lagd, uint16_t port) {
     (void)lagd;
     (void)port;
 }

@@ -105,7 +105,7 @@ static void fuzz_file(const uint8_t *octets, size_t length) {
 
 static void fuzz_frame(const uint8_t *octets, size_t length) {
     struct arrival arrival = {octets, length, PACKET_MULTICAST, lagd->links[0].index, false};
-    take_frame(lagd, &lagd->links[0], &arrival);
+    accept_frame(lagd, &lagd->links[0], &arrival);
     send_due(lagd);
 }
 
@@ -114,14 +114,14 @@ static void fuzz_auxiliary(const uint8_t *octets, size_t length) {
     lagd->links[0].socket = wire[0];
     waiting = octets;
     waiting_length = length;
-    take_frames(lagd, 1);
+    receive_frames(lagd, 1);
     waiting = NULL;
     lagd->links[0].socket = -1;
     while (recv(wire[1], scrap, sizeof scrap, MSG_DONTWAIT) > 0) continue;
 }
 
 static void serve_all(void) {
-    take_callers(lagd);
+    accept_callers(lagd);
     for (uint32_t caller = 0; caller < MOST_CALLERS; caller++) serve_caller(lagd, caller);
 }
 
@@ -203,7 +203,7 @@ static void fuzz_messages(const uint8_t *octets, size_t length) {
     uint8_t *messages = malloc(length);
     if (!messages) return;
     memcpy(messages, octets, length);
-    take_messages(lagd, messages, length);
+    read_messages(lagd, messages, length);
     free(messages);
 }
 

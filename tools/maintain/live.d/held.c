@@ -65,7 +65,7 @@ static uint32_t take(uint16_t conversation, size_t wanted) {
     size_t length;
     const uint8_t *packet;
     uint32_t number;
-    packet = take_held(lagd, conversation, &length);
+    packet = remove_held(lagd, conversation, &length);
     if (!packet) return UINT32_MAX;
     memcpy(&number, packet, sizeof number);
     CHECK(length == wanted);

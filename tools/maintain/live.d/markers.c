@@ -64,7 +64,7 @@ const char *mac_text(const uint8_t *mac, char room[static 32]) {
     return room[0] = 0, room;
 }
 
-void take_marker(struct lagd *lagd, struct link *link, const uint8_t *frame) {
+void send_new_marker(struct lagd *lagd, struct link *link, const uint8_t *frame) {
     (void)lagd;
     (void)link;
     (void)frame;

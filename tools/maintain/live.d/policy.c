@@ -178,7 +178,7 @@ void flush_data(struct lagd *lagd) {
     end->out_count = 0;
     free_left(lagd->held);
 }
-void take_marker(struct lagd *lagd, struct link *link, const uint8_t *frame) {
+void send_new_marker(struct lagd *lagd, struct link *link, const uint8_t *frame) {
     struct end *end = end_of(lagd);
     flush_data(lagd);
     memcpy(end->marker[link->settings.number], frame, NIW_FRAME);
@@ -252,7 +252,7 @@ bool carries(struct lagd *lagd, const struct link *link) {
     (void)lagd;
     return link->view.port_status == NIW_PORT_STATUS_DISTRIBUTING;
 }
-void take_views(struct lagd *lagd) {
+void read_views(struct lagd *lagd) {
     struct niw_view views[NIW_MOST_PORTS];
     uint64_t changed;
     if (!is_told(lagd, niw_views(&lagd->own_system, views, NIW_MOST_PORTS), "niw_views", &changed)) return;
@@ -266,7 +266,7 @@ void send_due(struct lagd *lagd) {
             struct niw_sent due = niw_transmit(&lagd->own_system, port, frame, sizeof frame);
             if (!is_done(lagd, due.status, "niw_transmit") || !due.is) break;
             if (due.what == NIW_SENT_MARKER)
-                take_marker(lagd, &lagd->links[port - 1], frame);
+                send_new_marker(lagd, &lagd->links[port - 1], frame);
             else
                 put_slow(end_of(lagd), port, frame);
         }
@@ -371,7 +371,7 @@ static const struct carrying FRAMES = {.settle = settle_frames, .tick = pass_tic
     .frames_heard = frames_handed_up, .tell_host = tell_speed_and_carrier, .go_on = settle_carry};
 static const struct passing BY_DAEMON = {.count = nothing, .withdraw = nothing, .pass_on = nothing, .set_collecting = nothing,
     .look_for_losses = nothing, .tick = nothing};
-static const struct queueing ONE_QUEUE = {.watch = nothing, .take_response = take_response, .answer = answer, .markers_at_once = 1};
+static const struct queueing ONE_QUEUE = {.watch = nothing, .accept_response = accept_response, .answer = answer, .markers_at_once = 1};
 
 /* The link of a port is up or down for an end. */
 static void set_link_of(struct end *end, uint16_t port, bool up) {
@@ -382,7 +382,7 @@ static void set_link_of(struct end *end, uint16_t port, bool up) {
     if (!is_done(&end->lagd, niw_set_link(&end->lagd.own_system, port, up), "niw_set_link")) return;
     look_at_carry(&end->lagd.carry);
     send_due(&end->lagd);
-    take_views(&end->lagd);
+    read_views(&end->lagd);
     settle_carry(&end->lagd);
 }
 
@@ -447,7 +447,7 @@ static void send_burst(struct end *end, unsigned most) {
         end->made[number]++;
         memcpy(packet + CONVERSATION_AT, &number, sizeof number);
         memcpy(packet + NUMBER_AT, &end->made[number], sizeof end->made[number]);
-        take_from_host(&end->lagd, packet, OCTETS);
+        accept_from_host(&end->lagd, packet, OCTETS);
         events++;
     }
     flush_data(&end->lagd);
@@ -462,7 +462,7 @@ static void take(struct end *end, uint16_t port, uint8_t *frame, size_t length) 
     uint8_t response[NIW_FRAME];
     events++;
     if (is_slow(frame)) {
-        take_frame(lagd, link, &arrival);
+        accept_frame(lagd, link, &arrival);
         lagd->carry.changed = true;
         send_due(lagd);
     } else {
@@ -515,7 +515,7 @@ static void hold(struct end *end, uint16_t port, bool held) {
     struct link *link = &end->lagd.links[port - 1];
     link->emptying = false;
     CHECK(niw_hold(&end->lagd.own_system, port, held) == NIW_OK);
-    take_views(&end->lagd);
+    read_views(&end->lagd);
     end->lagd.carry.changed = true;
     send_due(&end->lagd);
     settle_carry(&end->lagd);
@@ -541,7 +541,7 @@ static void pass_time(struct end *end, unsigned ticks) {
     struct lagd *lagd = &end->lagd;
     for (; ticks > 0; ticks--) {
         CHECK(niw_tick(&lagd->own_system) == NIW_OK);
-        take_views(lagd);
+        read_views(lagd);
         pass_carry_tick(lagd);
         end_emptying(end);
         if (now / 1000 != (now - TICK) / 1000) allow_bundle_line(lagd);
@@ -549,7 +549,7 @@ static void pass_time(struct end *end, unsigned ticks) {
     }
     check_waiting(end);
     send_due(lagd);
-    take_views(lagd);
+    read_views(lagd);
     look_at_bundle(lagd);
     settle_carry(lagd);
     CHECK(!end->carrier || any_distributes(lagd));

@@ -260,8 +260,8 @@ static void check_dropper(int dropper) {
 /* A table of another form is not taken, and for a program that is not taken there is a reason. */
 static void check_refusals(void) {
     struct fast_maps wrong = maps;
-    CHECK(take_map(sizeof *rows, CONVERSATIONS, maps.rows) != NULL && take_map(sizeof *rows, CONVERSATIONS, maps.members) == NULL);
-    CHECK(take_map(sizeof *rows + 8, CONVERSATIONS, maps.rows) == NULL && take_map(sizeof *rows, CONVERSATIONS, 0) == NULL);
+    CHECK(map_again(sizeof *rows, CONVERSATIONS, maps.rows) != NULL && map_again(sizeof *rows, CONVERSATIONS, maps.members) == NULL);
+    CHECK(map_again(sizeof *rows + 8, CONVERSATIONS, maps.rows) == NULL && map_again(sizeof *rows, CONVERSATIONS, 0) == NULL);
     CHECK(make_map(8, CONVERSATIONS, &wrong.rows) != NULL);
     CHECK(load_program(&lagd->settings, "sender", &wrong) < 0 && errno == EACCES);
     CHECK(strstr(program_fault(), "outside of the allowed memory range") || strstr(program_fault(), "invalid access to map value"));
