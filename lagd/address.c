@@ -16,17 +16,17 @@ static bool has_system_address(const struct interface *interface) {
 
 /* Takes the address of the first interface for the system. Where that is not possible, or it is that of the wanted partner, the
  * program ends. */
-void take_own_address(struct lagd *lagd) {
-    const char *name = lagd->settings.ports[0].name;
+void read_own_address(struct settings *settings) {
+    const char *name = settings->ports[0].name;
     char what[NAME_ROOM + 16];
     struct interface interface;
     struct lack lack;
     snprintf(what, sizeof what, "system=auto: %s", name);
-    if (!ask_interface(lagd, 0, name, &interface)) stop(REFUSED, what, strerror(errno));
+    if (!ask_interface(0, name, &interface)) stop(REFUSED, what, strerror(errno));
     if (interface.type != ARPHRD_ETHER) stop(WRONG_WORD, "not an Ethernet interface", name);
     if (!has_system_address(&interface)) stop(REFUSED, what, "it has no MAC address that a system may have");
-    memcpy(lagd->settings.config.mac, interface.mac, sizeof interface.mac);
-    lack = lack_of(&lagd->settings);
+    memcpy(settings->config.mac, interface.mac, sizeof interface.mac);
+    lack = lack_of(settings);
     snprintf(what, sizeof what, "expected %s", lack.expected ? lack.expected : "");
     if (lack.expected) stop(WRONG_WORD, what, lack.key);
 }

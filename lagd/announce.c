@@ -37,7 +37,6 @@ struct place {
     bool is_known, is_router; /* whether the kernel told what its IPv6 is, and that it is a router */
 };
 
-/* What this file keeps for a daemon. */
 struct announce_private {
     int sender; /* while it is announced */
     struct place places[1 + MOST_ABOVE];
@@ -54,8 +53,7 @@ struct announce_private *make_announce_private(void) {
 }
 
 /* Sends a frame by an interface, as the host does: it comes from the device with the others. One that is not taken is lost, as on a wire. */
-static void send_from(struct lagd *lagd, const struct place *place, const uint8_t *frame, size_t length) {
-    struct announce_private *own = lagd->announce;
+static void send_from(struct announce_private *own, const struct place *place, const uint8_t *frame, size_t length) {
     struct sockaddr_ll to = {.sll_family = AF_PACKET, .sll_ifindex = place->index};
     if (own->announced++ < MOST_ANNOUNCED) (void)sendto(own->sender, frame, length, 0, (struct sockaddr *)&to, sizeof to);
 }
@@ -69,7 +67,7 @@ static void begin_frame(uint8_t *frame, const uint8_t *to, const struct place *f
 }
 
 /* A request for an address by who has it. */
-static void announce_ipv4(struct lagd *lagd, const struct place *place, const uint8_t *address) {
+static void announce_ipv4(struct announce_private *own, const struct place *place, const uint8_t *address) {
     static const uint8_t all[ETH_ALEN] = {0xff, 0xff, 0xff, 0xff, 0xff, 0xff}, request[] = {0, 1, 8, 0, ETH_ALEN, 4, 0, 1};
     uint8_t frame[ETH_HLEN + ARP_OCTETS] = {0}, *at = frame + ETH_HLEN;
     begin_frame(frame, all, place, ETH_P_ARP);
@@ -77,7 +75,7 @@ static void announce_ipv4(struct lagd *lagd, const struct place *place, const ui
     memcpy(at + 8, place->mac, ETH_ALEN);
     memcpy(at + 14, address, 4);
     memcpy(at + 24, address, 4);
-    send_from(lagd, place, frame, sizeof frame);
+    send_from(own, place, frame, sizeof frame);
 }
 
 /* Adds 16 bits at a time, as the checksum of the Internet has it. */
@@ -87,7 +85,7 @@ static uint32_t add_sum(uint32_t sum, const uint8_t *octets, size_t length) {
 }
 
 /* An advertisement of an address to all nodes, which overrides what they know. */
-static void announce_ipv6(struct lagd *lagd, const struct place *place, const uint8_t *address) {
+static void announce_ipv6(struct announce_private *own, const struct place *place, const uint8_t *address) {
     static const uint8_t all[ETH_ALEN] = {0x33, 0x33, 0, 0, 0, 1}, all_nodes[16] = {0xff, 2, [15] = 1};
     static const uint8_t head[] = {0x60, 0, 0, 0, 0, ADVERTISED_OCTETS, IPPROTO_ICMPV6, HOP_LIMIT};
     uint8_t frame[ETH_HLEN + IPV6_OCTETS + ADVERTISED_OCTETS] = {0}, *ip = frame + ETH_HLEN, *at = ip + IPV6_OCTETS;
@@ -107,32 +105,29 @@ static void announce_ipv6(struct lagd *lagd, const struct place *place, const ui
     sum = ~((sum & 0xffff) + (sum >> 16));
     at[2] = (uint8_t)(sum >> 8);
     at[3] = (uint8_t)sum;
-    send_from(lagd, place, frame, sizeof frame);
+    send_from(own, place, frame, sizeof frame);
 }
 
-static struct place *place_of(struct lagd *lagd, int index) {
-    struct announce_private *own = lagd->announce;
+static struct place *place_of(struct announce_private *own, int index) {
     for (unsigned i = 0; i < own->place_count; i++)
         if (own->places[i].index == index) return &own->places[i];
     return NULL;
 }
 
 /* Whether an interface stands on one that is announced: what it sends goes by that. One of another namespace does not count. */
-static bool is_above(struct lagd *lagd, const struct interface *interface) {
-    struct announce_private *own = lagd->announce;
+static bool is_above(struct announce_private *own, const struct interface *interface) {
     bool on_one = strcmp(interface->kind, "vlan") == 0 || strcmp(interface->kind, "macvlan") == 0;
-    if (on_one) return !interface->elsewhere && place_of(lagd, interface->below);
+    if (on_one) return !interface->elsewhere && place_of(own, interface->below);
     for (unsigned i = 0; i < own->place_count; i++)
         if (own->places[i].bridge == interface->index && strcmp(interface->kind, "bridge") == 0) return true;
     return false;
 }
 
 /* The kernel told of an interface, which may stand on those that are known. */
-static void take_place(struct lagd *lagd, const struct nlmsghdr *message) {
-    struct announce_private *own = lagd->announce;
+static void read_place(struct announce_private *own, const struct nlmsghdr *message) {
     struct interface interface = read_interface(message);
-    struct place *place = place_of(lagd, interface.index);
-    if (!place && interface.has_mac && own->place_count < 1 + MOST_ABOVE && is_above(lagd, &interface)) {
+    struct place *place = place_of(own, interface.index);
+    if (!place && interface.has_mac && own->place_count < 1 + MOST_ABOVE && is_above(own, &interface)) {
         place = &own->places[own->place_count++];
         *place = (struct place){.index = interface.index};
     }
@@ -149,21 +144,21 @@ static int note_attribute(const struct nlattr *attribute, void *into) {
 }
 
 /* The kernel told whether an interface is one of a router: hosts forget a router whose advertisement says that it is none. */
-static void take_forwarding(struct lagd *lagd, const struct nlmsghdr *message) {
+static void read_forwarding(struct announce_private *own, const struct nlmsghdr *message) {
     const struct nlattr *told[MOST_TYPE + 1] = {0};
     const int *index, *forwarding;
     struct place *place;
     read_attributes(message, sizeof(struct netconfmsg), note_attribute, told);
     index = value_of(told[NETCONFA_IFINDEX], sizeof *index);
     forwarding = value_of(told[NETCONFA_FORWARDING], sizeof *forwarding);
-    place = index && forwarding ? place_of(lagd, *index) : NULL;
+    place = index && forwarding ? place_of(own, *index) : NULL;
     if (!place) return;
     place->is_known = true;
     place->is_router = *forwarding != 0;
 }
 
 /* The kernel told of an address. One of IPv6 that may be another host's is not announced. */
-static void take_address(struct lagd *lagd, const struct nlmsghdr *message) {
+static void read_address(struct announce_private *own, const struct nlmsghdr *message) {
     const struct nlattr *told[MOST_TYPE + 1] = {0};
     const struct ifaddrmsg *about = mnl_nlmsg_get_payload(message);
     const struct place *place;
@@ -174,24 +169,24 @@ static void take_address(struct lagd *lagd, const struct nlmsghdr *message) {
     octets = about->ifa_family == AF_INET ? 4 : 16;
     address = value_of(told[IFA_LOCAL], octets);
     if (!address && about->ifa_family == AF_INET6) address = value_of(told[IFA_ADDRESS], octets);
-    place = place_of(lagd, (int)about->ifa_index);
+    place = place_of(own, (int)about->ifa_index);
     if (!address || !place) return;
-    if (about->ifa_family == AF_INET) announce_ipv4(lagd, place, address);
+    if (about->ifa_family == AF_INET) announce_ipv4(own, place, address);
     if (about->ifa_family == AF_INET6 && place->is_known && !(about->ifa_flags & (IFA_F_TENTATIVE | IFA_F_DADFAILED)))
-        announce_ipv6(lagd, place, address);
+        announce_ipv6(own, place, address);
 }
 
-static void take_told(struct lagd *lagd, const struct nlmsghdr *message, void *into) {
-    (void)into;
-    if (message->nlmsg_type == RTM_NEWNETCONF) take_forwarding(lagd, message);
-    if (message->nlmsg_type == RTM_NEWADDR) take_address(lagd, message);
-    if (message->nlmsg_type == RTM_NEWLINK) take_place(lagd, message);
+static void read_told(const struct nlmsghdr *message, void *into) {
+    struct lagd *lagd = into;
+    if (message->nlmsg_type == RTM_NEWNETCONF) read_forwarding(lagd->announce, message);
+    if (message->nlmsg_type == RTM_NEWADDR) read_address(lagd->announce, message);
+    if (message->nlmsg_type == RTM_NEWLINK) read_place(lagd->announce, message);
 }
 
 /* Has the kernel tell all that it has of a kind; answers whether it did. The head of an interface is longer than what other kinds want. */
 static bool ask_all(struct lagd *lagd, uint16_t what, uint8_t family) {
     union message question = message_of(what, NLM_F_DUMP, &(struct ifinfomsg){.ifi_family = family}, sizeof(struct ifinfomsg));
-    return ask_list(lagd, NETLINK_ROUTE, &question, take_told, NULL, 0);
+    return ask_list(NETLINK_ROUTE, &question, read_told, lagd, 0);
 }
 
 /* Finds the device, and what stands above it, level by level. */
@@ -199,8 +194,8 @@ static void find_places(struct lagd *lagd) {
     struct announce_private *own = lagd->announce;
     unsigned before = 0;
     memset(own->places, 0, sizeof own->places);
-    own->places[0].index = tap_index(lagd);
-    own->place_count = read_tap_mac(lagd, own->places[0].mac) ? 1 : 0;
+    own->places[0].index = tap_index(lagd->tap);
+    own->place_count = read_tap_mac(lagd->tap, own->places[0].mac) ? 1 : 0;
     for (unsigned level = 0; level < MOST_LEVELS && before != own->place_count; level++) {
         before = level == 0 ? 0 : own->place_count; /* the first one tells the bridge of the device alone, where that has a lower number */
         (void)ask_all(lagd, RTM_GETLINK, AF_UNSPEC);
@@ -227,8 +222,7 @@ static void announce(struct lagd *lagd) {
 }
 
 /* Data goes another way from now on. */
-void announce_soon(struct lagd *lagd) {
-    struct announce_private *own = lagd->announce;
+void announce_soon(struct announce_private *own) {
     own->times = TIMES;
     own->wait_ticks = 0;
 }
@@ -236,7 +230,7 @@ void announce_soon(struct lagd *lagd) {
 /* 100 ms passed. While the device has no carrier, nothing that is sent there goes. */
 void pass_announcing_tick(struct lagd *lagd) {
     struct announce_private *own = lagd->announce;
-    if (own->times == 0 || !has_carrier(lagd)) return;
+    if (own->times == 0 || !has_carrier(lagd->tap)) return;
     if (own->wait_ticks > 0 && --own->wait_ticks > 0) return;
     announce(lagd);
     own->times--;

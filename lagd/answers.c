@@ -19,11 +19,8 @@ struct answer {
     uint8_t frame[NIW_FRAME];
 };
 
-/* Those of a port, in a ring, in the order in which they came. */
-
-/* What this file keeps for a daemon. */
 struct answers_private {
-    struct waiting {
+    struct waiting { /* of a port, in a ring, in the order in which they came */
         unsigned first, count;
         struct answer answers[MOST_WAITING];
     } ports[NIW_MOST_PORTS];
@@ -36,12 +33,11 @@ struct answers_private *make_answers_private(void) {
     return made;
 }
 
-/* Opens what wakes the daemon for a response, where some wait. */
+/* Opens what wakes the daemon for a response. */
 void start_answers(struct lagd *lagd) {
     struct answers_private *own = lagd->answers;
-    if (!lagd->settings.all_queues) return;
     own->timer = timerfd_create(CLOCK_MONOTONIC, TFD_NONBLOCK | TFD_CLOEXEC);
-    if (own->timer < 0 || !await_input(lagd, own->timer, RESPONSES)) stop(REFUSED, "no clock", strerror(errno));
+    if (own->timer < 0 || !await_input(lagd->epoll_file, own->timer, RESPONSES)) stop(REFUSED, "no clock", strerror(errno));
 }
 
 static struct answer *first_of(struct waiting *waiting) {
@@ -51,7 +47,7 @@ static struct answer *first_of(struct waiting *waiting) {
 /* Wakes the daemon for the first response that is due: one that waits for its socket is looked at again in a millisecond. */
 static void wake(struct lagd *lagd) {
     struct answers_private *own = lagd->answers;
-    uint64_t now = milliseconds(lagd), next = UINT64_MAX;
+    uint64_t now = milliseconds(), next = UINT64_MAX;
     struct itimerspec at = {{0, 0}, {0, 0}};
     for (uint16_t i = 0; i < lagd->link_count; i++) {
         const struct answer *answer = first_of(&own->ports[i]);
@@ -62,27 +58,28 @@ static void wake(struct lagd *lagd) {
     (void)timerfd_settime(own->timer, TFD_TIMER_ABSTIME, &at, NULL);
 }
 
-/* Sends the response to a marker, at once or later; answers false where too many wait. */
-bool answer_marker(struct lagd *lagd, struct link *link, const uint8_t *response) {
-    struct answers_private *own = lagd->answers;
-    struct waiting *waiting = &own->ports[link->settings.number - 1];
+/* Sends the response to a marker. */
+bool answer_at_once(struct lagd *lagd, struct link *link, const uint8_t *response) {
+    send_frame(lagd, link, response);
+    return true;
+}
+
+/* Sends the response to a marker later; answers false where too many wait. */
+bool answer_later(struct lagd *lagd, struct link *link, const uint8_t *response) {
+    struct waiting *waiting = &lagd->answers->ports[link->settings.number - 1];
     struct answer *answer;
-    if (own->timer < 0) {
-        send_frame(lagd, link, response);
-        return true;
-    }
     if (waiting->count == MOST_WAITING) return false;
     answer = &waiting->answers[(waiting->first + waiting->count++) % MOST_WAITING];
-    *answer = (struct answer){.due = milliseconds(lagd) + lagd->settings.answer_after + 1, .unread = MOST_UNREAD};
+    *answer = (struct answer){.due = milliseconds() + lagd->settings.answer_after + 1, .unread = MOST_UNREAD};
     memcpy(answer->frame, response, sizeof answer->frame);
     if (waiting->count == 1) wake(lagd);
     return true;
 }
 
 /* So many packets were read of the socket of a member, or all that it had. */
-void note_unread(struct lagd *lagd, uint16_t port, unsigned packets, bool drained) {
-    struct waiting *waiting = &lagd->answers->ports[port - 1];
-    uint64_t now = waiting->count > 0 ? milliseconds(lagd) : 0;
+void note_unread(struct answers_private *own, uint16_t port, unsigned packets, bool drained) {
+    struct waiting *waiting = &own->ports[port - 1];
+    uint64_t now = waiting->count > 0 ? milliseconds() : 0;
     for (unsigned i = 0; i < waiting->count; i++) {
         struct answer *answer = &waiting->answers[(waiting->first + i) % MOST_WAITING];
         if (answer->due > now) return;
@@ -91,18 +88,18 @@ void note_unread(struct lagd *lagd, uint16_t port, unsigned packets, bool draine
 }
 
 /* The link of a port is down: whoever asked there asks again. */
-void forget_answers(struct lagd *lagd, uint16_t port) {
-    lagd->answers->ports[port - 1].count = 0;
+void forget_answers(struct answers_private *own, uint16_t port) {
+    own->ports[port - 1].count = 0;
 }
 
 /* Sends what is due on a port, behind the data that came before. */
 static void answer_due(struct lagd *lagd, uint16_t port) {
     struct waiting *waiting = &lagd->answers->ports[port - 1];
     struct answer *answer = first_of(waiting);
-    uint64_t now = milliseconds(lagd);
+    uint64_t now = milliseconds();
     if (!answer || answer->due > now) return;
-    if (!has_fast_member(lagd, port)) take_data(lagd, port);
-    while ((answer = first_of(waiting)) && answer->due <= now && (answer->unread == 0 || has_fast_member(lagd, port))) {
+    if (!has_fast_member(lagd->members, port)) receive_data(lagd, port);
+    while ((answer = first_of(waiting)) && answer->due <= now && (answer->unread == 0 || has_fast_member(lagd->members, port))) {
         send_frame(lagd, &lagd->links[port - 1], answer->frame);
         waiting->first = (waiting->first + 1) % MOST_WAITING;
         waiting->count--;

@@ -21,8 +21,6 @@
 #define MOST_DAEMONS 256
 #define MOST_ANSWERED 8388608
 
-/* The daemons that are asked. */
-/* What this file keeps for a daemon. */
 struct asking_private {
     struct {
         char path[512];
@@ -54,8 +52,7 @@ static int is_visible(const struct dirent *entry) {
 }
 
 /* Finds the status sockets in a folder, and in the folders in it. */
-static void find_sockets(struct lagd *lagd, const char *folder, bool deeper) {
-    struct asking_private *own = lagd->asking;
+static void find_sockets(struct asking_private *own, const char *folder, bool deeper) {
     struct dirent **entries = NULL;
     int found = scandir(folder, &entries, is_visible, alphasort);
     if (found < 0 && errno == EACCES) own->denied = strdup(folder);
@@ -67,15 +64,15 @@ static void find_sockets(struct lagd *lagd, const char *folder, bool deeper) {
             memcpy(own->daemons[own->count].bundle, bundle, sizeof bundle);
             memcpy(own->daemons[own->count++].path, path, sizeof path);
         } else if (fits && deeper && lstat(path, &file) == 0 && S_ISDIR(file.st_mode))
-            find_sockets(lagd, path, false);
+            find_sockets(own, path, false);
         free(entries[i]);
     }
     free(entries);
 }
 
 /* The address of a socket, whose whole path may be longer than an address: by its folder, which is opened; answers that, or -1. */
-static int address_of(struct lagd *lagd, const char *path, struct sockaddr_un *to) {
-    char folder[sizeof lagd->asking->daemons->path];
+static int address_of(struct asking_private *own, const char *path, struct sockaddr_un *to) {
+    char folder[sizeof own->daemons->path];
     const char *name = strrchr(path, '/') + 1;
     int opened;
     snprintf(folder, sizeof folder, "%.*s", (int)(name - path), path);
@@ -95,10 +92,10 @@ static void close_keeping_errno(int fd) {
 }
 
 /* Connects with a daemon and asks it; or -1, and errno. It waits no longer than PATIENCE: one that is stopped may answer nobody. */
-static int ask(struct lagd *lagd, const char *path, const char *question) {
+static int ask(struct asking_private *own, const char *path, const char *question) {
     struct sockaddr_un to;
     struct timeval patience = {PATIENCE / 1000, 0};
-    int folder = address_of(lagd, path, &to), opened = folder < 0 ? -1 : socket(AF_UNIX, SOCK_STREAM | SOCK_CLOEXEC, 0);
+    int folder = address_of(own, path, &to), opened = folder < 0 ? -1 : socket(AF_UNIX, SOCK_STREAM | SOCK_CLOEXEC, 0);
     bool asked = opened >= 0 && setsockopt(opened, SOL_SOCKET, SO_SNDTIMEO, &patience, sizeof patience) == 0
         && connect(opened, (struct sockaddr *)&to, sizeof to) == 0;
     /* One that refuses may have closed the connection already, and said why. */
@@ -139,8 +136,7 @@ static char *read_answer(struct lagd *lagd, int fd, const char *path) {
 }
 
 /* Prints text of a daemon. Whoever made a socket in the folder may be no daemon: a terminal only shows what it says. */
-static void print(struct lagd *lagd, const char *text, size_t length) {
-    struct asking_private *own = lagd->asking;
+static void print(struct asking_private *own, const char *text, size_t length) {
     while (length > 0) {
         size_t part = length < 1000 ? length : 1000;
         fwrite(own->line, 1, escape(own->line, sizeof own->line, text, part, true), stdout);
@@ -150,8 +146,7 @@ static void print(struct lagd *lagd, const char *text, size_t length) {
 }
 
 /* Prints the metrics of all: each metric has one head, and the values of all daemons below it. */
-static void print_metrics(struct lagd *lagd) {
-    struct asking_private *own = lagd->asking;
+static void print_metrics(struct asking_private *own) {
     const char *at[MOST_DAEMONS];
     for (unsigned i = 0; i < own->count; i++) at[i] = own->daemons[i].answer ? own->daemons[i].answer : "";
     for (bool more = true; more;) {
@@ -161,7 +156,7 @@ static void print_metrics(struct lagd *lagd) {
             const char *next;
             for (unsigned line = 0; *at[i] && (line < 2 || *at[i] != '#'); line++, at[i] = *next ? next + 1 : next) {
                 next = at[i] + strcspn(at[i], "\n");
-                if (line >= 2 || first) print(lagd, at[i], (size_t)(next - at[i]) + (*next != 0));
+                if (line >= 2 || first) print(own, at[i], (size_t)(next - at[i]) + (*next != 0));
             }
             more = more || first;
         }
@@ -171,18 +166,17 @@ static void print_metrics(struct lagd *lagd) {
 /* Prints which bundles have a daemon that answers, and when that was. */
 static void print_who_answers(struct lagd *lagd) {
     struct asking_private *own = lagd->asking;
-    lagd->report_length = 0;
-    add_head(lagd, "up", "gauge", "whether the daemon of the bundle answers");
+    lagd->report.length = 0;
+    add_head(&lagd->report, "up", "gauge", "whether the daemon of the bundle answers");
     for (unsigned i = 0; i < own->count; i++)
-        if (own->daemons[i].may_ask) add_value_of(lagd, "up", own->daemons[i].bundle, own->daemons[i].answer != NULL);
-    add_head(lagd, "time_seconds", "gauge", "when this was asked");
-    add(lagd, "lagd_time_seconds %llu\n", (unsigned long long)time(NULL));
-    print(lagd, lagd->report, lagd->report_length);
+        if (own->daemons[i].may_ask) add_value_of(&lagd->report, "up", own->daemons[i].bundle, own->daemons[i].answer != NULL);
+    add_head(&lagd->report, "time_seconds", "gauge", "when this was asked");
+    add(&lagd->report, "lagd_time_seconds %llu\n", (unsigned long long)time(NULL));
+    print(lagd->asking, lagd->report.text, lagd->report.length);
 }
 
 /* Ends the program where no daemon answers. */
-static _Noreturn void refuse_all(struct lagd *lagd, const char *folder) {
-    struct asking_private *own = lagd->asking;
+static _Noreturn void refuse_all(struct asking_private *own, const char *folder) {
     if (own->denied) stop(REFUSED, "permission denied", own->denied);
     stop(REFUSED, "no lagd answers in", folder);
 }
@@ -190,7 +184,7 @@ static _Noreturn void refuse_all(struct lagd *lagd, const char *folder) {
 /* Prints what came of a daemon that is watched. */
 static void print_lines_of(struct lagd *lagd, unsigned daemon, char *text, size_t length) {
     text[length] = 0;
-    if (!is_refusal(lagd, lagd->asking->daemons[daemon].path, text)) print(lagd, text, length);
+    if (!is_refusal(lagd, lagd->asking->daemons[daemon].path, text)) print(lagd->asking, text, length);
 }
 
 /* Prints what the daemons say, one after the other as each has a line, until they end. */
@@ -227,13 +221,13 @@ static bool ask_daemon(struct lagd *lagd, unsigned daemon, const struct options 
     struct asking_private *own = lagd->asking;
     const char *path = own->daemons[daemon].path;
     bool watched = options->action == WATCH;
-    int fd = ask(lagd, path, question_of(options));
+    int fd = ask(lagd->asking, path, question_of(options));
     own->daemons[daemon].may_ask = fd >= 0 || (errno != EACCES && errno != EPERM);
     if (!own->daemons[daemon].may_ask) own->denied = path;
     if (fd < 0) complain(lagd, "%s: its daemon does not answer: %s", path, strerror(errno));
     if (fd >= 0) own->daemons[daemon].answer = read_answer(lagd, fd, path);
     if (fd >= 0) close(fd);
-    own->daemons[daemon].fd = watched && fd >= 0 ? ask(lagd, path, options->json ? "watch-json\n" : "watch\n") : -1;
+    own->daemons[daemon].fd = watched && fd >= 0 ? ask(lagd->asking, path, options->json ? "watch-json\n" : "watch\n") : -1;
     return watched ? own->daemons[daemon].fd >= 0 : own->daemons[daemon].answer != NULL;
 }
 
@@ -243,7 +237,7 @@ static char *tell_order(struct lagd *lagd, const char *path, const char *what, c
     int fd;
     if (snprintf(order, sizeof order, "%s %s\n", what, interface) >= (int)sizeof order || strchr(interface, '\n'))
         stop(WRONG_WORD, "expected the name of an interface", interface);
-    fd = ask(lagd, path, order);
+    fd = ask(lagd->asking, path, order);
     if (fd < 0) stop(REFUSED, path, strerror(errno));
     answer = read_answer(lagd, fd, path);
     close(fd);
@@ -252,30 +246,29 @@ static char *tell_order(struct lagd *lagd, const char *path, const char *what, c
 }
 
 /* The socket of the one daemon of a folder: one that was killed may have left another there. */
-static const char *find_daemon(struct lagd *lagd, const char *folder) {
-    struct asking_private *own = lagd->asking;
+static const char *find_daemon(struct asking_private *own, const char *folder) {
     const char *found = NULL;
     for (unsigned i = 0; i < own->count; i++) {
-        int fd = ask(lagd, own->daemons[i].path, "");
+        int fd = ask(own, own->daemons[i].path, "");
         if (fd < 0 && errno == EACCES) own->denied = own->daemons[i].path;
         if (fd < 0) continue;
         close(fd);
         if (found) stop(WRONG_WORD, "more than one lagd is here: give the folder of one by --folder", folder);
         found = own->daemons[i].path;
     }
-    if (!found) refuse_all(lagd, folder);
+    if (!found) refuse_all(own, folder);
     return found;
 }
 
 /* Has the one daemon of a folder change its bundle, and waits until that is done; answers how the program ends. */
 static int order_daemon(struct lagd *lagd, const struct options *options) {
-    const char *what = options->order, *path = find_daemon(lagd, options->folder);
+    const char *what = options->order, *path = find_daemon(lagd->asking, options->folder);
     bool waits = true;
     while (waits) {
         char *answer = tell_order(lagd, path, what, options->interface);
         if (!answer) return REFUSED;
         waits = strncmp(answer, "wait: ", 6) == 0;
-        if (!waits) print(lagd, answer, strlen(answer));
+        if (!waits) print(lagd->asking, answer, strlen(answer));
         free(answer);
         if (waits && strcmp(what, "remove") == 0) what = "removed"; /* another one may add it anew meanwhile */
         if (waits) (void)poll(NULL, 0, NIW_TICK_MILLISECONDS);
@@ -288,16 +281,16 @@ static int order_daemon(struct lagd *lagd, const struct options *options) {
 int ask_daemons(struct lagd *lagd, const struct options *options) {
     struct asking_private *own = lagd->asking;
     unsigned answers = 0;
-    find_sockets(lagd, options->folder, true);
+    find_sockets(lagd->asking, options->folder, true);
     if (options->action == ORDER) return order_daemon(lagd, options);
     for (unsigned i = 0; i < own->count; i++) answers += ask_daemon(lagd, i, options);
-    if (answers == 0 && (options->action != METRICS || own->count == 0 || own->denied)) refuse_all(lagd, options->folder);
+    if (answers == 0 && (options->action != METRICS || own->count == 0 || own->denied)) refuse_all(lagd->asking, options->folder);
     if (options->action == WATCH) return print_changes_of_all(lagd);
     if (options->action == METRICS) {
-        print_metrics(lagd);
+        print_metrics(lagd->asking);
         print_who_answers(lagd);
     }
     for (unsigned i = 0; options->action == SHOW && i < own->count; i++)
-        if (own->daemons[i].answer) print(lagd, own->daemons[i].answer, strlen(own->daemons[i].answer));
+        if (own->daemons[i].answer) print(lagd->asking, own->daemons[i].answer, strlen(own->daemons[i].answer));
     return fflush(stdout) == 0 ? DONE : REFUSED;
 }

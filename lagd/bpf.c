@@ -25,7 +25,7 @@ void *make_map(uint32_t size, uint32_t count, int *map) {
 }
 
 /* Takes a table of the last daemon, if it is such a one; answers where it is here, or NULL. */
-void *take_map(uint32_t size, uint32_t count, int map) {
+void *map_again(uint32_t size, uint32_t count, int map) {
     struct bpf_map_info told = {0};
     uint32_t room = sizeof told;
     if (bpf_obj_get_info_by_fd(map, &told, &room) != 0) return NULL;

@@ -21,8 +21,6 @@
 /* What the driver has for a port. */
 enum passes { UNKNOWN, PASSES, PASSES_NOT };
 
-/* The driver counts now and then: so many octets the device had sent at a time, and once the buckets have as many, all is counted up to then. */
-/* What this file keeps for a daemon. */
 struct buckets_private {
     struct bucket {
         uint16_t port;     /* by which its frames go, or 0: not known */
@@ -33,17 +31,19 @@ struct buckets_private {
     int members_at_start[CONVERSATIONS]; /* the interface of each bucket, as the last daemon left it */
     uint16_t previous; /* the aggregator that was active before, or 0 */
     uint64_t frames_received; /* by the device */
+    /* The driver counts now and then: so many octets the device had sent at a time, and once the buckets have as many, all is counted up to then. */
     uint64_t to_count, to_count_at, counted_until, looked_at;
     uint64_t without_bucket; /* octets that went by none */
     unsigned shortages, unseen; /* in turn */
-    struct team_now now; /* of look_at_driver */
 };
 
 struct buckets_private *make_buckets_private(void) {
     return make_room(sizeof(struct buckets_private));
 }
 
-uint64_t team_frames_received(struct lagd *lagd) {
+/* How many frames of the peer came, as the driver told last, or tells now. */
+uint64_t team_frames_received(struct lagd *lagd, bool looks) {
+    if (looks) look_at_driver(lagd);
     return lagd->buckets->frames_received;
 }
 
@@ -58,7 +58,7 @@ void forget_port(struct lagd *lagd, uint16_t port) {
     own->passes[port - 1] = UNKNOWN;
     for (uint16_t number = 0; number < CONVERSATIONS; number++)
         if (own->buckets[number].port == port) own->buckets[number].port = 0;
-    look_at_carry(lagd);
+    look_at_carry(&lagd->carry);
 }
 
 /* A bucket that has sent is not still. */
@@ -100,8 +100,9 @@ static void note_counted(struct lagd *lagd, const struct team_now *now, uint64_t
 /* Looks at what the driver has: at the device before its buckets. Where the device is gone, the kernel tells, too. */
 void look_at_driver(struct lagd *lagd) {
     struct interface device;
+    struct team_now now;
     lagd->buckets->looked_at = lagd->carry.time;
-    if (!ask_interface(lagd, tap_index(lagd), NULL, &device) || !read_team(lagd, tap_index(lagd), &lagd->buckets->now)) {
+    if (!ask_interface(tap_index(lagd->tap), NULL, &device) || !read_team(lagd->team_netlink, tap_index(lagd->tap), &now)) {
         if (++lagd->buckets->unseen == MOST_UNSEEN)
             (void)say(lagd, LOG_WARNING | ABOUT_DATA,
                 "carry %s: the team driver does not tell what it has, so no bucket goes back to its own port: %s", lagd->settings.carry,
@@ -110,17 +111,17 @@ void look_at_driver(struct lagd *lagd) {
     }
     lagd->buckets->unseen = 0;
     lagd->buckets->frames_received = device.frames_received;
-    note_octets(lagd, &lagd->buckets->now);
-    note_changes(lagd, &lagd->buckets->now);
-    note_counted(lagd, &lagd->buckets->now, device.octets_sent);
+    note_octets(lagd, &now);
+    note_changes(lagd, &now);
+    note_counted(lagd, &now, device.octets_sent);
 }
 
 /* What the device has at the start. */
 void start_buckets(struct lagd *lagd) {
     struct buckets_private *own = lagd->buckets;
     struct team_now now;
-    lagd->carry.time = milliseconds(lagd);
-    if (!read_team(lagd, tap_index(lagd), &now)) return;
+    lagd->carry.time = milliseconds();
+    if (!read_team(lagd->team_netlink, tap_index(lagd->tap), &now)) return;
     memcpy(own->members_at_start, now.members, sizeof own->members_at_start);
     note_octets(lagd, &now);
     for (uint16_t number = 0; number < CONVERSATIONS; number++) own->buckets[number].moved_at = lagd->carry.time;
@@ -166,11 +167,11 @@ static void lose_port(struct lagd *lagd, uint16_t port) {
         (void)say(lagd, LOG_WARNING | ABOUT_DATA, "port %u %s: the team driver refuses it: %s", port, lagd->links[port - 1].name,
             strerror(fault));
     lose_link(lagd, &lagd->links[port - 1]);
-    look_again(lagd);
+    look_again(lagd->changes);
 }
 
 /* The driver refused what it was told of a port. Where the kernel has no memory, the next tick tells it again. */
-static void take_refusal(struct lagd *lagd, uint16_t port) {
+static void note_refusal(struct lagd *lagd, uint16_t port) {
     struct buckets_private *own = lagd->buckets;
     bool is_short = errno == ENOBUFS || errno == ENOMEM;
     own->shortages = is_short ? own->shortages + 1 : 0;
@@ -184,8 +185,8 @@ static bool set_passes(struct lagd *lagd, uint16_t port, bool wanted) {
     struct buckets_private *own = lagd->buckets;
     enum passes now = wanted ? PASSES : PASSES_NOT;
     if (own->passes[port - 1] == now) return true;
-    if (!set_port_enabled(lagd, tap_index(lagd), lagd->links[port - 1].index, wanted)) {
-        take_refusal(lagd, port);
+    if (!set_port_enabled(lagd->team_netlink, tap_index(lagd->tap), lagd->links[port - 1].index, wanted)) {
+        note_refusal(lagd, port);
         return false;
     }
     own->passes[port - 1] = now;
@@ -198,8 +199,8 @@ static bool place_buckets(struct lagd *lagd) {
     for (uint16_t number = 0; number < CONVERSATIONS; number++) {
         uint16_t port = place(lagd, number);
         if (port == 0 || port == own->buckets[number].port) continue;
-        if (!set_bucket(lagd, tap_index(lagd), number, lagd->links[port - 1].index)) {
-            take_refusal(lagd, port);
+        if (!set_bucket(lagd->team_netlink, tap_index(lagd->tap), number, lagd->links[port - 1].index)) {
+            note_refusal(lagd, port);
             return false;
         }
         if (own->buckets[number].port != 0) lagd->carry.counts[MOVES]++;
@@ -209,9 +210,9 @@ static bool place_buckets(struct lagd *lagd) {
 }
 
 /* Whether a port carries in the active aggregator. */
-static bool is_active(struct lagd *lagd, uint16_t port) {
-    for (uint16_t i = 0; i < lagd->carry.port_count; i++)
-        if (lagd->carry.ports[i] == port) return true;
+static bool is_active(struct carry *carry, uint16_t port) {
+    for (uint16_t i = 0; i < carry->port_count; i++)
+        if (carry->ports[i] == port) return true;
     return false;
 }
 
@@ -225,7 +226,7 @@ void settle_buckets(struct lagd *lagd) {
         if (!set_passes(lagd, lagd->carry.ports[i], true)) return;
     if (lagd->carry.active != 0 && !place_buckets(lagd)) return;
     for (uint16_t port = 1; port <= lagd->link_count; port++) {
-        if (!is_team_port(lagd, port) || is_active(lagd, port)) continue;
+        if (!is_team_port(lagd->team, port) || is_active(&lagd->carry, port)) continue;
         if (!set_passes(lagd, port, false)) return;
     }
     own->shortages = 0;
@@ -234,14 +235,14 @@ void settle_buckets(struct lagd *lagd) {
 }
 
 /* The port to which a bucket goes by its number, once it is still. */
-static uint16_t usual_port(struct lagd *lagd, uint16_t number) {
-    return lagd->carry.ports[number % lagd->carry.port_count];
+static uint16_t usual_port(struct carry *carry, uint16_t number) {
+    return carry->ports[number % carry->port_count];
 }
 
 /* Whether a bucket is on another port than it is to be. */
 static bool waits(struct lagd *lagd, uint16_t number) {
     struct buckets_private *own = lagd->buckets;
-    return lagd->carry.port_count > 0 && own->buckets[number].port != 0 && own->buckets[number].port != usual_port(lagd, number);
+    return lagd->carry.port_count > 0 && own->buckets[number].port != 0 && own->buckets[number].port != usual_port(&lagd->carry, number);
 }
 
 /* Frees the conversations of buckets that wait and were still for a flight. */
@@ -269,5 +270,5 @@ void pass_bucket_tick(struct lagd *lagd) {
     unsigned waiting = count_waiting_buckets(lagd);
     if (lagd->carry.time - lagd->buckets->looked_at >= (waiting > 0 ? LOOKED_WAITING : LOOKED_EVERY)) look_at_driver(lagd);
     if (waiting > 0) rest_still(lagd);
-    if (ticks_passed(lagd) % SECOND == 0) give_team_addresses(lagd);
+    if (ticks_passed(lagd->system) % SECOND == 0) give_team_addresses(lagd);
 }

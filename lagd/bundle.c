@@ -2,7 +2,6 @@
 #define _GNU_SOURCE
 #include "daemon.h"
 
-/* What this file keeps for a daemon. */
 struct bundle_private {
     unsigned lines; /* how many changes may still be told */
     bool told; /* whether the first state was */
@@ -35,7 +34,7 @@ static uint16_t aggregator_after(struct lagd *lagd, uint16_t before) {
  * the one with the least group, so that the other end chooses it, too. */
 void choose_aggregator(struct lagd *lagd, struct bundle *now) {
     struct bundle_private *own = lagd->bundle_private;
-    own->chosen_last = now->aggregator = aggregator_after(lagd, keeps_aggregator(lagd) ? own->chosen_last : 0);
+    own->chosen_last = now->aggregator = aggregator_after(lagd, lagd->plane.carrying->keeps_aggregator(lagd) ? own->chosen_last : 0);
     now->carrying = carrying_in(lagd, now->aggregator);
 }
 
@@ -83,7 +82,7 @@ static void enter(struct lagd *lagd, const struct bundle *now) {
 void look_at_bundle(struct lagd *lagd) {
     struct bundle_private *own = lagd->bundle_private;
     struct bundle now = lagd->bundle;
-    if (!lagd->has_started || (own->lines == 0 && !is_halted(lagd))) return;
+    if (!lagd->has_started || (own->lines == 0 && !is_halted(lagd->halt))) return;
     choose_aggregator(lagd, &now);
     now.state = state_of(lagd, now.carrying);
     now.links = count_links(lagd);

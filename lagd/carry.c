@@ -3,12 +3,10 @@
 #include <string.h>
 
 #include "daemon.h"
-#include "team.h"
 
 /* For how long frames of the peer tell that it has the same aggregator, in milliseconds. */
 #define HEARD 3000
 
-/* What this file keeps for a daemon. */
 struct carry_private {
     bool to_balance; /* whether a tick passed since the last look at the loads */
     uint16_t previous; /* the aggregator that was active before nothing or another one was, or 0 */
@@ -22,8 +20,8 @@ struct carry_private *make_carry_private(void) {
 }
 
 /* Something was called that may let conversations go or come. */
-void look_at_carry(struct lagd *lagd) {
-    lagd->carry.changed = true;
+void look_at_carry(struct carry *carry) {
+    carry->changed = true;
 }
 
 /* Writes what a conversation of an aggregator is doing; answers whether the library told it. */
@@ -47,9 +45,9 @@ bool is_held(const struct niw_assignment *state) {
 }
 
 /* Whether a conversation had a frame of late, in the active aggregator. */
-bool is_busy(struct lagd *lagd, const struct conversation *conversation) {
-    bool is_recent = conversation->last != 0 && lagd->carry.time - conversation->last < BUSY;
-    return conversation->home == lagd->carry.active && (conversation->used || is_recent);
+bool is_busy(struct carry *carry, const struct conversation *conversation) {
+    bool is_recent = conversation->last != 0 && carry->time - conversation->last < BUSY;
+    return conversation->home == carry->active && (conversation->used || is_recent);
 }
 
 /* Has a frame wait until its conversation goes on. Where there is no room the oldest one of it is lost, or else this one. */
@@ -80,19 +78,19 @@ static enum offered offer(struct lagd *lagd, struct conversation *conversation, 
 
 /* Puts a frame behind those of the port of its conversation. */
 static void send_on(struct lagd *lagd, const struct conversation *conversation, uint8_t *packet, size_t length) {
-    note_sent(lagd, conversation->port);
+    note_sent(lagd->flight, conversation->port);
     put_data(lagd, conversation->port, (uint16_t)(conversation - lagd->carry.conversations), packet, length);
 }
 
 /* Whether a frame of the host may go: of a right length, which each member takes, and none of the slow protocols. */
-static bool is_fit(struct lagd *lagd, const uint8_t *packet, size_t length) {
+static bool is_fit(struct tap_private *own, const uint8_t *packet, size_t length) {
     const uint8_t *frame = packet + head_octets();
-    return has_right_length(packet, length, longest_payload(lagd))
+    return has_right_length(packet, length, longest_payload(own))
         && ((unsigned)frame[12] << 8 | frame[13]) != ETH_P_SLOW;
 }
 
 /* A frame of a conversation came. It overtakes none that waits. */
-static void take_fit(struct lagd *lagd, struct conversation *conversation, uint16_t number, uint8_t *packet, size_t length) {
+static void accept_fit(struct lagd *lagd, struct conversation *conversation, uint16_t number, uint8_t *packet, size_t length) {
     enum offered offered = LOST;
     if (lagd->carry.active != 0) {
         conversation->used = true;
@@ -104,7 +102,7 @@ static void take_fit(struct lagd *lagd, struct conversation *conversation, uint1
 }
 
 /* A packet came from the host. */
-void take_from_host(struct lagd *lagd, uint8_t *packet, size_t length) {
+void accept_from_host(struct lagd *lagd, uint8_t *packet, size_t length) {
     uint64_t number;
     struct conversation *conversation;
     lagd->carry.counts[FROM_HOST]++;
@@ -119,25 +117,23 @@ void take_from_host(struct lagd *lagd, uint8_t *packet, size_t length) {
     conversation = &lagd->carry.conversations[number % CONVERSATIONS];
     note_taken(conversation, count_segments(packet, length));
     if (has_segments(packet)) lagd->carry.counts[SEGMENTED]++;
-    if (is_fit(lagd, packet, length))
-        take_fit(lagd, conversation, (uint16_t)number, packet, length);
+    if (is_fit(lagd->tap, packet, length))
+        accept_fit(lagd, conversation, (uint16_t)number, packet, length);
     else
         lagd->carry.counts[UNFIT]++;
 }
 
-/* How many frames of the peer came in an aggregator that was active. */
-static uint64_t heard(struct lagd *lagd) {
-    if (carries_by_team(lagd)) return team_frames_received(lagd);
+/* How many frames of the peer came in an aggregator that was active, of those that come here, or by the kernel. */
+uint64_t frames_handed_up(struct lagd *lagd, bool counts_now) {
+    if (counts_now) lagd->plane.passing->count(lagd);
     return lagd->carry.counts[HANDED_UP] + lagd->carry.counts[HOST_UNTAKEN];
 }
 
 /* Another aggregator is active: nothing has come in it yet. */
-static void forget_heard(struct lagd *lagd) {
+void forget_heard(struct lagd *lagd) {
     struct carry_private *own = lagd->carry_private;
-    if (is_fast(lagd)) take_fast_counts(lagd);
-    if (carries_by_team(lagd)) look_at_driver(lagd);
+    own->heard_before = lagd->plane.carrying->frames_heard(lagd, true);
     own->heard_at = 0;
-    own->heard_before = heard(lagd);
 }
 
 /* A frame came in an aggregator that is not the active one. If no aggregator has more than that one, the peer may send there. It is looked
@@ -152,12 +148,11 @@ void suspect_aggregator(struct lagd *lagd, uint32_t aggregator) {
     lagd->carry.changed = true;
 }
 
-/* Whether the active aggregator stays where another one has as many ports: the peer has it, too, since its frames come there, or there
- * is no data. Ends that differ come together, if both send or neither does: neither has frames of the
+/* Whether the active aggregator stays where another one has as many ports: the peer has it, too, since its frames come there. Ends that differ come together, if both send or neither does: neither has frames of the
  * other one then, and both take the one with the least group. */
-bool keeps_aggregator(struct lagd *lagd) {
+bool hears_peer(struct lagd *lagd) {
     struct carry_private *own = lagd->carry_private;
-    return !carries_data(lagd) || (own->heard_at != 0 && lagd->carry.time - own->heard_at < HEARD);
+    return own->heard_at != 0 && lagd->carry.time - own->heard_at < HEARD;
 }
 
 /* A packet came in an aggregator. */
@@ -178,7 +173,7 @@ static bool release_one(struct lagd *lagd, struct conversation *conversation, ui
     if (offered == WAITS) return false;
     conversation->fast.touched = true;
     if (offered == LOST) return drop_held(lagd, number, NONE_CARRIES);
-    packet = take_held(lagd, number, &length);
+    packet = remove_held(lagd, number, &length);
     if (!packet) return false;
     conversation->used = true; /* from now on it is on its way */
     send_on(lagd, conversation, packet, length);
@@ -199,7 +194,7 @@ static void release(struct lagd *lagd) {
     }
     lagd->carry.waiting = any_left;
     flush_data(lagd);
-    pass_on(lagd);
+    lagd->plane.passing->pass_on(lagd);
 }
 
 /* Notes the ports of the active aggregator that carry, those that are emptied or the others. */
@@ -223,24 +218,29 @@ static void choose_active(struct lagd *lagd) {
     if ((before == 0) != (lagd->carry.active == 0))
         (void)say(lagd, LOG_NOTICE | ABOUT_CARRIER, "carry %s: carrier %s", lagd->settings.carry, lagd->carry.active ? "on" : "off");
     if (before != lagd->carry.active) forget_heard(lagd);
-    if (before != lagd->carry.active && lagd->carry.active != 0) announce_soon(lagd);
-    if (carries_by_team(lagd)) return; /* the driver tells its speed, and the carrier comes once it passes data */
+    if (before != lagd->carry.active && lagd->carry.active != 0) announce_soon(lagd->announce);
+    lagd->plane.carrying->tell_host(lagd);
+}
+
+/* The host sees how fast the ports are that carry, and a carrier where there are some. */
+void tell_speed_and_carrier(struct lagd *lagd) {
     set_speed(lagd, sum_speeds(lagd));
     set_carrier(lagd, lagd->carry.active != 0);
+}
+
+/* Chooses by what the ports are now. */
+void choose_ports(struct lagd *lagd) {
+    read_views(lagd);
+    choose_active(lagd);
 }
 
 /* The last daemon carried in this aggregator, and the peer does, too. The team driver has each bucket where it was: it is told of none before
  * it is known where its conversation goes on. */
 void go_on_in(struct lagd *lagd, uint16_t aggregator) {
     struct carry_private *own = lagd->carry_private;
-    lagd->carry.time = own->heard_at = milliseconds(lagd);
+    lagd->carry.time = own->heard_at = milliseconds();
     lagd->carry.active = own->previous = aggregator;
-    if (!carries_by_team(lagd)) {
-        settle_carry(lagd);
-        return;
-    }
-    take_views(lagd);
-    choose_active(lagd);
+    lagd->plane.carrying->go_on(lagd);
 }
 
 /* Another aggregator is active: what is on a port of the previous one leaves it, behind a marker. Its frames wait until it is free there.
@@ -260,56 +260,59 @@ static void leave_previous(struct lagd *lagd) {
 }
 
 /* Notes whether frames of the peer come in the active aggregator. */
-static void note_heard(struct lagd *lagd) {
+void note_heard(struct lagd *lagd) {
     struct carry_private *own = lagd->carry_private;
-    if (heard(lagd) != own->heard_before && lagd->carry.active != 0) own->heard_at = lagd->carry.time;
-    own->heard_before = heard(lagd);
+    uint64_t heard = lagd->plane.carrying->frames_heard(lagd, false);
+    if (heard != own->heard_before && lagd->carry.active != 0) own->heard_at = lagd->carry.time;
+    own->heard_before = heard;
 }
 
-/* The active aggregator is chosen: what goes on by the TAP device, and the next moves. */
-static void settle_tap(struct lagd *lagd) {
+/* What goes on of the frames that come here, and the next moves. */
+void settle_frames(struct lagd *lagd) {
     struct carry_private *own = lagd->carry_private;
-    withdraw(lagd);
+    choose_ports(lagd);
+    lagd->plane.passing->withdraw(lagd);
     leave_previous(lagd);
-    set_collecting(lagd);
+    lagd->plane.passing->set_collecting(lagd);
     look_at_partner(lagd);
     if (lagd->carry.waiting) release(lagd);
     if (own->to_balance) balance(lagd);
-    if (own->to_balance && is_fast(lagd)) take_host(lagd); /* also where nothing came: what was lost on its way counts no more then */
+    if (own->to_balance) lagd->plane.passing->look_for_losses(lagd);
     own->to_balance = false;
 }
 
 /* After calls that may have changed something: the active aggregator, and what goes on in it. */
 void settle_carry(struct lagd *lagd) {
-    uint16_t before = lagd->carry.active;
-    if (!carries_data(lagd) || lagd->broken || !lagd->carry.changed) return;
+    if (lagd->broken || !lagd->carry.changed) return;
     lagd->carry.changed = false;
-    take_views(lagd);
-    choose_active(lagd);
-    if (!carries_by_team(lagd)) {
-        settle_tap(lagd);
-        return;
-    }
-    settle_buckets(lagd);
-    if (lagd->carry.active != before) forget_heard(lagd); /* until now frames came by the ports of the last one */
+    lagd->plane.carrying->settle(lagd);
+}
+
+/* 100 ms passed: before what the device does then, */
+void begin_carry_tick(struct lagd *lagd) {
+    lagd->carry.time = milliseconds();
+    pass_tap_tick(lagd);
+    pass_announcing_tick(lagd);
+}
+
+/* and behind it. */
+void end_carry_tick(struct lagd *lagd) {
+    wake_ports(lagd);
+    lagd->carry.changed = lagd->carry_private->to_balance = true;
+}
+
+/* 100 ms passed, where frames come here. */
+void pass_tick_of_frames(struct lagd *lagd) {
+    begin_carry_tick(lagd);
+    lagd->plane.passing->tick(lagd);
+    note_heard(lagd);
+    pass_flight_tick(lagd);
+    count_losses(lagd);
+    lagd->plane.queueing->watch(lagd);
+    end_carry_tick(lagd);
 }
 
 /* 100 ms passed. */
 void pass_carry_tick(struct lagd *lagd) {
-    if (!carries_data(lagd) || lagd->broken) return;
-    lagd->carry.time = milliseconds(lagd);
-    pass_tap_tick(lagd);
-    pass_announcing_tick(lagd);
-    if (carries_by_team(lagd))
-        pass_bucket_tick(lagd);
-    else
-        pass_fast_tick(lagd);
-    note_heard(lagd);
-    if (!carries_by_team(lagd)) {
-        pass_flight_tick(lagd);
-        count_losses(lagd);
-        watch_queues(lagd);
-    }
-    wake_ports(lagd);
-    lagd->carry.changed = lagd->carry_private->to_balance = true;
+    if (!lagd->broken) lagd->plane.carrying->tick(lagd);
 }

@@ -19,7 +19,6 @@
 #define PATIENCE 10000
 #define MOST_ASKED 1000
 
-/* What this file keeps for a daemon. */
 struct changes_private {
     struct mnl_socket *route; /* NULL: none is open yet */
     uint32_t asked; /* the number of the last question */
@@ -28,7 +27,6 @@ struct changes_private {
     bool ask_again; /* whether something was missed */
     bool suspected; /* whether a carrier may have gone */
     bool tap_named; /* whether the answer that is being read named the TAP device */
-    _Alignas(struct nlmsghdr) uint8_t room[ROOM]; /* of take_changes */
 };
 
 struct changes_private *make_changes_private(void) {
@@ -36,8 +34,7 @@ struct changes_private *make_changes_private(void) {
 }
 
 /* Asks for an interface, or with 0 for all of them; answers whether the kernel took the question. The answer comes as changes do. */
-static bool ask_for(struct lagd *lagd, int index, uint32_t number) {
-    struct changes_private *own = lagd->changes;
+static bool ask_for(struct changes_private *own, int index, uint32_t number) {
     union message question = message_of_interface(RTM_GETLINK, index == 0 ? NLM_F_DUMP : 0, index);
     question.head.nlmsg_seq = number;
     mnl_attr_put_u32(&question.head, IFLA_EXT_MASK, RTEXT_FILTER_SKIP_STATS);
@@ -49,7 +46,7 @@ static void ask(struct lagd *lagd) {
     struct changes_private *own = lagd->changes;
     for (uint16_t i = 0; i < lagd->link_count; i++) lagd->links[i].present = false;
     own->tap_named = false;
-    own->asking = ask_for(lagd, 0, ++own->asked);
+    own->asking = ask_for(lagd->changes, 0, ++own->asked);
     if (!own->asking && !lagd->has_started) stop(REFUSED, "the kernel takes no question", strerror(errno));
     own->ask_again = !own->asking;
     own->interrupted = false;
@@ -77,9 +74,9 @@ static bool is_named(const struct interface *interface, const char *name) {
 
 /* At the start an interface cannot be taken up. */
 static _Noreturn void refuse_link(struct lagd *lagd, const struct link *link) {
-    char what[128];
+    char what[128], holder[HOLDER_ROOM];
     if (link->trouble != EADDRINUSE) stop(REFUSED, link->name, strerror(link->trouble));
-    snprintf(what, sizeof what, "another lagd has the interface, %s", holder_of(lagd, link->index));
+    snprintf(what, sizeof what, "another lagd has the interface, %s", holder_of(lagd, link->index, holder));
     stop(REFUSED, what, link->name);
 }
 
@@ -131,7 +128,7 @@ static void follow(struct lagd *lagd, struct link *link, const struct interface 
     bool up, carrier = (interface->flags & IFF_UP) && (interface->flags & IFF_RUNNING) && (interface->flags & IFF_LOWER_UP), lost = false;
     if (interface->has_mac) follow_address(lagd, link, interface->mac);
     if (!follow_discipline(lagd, link, interface)) return;
-    if (interface->mtu != 0) follow_mtu(lagd, link, interface->mtu);
+    if (interface->mtu != 0) lagd->plane.carrying->follow_mtu(lagd, link, interface->mtu);
     if (interface->counts_losses && interface->losses != link->kernel_losses) {
         uint32_t losses = losses_since(link->kernel_losses, interface->losses);
         link->kernel_losses = interface->losses;
@@ -140,19 +137,19 @@ static void follow(struct lagd *lagd, struct link *link, const struct interface 
         if (lost) set_link(lagd, port, false);
     }
     if (lost || !carrier) forget_carrier(link);
-    up = carrier && !is_silent(lagd) && is_restored(lagd, link);
+    up = carrier && !is_silent(lagd->halt) && is_restored(lagd, link);
     if (up && !link->up) fit_queue(lagd, link, interface->name);
-    if (up) take_speed(lagd, link, interface->name);
-    if (up) follow_speed(lagd, link, interface->name);
+    if (up) apply_speed(lagd, link, interface->name);
+    if (up) lagd->plane.carrying->follow_speed(lagd, link, interface->name);
     set_link(lagd, port, up);
 }
 
 /* An interface is there. A port goes by its name, and the TAP device by its number. */
-static void take_present(struct lagd *lagd, const struct interface *interface) {
+static void follow_present(struct lagd *lagd, const struct interface *interface) {
     bool known = false;
-    if (carries_data(lagd) && interface->index == tap_index(lagd)) {
+    if (interface->index == tap_index(lagd->tap)) {
         lagd->changes->tap_named = true;
-        look_at_carry(lagd);
+        look_at_carry(&lagd->carry);
         follow_tap(lagd, interface->carrier, interface->discipline);
         follow_device(lagd, (interface->flags & IFF_UP) != 0);
     }
@@ -172,26 +169,26 @@ static void take_present(struct lagd *lagd, const struct interface *interface) {
     if (!known) follow_port(lagd, interface);
 }
 
-static void take_absent(struct lagd *lagd, const struct interface *interface) {
-    if (interface->index == tap_index(lagd)) lose_tap(lagd);
+static void follow_absent(struct lagd *lagd, const struct interface *interface) {
+    if (interface->index == tap_index(lagd->tap)) lagd->plane.carrying->lose_device(lagd);
     for (uint16_t i = 0; i < lagd->link_count; i++) {
         struct link *link = &lagd->links[i];
         if (link->index != interface->index) continue;
         if (link->socket >= 0) lose_link(lagd, link);
-        if (!interface->moved) forget_interface(lagd, link);
+        if (!interface->moved) forget_interface(lagd->folder, link);
     }
 }
 
 /* Queueing disciplines came or went. Which one an interface has now is asked: of its usual one the kernel does not tell. */
-static void take_discipline(struct lagd *lagd, const struct tcmsg *info) {
-    bool ours = info->tcm_ifindex == tap_index(lagd);
+static void note_discipline(struct lagd *lagd, const struct tcmsg *info) {
+    bool ours = info->tcm_ifindex == tap_index(lagd->tap);
     for (uint16_t i = 0; i < lagd->link_count; i++) {
         struct link *link = &lagd->links[i];
         if (link->socket < 0 || link->index != info->tcm_ifindex) continue;
         link->has_new_queues = true;
         ours = true;
     }
-    if (ours && info->tcm_parent == TC_H_ROOT && !ask_for(lagd, info->tcm_ifindex, 0)) lagd->changes->ask_again = true;
+    if (ours && info->tcm_parent == TC_H_ROOT && !ask_for(lagd->changes, info->tcm_ifindex, 0)) lagd->changes->ask_again = true;
 }
 
 /* The answer to the last question has ended. What a whole one did not name is gone. One that ends with an error ends the program at
@@ -202,13 +199,13 @@ static void end_answer(struct lagd *lagd, int error) {
     if (error < 0 && !lagd->has_started) stop(REFUSED, "the kernel does not tell of interfaces", strerror(-error));
     own->asking = false;
     own->ask_again = own->ask_again || !whole;
-    if (whole && !own->tap_named) lose_tap(lagd);
+    if (whole && !own->tap_named) lagd->plane.carrying->lose_device(lagd);
     for (uint16_t i = 0; whole && i < lagd->link_count; i++)
         if (lagd->links[i].socket >= 0 && !lagd->links[i].present) lose_link(lagd, &lagd->links[i]);
 }
 
 /* Takes one message. A bridge tells of its ports in messages of its own family, which say nothing of their links. */
-static void take_message(struct lagd *lagd, const struct nlmsghdr *message) {
+static void parse_change(struct lagd *lagd, const struct nlmsghdr *message) {
     struct changes_private *own = lagd->changes;
     const struct ifinfomsg *info = mnl_nlmsg_get_payload(message);
     const struct tcmsg *discipline = mnl_nlmsg_get_payload(message);
@@ -218,18 +215,18 @@ static void take_message(struct lagd *lagd, const struct nlmsghdr *message) {
     bool answers = own->asking && message->nlmsg_seq == own->asked && message->nlmsg_pid == mnl_socket_get_portid(own->route);
     if (answers && (message->nlmsg_flags & NLM_F_DUMP_INTR)) own->interrupted = true;
     if (answers && (type == NLMSG_DONE || type == NLMSG_ERROR)) end_answer(lagd, error_of(message));
-    if ((type == RTM_NEWQDISC || type == RTM_DELQDISC) && length >= sizeof *discipline) take_discipline(lagd, discipline);
+    if ((type == RTM_NEWQDISC || type == RTM_DELQDISC) && length >= sizeof *discipline) note_discipline(lagd, discipline);
     if ((type != RTM_NEWLINK && type != RTM_DELLINK) || length < sizeof *info || info->ifi_family != AF_UNSPEC) return;
     interface = read_interface(message);
-    if (type == RTM_NEWLINK && interface.name[0]) take_present(lagd, &interface);
-    if (type == RTM_DELLINK) take_absent(lagd, &interface);
+    if (type == RTM_NEWLINK && interface.name[0]) follow_present(lagd, &interface);
+    if (type == RTM_DELLINK) follow_absent(lagd, &interface);
 }
 
 /* Takes the messages of `length` octets, in their order. */
-void take_messages(struct lagd *lagd, const void *messages, size_t length) {
+void read_messages(struct lagd *lagd, const void *messages, size_t length) {
     int left = (int)length;
     for (const struct nlmsghdr *message = messages; is_whole(message, left); message = mnl_nlmsg_next(message, &left))
-        take_message(lagd, message);
+        parse_change(lagd, message);
 }
 
 /* Sees the queues anew whose disciplines changed, once for all that was told at a time. */
@@ -238,7 +235,7 @@ static void follow_all_queues(struct lagd *lagd) {
         struct link *link = &lagd->links[i];
         bool changed = link->has_new_queues;
         link->has_new_queues = false;
-        if (changed && !follow_queues(lagd, link)) lose_member(lagd, link);
+        if (changed && !lagd->plane.queueing->follow(lagd, link)) lose_member(lagd, link);
     }
 }
 
@@ -250,24 +247,25 @@ static void miss_changes(struct lagd *lagd) {
 
 /* Takes what the kernel told, up to its end. Where it had no room for some, it says so, and all is asked again. Any program of the machine
  * may send to this socket, too: what does not come from the kernel is not looked at. */
-static void take_all_told(struct lagd *lagd) {
+static void receive_all(struct lagd *lagd) {
     struct changes_private *own = lagd->changes;
+    _Alignas(struct nlmsghdr) uint8_t room[ROOM];
     for (int turn = 0; turn < MOST_TAKEN; turn++) {
         struct sockaddr_nl from = {0};
         socklen_t length = sizeof from;
-        ssize_t got = recvfrom(mnl_socket_get_fd(own->route), own->room, sizeof own->room, MSG_TRUNC, (struct sockaddr *)&from, &length);
+        ssize_t got = recvfrom(mnl_socket_get_fd(own->route), room, sizeof room, MSG_TRUNC, (struct sockaddr *)&from, &length);
         if (got < 0 && errno != ENOBUFS) return;
         if (got >= 0 && from.nl_pid != 0) continue;
-        if (got < 0 || got > (ssize_t)sizeof own->room)
+        if (got < 0 || got > (ssize_t)sizeof room)
             miss_changes(lagd);
         else
-            take_messages(lagd, own->room, (size_t)got);
+            read_messages(lagd, room, (size_t)got);
     }
 }
 
 /* Takes what the kernel told. */
-void take_changes(struct lagd *lagd) {
-    take_all_told(lagd);
+void receive_changes(struct lagd *lagd) {
+    receive_all(lagd);
     follow_all_queues(lagd);
 }
 
@@ -278,25 +276,25 @@ void watch_changes(struct lagd *lagd) {
 }
 
 /* An interface is to be taken up anew. */
-void look_again(struct lagd *lagd) {
-    lagd->changes->ask_again = true;
+void look_again(struct changes_private *own) {
+    own->ask_again = true;
 }
 
 /* An interface is to be taken up as soon as can be. */
 void ask_now(struct lagd *lagd) {
-    look_again(lagd);
+    look_again(lagd->changes);
     watch_changes(lagd);
 }
 
 /* Something could not be sent: a carrier may have gone. */
-void suspect_carriers(struct lagd *lagd) {
-    lagd->changes->suspected = true;
+void suspect_carriers(struct changes_private *own) {
+    own->suspected = true;
 }
 
 /* Asks for the interface of each link. */
 void ask_links(struct lagd *lagd) {
     for (uint16_t i = 0; i < lagd->link_count; i++)
-        if (lagd->links[i].socket >= 0 && !ask_for(lagd, lagd->links[i].index, 0)) lagd->changes->ask_again = true;
+        if (lagd->links[i].socket >= 0 && !ask_for(lagd->changes, lagd->links[i].index, 0)) lagd->changes->ask_again = true;
 }
 
 /* Looks at carriers, at each tick and where one is suspected: the kernel counts at once that one came or went, but tells of those that go
@@ -308,8 +306,8 @@ void watch_carriers(struct lagd *lagd, bool all) {
     own->suspected = false;
     for (uint16_t i = 0; i < lagd->link_count; i++)
         if (lagd->links[i].socket >= 0 && (has_new_carrier(&lagd->links[i]) || has_waited(lagd, &lagd->links[i])))
-            any = ask_for(lagd, lagd->links[i].index, 0) || any;
-    if (any) take_changes(lagd);
+            any = ask_for(lagd->changes, lagd->links[i].index, 0) || any;
+    if (any) receive_changes(lagd);
 }
 
 /* Opens the changes of interfaces, and takes up those that are there. */
@@ -321,7 +319,7 @@ int open_changes(struct lagd *lagd) {
     for (ask(lagd); own->asking || own->ask_again; watch_changes(lagd)) {
         if (poll(&(struct pollfd){mnl_socket_get_fd(own->route), POLLIN, 0}, 1, PATIENCE) != 1) stop(REFUSED, "no answer", "interfaces");
         if (own->asked > MOST_ASKED) stop(REFUSED, "no whole answer", "interfaces");
-        take_changes(lagd);
+        receive_changes(lagd);
     }
     return mnl_socket_get_fd(own->route);
 }

@@ -26,6 +26,7 @@ struct lagd *make_lagd(void) {
     struct lagd *lagd = make_room(sizeof *lagd);
     lagd->epoll_file = -1;
     lagd->carry.changed = true;
+    choose_no_plane(&lagd->plane);
     make_private(lagd);
     if (on_exit(end_lagd, lagd) != 0) exit(REFUSED);
     return lagd;

@@ -16,8 +16,8 @@
 #define EACH_FILE(DO) \
     DO(announce, announce) DO(answers, answers) DO(asking, asking) DO(buckets, buckets) DO(bundle, bundle_private) \
     DO(carry, carry_private) DO(changes, changes) DO(fast, fast) DO(flight, flight) DO(folder, folder) DO(gro, gro) DO(guard, guard) \
-    DO(halt, halt) DO(held, held) DO(host, host) DO(journal, journal) DO(kept, kept) DO(keys, keys) DO(lines, lines) DO(locks, locks) DO(members, members) \
-    DO(netlink, netlink) DO(options, options) DO(ports, ports) DO(probe, probe) DO(queues, queues) DO(reload, reload) \
+    DO(halt, halt) DO(held, held) DO(host, host) DO(journal, journal) DO(keys, keys) DO(lines, lines) DO(members, members) \
+    DO(options, options) DO(probe, probe) DO(queues, queues) \
     DO(resume, resume) DO(settings, settings_private) DO(spread, spread) DO(state, state) DO(status, status) DO(store, store) \
     DO(system, system) DO(tap, tap) DO(team, team) DO(team_netlink, team_netlink)
 #define PRIVATE_FIELD(file, field) struct file##_private *field;
@@ -35,8 +35,8 @@ struct lagd {
     uint16_t aggregator_count;
     bool resuming; /* whether links that come up are not yet up for the library */
     bool has_left; /* whether the next daemon goes on from here */
-    char report[REPORT_ROOM];
-    size_t report_length;
+    struct report report;
+    struct plane plane;
     struct carry carry;
     struct inherited inherited; /* what the last daemon left; all 0 where there is nothing */
     /* What each file keeps: it alone knows what that is. */

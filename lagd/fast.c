@@ -18,7 +18,6 @@
 /* For how long frames of the host are taken without a word of the daemon, in nanoseconds: as long as the peer waits for an LACPDU. */
 #define OPEN_FOR 3000000000u
 
-/* What this file keeps for a daemon. */
 struct fast_private {
     struct fast_row *rows;
     struct fast_member *entries;
@@ -37,10 +36,6 @@ struct fast_private *make_fast_private(void) {
     made->sender = -1;
     made->handover = -1;
     return made;
-}
-
-bool is_fast(struct lagd *lagd) {
-    return lagd->fast->rows != NULL;
 }
 
 /* Waits until each program that runs now, and what it does with its frame, is done; answers whether the kernel can. */
@@ -69,8 +64,8 @@ static int keep_program(struct lagd *lagd, const char *kind, int program, bool e
 /* A table that the programs share with the daemon: that of the last daemon, where that left one for this device, or a new one. */
 static void *open_map(struct lagd *lagd, int number, uint32_t size, uint32_t count, int *map) {
     void *at;
-    *map = take_stored(lagd, "map", number);
-    at = *map >= 0 && lagd->inherited.tap != 0 && lagd->inherited.tap == lagd->fast->tap_at ? take_map(size, count, *map) : NULL;
+    *map = claim_stored(lagd, "map", number);
+    at = *map >= 0 && lagd->inherited.tap != 0 && lagd->inherited.tap == lagd->fast->tap_at ? map_again(size, count, *map) : NULL;
     if (at) return at;
     if (*map >= 0) close_stored(lagd, "map", number, *map);
     at = make_map(size, count, map);
@@ -98,22 +93,21 @@ void start_fast(struct lagd *lagd) {
     struct fast_private *own = lagd->fast;
     struct fast_maps maps;
     need(wait_for_programs(), "fast: the kernel cannot wait for its programs (membarrier)");
-    own->tap_at = tap_index(lagd);
+    own->tap_at = tap_index(lagd->tap);
     own->rows = open_map(lagd, 0, sizeof *own->rows, CONVERSATIONS, &maps.rows);
     own->entries = open_map(lagd, 1, sizeof *own->entries, NIW_MOST_PORTS, &maps.members);
     own->host = open_map(lagd, 2, sizeof *own->host, 1, &maps.host);
     own->places = open_map(lagd, 3, sizeof *own->places, PLACES, &maps.places);
     begin_counts(lagd);
     if (own->host->mac == 0) memcpy(&own->host->mac, lagd->settings.config.mac, ETH_ALEN);
-    own->receiver = needed(load_program(lagd, "receiver", &maps));
-    own->handover = keep_program(lagd, "handover", needed(load_program(lagd, "handover", &maps)), false);
-    own->sender = keep_program(lagd, "sender", needed(load_program(lagd, "sender", &maps)), true);
+    own->receiver = needed(load_program(&lagd->settings, "receiver", &maps));
+    own->handover = keep_program(lagd, "handover", needed(load_program(&lagd->settings, "handover", &maps)), false);
+    own->sender = keep_program(lagd, "sender", needed(load_program(&lagd->settings, "sender", &maps)), true);
 }
 
 /* Nothing is passed on any more, from the first line on. */
 void end_fast(struct lagd *lagd) {
     struct fast_private *own = lagd->fast;
-    if (!is_fast(lagd)) return;
     open_host(lagd, false);
     for (uint16_t number = 0; number < CONVERSATIONS; number++)
         (void)__atomic_and_fetch(&own->rows[number].word, ~(uint64_t)UINT32_MAX, __ATOMIC_SEQ_CST);
@@ -125,8 +119,8 @@ void end_fast(struct lagd *lagd) {
 }
 
 /* The place of a member, and what stands there for it. */
-static uint64_t *place_at(struct lagd *lagd, const struct link *link) {
-    return &lagd->fast->places[member_place((uint32_t)link->index)].word;
+static uint64_t *place_at(struct fast_private *own, const struct link *link) {
+    return &own->places[member_place((uint32_t)link->index)].word;
 }
 
 static uint64_t place_word(const struct link *link) {
@@ -138,7 +132,7 @@ static bool is_place_taken(struct lagd *lagd, const struct link *link) {
     for (uint16_t i = 0; i < lagd->link_count; i++) {
         const struct link *other = &lagd->links[i];
         if (other != link && other->socket >= 0 && member_place((uint32_t)other->index) == member_place((uint32_t)link->index)
-            && __atomic_load_n(place_at(lagd, other), __ATOMIC_SEQ_CST) == place_word(other))
+            && __atomic_load_n(place_at(lagd->fast, other), __ATOMIC_SEQ_CST) == place_word(other))
             return true;
     }
     return false;
@@ -149,48 +143,47 @@ int open_fast_receiver(struct lagd *lagd, const struct link *link) {
     int attached = -1;
     errno = EBUSY;
     if (is_place_taken(lagd, link)) return -1;
-    __atomic_store_n(place_at(lagd, link), place_word(link), __ATOMIC_SEQ_CST);
+    __atomic_store_n(place_at(lagd->fast, link), place_word(link), __ATOMIC_SEQ_CST);
     attached = attach_stored(lagd, "guard", lagd->fast->receiver, link->index, false);
     return attached;
 }
 
 /* The interface is no member any more. */
-void close_fast_receiver(struct lagd *lagd, const struct link *link) {
+void close_fast_receiver(struct fast_private *own, const struct link *link) {
     uint64_t word = place_word(link);
-    if (!is_fast(lagd)) return;
-    (void)__atomic_compare_exchange_n(place_at(lagd, link), &word, 0, false, __ATOMIC_SEQ_CST, __ATOMIC_SEQ_CST);
+    (void)__atomic_compare_exchange_n(place_at(own, link), &word, 0, false, __ATOMIC_SEQ_CST, __ATOMIC_SEQ_CST);
 }
 
-static uint64_t word_of(struct lagd *lagd, uint16_t number) {
-    return __atomic_load_n(&lagd->fast->rows[number].word, __ATOMIC_SEQ_CST);
+static uint64_t word_of(struct fast_private *own, uint16_t number) {
+    return __atomic_load_n(&own->rows[number].word, __ATOMIC_SEQ_CST);
 }
 
 /* The number of a conversation. */
-static uint16_t number_in(struct lagd *lagd, const struct conversation *conversation) {
-    return (uint16_t)(conversation - lagd->carry.conversations);
+static uint16_t number_in(struct carry *carry, const struct conversation *conversation) {
+    return (uint16_t)(conversation - carry->conversations);
 }
 
 /* So many segments that were left to the daemon are dealt with. What counts less was of segments that nobody had counted. */
-static void subtract(struct lagd *lagd, uint16_t number, uint32_t segments) {
-    uint64_t before = word_of(lagd, number), after;
+static void subtract(struct fast_private *own, uint16_t number, uint32_t segments) {
+    uint64_t before = word_of(own, number), after;
     do {
         uint64_t left = before >> 32;
         after = before - ((left < segments ? left : segments) << 32);
-    } while (!__atomic_compare_exchange_n(&lagd->fast->rows[number].word, &before, after, false, __ATOMIC_SEQ_CST, __ATOMIC_SEQ_CST));
+    } while (!__atomic_compare_exchange_n(&own->rows[number].word, &before, after, false, __ATOMIC_SEQ_CST, __ATOMIC_SEQ_CST));
 }
 
 /* Takes off what overflowed. */
-static void take_overflowed(struct lagd *lagd, struct conversation *conversation) {
-    uint64_t overflowed = __atomic_load_n(&lagd->fast->rows[number_in(lagd, conversation)].overflowed, __ATOMIC_ACQUIRE);
+static void subtract_overflowed(struct lagd *lagd, struct conversation *conversation) {
+    uint64_t overflowed = __atomic_load_n(&lagd->fast->rows[number_in(&lagd->carry, conversation)].overflowed, __ATOMIC_ACQUIRE);
     if (overflowed == conversation->fast.overflowed) return;
-    subtract(lagd, number_in(lagd, conversation), (uint32_t)(overflowed - conversation->fast.overflowed));
+    subtract(lagd->fast, number_in(&lagd->carry, conversation), (uint32_t)(overflowed - conversation->fast.overflowed));
     conversation->fast.overflowed = overflowed;
     conversation->fast.suspected = false;
 }
 
 /* Counts what the kernel passed on of a conversation; answers whether there was something. */
 static bool count_passed(struct lagd *lagd, struct conversation *conversation) {
-    uint64_t passed = __atomic_load_n(&lagd->fast->rows[number_in(lagd, conversation)].passed, __ATOMIC_ACQUIRE);
+    uint64_t passed = __atomic_load_n(&lagd->fast->rows[number_in(&lagd->carry, conversation)].passed, __ATOMIC_ACQUIRE);
     uint64_t more = passed - conversation->fast.counted;
     conversation->fast.counted = passed;
     if (more == 0 || conversation->fast.port == 0) return false;
@@ -200,10 +193,9 @@ static bool count_passed(struct lagd *lagd, struct conversation *conversation) {
 }
 
 /* Counts what the kernel did since the last time. */
-void take_fast_counts(struct lagd *lagd) {
+void count_fast_frames(struct lagd *lagd) {
     struct fast_private *own = lagd->fast;
     uint64_t overflowed, unfit;
-    if (!is_fast(lagd)) return;
     for (uint16_t number = 0; number < CONVERSATIONS; number++) (void)count_passed(lagd, &lagd->carry.conversations[number]);
     for (uint16_t i = 0; i < lagd->link_count; i++) {
         struct fast_member now = {
@@ -231,9 +223,9 @@ static bool may_pass(struct lagd *lagd, const struct conversation *conversation,
     struct fast_private *own = lagd->fast;
     struct niw_assignment state;
     if (own->tap_at == 0 || own->queue_holds || conversation->home != lagd->carry.active || lagd->carry.active == 0
-        || !has_fast_member(lagd, port))
+        || !has_fast_member(lagd->members, port))
         return false;
-    return ask_state(lagd, lagd->carry.active, number_in(lagd, conversation), &state) && state.what == NIW_CONVERSATION_ON
+    return ask_state(lagd, lagd->carry.active, number_in(&lagd->carry, conversation), &state) && state.what == NIW_CONVERSATION_ON
         && state.port == port;
 }
 
@@ -247,7 +239,7 @@ static void wait_or_end(struct lagd *lagd) {
 }
 
 /* Takes the rows back that are chosen; once that is done, all that they passed on is with the members, and counted. */
-static void take_back(struct lagd *lagd, bool (*is_chosen)(struct lagd *lagd, const struct conversation *conversation, uint16_t port),
+static void withdraw_chosen(struct lagd *lagd, bool (*is_chosen)(struct lagd *lagd, const struct conversation *conversation, uint16_t port),
     uint16_t port) {
     bool taken[CONVERSATIONS] = {false}, any = false;
     for (uint16_t number = 0; number < CONVERSATIONS; number++) {
@@ -268,7 +260,7 @@ static void take_back(struct lagd *lagd, bool (*is_chosen)(struct lagd *lagd, co
 
 static bool is_wrong(struct lagd *lagd, const struct conversation *conversation, uint16_t port) {
     (void)port;
-    return lagd->carry.port_of[number_in(lagd, conversation)] != conversation->fast.port || !has_fast_member(lagd, conversation->fast.port);
+    return lagd->carry.port_of[number_in(&lagd->carry, conversation)] != conversation->fast.port || !has_fast_member(lagd->members, conversation->fast.port);
 }
 
 /* Where the library refuses to tell, or the queue of the TAP device holds frames, the kernel passes nothing on. */
@@ -292,13 +284,13 @@ static bool is_resting(struct lagd *lagd, const struct conversation *conversatio
 
 /* The interface on which the kernel passes a conversation on, or 0. */
 int fast_member_of(struct lagd *lagd, uint16_t number) {
-    return is_fast(lagd) ? (int)(uint32_t)word_of(lagd, number) : 0;
+    return (int)(uint32_t)word_of(lagd->fast, number);
 }
 
 /* The kernel goes on passing what stays on its port, and nothing else of what it passed on for the last daemon. */
 void resume_fast(struct lagd *lagd) {
     bool any = false;
-    for (uint16_t number = 0; is_fast(lagd) && number < CONVERSATIONS; number++) {
+    for (uint16_t number = 0; number < CONVERSATIONS; number++) {
         struct conversation *conversation = &lagd->carry.conversations[number];
         int member = fast_member_of(lagd, number);
         if (member == 0) continue;
@@ -315,18 +307,16 @@ void resume_fast(struct lagd *lagd) {
 
 /* Takes back what is not, or no longer, on the port where the kernel passes it on: before a marker goes there. */
 void withdraw(struct lagd *lagd) {
-    if (!is_fast(lagd)) return;
-    take_back(lagd, ask_ports(lagd, lagd->carry.active, lagd->carry.port_of) ? is_wrong : is_any, 0);
+    withdraw_chosen(lagd, ask_ports(lagd, lagd->carry.active, lagd->carry.port_of) ? is_wrong : is_any, 0);
 }
 
 /* The link of a port goes down, or its interface: before the library hears of it. */
 void withdraw_port(struct lagd *lagd, uint16_t port) {
-    if (!is_fast(lagd)) return;
     __atomic_store_n(&lagd->fast->entries[port - 1].up_to, 0, __ATOMIC_SEQ_CST);
-    take_back(lagd, is_on, port);
+    withdraw_chosen(lagd, is_on, port);
     for (uint16_t number = 0; number < CONVERSATIONS; number++) {
         struct conversation *conversation = &lagd->carry.conversations[number];
-        if (conversation->port == port && conversation->home != 0) conversation->fast.not_before = milliseconds(lagd) + DOWN_WAIT;
+        if (conversation->port == port && conversation->home != 0) conversation->fast.not_before = milliseconds() + DOWN_WAIT;
     }
 }
 
@@ -336,9 +326,9 @@ void follow_host_queue(struct lagd *lagd, const char *discipline) {
     struct fast_private *own = lagd->fast;
     bool holds = !keeps_order(discipline) && strcmp(discipline, "pfifo_fast") != 0
         && strcmp(discipline, "noop") != 0; /* it has that one until it is up */
-    if (!is_fast(lagd) || !discipline[0] || holds == own->queue_holds) return;
+    if (!discipline[0] || holds == own->queue_holds) return;
     own->queue_holds = holds;
-    if (holds) take_back(lagd, is_any, 0);
+    if (holds) withdraw_chosen(lagd, is_any, 0);
     (void)say(lagd, LOG_WARNING | ABOUT_DATA, "carry %s: its queueing discipline is %s: its data %s", lagd->settings.carry, discipline,
         holds ? "stays with the daemon, since that discipline may hold frames" : "may go by the kernel");
 }
@@ -347,12 +337,12 @@ void follow_host_queue(struct lagd *lagd, const char *discipline) {
  * markers, too, which go up behind the data. */
 void set_collecting(struct lagd *lagd) {
     struct fast_private *own = lagd->fast;
-    bool tap_up = is_fast(lagd) && is_tap_up(lagd);
-    for (uint16_t i = 0; is_fast(lagd) && i < lagd->link_count; i++) {
+    bool tap_up = is_tap_up(lagd->tap);
+    for (uint16_t i = 0; i < lagd->link_count; i++) {
         uint16_t port = lagd->links[i].settings.number;
         uint64_t state = 0;
         bool up = tap_up && own->tap_at != 0 && lagd->carry.active != 0 && lagd->links[i].view.aggregator == lagd->carry.active
-            && has_fast_member(lagd, port)
+            && has_fast_member(lagd->members, port)
             && is_told(lagd, niw_state(&lagd->own_system, port), "niw_state", &state) && (state & NIW_STATE_COLLECTING) != 0;
         __atomic_store_n(&own->entries[i].up_to, up ? (uint64_t)own->tap_at : 0, __ATOMIC_SEQ_CST);
     }
@@ -363,7 +353,7 @@ void set_collecting(struct lagd *lagd) {
  * nowhere once the peer may have given the links up. */
 void open_host(struct lagd *lagd, bool open) {
     struct timespec now;
-    if (!is_fast(lagd)) return;
+    if (!lagd->fast->host) return; /* its tables are still to be made */
     clock_gettime(CLOCK_MONOTONIC, &now);
     __atomic_store_n(&lagd->fast->host->open_until, open ? (uint64_t)now.tv_sec * 1000000000u + (uint64_t)now.tv_nsec + OPEN_FOR : 0,
         __ATOMIC_SEQ_CST);
@@ -377,7 +367,7 @@ void note_taken(struct conversation *conversation, uint32_t segments) {
 
 /* Lets the kernel pass on a conversation of which nothing waits here, and nothing is on its way here. */
 static void pass(struct lagd *lagd, struct conversation *conversation) {
-    struct fast_row *row = &lagd->fast->rows[number_in(lagd, conversation)];
+    struct fast_row *row = &lagd->fast->rows[number_in(&lagd->carry, conversation)];
     uint16_t port = conversation->port;
     uint64_t none = 0, member = (uint32_t)lagd->links[port - 1].index;
     if (__atomic_load_n(&row->opaque, __ATOMIC_SEQ_CST) != 0) return;
@@ -386,12 +376,12 @@ static void pass(struct lagd *lagd, struct conversation *conversation) {
 
 /* After all that was put was sent: what was taken counts no more, and the kernel gets what it may pass on. */
 void pass_on(struct lagd *lagd) {
-    for (uint16_t number = 0; is_fast(lagd) && number < CONVERSATIONS; number++) {
+    for (uint16_t number = 0; number < CONVERSATIONS; number++) {
         struct conversation *conversation = &lagd->carry.conversations[number];
         if (!conversation->fast.touched) continue;
         conversation->fast.touched = false;
-        take_overflowed(lagd, conversation);
-        if (conversation->fast.taken > 0) subtract(lagd, number, conversation->fast.taken);
+        subtract_overflowed(lagd, conversation);
+        if (conversation->fast.taken > 0) subtract(lagd->fast, number, conversation->fast.taken);
         if (conversation->fast.taken > 0) conversation->fast.suspected = false;
         conversation->fast.taken = 0;
         if (conversation->port == 0 || conversation->fast.port > 0 || !none_held(lagd, number)) continue;
@@ -402,7 +392,7 @@ void pass_on(struct lagd *lagd) {
 /* Counts no more what was lost on its way to the daemon: since it was suspected, no frame of it came and none was left (programs only ever
  * raise the count of a row without a member), all programs ended, and the TAP device had nothing more. */
 static void confirm_loss(struct lagd *lagd, struct conversation *conversation) {
-    struct fast_row *row = &lagd->fast->rows[number_in(lagd, conversation)];
+    struct fast_row *row = &lagd->fast->rows[number_in(&lagd->carry, conversation)];
     uint64_t word = conversation->fast.suspected_word, overflowed = __atomic_load_n(&row->overflowed, __ATOMIC_SEQ_CST);
     conversation->fast.suspected = false;
     if (__atomic_load_n(&row->opaque, __ATOMIC_SEQ_CST) != conversation->fast.suspected_opaque) return;
@@ -419,7 +409,7 @@ static void confirm_loss(struct lagd *lagd, struct conversation *conversation) {
 void note_read(struct lagd *lagd, unsigned packets, bool drained) {
     struct fast_private *own = lagd->fast;
     int64_t left;
-    if (!is_fast(lagd) || lagd->broken) return;
+    if (lagd->broken) return;
     left = __atomic_sub_fetch(&own->host->left, packets, __ATOMIC_SEQ_CST);
     if (drained && (left > MOST_BETWEEN || left < 0)) (void)__atomic_sub_fetch(&own->host->left, left, __ATOMIC_SEQ_CST);
     for (uint16_t number = 0; drained && !own->queue_holds && number < CONVERSATIONS; number++) {
@@ -430,10 +420,10 @@ void note_read(struct lagd *lagd, unsigned packets, bool drained) {
 
 /* Suspects rows with frames that do not come: none came since the last tick. */
 static bool suspect(struct lagd *lagd, struct conversation *conversation) {
-    struct fast_row *row = &lagd->fast->rows[number_in(lagd, conversation)];
+    struct fast_row *row = &lagd->fast->rows[number_in(&lagd->carry, conversation)];
     uint64_t word, opaque;
-    take_overflowed(lagd, conversation);
-    word = word_of(lagd, number_in(lagd, conversation));
+    subtract_overflowed(lagd, conversation);
+    word = word_of(lagd->fast, number_in(&lagd->carry, conversation));
     opaque = __atomic_load_n(&row->opaque, __ATOMIC_SEQ_CST);
     if (conversation->fast.port > 0 || conversation->used || conversation->fast.suspected || (word == 0 && opaque == 0)) return false;
     conversation->fast.suspected = true;
@@ -445,12 +435,11 @@ static bool suspect(struct lagd *lagd, struct conversation *conversation) {
 /* 100 ms passed. */
 void pass_fast_tick(struct lagd *lagd) {
     bool any = false;
-    if (!is_fast(lagd)) return;
-    (void)read_tap_mac(lagd, (uint8_t *)&lagd->fast->host->mac);
+    (void)read_tap_mac(lagd->tap, (uint8_t *)&lagd->fast->host->mac);
     withdraw(lagd);
-    open_host(lagd, has_carrier(lagd));
-    take_fast_counts(lagd);
-    if (peer_answering(lagd) == MUTE) take_back(lagd, is_resting, 0);
+    open_host(lagd, has_carrier(lagd->tap));
+    count_fast_frames(lagd);
+    if (peer_answering(lagd->probe) == MUTE) withdraw_chosen(lagd, is_resting, 0);
     for (uint16_t number = 0; number < CONVERSATIONS; number++) any = suspect(lagd, &lagd->carry.conversations[number]) || any;
     if (any) wait_or_end(lagd);
 }

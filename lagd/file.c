@@ -40,7 +40,7 @@ static void expect(struct lagd *lagd, struct reading *reading, const char *expec
 }
 
 /* Takes the head of a section: `line` begins with a bracket. */
-static void take_section(struct lagd *lagd, struct reading *reading, const char *line) {
+static void parse_section(struct lagd *lagd, struct reading *reading, const char *line) {
     const char *end = strchr(line, ']'), *fault = "[Bundle] or [Port INTERFACE]";
     reading->section = WRONG_SECTION;
     if (strcmp(line, "[Bundle]") == 0) {
@@ -77,7 +77,7 @@ static char *next_line(char *into, int room, void *given) {
         while (got > 0 && (line[got - 1] == '\n' || line[got - 1] == '\r' || line[got - 1] == ' ')) line[--got] = 0;
         fault = fault_of(line, (size_t)got);
         if (fault) expect(lagd, reading, fault, line);
-        if (!fault && line[0] == '[') take_section(lagd, reading, line);
+        if (!fault && line[0] == '[') parse_section(lagd, reading, line);
         snprintf(into, (size_t)room, "%s\n", fault || line[0] == '[' ? "" : line);
     }
     free(line);
@@ -85,7 +85,7 @@ static char *next_line(char *into, int room, void *given) {
 }
 
 /* Takes a key and its value, of the section that came last. */
-static int take_pair(void *given, const char *section, const char *name, const char *value) {
+static int parse_pair(void *given, const char *section, const char *name, const char *value) {
     struct reading *reading = given;
     struct lagd *lagd = reading->lagd;
     struct settings *wanted = reading->settings;
@@ -151,7 +151,7 @@ bool read_file(struct lagd *lagd, const char *path, struct settings *wanted) {
     if (!reading.file) return false;
     ini_allow_multiline = false;
     ini_allow_inline_comments = false;
-    (void)ini_parse_stream(next_line, &reading, take_pair, &reading);
+    (void)ini_parse_stream(next_line, &reading, parse_pair, &reading);
     fclose(reading.file);
     if (reading.faults == 0) look_at_all(lagd, &reading);
     return reading.faults == 0;

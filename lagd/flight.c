@@ -12,7 +12,6 @@
 #define FIRST_WAKE 10
 #define LAST_WAKE 300
 
-/* What this file keeps for a daemon. */
 struct flight_private {
     uint64_t silent_since[NIW_MOST_PORTS]; /* the time since which a port holds conversations and does not distribute, or 0 */
     unsigned on_defaults[NIW_MOST_PORTS]; /* ticks for which it ran on defaults */
@@ -50,8 +49,8 @@ static void wake_port(struct lagd *lagd, uint16_t port) {
 }
 
 /* A frame goes on a port. */
-void note_sent(struct lagd *lagd, uint16_t port) {
-    lagd->flight->silent_since[port - 1] = 0;
+void note_sent(struct flight_private *own, uint16_t port) {
+    own->silent_since[port - 1] = 0;
 }
 
 /* Frees what is held on a port that does not distribute for longer than frames can be on their way. */
@@ -86,7 +85,7 @@ static void rest(struct lagd *lagd, struct conversation *conversation, uint16_t 
 /* Frees a conversation that is held, and whose marker nobody answered: nothing of it was sent since. */
 static void force(struct lagd *lagd, struct conversation *conversation, uint16_t number) {
     if (!is_done(lagd, niw_force(&lagd->own_system, conversation->home, number), "niw_force")) return;
-    if (conversation->home == lagd->carry.active) suspect_partner(lagd);
+    if (conversation->home == lagd->carry.active) suspect_partner(lagd->probe);
     lagd->carry.counts[FORCED]++;
     lagd->carry.changed = true;
     conversation->since = 0;
@@ -96,7 +95,7 @@ static void force(struct lagd *lagd, struct conversation *conversation, uint16_t
  * of it. */
 static void watch_free(struct lagd *lagd, struct conversation *conversation, uint16_t number, const struct niw_assignment *state) {
     conversation->since = 0;
-    if (peer_answering(lagd) != MUTE || state->what != NIW_CONVERSATION_ON || conversation->fast.port != 0
+    if (peer_answering(lagd->probe) != MUTE || state->what != NIW_CONVERSATION_ON || conversation->fast.port != 0
         || lagd->carry.time - conversation->last < lagd->settings.flight)
         return;
     rest(lagd, conversation, number);
@@ -105,7 +104,7 @@ static void watch_free(struct lagd *lagd, struct conversation *conversation, uin
 /* A conversation that is held for long goes on: nothing of it was sent since. It waits for a peer that answers markers, which may have
  * been stopped for a while, and for a flight else. What is held on a port that does not distribute is for watch_port. */
 static void watch_held(struct lagd *lagd, struct conversation *conversation, uint16_t number, const struct niw_assignment *state) {
-    bool answered = is_held(state) && peer_answering(lagd) != MUTE && lagd->settings.flight < UNANSWERED;
+    bool answered = is_held(state) && peer_answering(lagd->probe) != MUTE && lagd->settings.flight < UNANSWERED;
     if (conversation->since == 0) conversation->since = lagd->carry.time;
     if (lagd->carry.time - conversation->since < (answered ? UNANSWERED : lagd->settings.flight)) return;
     if (is_held(state) && !distributes(lagd, state->port, true)) return;

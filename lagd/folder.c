@@ -8,7 +8,6 @@
 
 #include "daemon.h"
 
-/* What this file keeps for a daemon. */
 struct folder_private {
     int opened;
 };
@@ -19,8 +18,8 @@ struct folder_private *make_folder_private(void) {
     return made;
 }
 
-int folder_file(struct lagd *lagd) {
-    return lagd->folder->opened;
+int folder_file(struct folder_private *folder) {
+    return folder->opened;
 }
 
 /* The network namespace that this process is in. */

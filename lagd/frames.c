@@ -22,9 +22,9 @@ static bool is_same_system(const struct system_id *one, const struct system_id *
     return one->priority == other->priority && memcmp(one->mac, other->mac, sizeof one->mac) == 0;
 }
 
-static bool is_own(struct lagd *lagd, const struct system_id *system) {
-    struct system_id own = {.priority = lagd->settings.config.priority};
-    memcpy(own.mac, lagd->settings.config.mac, sizeof own.mac);
+static bool is_own(const struct settings *settings, const struct system_id *system) {
+    struct system_id own = {.priority = settings->config.priority};
+    memcpy(own.mac, settings->config.mac, sizeof own.mac);
     return is_same_system(system, &own);
 }
 
@@ -39,9 +39,9 @@ static bool actor_of(const struct arrival *arrival, struct system_id *actor) {
 
 /* The link went down, or its partner is silent for so long that the port runs on defaults: who speaks first next is the partner, where that
  * holds. */
-void forget_partner(struct lagd *lagd, struct link *link) {
-    link->pinned = lagd->settings.policy == PARTNER_GIVEN;
-    if (link->pinned) link->partner = lagd->settings.partner;
+void forget_partner(const struct settings *settings, struct link *link) {
+    link->pinned = settings->policy == PARTNER_GIVEN;
+    if (link->pinned) link->partner = settings->partner;
     link->heard = false;
 }
 
@@ -53,7 +53,7 @@ static void note_stranger(struct link *link, const struct system_id *system, con
 }
 
 /* An LACPDU of this system was taken. */
-void note_actor(struct lagd *lagd, struct link *link, const struct system_id *actor, const uint8_t *frame) {
+void note_actor(const struct settings *settings, struct link *link, const struct system_id *actor, const uint8_t *frame) {
     const uint8_t *source = frame + ETH_ALEN;
     memcpy(link->lacpdu, frame, sizeof link->lacpdu);
     link->lacpdu_at = boottime();
@@ -64,7 +64,7 @@ void note_actor(struct lagd *lagd, struct link *link, const struct system_id *ac
     link->heard = true;
     link->actor = *actor;
     memcpy(link->source, source, sizeof link->source);
-    if (lagd->settings.policy != PARTNER_FIRST || link->pinned || is_own(lagd, actor)) return;
+    if (settings->policy != PARTNER_FIRST || link->pinned || is_own(settings, actor)) return;
     link->pinned = true;
     link->partner = *actor;
 }
@@ -77,16 +77,23 @@ static void hand_over(struct lagd *lagd, struct link *link, const struct arrival
     if (!is_done(lagd, received.status, "niw_receive")) return;
     if (received.what == NIW_RECEIVED_DISABLED) link->counts[DISABLED_RECEIVED]++;
     if (!is_done(lagd, niw_count_received(&link->counters, arrival->frame, arrival->length, received.what), "niw_count_received")) return;
-    if (received.what == NIW_RECEIVED_TOOK_LACPDU && actor) note_actor(lagd, link, actor, arrival->frame);
+    if (received.what == NIW_RECEIVED_TOOK_LACPDU && actor) note_actor(&lagd->settings, link, actor, arrival->frame);
     if (received.what != NIW_RECEIVED_RESPOND) return;
-    if (!may_answer(lagd, link, arrival) || !answer_marker(lagd, link, response)) note_odd_marker(link, arrival, RESPONSES_UNSENT);
+    if (!may_answer(lagd, link, arrival) || !lagd->plane.queueing->answer(lagd, link, response)) note_odd_marker(link, arrival, RESPONSES_UNSENT);
+}
+
+/* Takes a response of the partner. */
+void accept_response(struct lagd *lagd, struct link *link, const struct arrival *arrival, uint32_t id) {
+    (void)id;
+    hand_over(lagd, link, arrival, NULL);
+    note_response(lagd, link);
 }
 
 /* Takes a response to a marker of one queue: the library has the last one that was missing. */
-static void take_response(struct lagd *lagd, struct link *link, const struct arrival *arrival, uint32_t id) {
+void accept_response_of_queue(struct lagd *lagd, struct link *link, const struct arrival *arrival, uint32_t id) {
     uint8_t frame[NIW_FRAME];
     struct arrival last = *arrival;
-    bool ends = ends_flight(lagd, link, &id);
+    bool ends = ends_flight(lagd->queues, link, &id);
     if (!ends && !is_done(lagd, niw_count_received(&link->counters, arrival->frame, arrival->length, NIW_RECEIVED_RELEASED),
         "niw_count_received"))
         return;
@@ -95,8 +102,7 @@ static void take_response(struct lagd *lagd, struct link *link, const struct arr
     set_identifier(frame, id);
     last.frame = frame;
     last.length = sizeof frame;
-    hand_over(lagd, link, &last, NULL);
-    note_response(lagd, link);
+    accept_response(lagd, link, &last, id);
 }
 
 /* Whether the actor of an LACPDU may be the partner of a link; writes which system it is. */
@@ -107,7 +113,7 @@ bool may_be_partner(const struct link *link, const uint8_t *frame, struct system
 
 /* Takes a frame. The slow protocols have one address, which no bridge passes on: a frame to any other one comes from anybody. Their
  * frames have no VLAN tag. The kernel calls one with a tag another host's, or shows it as a frame of the VLAN's interface. */
-void take_frame(struct lagd *lagd, struct link *link, const struct arrival *arrival) {
+void accept_frame(struct lagd *lagd, struct link *link, const struct arrival *arrival) {
     struct system_id actor;
     struct niw_pdu response;
     bool is_lacpdu, is_response;
@@ -126,16 +132,14 @@ void take_frame(struct lagd *lagd, struct link *link, const struct arrival *arri
         return;
     }
     is_response = link->up && read_response(lagd, arrival, &response);
-    if (is_response && !is_partners_response(lagd, link, arrival, &response)) {
+    if (is_response && !is_partners_response(&lagd->settings, link, arrival, &response)) {
         note_odd_marker(link, arrival, FOREIGN_RESPONSES);
         return;
     }
-    if (is_response && lagd->settings.all_queues) {
-        take_response(lagd, link, arrival, response.transaction_id);
-        return;
-    }
-    hand_over(lagd, link, arrival, is_lacpdu ? &actor : NULL);
-    if (is_response) note_response(lagd, link);
+    if (is_response)
+        lagd->plane.queueing->accept_response(lagd, link, arrival, response.transaction_id);
+    else
+        hand_over(lagd, link, arrival, is_lacpdu ? &actor : NULL);
 }
 
 /* What the kernel tells beside a frame; zeros where it does not. */
@@ -151,7 +155,7 @@ struct tpacket_auxdata aux_of(struct msghdr *message) {
 }
 
 /* Takes the frames that wait at an interface, MOST_TAKEN of them at most. */
-void take_frames(struct lagd *lagd, uint16_t port) {
+void receive_frames(struct lagd *lagd, uint16_t port) {
     struct link *link = &lagd->links[port - 1];
     uint8_t frame[LONGEST_FRAME];
     for (int turn = 0; turn < MOST_TAKEN && link->socket >= 0; turn++) {
@@ -167,7 +171,7 @@ void take_frames(struct lagd *lagd, uint16_t port) {
         if (got < 0) return;
         if (from.sll_pkttype == PACKET_OUTGOING) continue; /* an old kernel shows what was sent */
         arrival.tagged = (aux_of(&message).tp_status & TP_STATUS_VLAN_VALID) != 0;
-        take_frame(lagd, link, &arrival);
+        accept_frame(lagd, link, &arrival);
     }
 }
 
@@ -176,12 +180,12 @@ void tell_strangers(struct lagd *lagd, struct link *link) {
     struct strangers *strangers = &link->strangers;
     uint64_t foreign = link->counts[FOREIGN_RECEIVED], changes = link->counts[PARTNER_CHANGES];
     char system[32], source[32];
-    if (foreign + changes == strangers->told || ticks_passed(lagd) < strangers->tell_at) return;
+    if (foreign + changes == strangers->told || ticks_passed(lagd->system) < strangers->tell_at) return;
     if (!say(lagd, LOG_WARNING | ABOUT_STRANGER,
         "port %u %s: another system speaks, last %s from %s: %" PRIu64 " LACPDUs not taken, %" PRIu64
             " changes of the partner", link->settings.number, link->name, system_text(&strangers->system, system),
             mac_text(strangers->source, source), foreign, changes))
         return;
     strangers->told = foreign + changes;
-    strangers->tell_at = ticks_passed(lagd) + STRANGERS_TICKS;
+    strangers->tell_at = ticks_passed(lagd->system) + STRANGERS_TICKS;
 }

@@ -11,7 +11,6 @@
 /* Of the octets of IPV4_FRAGMENT: a packet that is no fragment, and becomes none. */
 #define DONT_FRAGMENT 0x4000
 
-/* What this file keeps for a daemon. */
 struct gro_private {
     unsigned count; /* packets that wait to go up; they stay where they are */
     struct iovec packets[BATCH];

@@ -14,7 +14,6 @@
 
 #include "daemon.h"
 
-/* What this file keeps for a daemon. */
 struct guard_private {
     int program;
 };
@@ -27,7 +26,7 @@ struct guard_private *make_guard_private(void) {
 
 /* The program that keeps data from the stack of a member is loaded once, while the daemon may. */
 void load_guard(struct lagd *lagd) {
-    lagd->guard->program = load_program(lagd, "dropper", NULL);
+    lagd->guard->program = load_program(&lagd->settings, "dropper", NULL);
 }
 
 /* Asks the driver of an interface something, or for something. */
@@ -61,7 +60,7 @@ static unsigned queues_of(int index, struct ethtool_channels *channels) {
 }
 
 /* Gives an interface one queue for each direction, where its driver can. */
-static void join_queues(int index) {
+static void give_one_queue(int index) {
     struct ethtool_channels wanted;
     if (queues_of(index, &wanted) <= 1) return;
     wanted.cmd = ETHTOOL_SCHANNELS;
@@ -111,7 +110,7 @@ static void look_before(struct lagd *lagd, const struct link *link, struct kept 
     char path[128];
     *before = (struct kept){.joins = read_joins(link->index).wanted};
     if (queues_of(link->index, &before->queues) <= 1) before->queues = (struct ethtool_channels){0};
-    if (!is_fast(lagd) || !path_of_processors(link->index, path, sizeof path)
+    if (!lagd->plane.passing->steers || !path_of_processors(link->index, path, sizeof path)
         || !read_processors(path, before->steered, sizeof before->steered)
         || is_one(before->steered))
         before->steered[0] = 0;
@@ -123,21 +122,21 @@ static bool is_unqueued(const struct link *link) {
 }
 
 /* How many queues of an interface have a discipline of their own: all of them, where it keeps them. */
-static unsigned fifos_of(struct lagd *lagd, int index) {
-    return lagd->settings.all_queues ? count_entries(index, "tx-") : 1;
+unsigned count_fifos(int index) {
+    return count_entries(index, "tx-");
 }
 
 /* Sees whether what is sent at an interface keeps its order in its queueing discipline. Frames of several segments have to go through
  * that, since it segments them for an interface that cannot: so they get one that does. */
 void look_at_discipline(struct lagd *lagd, struct link *link, struct guard *guard) {
-    bool wants = passes_segments(lagd) || lagd->settings.all_queues, given = false;
-    (void)read_discipline(lagd, link->index, link->discipline);
-    if (wants && !is_unqueued(link) && strcmp(link->discipline, "noqueue") != 0)
-        given = give_fifos(lagd, link->index, fifos_of(lagd, link->index), read_speed(link->socket, link->name).megabits);
-    if (given) (void)read_discipline(lagd, link->index, link->discipline);
+    bool given = false;
+    (void)read_discipline(link->index, link->discipline);
+    if (lagd->plane.wants_fifo && !is_unqueued(link) && strcmp(link->discipline, "noqueue") != 0)
+        given = give_fifos(link->index, lagd->plane.queueing->fifos_of(link->index), read_speed(link->socket, link->name).megabits);
+    if (given) (void)read_discipline(link->index, link->discipline);
     link->has_fifos = given && strcmp(link->discipline, "mq") == 0;
     guard->in_order = keeps_order(link->discipline) || link->has_fifos;
-    if (passes_segments(lagd) && !guard->in_order && !is_unqueued(link))
+    if (lagd->plane.segments && !guard->in_order && !is_unqueued(link))
         (void)say(lagd, LOG_WARNING | ABOUT_DATA,
             "port %u %s: its queueing discipline is neither noqueue, bfifo nor pfifo: it loses frames of "
             "several segments, if its card cannot cut them", link->settings.number, link->name);
@@ -145,11 +144,11 @@ void look_at_discipline(struct lagd *lagd, struct link *link, struct guard *guar
 
 /* The link comes up: the queue of its interface, if that is one of the daemon, has the length of its speed from now on. */
 void fit_queue(struct lagd *lagd, const struct link *link, const char *interface) {
-    if (!carries_data(lagd) || !(passes_segments(lagd) || lagd->settings.all_queues)) return;
+    if (!lagd->plane.wants_fifo) return;
     if (link->has_fifos)
-        fit_fifos(lagd, link->index, fifos_of(lagd, link->index), read_speed(link->socket, interface).megabits);
+        fit_fifos(link->index, lagd->plane.queueing->fifos_of(link->index), read_speed(link->socket, interface).megabits);
     else
-        fit_fifo(lagd, link->index, read_speed(link->socket, interface).megabits);
+        fit_fifo(link->index, read_speed(link->socket, interface).megabits);
 }
 
 /* Why the kernel may not pass on what goes and comes at an interface, or NULL: a marker would overtake the data before it. */
@@ -177,10 +176,10 @@ static void open_fast(struct lagd *lagd, const struct link *link, struct guard *
 }
 
 /* Keeps data from the stack of an interface: by TCX, or, where the kernel has none, by a classifier. */
-static void keep_from_stack(struct lagd *lagd, const struct link *link, struct guard *guard) {
+void keep_from_stack(struct lagd *lagd, const struct link *link, struct guard *guard) {
     uint16_t port = link->settings.number;
     if (lagd->guard->program >= 0) guard->opened = attach_stored(lagd, "guard", lagd->guard->program, link->index, false);
-    if (lagd->guard->program >= 0 && guard->opened < 0) guard->classifier = set_classifier(lagd, lagd->guard->program, link->index);
+    if (lagd->guard->program >= 0 && guard->opened < 0) guard->classifier = set_classifier(lagd->guard->program, link->index);
     if (guard->classifier == CLASSIFIER_BEHIND_OTHERS)
         (void)say(lagd, LOG_WARNING | ABOUT_DATA,
             "port %u %s: it has a clsact already: its own network stack has what filters there accept", port, link->name);
@@ -188,34 +187,51 @@ static void keep_from_stack(struct lagd *lagd, const struct link *link, struct g
         (void)say(lagd, LOG_WARNING | ABOUT_DATA, "port %u %s: its own network stack has its frames, too", port, link->name);
 }
 
+/* Has the kernel pass on what goes and comes at a member, or keep it from the stack. */
+void run_fast_programs(struct lagd *lagd, const struct link *link, struct guard *guard) {
+    open_fast(lagd, link, guard);
+    if (guard->opened < 0) keep_from_stack(lagd, link, guard);
+}
+
 /* Which ways to put frames together may stay: GRO of the kernel, where responses wait for longer than it keeps a frame. Where the daemon
  * takes the frames, it does not: a socket cannot tell of each frame what it was made of. */
-static unsigned joins_allowed(struct lagd *lagd, const struct link *link, const struct guard *guard) {
-    return guard->spread && guard->fast && keeps_briefly(lagd, link->index) ? JOINED_BY_KERNEL : 0;
+static unsigned joins_allowed(const struct settings *settings, const struct link *link, const struct guard *guard) {
+    return guard->spread && guard->fast && keeps_briefly(settings, link->index) ? JOINED_BY_KERNEL : 0;
 }
 
 /* A member that has one queue, as this daemon or an earlier one gave it, gets back what it had, where it may keep that. How many others give it
  * meanwhile, it is to have behind the daemon. */
-static void regain_queues(struct lagd *lagd, const struct link *link, struct ethtool_channels *before) {
+static void regain_queues(struct folder_private *folder, const struct link *link, struct ethtool_channels *before) {
     struct ethtool_channels now;
     if (queues_of(link->index, &now) > 1)
         *before = now;
-    else if (may_spread(lagd, link))
+    else if (may_spread(folder, link))
         (void)part_queues(link->index, before);
 }
 
-/* Lets a member keep all its queues, where it can, or gives it one. */
-static void set_queues(struct lagd *lagd, struct link *link, struct guard *guard) {
-    struct ethtool_channels *before = &guard->before.queues;
-    if (lagd->settings.all_queues) regain_queues(lagd, link, before);
+/* Gives a member one queue. */
+bool join_queues(struct lagd *lagd, struct link *link, struct guard *guard) {
     look_at_discipline(lagd, link, guard);
-    if (lagd->settings.all_queues) {
-        if (is_unqueued(link)) return; /* it is looked at again then */
-        spread(lagd, link, guard);
-        if (guard->spread && has_channels(link->index, before)) *before = (struct ethtool_channels){0};
-        write_settings(lagd, link, &guard->before);
-    }
-    if (!guard->spread) join_queues(link->index);
+    give_one_queue(link->index);
+    return true;
+}
+
+/* Lets a member keep all its queues, where it can, or gives it one; answers false where it has no queue yet: it is looked at again then. */
+bool keep_queues(struct lagd *lagd, struct link *link, struct guard *guard) {
+    struct ethtool_channels *before = &guard->before.queues;
+    regain_queues(lagd->folder, link, before);
+    look_at_discipline(lagd, link, guard);
+    if (is_unqueued(link)) return false;
+    spread(lagd, link, guard);
+    if (guard->spread && has_channels(link->index, before)) *before = (struct ethtool_channels){0};
+    write_settings(lagd, link, &guard->before);
+    if (!guard->spread) give_one_queue(link->index);
+    return true;
+}
+
+/* The same of a member that has another queueing discipline. */
+void keep_queues_again(struct lagd *lagd, struct link *link, struct guard *guard) {
+    (void)keep_queues(lagd, link, guard);
 }
 
 /* Has programs run for the frames of an interface. */
@@ -223,15 +239,14 @@ static void run_programs(struct lagd *lagd, const struct link *link, struct guar
     guard->opened = -1;
     guard->classifier = NO_CLASSIFIER;
     guard->fast = guard->unusual = false;
-    if (is_fast(lagd)) open_fast(lagd, link, guard);
-    if (guard->opened < 0) keep_from_stack(lagd, link, guard);
-    if (guard->before.joins != 0) set_joins(link->index, guard->before.joins & joins_allowed(lagd, link, guard));
+    lagd->plane.passing->run_programs(lagd, link, guard);
+    if (guard->before.joins != 0) set_joins(link->index, guard->before.joins & joins_allowed(&lagd->settings, link, guard));
 }
 
 static void stop_programs(struct lagd *lagd, const struct link *link, struct guard *guard) {
     if (guard->opened >= 0) detach_stored(lagd, "guard", link->index, guard->opened);
-    if (guard->fast) close_fast_receiver(lagd, link);
-    if (guard->classifier != NO_CLASSIFIER) drop_classifier(lagd, link->index);
+    if (guard->fast) close_fast_receiver(lagd->fast, link);
+    if (guard->classifier != NO_CLASSIFIER) drop_classifier(link->index);
     guard->opened = -1;
     guard->classifier = NO_CLASSIFIER;
     guard->fast = false;
@@ -240,10 +255,7 @@ static void stop_programs(struct lagd *lagd, const struct link *link, struct gua
 /* An interface has another queueing discipline: its programs are chosen anew. What it had before it was a member stays kept. */
 void reopen_guard(struct lagd *lagd, struct link *link, struct guard *guard) {
     stop_programs(lagd, link, guard);
-    if (lagd->settings.all_queues)
-        set_queues(lagd, link, guard);
-    else
-        look_at_discipline(lagd, link, guard);
+    lagd->plane.queueing->set_again(lagd, link, guard);
     run_programs(lagd, link, guard);
     note_channels(link, guard);
 }
@@ -252,21 +264,22 @@ void reopen_guard(struct lagd *lagd, struct link *link, struct guard *guard) {
 void open_guard(struct lagd *lagd, struct link *link, struct guard *guard) {
     struct ethtool_channels queues;
     uint16_t port = link->settings.number;
+    bool has_queues;
     guard->spread = false;
     guard->queues = 1;
     guard->chooser = -1;
     look_before(lagd, link, &guard->before);
     keep_settings(lagd, link, &guard->before);
-    set_queues(lagd, link, guard);
+    has_queues = lagd->plane.queueing->set(lagd, link, guard);
     run_programs(lagd, link, guard);
     note_channels(link, guard);
-    if ((read_joins(link->index).on & ~joins_allowed(lagd, link, guard)) != 0)
+    if ((read_joins(link->index).on & ~joins_allowed(&lagd->settings, link, guard)) != 0)
         (void)say(lagd, LOG_WARNING | ABOUT_DATA, "port %u %s: GRO or LRO stays on, and markers may overtake data", port, link->name);
-    if (link->stacked && !is_fast(lagd))
+    if (link->stacked && !lagd->plane.passing->steers)
         (void)say(lagd, LOG_WARNING | ABOUT_DATA,
             "port %u %s: it stands on another interface, whose queues are not seen: markers may overtake "
             "data", port, link->name);
-    if (!guard->spread && !(lagd->settings.all_queues && is_unqueued(link)) && queues_of(link->index, &queues) > 1)
+    if (!guard->spread && has_queues && queues_of(link->index, &queues) > 1)
         (void)say(lagd, LOG_WARNING | ABOUT_DATA, "port %u %s: it has several queues, and markers may overtake data", port, link->name);
 }
 
@@ -284,12 +297,12 @@ void close_guard(struct lagd *lagd, const struct link *link, struct guard *guard
     stop_programs(lagd, link, guard);
     stop_spreading(lagd, link, guard);
     done = part_queues(link->index, &before->queues);
-    gather_back(lagd, link, done);
+    gather_back(lagd->folder, link, done);
     if (before->joins != 0) set_joins(link->index, before->joins);
     if (before->joins != 0) done = (before->joins & ~read_joins(link->index).wanted) == 0 && done;
-    take_fifo(lagd, link->index); /* with all its queues the kernel gives each of them what it chooses */
+    drop_fifo(link->index); /* with all its queues the kernel gives each of them what it chooses */
     if (before->steered[0]) done = steer_back(link->index, before->steered) && done;
-    if (done) forget_settings(lagd, link);
+    if (done) forget_settings(lagd->folder, link);
 }
 
 /* An interface was a member of the last daemon, and is none of this one: it gets what it had, unless somebody else has it by now. */
@@ -298,10 +311,10 @@ void put_back(struct lagd *lagd, int index, const uint8_t *mac) {
     struct guard guard = {.classifier = CLASSIFIER_ALONE};
     int lock = lock_interface(lagd, index);
     if (lock < 0) return;
-    guard.opened = take_stored(lagd, "guard", index);
-    guard.chooser = take_stored(lagd, "queues", index);
+    guard.opened = claim_stored(lagd, "guard", index);
+    guard.chooser = claim_stored(lagd, "queues", index);
     memcpy(link.mac, mac, sizeof link.mac);
-    recall_settings(lagd, &link, &guard.before);
+    recall_settings(lagd->folder, &link, &guard.before);
     close_guard(lagd, &link, &guard);
     return_stored(lagd, "lock", index, lock);
 }

@@ -6,7 +6,6 @@
 /* How many ticks peers are told at most. Where three LACPDUs went within a second, the next one waits. */
 #define MOST_TICKS 15
 
-/* What this file keeps for a daemon. */
 struct halt_private {
     bool down;      /* whether the device is down */
     bool silent;    /* whether the links are down for the library, too */
@@ -18,13 +17,13 @@ struct halt_private *make_halt_private(void) {
 }
 
 /* Whether the device is down, so that no port may carry. */
-bool is_halted(struct lagd *lagd) {
-    return lagd->halt->down;
+bool is_halted(struct halt_private *own) {
+    return own->down;
 }
 
 /* Whether the peers were told, so that no port speaks. */
-bool is_silent(struct lagd *lagd) {
-    return lagd->halt->silent;
+bool is_silent(struct halt_private *own) {
+    return own->silent;
 }
 
 /* Each port is held, or as the file has it again. */
@@ -44,7 +43,7 @@ static void begin_halt(struct lagd *lagd) {
     for (uint16_t i = 0; i < lagd->link_count; i++) expect_lacpdu(&lagd->links[i]);
     hold_ports(lagd);
     send_due(lagd);
-    take_views(lagd);
+    read_views(lagd);
     lagd->halt->ticks = 0;
     if (end_is_told(lagd)) fall_silent(lagd);
 }
@@ -69,13 +68,13 @@ void follow_device(struct lagd *lagd, bool up) {
         end_halt(lagd);
     else
         begin_halt(lagd);
-    look_at_carry(lagd);
+    look_at_carry(&lagd->carry);
     look_at_bundle(lagd);
 }
 
 /* The device was opened. Where no port goes on, no peer has to be told. */
 void start_halt(struct lagd *lagd) {
-    lagd->halt->down = carries_data(lagd) && !is_tap_up(lagd);
+    lagd->halt->down = tap_index(lagd->tap) != 0 && !is_tap_up(lagd->tap);
     lagd->halt->silent = lagd->halt->down && !lagd->resuming;
 }
 

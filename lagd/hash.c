@@ -20,18 +20,18 @@ static __always_inline bool read_octets(const struct frame *frame, uint64_t at, 
 }
 
 /* The hash of a frame, all of whose tags stand in it. */
-static uint64_t hash_of(struct lagd *lagd, const struct frame *frame) {
-    const uint64_t start = HASH_START ^ lagd->settings.hash_seed;
+static uint64_t hash_of(const struct settings *settings, const struct frame *frame) {
+    const uint64_t start = HASH_START ^ settings->hash_seed;
     struct place place = {0, 0};
     union header ethernet;
     uint8_t tag[2] = {0};
     (void)read_octets(frame, 0, &ethernet, ETH_HLEN);
-    if (lagd->settings.hash == HASH_VLAN_SRCMAC) {
+    if (settings->hash == HASH_VLAN_SRCMAC) {
         if (is_tag(number_at(ethernet.octets + 2 * ETH_ALEN))) (void)read_octets(frame, ETH_HLEN, tag, sizeof tag);
         return add_vlan_and_source(&ethernet, number_at(tag), start);
     }
     enter_ethernet(frame, &place);
-    return add_headers(frame, ethernet.words, &place, lagd->settings.hash, start);
+    return add_headers(frame, ethernet.words, &place, settings->hash, start);
 }
 
 /* The conversation of a frame of 14 octets or more, from 0 to CONVERSATIONS - 1. */
@@ -39,5 +39,5 @@ struct niw_number conversation_of(struct lagd *lagd, const uint8_t *frame, size_
     const struct frame whole = {frame, length};
     if (lagd->settings.hash == HASH_LAYER2 || length < ETH_HLEN)
         return niw_conversation(&lagd->own_system, frame, length < LONGEST_SHOWN ? length : LONGEST_SHOWN);
-    return (struct niw_number){.status = NIW_OK, .number = conversation_in(hash_of(lagd, &whole))};
+    return (struct niw_number){.status = NIW_OK, .number = conversation_in(hash_of(&lagd->settings, &whole))};
 }

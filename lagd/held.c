@@ -25,7 +25,6 @@ struct slot {
     uint8_t packet[];
 };
 
-/* What this file keeps for a daemon. */
 struct held_private {
     struct pool {
         uint8_t *slots;
@@ -44,13 +43,12 @@ struct held_private *make_held_private(void) {
     return made;
 }
 
-static struct pool *pool_of(struct lagd *lagd, uint32_t at) {
-    struct held_private *own = lagd->held;
+static struct pool *pool_of(struct held_private *own, uint32_t at) {
     return at & LARGE ? &own->large : &own->small;
 }
 
-static struct slot *slot_of(struct lagd *lagd, uint32_t at) {
-    struct pool *pool = pool_of(lagd, at);
+static struct slot *slot_of(struct held_private *own, uint32_t at) {
+    struct pool *pool = pool_of(own, at);
     return (struct slot *)(void *)(pool->slots + (size_t)((at & ~LARGE) - 1) * pool->octets);
 }
 
@@ -82,18 +80,18 @@ void end_held(struct lagd *lagd) {
 }
 
 /* A slot that is not in use, or NONE. */
-static uint32_t take_slot(struct lagd *lagd, struct pool *pool) {
+static uint32_t claim_slot(struct held_private *own, struct pool *pool) {
     uint32_t at = pool->idle;
     if (at != NONE)
-        pool->idle = slot_of(lagd, at)->next;
+        pool->idle = slot_of(own, at)->next;
     else if (pool->used < pool->most)
-        at = ++pool->used | (pool == &lagd->held->large ? LARGE : 0);
+        at = ++pool->used | (pool == &own->large ? LARGE : 0);
     return at;
 }
 
-static void free_slot(struct lagd *lagd, uint32_t at) {
-    struct pool *pool = pool_of(lagd, at);
-    slot_of(lagd, at)->next = pool->idle;
+static void free_slot(struct held_private *own, uint32_t at) {
+    struct pool *pool = pool_of(own, at);
+    slot_of(own, at)->next = pool->idle;
     pool->idle = at;
 }
 
@@ -116,6 +114,12 @@ bool count_all_held(struct lagd *lagd, uint64_t *waiting) {
     return is_done(lagd, counts.status, "niw_queue_counts");
 }
 
+/* How many frames wait in all, as far as that is known. */
+unsigned count_frames_waiting(struct lagd *lagd) {
+    uint64_t waiting;
+    return count_all_held(lagd, &waiting) ? (unsigned)waiting : 0;
+}
+
 /* The slot of a frame that the library tells, or NONE where it tells none. */
 static uint32_t slot_told(struct lagd *lagd, const struct niw_queued *queued, const char *call) {
     return is_done(lagd, queued->status, call) && queued->is ? (uint32_t)queued->frame : NONE;
@@ -128,23 +132,23 @@ bool oldest_held(struct lagd *lagd, uint16_t number, uint64_t *came) {
     if (!lagd->carry.waiting) return false;
     queued = niw_queue_oldest(&lagd->held->queues, number);
     at = slot_told(lagd, &queued, "niw_queue_oldest");
-    if (at != NONE) *came = slot_of(lagd, at)->came;
+    if (at != NONE) *came = slot_of(lagd->held, at)->came;
     return at != NONE;
 }
 
 /* Puts a packet behind those of its conversation; answers whether there was room. */
 bool put_held(struct lagd *lagd, uint16_t number, const uint8_t *packet, size_t length) {
     struct held_private *own = lagd->held;
-    uint32_t at = take_slot(lagd, length > SMALL_ROOM ? &own->large : &own->small), status;
+    uint32_t at = claim_slot(lagd->held, length > SMALL_ROOM ? &own->large : &own->small), status;
     if (at == NONE) return false;
     status = niw_queue_put(&own->queues, number, at);
     if (status == NIW_CONVERSATION_FULL || status == NIW_ALL_FULL || !is_done(lagd, status, "niw_queue_put")) {
-        free_slot(lagd, at);
+        free_slot(lagd->held, at);
         return false;
     }
-    slot_of(lagd, at)->length = (uint32_t)length;
-    slot_of(lagd, at)->came = lagd->carry.time;
-    memcpy(slot_of(lagd, at)->packet, packet, length);
+    slot_of(lagd->held, at)->length = (uint32_t)length;
+    slot_of(lagd->held, at)->came = lagd->carry.time;
+    memcpy(slot_of(lagd->held, at)->packet, packet, length);
     lagd->carry.waiting = true;
     return true;
 }
@@ -154,30 +158,29 @@ bool drop_held(struct lagd *lagd, uint16_t number, enum carry_count why) {
     struct niw_queued queued = niw_queue_drop(&lagd->held->queues, number);
     uint32_t at = slot_told(lagd, &queued, "niw_queue_drop");
     if (at == NONE) return false;
-    free_slot(lagd, at);
+    free_slot(lagd->held, at);
     lagd->carry.counts[why]++;
     return true;
 }
 
 /* Takes the oldest frame of a conversation out, to be sent; answers NULL where none is told. Its packet stays where it is until
  * free_left. */
-uint8_t *take_held(struct lagd *lagd, uint16_t number, size_t *length) {
+uint8_t *remove_held(struct lagd *lagd, uint16_t number, size_t *length) {
     struct held_private *own = lagd->held;
     struct niw_queued queued = niw_queue_next(&own->queues, number);
     uint32_t at = slot_told(lagd, &queued, "niw_queue_next");
     if (at == NONE) return NULL;
-    slot_of(lagd, at)->next = own->leaving;
+    slot_of(lagd->held, at)->next = own->leaving;
     own->leaving = at;
-    *length = slot_of(lagd, at)->length;
-    return slot_of(lagd, at)->packet;
+    *length = slot_of(lagd->held, at)->length;
+    return slot_of(lagd->held, at)->packet;
 }
 
 /* All that was on its way was sent. */
-void free_left(struct lagd *lagd) {
-    struct held_private *own = lagd->held;
+void free_left(struct held_private *own) {
     while (own->leaving != NONE) {
         uint32_t at = own->leaving;
-        own->leaving = slot_of(lagd, at)->next;
-        free_slot(lagd, at);
+        own->leaving = slot_of(own, at)->next;
+        free_slot(own, at);
     }
 }

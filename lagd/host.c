@@ -6,7 +6,6 @@
 #include <unistd.h>
 
 #include "daemon.h"
-#include "team.h"
 
 /* The most segments of a packet that is cut at once: more than one of a usual stream has. */
 #define MOST_AT_ONCE 128
@@ -24,7 +23,6 @@ struct uncut {
     uint32_t next;  /* the segment that follows */
 };
 
-/* What this file keeps for a daemon. */
 struct host_private {
     int tap;
     uint8_t *packets;  /* for the packets of a batch */
@@ -41,20 +39,16 @@ struct host_private *make_host_private(void) {
     return made;
 }
 
-bool carries_data(struct lagd *lagd) {
-    return lagd->host->tap >= 0 || carries_by_team(lagd);
-}
-
-/* The TAP device is gone, or it is in another namespace, where interfaces of others have the numbers of our members: first of all nothing
+/* The device is gone, or it is in another namespace, where interfaces of others have the numbers of our members: first of all nothing
  * is passed on any more. Then the peers are told, and the daemon ends, so that whoever started it starts it again, with a new device. */
 void lose_tap(struct lagd *lagd) {
     struct host_private *own = lagd->host;
-    if (!carries_data(lagd) || lagd->broken) return;
+    if (lagd->broken) return;
     lagd->broken = true;
-    end_fast(lagd);
-    forget_tap(lagd);
+    lagd->plane.passing->end(lagd);
+    forget_tap(lagd->tap);
     drop_stored(lagd, "tap", 0);
-    if (own->tap >= 0) await_no_more(lagd, own->tap);
+    if (own->tap >= 0) await_no_more(lagd->epoll_file, own->tap);
     (void)say(lagd, LOG_ERR | ABOUT_CARRIER, "carry %s: the device was deleted, or moved to another namespace; the peers are told, and the "
         "daemon ends", lagd->settings.carry);
 }
@@ -65,13 +59,13 @@ bool is_cutting(struct lagd *lagd) {
 }
 
 /* Takes segments of a packet from this one on, so many at most; answers how many. */
-static unsigned take_segments(struct lagd *lagd, const struct cut *cut, uint32_t from, unsigned most) {
+static unsigned cut_segments(struct lagd *lagd, const struct cut *cut, uint32_t from, unsigned most) {
     struct host_private *own = lagd->host;
     unsigned taken = 0;
     for (; taken < most && from + taken < cut->count && !lagd->broken; taken++) {
         uint8_t *packet = room_at(own->segments, taken % BATCH);
         if (taken > 0 && taken % BATCH == 0) flush_data(lagd);
-        take_from_host(lagd, packet, put_segment(cut, from + taken, packet));
+        accept_from_host(lagd, packet, put_segment(cut, from + taken, packet));
     }
     flush_data(lagd);
     return taken;
@@ -102,27 +96,27 @@ static unsigned wait_uncut(struct lagd *lagd, const uint8_t *packet, size_t leng
 
 /* Takes a packet whose segments and checksum the host left to a card, but one of more segments than are cut at once; answers how many frames it
  * has. A packet that cannot be cut has no octets. */
-static unsigned take_whole(struct lagd *lagd, uint8_t *packet, size_t length) {
+static unsigned accept_whole(struct lagd *lagd, uint8_t *packet, size_t length) {
     struct cut cut;
     if (has_segments(packet)) {
         lagd->carry.counts[SEGMENTED]++;
-        if (read_cut(packet, length, &cut)) return take_segments(lagd, &cut, 0, cut.count);
+        if (read_cut(packet, length, &cut)) return cut_segments(lagd, &cut, 0, cut.count);
         length = 0;
     }
     finish_sum(packet, length);
-    take_from_host(lagd, packet, length);
+    accept_from_host(lagd, packet, length);
     return 1;
 }
 
 /* Takes of the packets that wait, the oldest ones first, so many segments at most. */
-static void take_uncut(struct lagd *lagd, unsigned most) {
+static void cut_waiting(struct lagd *lagd, unsigned most) {
     struct host_private *own = lagd->host;
     for (unsigned taken = 0; taken < most && is_cutting(lagd);) {
         struct uncut *uncut = &own->waiting[own->first];
         unsigned now;
         if (uncut->cut.count > 0 && uncut->next == 0) lagd->carry.counts[SEGMENTED]++;
-        now = uncut->cut.count > 0 ? take_segments(lagd, &uncut->cut, uncut->next, most - taken)
-                                   : take_whole(lagd, room_at(own->rooms, own->first), uncut->length);
+        now = uncut->cut.count > 0 ? cut_segments(lagd, &uncut->cut, uncut->next, most - taken)
+                                   : accept_whole(lagd, room_at(own->rooms, own->first), uncut->length);
         uncut->next += now;
         taken += now;
         if (uncut->next < uncut->cut.count) continue;
@@ -140,18 +134,18 @@ static bool is_long(const uint8_t *packet, size_t length) {
 
 /* Takes a packet of a host that leaves segments and checksums to a card: one of many segments waits, and those of its conversation behind it;
  * answers how many frames it has. */
-static unsigned take_in_turn(struct lagd *lagd, uint8_t *packet, size_t length) {
+static unsigned accept_in_turn(struct lagd *lagd, uint8_t *packet, size_t length) {
     size_t head = head_octets();
     struct niw_number number;
-    if (length < head + ETH_HLEN || (!is_cutting(lagd) && !is_long(packet, length))) return take_whole(lagd, packet, length);
+    if (length < head + ETH_HLEN || (!is_cutting(lagd) && !is_long(packet, length))) return accept_whole(lagd, packet, length);
     number = conversation_of(lagd, packet + head, length - head);
     if (number.status != NIW_OK || (lagd->host->of_one[number.number % CONVERSATIONS] == 0 && !is_long(packet, length)))
-        return take_whole(lagd, packet, length);
+        return accept_whole(lagd, packet, length);
     return wait_uncut(lagd, packet, length, (uint16_t)(number.number % CONVERSATIONS));
 }
 
 /* Takes one packet of the TAP device; answers how many frames it has, or 0 where there is none. */
-static unsigned take_next(struct lagd *lagd, uint8_t *packet) {
+static unsigned read_next(struct lagd *lagd, uint8_t *packet) {
     ssize_t length;
     if (lagd->broken) return 0;
     length = read(lagd->host->tap, packet, packet_room());
@@ -160,26 +154,26 @@ static unsigned take_next(struct lagd *lagd, uint8_t *packet) {
         lose_tap(lagd);
         return 0;
     }
-    if (length >= (ssize_t)head_octets() && !passes_segments(lagd)) return take_in_turn(lagd, packet, (size_t)length);
-    take_from_host(lagd, packet, length < 0 ? 0 : (size_t)length); /* one that cannot be read has no octets */
+    if (length >= (ssize_t)head_octets() && !lagd->plane.segments) return accept_in_turn(lagd, packet, (size_t)length);
+    accept_from_host(lagd, packet, length < 0 ? 0 : (size_t)length); /* one that cannot be read has no octets */
     return 1;
 }
 
 /* Takes the packets that wait in the TAP device, some at most, and then of those that wait to be cut. */
-void take_host(struct lagd *lagd) {
+void read_host(struct lagd *lagd) {
     unsigned got = 0, left = BATCH;
     for (; left > 0; got++) {
-        unsigned frames = take_next(lagd, room_at(lagd->host->packets, got));
+        unsigned frames = read_next(lagd, room_at(lagd->host->packets, got));
         if (frames == 0) break;
         lagd->carry.taken += frames;
         left -= frames < left ? frames : left;
     }
     flush_data(lagd);
-    take_uncut(lagd, MOST_CUT);
+    cut_waiting(lagd, MOST_CUT);
     flush_data(lagd);
     if (left == 0 || is_cutting(lagd)) lagd->carry.more_waits = true;
-    note_read(lagd, got, left > 0);
-    pass_on(lagd);
+    lagd->plane.passing->note_read(lagd, got, left > 0);
+    lagd->plane.passing->pass_on(lagd);
 }
 
 /* Hands a packet up, which lies in parts; answers whether the device took it. */
@@ -189,56 +183,67 @@ bool give_host(struct lagd *lagd, const struct iovec *parts, unsigned count, siz
 
 /* Serves what is ready: a member, or the TAP device, whose frames come after what was released. */
 void serve_data(struct lagd *lagd, uint32_t tag) {
-    if (!carries_data(lagd) || lagd->broken) return;
+    if (lagd->broken) return;
     if (tag == RESPONSES) serve_answers(lagd);
     if (tag >= MEMBERS && tag < RESPONSES) {
-        take_data(lagd, (uint16_t)(tag - MEMBERS + 1));
+        receive_data(lagd, (uint16_t)(tag - MEMBERS + 1));
         if (lagd->carry.changed) send_due(lagd);
     }
     settle_carry(lagd);
-    if (tag == HOST) take_host(lagd);
+    if (tag == HOST) read_host(lagd);
 }
 
 /* The link of a port goes down: nothing goes there from here on. */
 void lose_data(struct lagd *lagd, uint16_t port) {
-    if (!carries_data(lagd)) return;
-    withdraw_port(lagd, port);
-    forget_answers(lagd, port);
+    lagd->plane.passing->withdraw_port(lagd, port);
+    forget_answers(lagd->answers, port);
 }
 
-/* Makes the TAP device, and all room that frames ever take, where data is carried. */
-void open_carry(struct lagd *lagd) {
+/* The interface by which the kernel passes a conversation on, or 0. */
+int passing_member_of(struct lagd *lagd, uint16_t number) {
+    return lagd->plane.passing->member_of(lagd, number);
+}
+
+/* Makes the TAP device, and what members are given and have taken away. */
+void open_tap_plane(struct lagd *lagd) {
     struct host_private *own = lagd->host;
-    if (!lagd->settings.carry[0]) return;
-    start_held(lagd);
-    start_members(lagd);
-    if (lagd->settings.plane == PLANE_TEAM) {
-        open_team(lagd, lagd->settings.carry, lagd->settings.config.mac);
-        return;
-    }
     own->packets = make_rooms();
     own->segments = make_rooms();
     own->rooms = make_rooms();
     load_guard(lagd);
-    start_spreading(lagd);
-    start_answers(lagd);
+    lagd->plane.queueing->start(lagd);
     if (call_at_exit(lagd, put_back_members) != 0) stop(REFUSED, "no memory", "for what members had");
     own->tap = open_tap(lagd, lagd->settings.carry, lagd->settings.config.mac);
-    gather(lagd, tap_index(lagd));
-    if (lagd->settings.fast) start_fast(lagd);
-    if (!await_input(lagd, own->tap, HOST)) stop(REFUSED, "epoll", strerror(errno));
+    gather(lagd, tap_index(lagd->tap));
+    lagd->plane.passing->start(lagd);
+    if (!await_input(lagd->epoll_file, own->tap, HOST)) stop(REFUSED, "epoll", strerror(errno));
 }
 
-/* The daemon ends, or the library refused a call: no data goes or comes from here on. Members are as they were before, and the device goes
- * with the program. */
-void end_carry(struct lagd *lagd) {
-    struct host_private *own = lagd->host;
-    if (!carries_data(lagd)) return;
-    if (own->tap >= 0) await_no_more(lagd, own->tap);
+/* Members are as they were before, and the device goes with the program. */
+void end_tap_plane(struct lagd *lagd) {
+    await_no_more(lagd->epoll_file, lagd->host->tap);
     set_carrier(lagd, false);
-    for (uint16_t i = 0; i < lagd->link_count; i++)
-        if (lagd->links[i].socket >= 0) close_member(lagd, &lagd->links[i]);
-    end_team(lagd);
-    end_fast(lagd);
+    close_members(lagd);
+    lagd->plane.passing->end(lagd);
     end_held(lagd);
+}
+
+/* Makes what carries the data, and all room that frames ever take. */
+void open_carry(struct lagd *lagd) {
+    if (!lagd->settings.carry[0]) return;
+    start_held(lagd);
+    start_members(lagd->members);
+    lagd->plane.carrying->open(lagd);
+}
+
+/* No interface is a member any more. */
+void close_members(struct lagd *lagd) {
+    for (uint16_t i = 0; i < lagd->link_count; i++)
+        if (lagd->links[i].socket >= 0) lagd->plane.carrying->remove(lagd, &lagd->links[i]);
+}
+
+/* The daemon ends, or the library refused a call: no data goes or comes from here on. */
+void end_carry(struct lagd *lagd) {
+    lagd->plane.carrying->end(lagd);
+    choose_no_plane(&lagd->plane);
 }

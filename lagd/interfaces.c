@@ -7,13 +7,13 @@
 
 #include "netlink.h"
 
-static int take_kind(const struct nlattr *attribute, void *into) {
+static int parse_kind(const struct nlattr *attribute, void *into) {
     struct interface *interface = into;
     if (mnl_attr_get_type(attribute) == IFLA_INFO_KIND) copy_text(attribute, interface->kind, sizeof interface->kind);
     return MNL_CB_OK;
 }
 
-static void take_counts(struct interface *interface, const struct nlattr *attribute) {
+static void parse_counts(struct interface *interface, const struct nlattr *attribute) {
     struct rtnl_link_stats64 counts = {0};
     size_t length = mnl_attr_get_payload_len(attribute);
     memcpy(&counts, mnl_attr_get_payload(attribute), length < sizeof counts ? length : sizeof counts);
@@ -22,7 +22,7 @@ static void take_counts(struct interface *interface, const struct nlattr *attrib
 }
 
 /* Takes one attribute of an interface. One that is shorter or longer than its type is not taken. */
-static int take_attribute(const struct nlattr *attribute, void *into) {
+static int parse_attribute(const struct nlattr *attribute, void *into) {
     struct interface *interface = into;
     uint8_t carrier = 0;
     switch (mnl_attr_get_type(attribute)) {
@@ -36,9 +36,9 @@ static int take_attribute(const struct nlattr *attribute, void *into) {
     case IFLA_LINK_NETNSID: interface->elsewhere = value_of(attribute, sizeof(int)) != NULL; break;
     case IFLA_NEW_NETNSID: interface->moved = true; break;
     case IFLA_MASTER: (void)copy_value(attribute, &interface->master, sizeof interface->master); break;
-    case IFLA_LINKINFO: (void)mnl_attr_parse_nested(attribute, take_kind, interface); break;
+    case IFLA_LINKINFO: (void)mnl_attr_parse_nested(attribute, parse_kind, interface); break;
     case IFLA_PROP_LIST: interface->others = attribute; break;
-    case IFLA_STATS64: take_counts(interface, attribute); break;
+    case IFLA_STATS64: parse_counts(interface, attribute); break;
     default: break;
     }
     return MNL_CB_OK;
@@ -52,24 +52,23 @@ struct interface read_interface(const struct nlmsghdr *message) {
     interface.index = about->ifi_index;
     interface.flags = about->ifi_flags;
     interface.type = about->ifi_type;
-    read_attributes(message, sizeof *about, take_attribute, &interface);
+    read_attributes(message, sizeof *about, parse_attribute, &interface);
     return interface;
 }
 
-static void take_told(struct lagd *lagd, const struct nlmsghdr *message, void *into) {
+static void parse_interface(const struct nlmsghdr *message, void *into) {
     struct interface *interface = into;
-    (void)lagd;
     if (message->nlmsg_type == RTM_NEWLINK) *interface = read_interface(message);
 }
 
 /* Reads what the kernel has of an interface now; answers whether there is one of this number, or of this name or alternative name, where the
  * number is 0, and else errno tells why not. Its other names are not kept. */
-bool ask_interface(struct lagd *lagd, int index, const char *name, struct interface *interface) {
+bool ask_interface(int index, const char *name, struct interface *interface) {
     union message question = message_of_interface(RTM_GETLINK, NLM_F_ACK, index);
     bool told;
     if (index == 0 && name) mnl_attr_put_strz(&question.head, strlen(name) < DEVICE_ROOM ? IFLA_IFNAME : IFLA_ALT_IFNAME, name);
     *interface = (struct interface){0};
-    told = ask_netlink(lagd, NETLINK_ROUTE, &question, take_told, interface);
+    told = ask_netlink(NETLINK_ROUTE, &question, parse_interface, interface);
     interface->others = NULL;
     if (told && interface->index == 0) errno = EPROTO;
     return told && interface->index != 0;

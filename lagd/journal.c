@@ -33,7 +33,6 @@ static const char *id_of(unsigned kind) {
     }
 }
 
-/* What this file keeps for a daemon. */
 struct journal_private {
     int opened; /* of tell_journal */
 };

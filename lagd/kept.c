@@ -17,31 +17,21 @@ static void name_file(const struct link *link, const char *kind, char room[stati
     snprintf(room, 64, "%lu.%d.%s", network_namespace(), link->index, kind);
 }
 
-/* What this file keeps for a daemon. */
-struct kept_private {
-    char text[64]; /* of boot_id */
-};
-
-struct kept_private *make_kept_private(void) {
-    return make_room(sizeof(struct kept_private));
-}
-
 /* The number of this boot; "unknown" where it may not be read, as under the unit, whose folder does not outlive a boot. */
-const char *boot_id(struct lagd *lagd) {
-    struct kept_private *own = lagd->kept;
+const char *boot_id(char room[static BOOT_ROOM]) {
     FILE *file = fopen("/proc/sys/kernel/random/boot_id", "re");
-    if (!file || fscanf(file, "%63s", own->text) != 1) snprintf(own->text, sizeof own->text, "unknown");
+    if (!file || fscanf(file, "%63s", room) != 1) snprintf(room, BOOT_ROOM, "unknown");
     if (file) fclose(file);
-    return own->text;
+    return room;
 }
 
 /* Opens the file of an interface that has this kind of settings; or answers NULL, and errno tells why not. */
-FILE *open_kept(struct lagd *lagd, const struct link *link, const char *kind, int flags, const char *mode) {
+FILE *open_kept(struct folder_private *folder, const struct link *link, const char *kind, int flags, const char *mode) {
     char name[64];
     FILE *file;
     int opened, fault;
     name_file(link, kind, name);
-    opened = openat(folder_file(lagd), name, flags | O_NOFOLLOW | O_CLOEXEC, 0600);
+    opened = openat(folder_file(folder), name, flags | O_NOFOLLOW | O_CLOEXEC, 0600);
     file = opened < 0 ? NULL : fdopen(opened, mode);
     if (file || opened < 0) return file;
     fault = errno;
@@ -51,32 +41,32 @@ FILE *open_kept(struct lagd *lagd, const struct link *link, const char *kind, in
 }
 
 /* Puts a file of an interface in the place of another one; answers whether it did. */
-bool replace_kept(struct lagd *lagd, const struct link *link, const char *from, const char *to) {
+bool replace_kept(struct folder_private *folder, const struct link *link, const char *from, const char *to) {
     char old[64], next[64];
     name_file(link, from, old);
     name_file(link, to, next);
-    return renameat(folder_file(lagd), old, folder_file(lagd), next) == 0;
+    return renameat(folder_file(folder), old, folder_file(folder), next) == 0;
 }
 
 /* What a file of an interface has is of no use any more. */
-void drop_kept(struct lagd *lagd, const struct link *link, const char *kind) {
+void drop_kept(struct folder_private *folder, const struct link *link, const char *kind) {
     char name[64];
     name_file(link, kind, name);
-    (void)unlinkat(folder_file(lagd), name, 0);
+    (void)unlinkat(folder_file(folder), name, 0);
 }
 
 /* Reads what an interface had before an earlier daemon changed it; answers whether there is something. */
-static bool recall(struct lagd *lagd, const struct link *link, struct kept *kept) {
-    char boot[64], mac[32], own[32], end[8] = "";
+static bool recall(struct folder_private *folder, const struct link *link, struct kept *kept) {
+    char boot[BOOT_ROOM], now[BOOT_ROOM], mac[32], own[32], end[8] = "";
     struct ethtool_channels *queues = &kept->queues;
     int found;
-    FILE *file = open_kept(lagd, link, "member", O_RDONLY, "r");
+    FILE *file = open_kept(folder, link, "member", O_RDONLY, "r");
     if (!file) return false;
     *kept = (struct kept){0};
     found = fscanf(file, READ_FORM, boot, mac, &kept->joins, &queues->rx_count, &queues->tx_count, &queues->other_count,
         &queues->combined_count, kept->steered, end);
     fclose(file);
-    if (found != 9 || strcmp(end, "end") != 0 || strcmp(boot, boot_id(lagd)) != 0 || strcmp(mac, mac_text(link->mac, own)) != 0)
+    if (found != 9 || strcmp(end, "end") != 0 || strcmp(boot, boot_id(now)) != 0 || strcmp(mac, mac_text(link->mac, own)) != 0)
         return false;
     if (strcmp(kept->steered, "-") == 0) kept->steered[0] = 0;
     return true;
@@ -84,11 +74,11 @@ static bool recall(struct lagd *lagd, const struct link *link, struct kept *kept
 
 /* Keeps what an interface has to get back, for the next daemon, where this one is killed. */
 void write_settings(struct lagd *lagd, const struct link *link, const struct kept *kept) {
-    char mac[32];
+    char boot[BOOT_ROOM], mac[32];
     const struct ethtool_channels *queues = &kept->queues;
-    FILE *file = open_kept(lagd, link, "member", O_WRONLY | O_CREAT | O_TRUNC, "w");
+    FILE *file = open_kept(lagd->folder, link, "member", O_WRONLY | O_CREAT | O_TRUNC, "w");
     if (file)
-        fprintf(file, FORM, boot_id(lagd), mac_text(link->mac, mac), kept->joins, queues->rx_count, queues->tx_count,
+        fprintf(file, FORM, boot_id(boot), mac_text(link->mac, mac), kept->joins, queues->rx_count, queues->tx_count,
             queues->other_count, queues->combined_count, kept->steered[0] ? kept->steered : "-");
     if (!file || fclose(file) != 0)
         (void)say(lagd, LOG_WARNING | ABOUT_DATA, "port %u %s: if this daemon is killed, nobody knows what the interface had: %s",
@@ -98,7 +88,7 @@ void write_settings(struct lagd *lagd, const struct link *link, const struct kep
 /* Keeps what an interface has now, before it is changed, and adds to it what it had before an earlier daemon changed it. */
 void keep_settings(struct lagd *lagd, const struct link *link, struct kept *kept) {
     struct kept first;
-    if (recall(lagd, link, &first)) {
+    if (recall(lagd->folder, link, &first)) {
         kept->joins |= first.joins;
         if (first.queues.combined_count + first.queues.rx_count + first.queues.tx_count > 0) kept->queues = first.queues;
         if (first.steered[0]) memcpy(kept->steered, first.steered, sizeof kept->steered);
@@ -107,18 +97,17 @@ void keep_settings(struct lagd *lagd, const struct link *link, struct kept *kept
 }
 
 /* What an interface had before an earlier daemon changed it; zeros, where nobody knows. */
-void recall_settings(struct lagd *lagd, const struct link *link, struct kept *kept) {
-    if (!recall(lagd, link, kept)) *kept = (struct kept){0};
+void recall_settings(struct folder_private *folder, const struct link *link, struct kept *kept) {
+    if (!recall(folder, link, kept)) *kept = (struct kept){0};
 }
 
 /* The interface has what it had before. */
-void forget_settings(struct lagd *lagd, const struct link *link) {
-    drop_kept(lagd, link, "member");
+void forget_settings(struct folder_private *folder, const struct link *link) {
+    drop_kept(folder, link, "member");
 }
 
 /* The interface is gone for good. One that went to another namespace may come back, and is what it was made then. */
-void forget_interface(struct lagd *lagd, const struct link *link) {
-    if (!carries_data(lagd)) return;
-    forget_settings(lagd, link);
-    drop_kept(lagd, link, "queues");
+void forget_interface(struct folder_private *folder, const struct link *link) {
+    forget_settings(folder, link);
+    drop_kept(folder, link, "queues");
 }

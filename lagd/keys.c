@@ -22,7 +22,6 @@ struct speed_key {
     struct speed speed;
 };
 
-/* What this file keeps for a daemon. */
 struct keys_private {
     struct speed_key known[2 * NIW_MOST_PORTS]; /* of each key of a port, and of the bundle */
     uint16_t known_count;
@@ -34,8 +33,7 @@ struct keys_private *make_keys_private(void) {
 }
 
 /* Whether aggregators of a key were made, for ports to which it was given. */
-bool has_aggregator(struct lagd *lagd, uint16_t given) {
-    struct keys_private *own = lagd->keys;
+bool has_aggregator(struct keys_private *own, uint16_t given) {
     for (uint16_t i = 0; i < own->known_count; i++)
         if (own->known[i].given == given) return true;
     return false;
@@ -67,8 +65,7 @@ void choose_slots(struct lagd *lagd) {
 }
 
 /* A key of aggregators, for ports to which this one was given: the first one is that one itself. */
-static uint16_t key_for(struct lagd *lagd, uint16_t given, uint16_t number) {
-    struct keys_private *own = lagd->keys;
+static uint16_t key_for(struct keys_private *own, uint16_t given, uint16_t number) {
     for (uint16_t i = 0; i < own->known_count; i++)
         if (own->known[i].given == given && number-- == 0) return own->known[i].key;
     return given;
@@ -79,7 +76,7 @@ static uint16_t key_for(struct lagd *lagd, uint16_t given, uint16_t number) {
 void make_keys(struct lagd *lagd, uint16_t keys[static NIW_MOST_PORTS]) {
     struct keys_private *own = lagd->keys;
     for (uint16_t i = 0; i < lagd->slot_count; i++)
-        if (!has_aggregator(lagd, lagd->links[i].key))
+        if (!has_aggregator(lagd->keys, lagd->links[i].key))
             own->known[own->known_count++] = (struct speed_key){.given = lagd->links[i].key, .key = lagd->links[i].key};
     for (uint16_t i = 0, given = own->known_count; i < given; i++) {
         for (uint16_t speed = 1; speed < own->speeds; speed++) {
@@ -89,7 +86,7 @@ void make_keys(struct lagd *lagd, uint16_t keys[static NIW_MOST_PORTS]) {
     }
     for (uint16_t speed = 0; speed < own->speeds; speed++)
         for (uint16_t port = 0; port < lagd->slot_count; port++)
-            keys[lagd->aggregator_count++] = key_for(lagd, lagd->links[port].key, speed);
+            keys[lagd->aggregator_count++] = key_for(lagd->keys, lagd->links[port].key, speed);
 }
 
 static bool is_same_speed(const struct speed *one, const struct speed *other) {
@@ -168,7 +165,7 @@ static void give_key(struct lagd *lagd, struct link *link) {
 }
 
 /* The link of a port comes up: it has the key of its speed from now on. */
-void take_speed(struct lagd *lagd, struct link *link, const char *interface) {
+void apply_speed(struct lagd *lagd, struct link *link, const char *interface) {
     struct speed now;
     if (!lagd->settings.key_by_speed || link->up) return;
     now = read_speed(link->socket, interface);

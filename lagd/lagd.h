@@ -10,6 +10,7 @@
 
 #include "counts.h"
 #include "lag.h"
+#include "plane.h"
 #include "settings.h"
 
 #define VERSION NIW_VERSION_TEXT
@@ -37,6 +38,31 @@ enum { DONE = 0, REFUSED = 1, WRONG_WORD = 2 };
 #define SECOND 10
 /* The most LACPDUs of a port within a second (IEEE 802.1AX-2014, 6.4.16). */
 #define MOST_LACPDUS 3
+
+/* What a file keeps for a daemon, which it alone knows; and what others than it are handed. */
+struct announce_private;
+struct answers_private;
+struct asking_private;
+struct buckets_private;
+struct changes_private;
+struct fast_private;
+struct flight_private;
+struct folder_private;
+struct halt_private;
+struct held_private;
+struct keys_private;
+struct members_private;
+struct options_private;
+struct probe_private;
+struct queues_private;
+struct status_private;
+struct system_private;
+struct tap_private;
+struct team_private;
+struct team_netlink_private;
+struct carry;
+struct inherited;
+struct report;
 
 /* What is printed of a port. */
 struct facts {
@@ -226,14 +252,15 @@ const char *read_port(struct lagd *lagd, char *text, struct settings *settings);
 int check_machine(struct lagd *lagd, const struct options *options);
 
 /* address.c */
-void take_own_address(struct lagd *lagd);
+void read_own_address(struct settings *settings);
 
 /* signals.c */
-int open_signals(struct lagd *lagd);
+int open_signals(const struct settings *settings);
 
 /* locks.c */
 int lock_interface(struct lagd *lagd, int index);
-const char *holder_of(struct lagd *lagd, int index);
+#define HOLDER_ROOM 64
+const char *holder_of(struct lagd *lagd, int index, char room[static HOLDER_ROOM]);
 
 /* links.c */
 bool open_link(struct lagd *lagd, struct link *link, int index);
@@ -253,26 +280,32 @@ struct arrival {
 struct msghdr;
 struct tpacket_auxdata;
 struct tpacket_auxdata aux_of(struct msghdr *message);
-void take_frame(struct lagd *lagd, struct link *link, const struct arrival *arrival);
-void take_frames(struct lagd *lagd, uint16_t port);
-void forget_partner(struct lagd *lagd, struct link *link);
+void accept_frame(struct lagd *lagd, struct link *link, const struct arrival *arrival);
+void receive_frames(struct lagd *lagd, uint16_t port);
+void accept_response(struct lagd *lagd, struct link *link, const struct arrival *arrival, uint32_t id);
+void accept_response_of_queue(struct lagd *lagd, struct link *link, const struct arrival *arrival, uint32_t id);
+void forget_partner(const struct settings *settings, struct link *link);
 bool may_be_partner(const struct link *link, const uint8_t *frame, struct system_id *actor);
-void note_actor(struct lagd *lagd, struct link *link, const struct system_id *actor, const uint8_t *frame);
+void note_actor(const struct settings *settings, struct link *link, const struct system_id *actor, const uint8_t *frame);
 void tell_strangers(struct lagd *lagd, struct link *link);
 
 /* markers.c */
 bool read_response(struct lagd *lagd, const struct arrival *arrival, struct niw_pdu *pdu);
-bool is_partners_response(struct lagd *lagd, const struct link *link, const struct arrival *arrival, const struct niw_pdu *response);
+bool is_partners_response(const struct settings *settings, const struct link *link, const struct arrival *arrival, const struct niw_pdu *response);
 void note_odd_marker(struct link *link, const struct arrival *arrival, enum count count);
 bool may_answer(struct lagd *lagd, struct link *link, const struct arrival *arrival);
 void tell_markers(struct lagd *lagd, struct link *link);
 
+/* How many markers come in the place of one, of a partner whose members have several queues, where ours have: one for each queue. */
+#define MARKERS_AT_ONCE 16
+
 /* queues.c */
-bool ends_flight(struct lagd *lagd, const struct link *link, uint32_t *id);
+bool ends_flight(struct queues_private *own, const struct link *link, uint32_t *id);
 void set_identifier(uint8_t *frame, uint32_t id);
 
 /* answers.c */
-bool answer_marker(struct lagd *lagd, struct link *link, const uint8_t *response);
+bool answer_at_once(struct lagd *lagd, struct link *link, const uint8_t *response);
+bool answer_later(struct lagd *lagd, struct link *link, const uint8_t *response);
 
 /* twins.c */
 void look_for_twins(struct lagd *lagd);
@@ -291,11 +324,11 @@ void limit_links(struct lagd *lagd, uint16_t most);
 
 /* changes.c */
 int open_changes(struct lagd *lagd);
-void take_changes(struct lagd *lagd);
-void take_messages(struct lagd *lagd, const void *messages, size_t length);
+void receive_changes(struct lagd *lagd);
+void read_messages(struct lagd *lagd, const void *messages, size_t length);
 void watch_changes(struct lagd *lagd);
-void look_again(struct lagd *lagd);
-void suspect_carriers(struct lagd *lagd);
+void look_again(struct changes_private *own);
+void suspect_carriers(struct changes_private *own);
 void ask_links(struct lagd *lagd);
 void ask_now(struct lagd *lagd);
 void watch_carriers(struct lagd *lagd, bool all);
@@ -303,12 +336,12 @@ void watch_carriers(struct lagd *lagd, bool all);
 /* keys.c */
 void choose_slots(struct lagd *lagd);
 void make_keys(struct lagd *lagd, uint16_t keys[static NIW_MOST_PORTS]);
-bool has_aggregator(struct lagd *lagd, uint16_t given);
+bool has_aggregator(struct keys_private *own, uint16_t given);
 uint16_t free_key(struct lagd *lagd, uint16_t behind, const struct link *but);
 uint16_t choose_key(struct lagd *lagd, const struct link *link);
 struct speed read_speed(int socket, const char *name);
 bool write_speed(int socket, const char *name, uint32_t megabits);
-void take_speed(struct lagd *lagd, struct link *link, const char *interface);
+void apply_speed(struct lagd *lagd, struct link *link, const char *interface);
 const char *speed_text(const struct speed *speed, char room[static 40]);
 
 /* system.c */
@@ -321,9 +354,9 @@ void lose_link(struct lagd *lagd, struct link *link);
 void send_due(struct lagd *lagd);
 void send_again(struct lagd *lagd);
 void pass_tick(struct lagd *lagd);
-uint64_t ticks_passed(struct lagd *lagd);
-uint64_t seconds_passed(struct lagd *lagd);
-uint64_t milliseconds(struct lagd *lagd);
+uint64_t ticks_passed(struct system_private *own);
+uint64_t seconds_passed(struct system_private *own);
+uint64_t milliseconds(void);
 void expect_lacpdu(struct link *link);
 void tell_end(struct lagd *lagd);
 bool end_is_told(struct lagd *lagd);
@@ -349,15 +382,15 @@ void follow_port(struct lagd *lagd, const struct interface *interface);
 void answer_order(struct lagd *lagd, char *order, char answer[static ORDER_ROOM]);
 
 /* halt.c */
-bool is_halted(struct lagd *lagd);
-bool is_silent(struct lagd *lagd);
+bool is_halted(struct halt_private *own);
+bool is_silent(struct halt_private *own);
 void follow_device(struct lagd *lagd, bool up);
 void start_halt(struct lagd *lagd);
 void halt_if_down(struct lagd *lagd);
 void pass_halt_tick(struct lagd *lagd);
 
 /* ports.c */
-void take_views(struct lagd *lagd);
+void read_views(struct lagd *lagd);
 void print_changes(struct lagd *lagd);
 bool print_change(struct lagd *lagd, struct link *link);
 struct facts facts_of(struct lagd *lagd, const struct link *link);
@@ -379,17 +412,18 @@ void reload(struct lagd *lagd, const char *file);
 
 /* folder.c */
 void open_folder(struct lagd *lagd, const char *folder);
-int folder_file(struct lagd *lagd);
+int folder_file(struct folder_private *folder);
 unsigned long network_namespace(void);
 
 /* kept.c */
-const char *boot_id(struct lagd *lagd);
+#define BOOT_ROOM 64
+const char *boot_id(char room[static BOOT_ROOM]);
 
 /* store.c */
 void open_store(struct lagd *lagd);
 bool has_store(void);
 void put_stored(struct lagd *lagd, const char *kind, int number, int fd);
-int take_stored(struct lagd *lagd, const char *kind, int number);
+int claim_stored(struct lagd *lagd, const char *kind, int number);
 void return_stored(struct lagd *lagd, const char *kind, int number, int fd);
 void drop_stored(struct lagd *lagd, const char *kind, int number);
 void close_stored(struct lagd *lagd, const char *kind, int number, int fd);
@@ -400,8 +434,8 @@ int packet_socket(struct lagd *lagd, const char *kind, int of, int index, int ty
 /* state.c */
 uint64_t boottime(void);
 void recall_state(struct lagd *lagd);
-uint32_t first_marker_left(struct lagd *lagd);
-bool was_away_briefly(struct lagd *lagd);
+uint32_t first_marker_left(struct inherited *inherited);
+bool was_away_briefly(struct inherited *inherited);
 bool save_state(struct lagd *lagd);
 void keep_port(struct lagd *lagd, uint16_t number, uint16_t port);
 void end_state(struct lagd *lagd);
@@ -410,6 +444,8 @@ void end_state(struct lagd *lagd);
 void begin_resuming(struct lagd *lagd);
 unsigned resume(struct lagd *lagd);
 void resume_data(struct lagd *lagd, unsigned count);
+void resume_conversations(struct lagd *lagd, bool goes_on);
+void release_former_members(struct lagd *lagd);
 void end_resuming(struct lagd *lagd);
 bool leave_state(struct lagd *lagd);
 
@@ -419,19 +455,18 @@ bool leave_state(struct lagd *lagd);
 /* How the answer begins to who has no place. */
 #define REFUSAL "refused: "
 void open_status(struct lagd *lagd, const char *folder);
-void take_callers(struct lagd *lagd);
+void accept_callers(struct lagd *lagd);
 void serve_caller(struct lagd *lagd, uint32_t caller);
 void pass_tick_of_callers(struct lagd *lagd);
-void tell_watchers(struct lagd *lagd, const char *line, size_t length);
+void tell_watchers(struct status_private *own, const char *line, size_t length);
 void tell_watchers_of(struct lagd *lagd, const struct link *link);
 
 /* tap.c */
-int tap_index(struct lagd *lagd);
+int tap_index(struct tap_private *own);
 void follow_tap(struct lagd *lagd, bool has_carrier, const char *discipline);
 
 /* carry.c */
-void look_at_carry(struct lagd *lagd);
-bool keeps_aggregator(struct lagd *lagd);
+void look_at_carry(struct carry *carry);
 void settle_carry(struct lagd *lagd);
 void pass_carry_tick(struct lagd *lagd);
 
@@ -439,7 +474,6 @@ void pass_carry_tick(struct lagd *lagd);
 void lose_tap(struct lagd *lagd);
 void open_carry(struct lagd *lagd);
 void end_carry(struct lagd *lagd);
-bool carries_data(struct lagd *lagd);
 void serve_data(struct lagd *lagd, uint32_t tag);
 void lose_data(struct lagd *lagd, uint16_t port);
 
@@ -449,31 +483,34 @@ void fit_queue(struct lagd *lagd, const struct link *link, const char *interface
 /* members.c */
 bool open_member(struct lagd *lagd, struct link *link);
 void close_member(struct lagd *lagd, struct link *link);
-void forget_member(struct lagd *lagd, uint16_t port);
+void forget_member(struct members_private *own, uint16_t port);
 void drain_member(struct lagd *lagd, uint16_t port);
 bool reopen_member(struct lagd *lagd, struct link *link);
-bool follow_queues(struct lagd *lagd, struct link *link);
 void follow_address(struct lagd *lagd, struct link *link, const uint8_t *mac);
-void take_marker(struct lagd *lagd, struct link *link, const uint8_t *frame);
-void follow_mtu(struct lagd *lagd, struct link *link, uint32_t mtu);
+void send_new_marker(struct lagd *lagd, struct link *link, const uint8_t *frame);
 void follow_speed(struct lagd *lagd, const struct link *link, const char *interface);
 
 /* moves.c */
-void ask_moves(struct lagd *lagd);
+void ask_moves(struct carry *carry);
 bool can_empty(struct lagd *lagd, uint16_t port);
 bool empty_port(struct lagd *lagd, uint16_t port);
 
 /* carry_show.c */
-void write_carry_text(struct lagd *lagd);
-void write_carry_json(struct lagd *lagd);
-void write_carry_metrics(struct lagd *lagd);
-void write_member_text(struct lagd *lagd, const struct link *link);
-void write_member_json(struct lagd *lagd, const struct link *link);
+void show_carry(struct lagd *lagd, enum form form);
+void show_member(struct lagd *lagd, const struct link *link, enum form form);
+void show_markers(struct lagd *lagd);
+void show_queues(struct lagd *lagd, const struct link *link, enum form form);
+void show_frames_waiting(struct lagd *lagd, enum form form);
+void show_waiting_buckets(struct lagd *lagd, enum form form);
 
 /* report.c: what is written for whoever asks. What 64 ports of the longest names have to tell has less than 2 MiB. */
 #define REPORT_ROOM 4194304
-void add(struct lagd *lagd, const char *format, ...) __attribute__((format(printf, 2, 3)));
-void add_string(struct lagd *lagd, const char *text);
+struct report {
+    char text[REPORT_ROOM];
+    size_t length;
+};
+void add(struct report *report, const char *format, ...) __attribute__((format(printf, 2, 3)));
+void add_string(struct report *report, const char *text);
 
 /* show.c, json.c, metrics.c */
 struct view {
@@ -488,9 +525,9 @@ void write_text(struct lagd *lagd);
 void write_json(struct lagd *lagd);
 void write_json_event(struct lagd *lagd, const struct link *link);
 void write_metrics(struct lagd *lagd);
-void add_head(struct lagd *lagd, const char *name, const char *kind, const char *help);
+void add_head(struct report *report, const char *name, const char *kind, const char *help);
 void add_bundle_value(struct lagd *lagd, const char *name, const char *kind, const char *help, uint64_t value);
-void add_value_of(struct lagd *lagd, const char *name, const char *bundle, uint64_t value);
+void add_value_of(struct report *report, const char *name, const char *bundle, uint64_t value);
 void add_port_value(struct lagd *lagd, const char *name, const struct link *link, uint64_t value);
 
 /* asking.c */
@@ -519,8 +556,8 @@ enum {
     RESPONSES = MEMBERS + NIW_MOST_PORTS, /* responses to markers, which waited */
     TAGS,
 };
-bool await_input(struct lagd *lagd, int fd, uint32_t tag);
-bool await_output(struct lagd *lagd, int fd, uint32_t tag);
-void await_no_more(struct lagd *lagd, int fd);
+bool await_input(int epoll_file, int fd, uint32_t tag);
+bool await_output(int epoll_file, int fd, uint32_t tag);
+void await_no_more(int epoll_file, int fd);
 
 #endif

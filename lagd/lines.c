@@ -29,7 +29,6 @@ size_t escape(char *text, size_t room, const char *from, size_t length, bool lin
     return used;
 }
 
-/* What this file keeps for a daemon. */
 struct lines_private {
     int opened; /* of output */
 };
@@ -111,7 +110,7 @@ static bool say_text(struct lagd *lagd, int level, const char *text) {
     int used;
     clock_gettime(CLOCK_REALTIME, &now);
     used = snprintf(line, sizeof line, "%s.%03ldZ %s\n", time_text(now.tv_sec, time), now.tv_nsec / 1000000, text);
-    if (!(level & WATCHED)) tell_watchers(lagd, line, (size_t)used);
+    if (!(level & WATCHED)) tell_watchers(lagd->status, line, (size_t)used);
     if (in_journal()) {
         enum journaled told = tell_journal(lagd, level, text);
         if (told != NOT_JOURNALED) return told == JOURNALED;

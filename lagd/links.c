@@ -15,7 +15,7 @@
 #include <sys/socket.h>
 #include <unistd.h>
 
-#include "lagd.h"
+#include "daemon.h"
 
 /* How many ticks a failure is told of, so that a queue that is full now and then is one line. */
 #define TROUBLE_TICKS 50
@@ -115,7 +115,7 @@ bool open_link(struct lagd *lagd, struct link *link, int index) {
     link->lock = lock_interface(lagd, index);
     link->socket = link->lock < 0 ? -1 : open_socket(lagd, index);
     link->index = index;
-    taken = link->socket >= 0 && await_input(lagd, link->socket, link->settings.number) && open_member(lagd, link);
+    taken = link->socket >= 0 && await_input(lagd->epoll_file, link->socket, link->settings.number) && lagd->plane.carrying->add(lagd, link);
     link->trouble = taken ? 0 : errno;
     if (taken) put_stored(lagd, "lock", index, link->lock);
     if (taken) put_stored(lagd, "lacp", index, link->socket);
@@ -130,8 +130,8 @@ bool open_link(struct lagd *lagd, struct link *link, int index) {
 
 /* The interface is gone. */
 void close_link(struct lagd *lagd, struct link *link) {
-    close_member(lagd, link);
-    follow_mtu(lagd, link, 0);
+    lagd->plane.carrying->remove(lagd, link);
+    lagd->plane.carrying->follow_mtu(lagd, link, 0);
     close_files(lagd, link);
     link->unsent = false;
     link->changed = true;
@@ -180,7 +180,7 @@ void send_frame(struct lagd *lagd, struct link *link, const uint8_t *frame) {
         return;
     }
     link->counts[FAILED_SENT]++;
-    suspect_carriers(lagd);
+    suspect_carriers(lagd->changes);
     if (errno != ENETDOWN && errno != ENXIO) { /* of a link that is down the kernel tells, too */
         link->trouble = errno;
         link->trouble_ticks = TROUBLE_TICKS;

@@ -62,21 +62,12 @@ int lock_interface(struct lagd *lagd, int index) {
     return -1;
 }
 
-/* What this file keeps for a daemon. */
-struct locks_private {
-    char text[64]; /* of holder_of */
-};
-
-struct locks_private *make_locks_private(void) {
-    return make_room(sizeof(struct locks_private));
-}
-
 /* Who has the lock of an interface. */
-const char *holder_of(struct lagd *lagd, int index) {
+const char *holder_of(struct lagd *lagd, int index, char room[static HOLDER_ROOM]) {
     struct lock lock;
     bool own = false;
     if (!find_lock(index, -1, &lock) || lock.inode == 0) return "one that has left it now";
     for (uint16_t i = 0; i < lagd->link_count; i++) own = own || inode_of(lagd->links[i].lock) == lock.inode;
-    snprintf(lagd->locks->text, sizeof lagd->locks->text, own ? "this lagd, by another name" : "one of user %u", lock.user);
-    return lagd->locks->text;
+    snprintf(room, HOLDER_ROOM, own ? "this lagd, by another name" : "one of user %u", lock.user);
+    return room;
 }

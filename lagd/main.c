@@ -30,25 +30,25 @@
 #define END_TICKS 15
 
 /* Waits for a file descriptor, too; answers whether the kernel takes it. */
-bool await_input(struct lagd *lagd, int fd, uint32_t tag) {
+bool await_input(int epoll_file, int fd, uint32_t tag) {
     struct epoll_event event = {.events = EPOLLIN, .data = {.u32 = tag}};
-    return epoll_ctl(lagd->epoll_file, EPOLL_CTL_ADD, fd, &event) == 0;
+    return epoll_ctl(epoll_file, EPOLL_CTL_ADD, fd, &event) == 0;
 }
 
 /* Waits until it takes what is sent, and for nothing that comes. */
-bool await_output(struct lagd *lagd, int fd, uint32_t tag) {
+bool await_output(int epoll_file, int fd, uint32_t tag) {
     struct epoll_event event = {.events = EPOLLOUT, .data = {.u32 = tag}};
-    return epoll_ctl(lagd->epoll_file, EPOLL_CTL_MOD, fd, &event) == 0;
+    return epoll_ctl(epoll_file, EPOLL_CTL_MOD, fd, &event) == 0;
 }
 
 /* Waits for it no longer. */
-void await_no_more(struct lagd *lagd, int fd) {
-    (void)epoll_ctl(lagd->epoll_file, EPOLL_CTL_DEL, fd, NULL);
+void await_no_more(int epoll_file, int fd) {
+    (void)epoll_ctl(epoll_file, EPOLL_CTL_DEL, fd, NULL);
 }
 
 /* At the start, what cannot be waited for ends the program. */
 static void await_at_start(struct lagd *lagd, int fd, uint32_t tag) {
-    if (!await_input(lagd, fd, tag)) stop(REFUSED, "epoll", strerror(errno));
+    if (!await_input(lagd->epoll_file, fd, tag)) stop(REFUSED, "epoll", strerror(errno));
 }
 
 static int open_clock(void) {
@@ -60,7 +60,7 @@ static int open_clock(void) {
 
 /* Tells what changed. */
 static void tell_changes(struct lagd *lagd) {
-    take_views(lagd);
+    read_views(lagd);
     print_changes(lagd);
     look_at_bundle(lagd);
 }
@@ -94,21 +94,21 @@ static struct ready ready_of(const struct epoll_event *events, int count) {
 }
 
 /* Takes the frames of all ports, and sends once what they made due. */
-static void take_all_frames(struct lagd *lagd, const struct epoll_event *events, int count) {
+static void serve_all_frames(struct lagd *lagd, const struct epoll_event *events, int count) {
     bool taken = false;
     for (int i = 0; i < count; i++) {
         uint32_t port = events[i].data.u32;
         if (port > NIW_MOST_PORTS || lagd->links[port - 1].socket < 0) continue;
-        take_frames(lagd, (uint16_t)port);
+        receive_frames(lagd, (uint16_t)port);
         taken = true;
     }
     if (!taken) return;
     send_due(lagd);
-    look_at_carry(lagd);
+    look_at_carry(&lagd->carry);
 }
 
 /* Takes the data of all members, and then that of the host. */
-static void take_all_data(struct lagd *lagd, const struct epoll_event *events, int count) {
+static void serve_all_data(struct lagd *lagd, const struct epoll_event *events, int count) {
     bool host = is_cutting(lagd);
     for (int i = 0; i < count; i++) {
         host |= events[i].data.u32 == HOST;
@@ -128,21 +128,23 @@ static void serve_callers(struct lagd *lagd, const struct epoll_event *events, i
 static bool is_end(struct lagd *lagd, int signals, const char *file) {
     struct signalfd_siginfo signal;
     if (read(signals, &signal, sizeof signal) != sizeof signal) return true;
-    if (signal.ssi_signo == SIGUSR2) ask_moves(lagd);
-    if (signal.ssi_signo == SIGUSR2) return false;
-    if (signal.ssi_signo == SIGUSR1) return !leave_state(lagd);
-    if (signal.ssi_signo != SIGHUP || !file) return true;
-    reload(lagd, file);
-    return false;
+    switch (signal.ssi_signo) {
+    case SIGUSR2: ask_moves(&lagd->carry); return false;
+    case SIGUSR1: return !leave_state(lagd);
+    case SIGHUP:
+        if (file) reload(lagd, file);
+        return !file;
+    default: return true;
+    }
 }
 
 /* What came in a turn, the clock after the frames that waited. */
 static void serve(struct lagd *lagd, const struct epoll_event *events, int count, struct ready ready, int clock) {
-    if (ready.change) take_changes(lagd);
-    take_all_frames(lagd, events, count);
-    take_all_data(lagd, events, count);
+    if (ready.change) receive_changes(lagd);
+    serve_all_frames(lagd, events, count);
+    serve_all_data(lagd, events, count);
     serve_callers(lagd, events, count);
-    if (ready.caller) take_callers(lagd);
+    if (ready.caller) accept_callers(lagd);
     watch_carriers(lagd, ready.tick);
     if (ready.tick) pass_time(lagd, clock);
     settle_carry(lagd);
@@ -192,12 +194,13 @@ static int run_daemon(struct lagd *lagd, const struct options *options) {
     unsigned resumed;
     lagd->settings = options->settings;
     (void)prctl(PR_SET_TIMERSLACK, TIMER_SLACK);
-    signals = open_signals(lagd);
+    signals = open_signals(&lagd->settings);
     lagd->epoll_file = epoll_create1(EPOLL_CLOEXEC);
     if (lagd->epoll_file < 0) stop(REFUSED, "epoll", strerror(errno));
-    if (lagd->settings.system_auto) take_own_address(lagd);
+    if (lagd->settings.system_auto) read_own_address(&lagd->settings);
     open_folder(lagd, options->folder);
     open_store(lagd);
+    choose_plane(&lagd->plane, &lagd->settings);
     recall_state(lagd);
     make_system(lagd);
     begin_resuming(lagd);

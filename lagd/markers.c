@@ -11,8 +11,6 @@
 #define SLOT 100
 /* Which part of the responses others get, while the partner is known. */
 #define PART_OF_OTHERS 4
-/* How many come in the place of one, of a partner whose members have several queues, where ours have: one for each queue. */
-#define MARKERS_AT_ONCE 16
 /* How many ticks there are between two lines about Marker PDUs of a link. */
 #define LINE_TICKS (10 * SECOND)
 
@@ -30,9 +28,9 @@ bool read_response(struct lagd *lagd, const struct arrival *arrival, struct niw_
 }
 
 /* Whether a response is the partner's, to a marker of this port and system. The number is for whoever sent the marker. */
-bool is_partners_response(struct lagd *lagd, const struct link *link, const struct arrival *arrival, const struct niw_pdu *response) {
+bool is_partners_response(const struct settings *settings, const struct link *link, const struct arrival *arrival, const struct niw_pdu *response) {
     return is_from_partner(link, arrival) && response->requester_port == link->settings.number
-        && memcmp(response->requester_system, lagd->settings.config.mac, sizeof lagd->settings.config.mac) == 0;
+        && memcmp(response->requester_system, settings->config.mac, sizeof settings->config.mac) == 0;
 }
 
 /* A Marker PDU is not taken, or not answered. */
@@ -52,9 +50,9 @@ static void pass_slots(struct answered *answered, uint64_t slot) {
  * partner's. */
 bool may_answer(struct lagd *lagd, struct link *link, const struct arrival *arrival) {
     struct answered *answered = &link->markers.answered;
-    unsigned partner = 0, others = 0, most = lagd->settings.marker_responses * (lagd->settings.all_queues ? MARKERS_AT_ONCE : 1u);
+    unsigned partner = 0, others = 0, most = lagd->settings.marker_responses * lagd->plane.queueing->markers_at_once;
     bool other = !is_from_partner(link, arrival);
-    pass_slots(answered, milliseconds(lagd) / SLOT);
+    pass_slots(answered, milliseconds() / SLOT);
     for (unsigned i = 0; i < ANSWERED_SLOTS; i++) {
         partner += answered->partner[i];
         others += answered->others[i];
@@ -68,11 +66,11 @@ bool may_answer(struct lagd *lagd, struct link *link, const struct arrival *arri
 void tell_markers(struct lagd *lagd, struct link *link) {
     uint64_t foreign = link->counts[FOREIGN_RESPONSES], unanswered = link->counts[RESPONSES_UNSENT];
     char source[32];
-    if (foreign + unanswered == link->markers.told || ticks_passed(lagd) < link->markers.tell_at) return;
+    if (foreign + unanswered == link->markers.told || ticks_passed(lagd->system) < link->markers.tell_at) return;
     if (!say(lagd, LOG_WARNING | ABOUT_MARKERS, "port %u %s: Marker PDUs, last from %s: %" PRIu64 " responses that are not the partner's, "
             "%" PRIu64 " markers not answered",
             link->settings.number, link->name, mac_text(link->markers.source, source), foreign, unanswered))
         return;
     link->markers.told = foreign + unanswered;
-    link->markers.tell_at = ticks_passed(lagd) + LINE_TICKS;
+    link->markers.tell_at = ticks_passed(lagd->system) + LINE_TICKS;
 }

@@ -11,14 +11,12 @@
 #include <unistd.h>
 
 #include "daemon.h"
-#include "team.h"
 
 /* Of the frames that wait in a socket. */
 #define SOCKET_ROOM (8 << 20)
 /* How many batches of a member are taken before its port is held. */
 #define MOST_DRAINED 64
 
-/* What this file keeps for a daemon. */
 struct members_private {
     struct member {
         int socket;  /* -1 while the interface is missing */
@@ -35,22 +33,23 @@ struct members_private {
         struct mmsghdr messages[BATCH];
     } members[NIW_MOST_PORTS];
     uint8_t *member_packets; /* for the packets of a batch */
-    struct mmsghdr messages[BATCH]; /* of take_packets */
-    struct iovec parts[BATCH]; /* of take_packets */
-    struct sockaddr_ll from[BATCH]; /* of take_packets */
-    _Alignas(struct cmsghdr) uint8_t controls[BATCH][CMSG_SPACE(sizeof(struct tpacket_auxdata))]; /* of take_packets */
 };
 
 struct members_private *make_members_private(void) {
-    return make_room(sizeof(struct members_private));
+    struct members_private *made = make_room(sizeof *made);
+    for (unsigned i = 0; i < NIW_MOST_PORTS; i++) {
+        made->members[i].socket = made->members[i].markers = made->members[i].direct = -1;
+        made->members[i].guard.opened = -1;
+    }
+    return made;
 }
 
 static struct member *member_of(struct lagd *lagd, const struct link *link) {
     return &lagd->members->members[link - lagd->links];
 }
 
-uint64_t member_count(struct lagd *lagd, uint16_t port, enum member_count count) {
-    return lagd->members->members[port - 1].counts[count];
+uint64_t member_count(struct members_private *own, uint16_t port, enum member_count count) {
+    return own->members[port - 1].counts[count];
 }
 
 /* Lets a socket have data and markers, or all slow protocols but markers: so a marker comes in one row with the data before it, and no
@@ -144,14 +143,9 @@ static int open_markers(struct lagd *lagd, const struct link *link, int index, u
     return -1;
 }
 
-/* No interface is taken up yet. */
-void start_members(struct lagd *lagd) {
-    struct members_private *own = lagd->members;
+/* Makes room for what comes by members. */
+void start_members(struct members_private *own) {
     own->member_packets = make_rooms();
-    for (unsigned i = 0; i < NIW_MOST_PORTS; i++) {
-        own->members[i].socket = own->members[i].markers = own->members[i].direct = -1;
-        own->members[i].guard.opened = -1;
-    }
 }
 
 static void close_sockets(struct lagd *lagd, struct member *member) {
@@ -175,10 +169,10 @@ static bool open_sockets(struct lagd *lagd, struct member *member, const struct 
     bool fast = member->guard.fast;
     uint32_t tag = MEMBERS + (uint32_t)(member - lagd->members->members);
     member->socket = open_data(lagd, link->index, &member->guard);
-    if (member->socket < 0 || !fast) return member->socket >= 0 && await_input(lagd, member->socket, tag);
-    member->markers = open_markers(lagd, link, tap_index(lagd), link->settings.number);
+    if (member->socket < 0 || !fast) return member->socket >= 0 && await_input(lagd->epoll_file, member->socket, tag);
+    member->markers = open_markers(lagd, link, tap_index(lagd->tap), link->settings.number);
     member->direct = open_markers(lagd, link, link->index, 0);
-    return member->markers >= 0 && member->direct >= 0 && await_input(lagd, member->markers, tag) && await_input(lagd, member->direct, tag);
+    return member->markers >= 0 && member->direct >= 0 && await_input(lagd->epoll_file, member->markers, tag) && await_input(lagd->epoll_file, member->direct, tag);
 }
 
 /* Opens the sockets of a member whose programs run; answers whether it did. Else, it is no member any more, and errno tells why. */
@@ -186,7 +180,7 @@ static bool open_or_close(struct lagd *lagd, struct member *member, const struct
     int fault;
     if (open_sockets(lagd, member, link)) {
         store_sockets(lagd, member, link->index);
-        begin_queues(lagd, link->settings.number, member->guard.queues);
+        begin_queues(lagd->queues, link->settings.number, member->guard.queues);
         return true;
     }
     fault = errno;
@@ -196,11 +190,9 @@ static bool open_or_close(struct lagd *lagd, struct member *member, const struct
     return false;
 }
 
-/* Takes up an interface for data, if data is carried; answers whether it did, and else errno tells why not. */
+/* Takes up an interface for data; answers whether it did, and else errno tells why not. */
 bool open_member(struct lagd *lagd, struct link *link) {
     struct member *member = member_of(lagd, link);
-    if (!carries_data(lagd)) return true;
-    if (carries_by_team(lagd)) return open_team_port(lagd, link);
     if (!filter(link->socket, false)) return false;
     open_guard(lagd, link, &member->guard);
     member->has_marker = false;
@@ -218,43 +210,52 @@ static void count_loss(struct member *member) {
 /* The programs and sockets of a member are chosen anew; answers whether it is still taken up. */
 static bool renew_member(struct lagd *lagd, struct link *link) {
     struct member *member = member_of(lagd, link);
-    withdraw_port(lagd, link->settings.number);
+    lagd->plane.passing->withdraw_port(lagd, link->settings.number);
     count_loss(member);
     close_sockets(lagd, member);
     reopen_guard(lagd, link, &member->guard);
-    look_at_carry(lagd);
+    look_at_carry(&lagd->carry);
     return open_or_close(lagd, member, link);
 }
 
 /* The interface has another queueing discipline: how data is sent is seen anew. Answers whether the member is still taken up. */
 bool reopen_member(struct lagd *lagd, struct link *link) {
-    struct member *member = member_of(lagd, link);
     char before[DISCIPLINE_ROOM];
     memcpy(before, link->discipline, sizeof before);
-    if (!read_discipline(lagd, link->index, link->discipline) || strcmp(before, link->discipline) == 0) return true;
-    if (!carries_data(lagd) || member->socket < 0) return true;
-    if (is_fast(lagd) || lagd->settings.all_queues) return renew_member(lagd, link);
+    if (!read_discipline(link->index, link->discipline) || strcmp(before, link->discipline) == 0) return true;
+    return lagd->plane.carrying->renew(lagd, link);
+}
+
+/* The same of a member. */
+bool renew_for_discipline(struct lagd *lagd, struct link *link) {
+    struct member *member = member_of(lagd, link);
+    if (member->socket < 0) return true;
+    if (lagd->plane.renews) return renew_member(lagd, link);
     look_at_discipline(lagd, link, &member->guard);
     return set_bypass(member->socket, member->guard.in_order);
 }
 
-/* An interface has this MAC address now: what it had before it was a member stays known by that, also where this daemon is killed. */
+/* An interface has this MAC address now. */
 void follow_address(struct lagd *lagd, struct link *link, const uint8_t *mac) {
-    struct member *member = member_of(lagd, link);
     if (memcmp(link->mac, mac, sizeof link->mac) == 0) return;
-    if (carries_data(lagd) && member->socket >= 0) {
-        move_former(lagd, link, mac);
-        write_settings(lagd, link, &member->guard.before);
-    }
+    lagd->plane.carrying->move(lagd, link, mac);
     memcpy(link->mac, mac, sizeof link->mac);
+}
+
+/* What a member had before it was one stays known by its new MAC address, also where this daemon is killed. */
+void move_member(struct lagd *lagd, struct link *link, const uint8_t *mac) {
+    struct member *member = member_of(lagd, link);
+    if (member->socket < 0) return;
+    move_former(lagd->folder, link, mac);
+    write_settings(lagd, link, &member->guard.before);
 }
 
 /* A queueing discipline of an interface came, changed or went: where each queue has one of the daemon, others may have put another one there,
  * or taken theirs away. Answers whether the member is still taken up. */
-bool follow_queues(struct lagd *lagd, struct link *link) {
+bool follow_member_queues(struct lagd *lagd, struct link *link) {
     struct member *member = member_of(lagd, link);
-    bool kept = link->has_fifos ? have_order(lagd, link->index) : member->guard.in_order || !may_have_order(lagd, link->index);
-    if (member->socket < 0 || !lagd->settings.all_queues || kept) return true;
+    bool kept = link->has_fifos ? have_order(link->index) : member->guard.in_order || !may_have_order(link->index);
+    if (member->socket < 0 || kept) return true;
     (void)say(lagd, LOG_NOTICE | ABOUT_DATA, "port %u %s: its queues were changed", link->settings.number, link->name);
     return renew_member(lagd, link);
 }
@@ -263,28 +264,26 @@ bool follow_queues(struct lagd *lagd, struct link *link) {
  * the others by now. */
 void watch_queues(struct lagd *lagd) {
     struct members_private *own = lagd->members;
-    if (!lagd->settings.all_queues || ticks_passed(lagd) % SECOND != 0) return;
+    if (ticks_passed(lagd->system) % SECOND != 0) return;
     for (uint16_t i = 0; i < lagd->link_count; i++) {
         struct link *link = &lagd->links[i];
         const struct guard *guard = &own->members[i].guard;
-        bool anew = own->members[i].socket >= 0 && is_spread_anew(lagd, link, guard);
+        bool anew = own->members[i].socket >= 0 && is_spread_anew(lagd->system, link, guard);
         if (anew) (void)say(lagd, LOG_NOTICE | ABOUT_DATA, "port %u %s: its queues were changed", link->settings.number, link->name);
         anew = anew || (own->members[i].socket >= 0 && guard->unusual && has_usual_queues(lagd, guard));
         if (!anew || renew_member(lagd, link)) continue;
-        look_again(lagd);
+        look_again(lagd->changes);
         lose_link(lagd, link);
     }
 }
 
 /* By how many queues of a member its data goes. */
-unsigned member_queues(struct lagd *lagd, uint16_t port) {
-    struct members_private *own = lagd->members;
+unsigned member_queues(struct members_private *own, uint16_t port) {
     return own->members[port - 1].socket < 0 ? 0 : own->members[port - 1].guard.queues;
 }
 
 /* Whether the kernel may pass on what goes on a port. */
-bool has_fast_member(struct lagd *lagd, uint16_t port) {
-    struct members_private *own = lagd->members;
+bool has_fast_member(struct members_private *own, uint16_t port) {
     return own->members[port - 1].socket >= 0 && own->members[port - 1].guard.fast;
 }
 
@@ -295,18 +294,17 @@ void count_losses(struct lagd *lagd) {
 /* The interface is gone, or the daemon ends. */
 void close_member(struct lagd *lagd, struct link *link) {
     struct member *member = member_of(lagd, link);
-    if (carries_by_team(lagd)) close_team_port(lagd, link);
-    if (!carries_data(lagd) || member->socket < 0) return;
-    withdraw_port(lagd, link->settings.number);
-    forget_answers(lagd, link->settings.number);
+    if (member->socket < 0) return;
+    lagd->plane.passing->withdraw_port(lagd, link->settings.number);
+    forget_answers(lagd->answers, link->settings.number);
     count_loss(member);
     close_sockets(lagd, member);
     close_guard(lagd, link, &member->guard);
 }
 
 /* Another interface is to be this member: its counts begin anew. */
-void forget_member(struct lagd *lagd, uint16_t port) {
-    struct member *member = &lagd->members->members[port - 1];
+void forget_member(struct members_private *own, uint16_t port) {
+    struct member *member = &own->members[port - 1];
     memset(member->counts, 0, sizeof member->counts);
     member->mtu = member->megabits = 0;
     member->has_marker = false;
@@ -324,10 +322,10 @@ void put_back_members(struct lagd *lagd) {
 }
 
 /* The TAP device takes what each member takes; 0: there is no such member any more. */
-void follow_mtu(struct lagd *lagd, struct link *link, uint32_t mtu) {
+void follow_member_mtu(struct lagd *lagd, struct link *link, uint32_t mtu) {
     struct members_private *own = lagd->members;
     uint32_t least = 0;
-    if (!carries_data(lagd) || carries_by_team(lagd) || member_of(lagd, link)->mtu == mtu) return;
+    if (member_of(lagd, link)->mtu == mtu) return;
     member_of(lagd, link)->mtu = mtu;
     for (uint16_t i = 0; i < lagd->link_count; i++)
         if (own->members[i].mtu > 0 && (least == 0 || own->members[i].mtu < least)) least = own->members[i].mtu;
@@ -336,11 +334,9 @@ void follow_mtu(struct lagd *lagd, struct link *link, uint32_t mtu) {
 
 /* The kernel told of an interface whose link is up, which may have another speed. */
 void follow_speed(struct lagd *lagd, const struct link *link, const char *interface) {
-    uint32_t now;
-    if (!carries_data(lagd)) return;
-    now = read_speed(link->socket, interface).megabits;
+    uint32_t now = read_speed(link->socket, interface).megabits;
     member_of(lagd, link)->megabits = now == (uint32_t)SPEED_UNKNOWN ? 0 : now;
-    look_at_carry(lagd);
+    look_at_carry(&lagd->carry);
 }
 
 /* How fast the ports that carry are together, in Mb/s. One whose speed is not known counts nothing; where none is, that is SPEED_UNKNOWN. */
@@ -371,12 +367,12 @@ void note_passed(struct lagd *lagd, uint16_t port, uint64_t frames) {
 }
 
 /* Sends what waits for a member. A frame that the kernel does not take is lost, as on a wire. */
-static void flush_member(struct lagd *lagd, struct member *member) {
+static void flush_member(struct changes_private *own, struct member *member) {
     unsigned at = 0;
     while (at < member->out) {
         int sent = member->socket < 0 ? -1 : sendmmsg(member->socket, member->messages + at, member->out - at, 0);
         if (sent < 0 && member->socket >= 0 && errno == EINTR) continue;
-        if (sent < 0) suspect_carriers(lagd);
+        if (sent < 0) suspect_carriers(own);
         member->counts[sent > 0 ? DATA_SENT : DATA_UNSENT] += sent > 0 ? (unsigned)sent : 1;
         at += sent > 0 ? (unsigned)sent : 1;
     }
@@ -387,17 +383,17 @@ static void flush_member(struct lagd *lagd, struct member *member) {
 void flush_data(struct lagd *lagd) {
     struct members_private *own = lagd->members;
     for (uint16_t i = 0; i < lagd->link_count; i++)
-        if (own->members[i].out > 0) flush_member(lagd, &own->members[i]);
-    free_left(lagd);
+        if (own->members[i].out > 0) flush_member(lagd->changes, &own->members[i]);
+    free_left(lagd->held);
 }
 
 /* Puts a packet of a conversation behind those that wait for a port. It stays where it is until flush_data. */
 void put_data(struct lagd *lagd, uint16_t port, uint16_t number, uint8_t *packet, size_t length) {
     struct member *member = &lagd->members->members[port - 1];
-    if (member->out == BATCH) flush_member(lagd, member);
+    if (member->out == BATCH) flush_member(lagd->changes, member);
     member->parts[member->out] = (struct iovec){packet, length};
     member->messages[member->out].msg_hdr = (struct msghdr){.msg_iov = &member->parts[member->out], .msg_iovlen = 1};
-    if (lagd->settings.all_queues) mark_conversation(lagd, port, number, &member->messages[member->out].msg_hdr);
+    lagd->plane.queueing->mark(lagd, port, number, &member->messages[member->out].msg_hdr);
     member->out++;
 }
 
@@ -414,18 +410,23 @@ bool give_marker(struct lagd *lagd, struct link *link, const uint8_t *marker, st
     return is_done(lagd, niw_count_sent(&link->counters, marker, NIW_FRAME), "niw_count_sent");
 }
 
+/* Sends a marker of a member of one queue, for the first time or again. */
+bool send_by_one_queue(struct lagd *lagd, struct link *link, const uint8_t *marker, bool again) {
+    struct msghdr message = {0};
+    (void)again;
+    return give_marker(lagd, link, marker, &message);
+}
+
 /* Sends a marker behind the data of its port, by the same socket: by another one, of another priority, it would overtake them. What the
  * kernel passes on and no longer may is taken back before. */
 static bool send_marker(struct lagd *lagd, struct link *link, const uint8_t *marker, bool again) {
-    struct msghdr message = {0};
-    flush_member(lagd, member_of(lagd, link));
-    withdraw(lagd);
-    if (!lagd->settings.all_queues) return give_marker(lagd, link, marker, &message);
-    return again ? send_by_queues_again(lagd, link, marker) : send_by_queues(lagd, link, marker);
+    flush_member(lagd->changes, member_of(lagd, link));
+    lagd->plane.passing->withdraw(lagd);
+    return lagd->plane.queueing->send_marker(lagd, link, marker, again);
 }
 
 /* A marker is due on a port. */
-void take_marker(struct lagd *lagd, struct link *link, const uint8_t *frame) {
+void send_new_marker(struct lagd *lagd, struct link *link, const uint8_t *frame) {
     struct member *member = member_of(lagd, link);
     memcpy(member->marker, frame, sizeof member->marker);
     member->has_marker = true;
@@ -440,7 +441,7 @@ bool send_marker_again(struct lagd *lagd, uint16_t port) {
 }
 
 /* Hands a frame of data to the library, and up. */
-static void take_one(struct lagd *lagd, struct link *link, uint8_t *packet, size_t length) {
+static void deliver(struct lagd *lagd, struct link *link, uint8_t *packet, size_t length) {
     struct member *member = member_of(lagd, link);
     uint8_t response[NIW_FRAME];
     size_t octets = length - head_octets() < LONGEST_SHOWN ? length - head_octets() : LONGEST_SHOWN;
@@ -453,16 +454,16 @@ static void take_one(struct lagd *lagd, struct link *link, uint8_t *packet, size
 }
 
 /* A marker goes the way of all slow protocols. One that the kernel handed up to the TAP device came by its member. */
-static void take_slow(struct lagd *lagd, struct link *link, const struct sockaddr_ll *from, bool handed_up, const uint8_t *frame,
+static void accept_slow(struct lagd *lagd, struct link *link, const struct sockaddr_ll *from, bool handed_up, const uint8_t *frame,
     size_t length) {
     struct arrival arrival = {frame, length, from->sll_pkttype, handed_up ? link->index : from->sll_ifindex, false};
     flush_host(lagd); /* what came before it */
-    take_frame(lagd, link, &arrival);
+    accept_frame(lagd, link, &arrival);
     lagd->carry.changed = true;
 }
 
 /* Takes a packet that came: a marker alone, without a head, where the kernel hands up the data. */
-static void take_message(struct lagd *lagd, struct link *link, struct mmsghdr *message, bool handed_up) {
+static void accept_packet(struct lagd *lagd, struct link *link, struct mmsghdr *message, bool handed_up) {
     struct member *member = member_of(lagd, link);
     const struct sockaddr_ll *from = message->msg_hdr.msg_name;
     struct tpacket_auxdata aux = aux_of(&message->msg_hdr);
@@ -471,7 +472,7 @@ static void take_message(struct lagd *lagd, struct link *link, struct mmsghdr *m
     bool tagged = (aux.tp_status & TP_STATUS_VLAN_VALID) != 0;
     if (from->sll_pkttype == PACKET_OUTGOING) return; /* an old kernel shows what was sent */
     if (!tagged && length >= head + ETH_HLEN && ((unsigned)packet[head + 12] << 8 | packet[head + 13]) == ETH_P_SLOW) {
-        take_slow(lagd, link, from, handed_up, packet + head, length - head);
+        accept_slow(lagd, link, from, handed_up, packet + head, length - head);
         return;
     }
     if (handed_up) return;
@@ -485,7 +486,7 @@ static void take_message(struct lagd *lagd, struct link *link, struct mmsghdr *m
     if (message->msg_hdr.msg_flags & MSG_TRUNC || !has_right_length(packet, length, member->mtu != 0 ? member->mtu : ETH_DATA_LEN))
         member->counts[WRONG_LENGTH]++;
     else
-        take_one(lagd, link, packet, length);
+        deliver(lagd, link, packet, length);
 }
 
 /* The kernel has a frame of segments that it cannot describe: it is lost. */
@@ -495,49 +496,52 @@ static bool is_unreadable(int got) {
 
 /* Takes the packets that wait in a socket of a member, some at most. What the kernel tells of links comes before them: what was sent after
  * a link went is not handed up before it. */
-static void take_packets(struct lagd *lagd, uint16_t port, const int *fd, bool only_markers) {
-    struct members_private *own = lagd->members;
+static void receive_packets(struct lagd *lagd, uint16_t port, const int *fd, bool only_markers) {
     struct link *link = &lagd->links[port - 1];
-    struct member *member = &own->members[port - 1];
+    struct member *member = &lagd->members->members[port - 1];
+    struct mmsghdr messages[BATCH];
+    struct iovec parts[BATCH];
+    struct sockaddr_ll from[BATCH];
+    _Alignas(struct cmsghdr) uint8_t controls[BATCH][CMSG_SPACE(sizeof(struct tpacket_auxdata))];
     int got;
     if (*fd < 0) return;
     for (unsigned i = 0; i < BATCH; i++) {
-        own->parts[i] = (struct iovec){room_at(own->member_packets, i), packet_room()};
-        own->messages[i].msg_hdr = (struct msghdr){.msg_name = &own->from[i], .msg_namelen = sizeof own->from[i],
-            .msg_iov = &own->parts[i], .msg_iovlen = 1, .msg_control = own->controls[i], .msg_controllen = sizeof own->controls[i]};
+        parts[i] = (struct iovec){room_at(lagd->members->member_packets, i), packet_room()};
+        messages[i].msg_hdr = (struct msghdr){.msg_name = &from[i], .msg_namelen = sizeof from[i],
+            .msg_iov = &parts[i], .msg_iovlen = 1, .msg_control = controls[i], .msg_controllen = sizeof controls[i]};
     }
-    got = recvmmsg(*fd, own->messages, BATCH, MSG_DONTWAIT, NULL);
-    if (!only_markers) note_unread(lagd, port, got > 0 ? (unsigned)got : 0, got >= 0 ? got < BATCH : errno == EAGAIN);
+    got = recvmmsg(*fd, messages, BATCH, MSG_DONTWAIT, NULL);
+    if (!only_markers) note_unread(lagd->answers, port, got > 0 ? (unsigned)got : 0, got >= 0 ? got < BATCH : errno == EAGAIN);
     if (is_unreadable(got)) {
         member->counts[DATA_RECEIVED]++;
         member->counts[WRONG_LENGTH]++;
     }
     if (got <= 0) return;
-    take_changes(lagd);
+    receive_changes(lagd);
     lagd->carry.taken += (unsigned)got;
     if (got == BATCH) lagd->carry.more_waits = true;
-    for (int i = 0; i < got; i++) take_message(lagd, link, &own->messages[i], only_markers);
+    for (int i = 0; i < got; i++) accept_packet(lagd, link, &messages[i], only_markers);
     flush_host(lagd);
 }
 
 /* Takes all that waits at a member, but for a flood, before its port is held: what came before that is collected. */
 void drain_member(struct lagd *lagd, uint16_t port) {
     struct member *member = &lagd->members->members[port - 1];
-    if (!carries_data(lagd) || carries_by_team(lagd) || member->socket < 0) return;
+    if (member->socket < 0) return;
     for (unsigned turn = 0; turn < MOST_DRAINED && !lagd->broken; turn++) {
         lagd->carry.more_waits = false;
-        take_data(lagd, port);
+        receive_data(lagd, port);
         if (!lagd->carry.more_waits) return;
     }
 }
 
 /* Takes what waits at a member. */
-void take_data(struct lagd *lagd, uint16_t port) {
+void receive_data(struct lagd *lagd, uint16_t port) {
     struct member *member = &lagd->members->members[port - 1];
     if (member->markers < 0) {
-        take_packets(lagd, port, &member->socket, false);
+        receive_packets(lagd, port, &member->socket, false);
         return;
     }
-    take_packets(lagd, port, &member->markers, true);
-    take_packets(lagd, port, &member->direct, true);
+    receive_packets(lagd, port, &member->markers, true);
+    receive_packets(lagd, port, &member->direct, true);
 }

@@ -41,9 +41,9 @@ static uint16_t number_of(struct lagd *lagd, const char *name) {
 }
 
 /* Whether the last daemon left a port whose peer takes it for one of the bundle. */
-static bool has_carried(struct lagd *lagd, const struct inherited_port *port) {
-    for (unsigned i = 0; i < lagd->inherited.link_count; i++)
-        if (port->index != 0 && lagd->inherited.links[i].index == port->index) return lagd->inherited.links[i].carried;
+static bool has_carried(struct inherited *inherited, const struct inherited_port *port) {
+    for (unsigned i = 0; i < inherited->link_count; i++)
+        if (port->index != 0 && inherited->links[i].index == port->index) return inherited->links[i].carried;
     return false;
 }
 
@@ -51,12 +51,12 @@ static bool has_carried(struct lagd *lagd, const struct inherited_port *port) {
 static void mark_taken(struct lagd *lagd, bool *taken, bool with_left) {
     for (uint16_t i = 0; lagd->has_started && i < lagd->link_count; i++) taken[i] = lagd->links[i].used;
     for (unsigned i = 0; with_left && !lagd->has_started && i < lagd->inherited.port_count; i++)
-        if (lagd->inherited.ports[i].number <= lagd->slot_count && has_carried(lagd, &lagd->inherited.ports[i]))
+        if (lagd->inherited.ports[i].number <= lagd->slot_count && has_carried(&lagd->inherited, &lagd->inherited.ports[i]))
             taken[lagd->inherited.ports[i].number - 1] = true;
 }
 
 /* The lowest number that no port has, which has it from now on; 0 where there is none. */
-static uint16_t take_number(struct lagd *lagd, bool *taken) {
+static uint16_t claim_number(struct lagd *lagd, bool *taken) {
     uint16_t number = 1;
     while (number <= lagd->slot_count && taken[number - 1]) number++;
     if (number > lagd->slot_count) return 0;
@@ -75,7 +75,7 @@ static bool number_ports(struct lagd *lagd, const struct port_settings *given, u
         if (numbers[i] > 0) taken[numbers[i] - 1] = true;
     }
     for (uint16_t i = 0; i < count; i++)
-        if (numbers[i] == 0 && (numbers[i] = take_number(lagd, taken)) == 0) return false;
+        if (numbers[i] == 0 && (numbers[i] = claim_number(lagd, taken)) == 0) return false;
     return true;
 }
 
@@ -100,7 +100,7 @@ void keep_left_ports(struct lagd *lagd) {
     for (unsigned i = 0; i < lagd->inherited.port_count; i++) {
         const struct inherited_port *port = &lagd->inherited.ports[i];
         struct port_settings *settings = &lagd->settings.ports[port->number - 1];
-        if (port->number > lagd->slot_count || settings->name[0] || !has_carried(lagd, port)) continue;
+        if (port->number > lagd->slot_count || settings->name[0] || !has_carried(&lagd->inherited, port)) continue;
         memcpy(settings->name, port->name, sizeof settings->name);
         if (port->number > lagd->settings.port_count) lagd->settings.port_count = port->number;
         lagd->links[port->number - 1].left_over = !lagd->settings.follow;
@@ -116,7 +116,7 @@ void begin_link(struct lagd *lagd, uint16_t port) {
     link->key = link->settings.key;
     link->used = link->name[0] != 0;
     link->held = wants_hold(&lagd->settings, port);
-    forget_partner(lagd, link);
+    forget_partner(&lagd->settings, link);
 }
 
 /* Gives the library what the settings have of a port; answers whether it took that. */
@@ -137,7 +137,7 @@ void join_port(struct lagd *lagd, uint16_t port, const struct port_settings *set
     link->left_over = link->followed = false;
     begin_link(lagd, port);
     link->puts_in = true;
-    forget_member(lagd, port);
+    forget_member(lagd->members, port);
     if (!configure(lagd, link)) return;
     (void)say(lagd, LOG_NOTICE | ABOUT_PORT, "port %u %s: it joins the bundle", port, link->name);
     ask_now(lagd);
@@ -152,7 +152,7 @@ static void end_leaving(struct lagd *lagd, struct link *link) {
     lagd->settings.ports[port - 1] = unset_port();
     link->left_over = link->followed = false;
     begin_link(lagd, port);
-    look_at_carry(lagd);
+    look_at_carry(&lagd->carry);
     look_at_bundle(lagd);
 }
 
@@ -160,11 +160,11 @@ static void end_leaving(struct lagd *lagd, struct link *link) {
  * nothing of ours is on its way there once the peer takes nothing more. */
 bool begin_hold(struct lagd *lagd, uint16_t port) {
     struct link *link = &lagd->links[port - 1];
-    link->leaves_since = milliseconds(lagd);
+    link->leaves_since = milliseconds();
     link->left_at = 0;
-    link->emptying = (link->held || link->leaving) && carries_data(lagd) && !carries_by_team(lagd) && can_empty(lagd, port);
+    link->emptying = (link->held || link->leaving) && lagd->plane.carrying->can_empty(lagd, port);
     if (link->emptying) {
-        look_at_carry(lagd);
+        look_at_carry(&lagd->carry);
         return true;
     }
     if (link->held || link->leaving) drain_member(lagd, port);
@@ -174,14 +174,14 @@ bool begin_hold(struct lagd *lagd, uint16_t port) {
 /* A port that is emptied is held, once it is empty, or after a while. */
 static void end_emptying(struct lagd *lagd, uint16_t port) {
     struct link *link = &lagd->links[port - 1];
-    if (link->up && milliseconds(lagd) - link->leaves_since < MOST_WAIT && !empty_port(lagd, port)) return;
+    if (link->up && milliseconds() - link->leaves_since < MOST_WAIT && !empty_port(lagd, port)) return;
     link->emptying = false;
-    link->leaves_since = milliseconds(lagd);
+    link->leaves_since = milliseconds();
     drain_member(lagd, port);
     if (!apply_hold(lagd, port)) return;
     send_due(lagd);
-    take_views(lagd);
-    look_at_carry(lagd);
+    read_views(lagd);
+    look_at_carry(&lagd->carry);
 }
 
 /* A port goes: its peer is told, and its conversations leave it. One whose link is down is gone at once. */
@@ -196,9 +196,9 @@ void leave_port(struct lagd *lagd, uint16_t port) {
     (void)say(lagd, LOG_NOTICE | ABOUT_PORT, "port %u %s: it leaves the bundle", port, link->name);
     if (!begin_hold(lagd, port)) return;
     send_due(lagd);
-    take_views(lagd);
+    read_views(lagd);
     link->changed = true;
-    look_at_carry(lagd);
+    look_at_carry(&lagd->carry);
 }
 
 /* A port that was to leave stays. */
@@ -210,7 +210,7 @@ void stay_port(struct lagd *lagd, uint16_t port) {
     (void)say(lagd, LOG_NOTICE | ABOUT_PORT, "port %u %s: it stays in the bundle", port, link->name);
     if (!begin_hold(lagd, port)) return;
     send_due(lagd);
-    look_at_carry(lagd);
+    look_at_carry(&lagd->carry);
 }
 
 /* Whether nothing of ours is on a link that is held, and its partner sends nothing more there, as far as it tells. */
@@ -223,16 +223,16 @@ static bool is_quiet(struct lagd *lagd, const struct link *link) {
 }
 
 /* The longest that a port takes to be quiet. */
-static uint64_t most_wait(struct lagd *lagd) {
-    return lagd->settings.flight > MOST_WAIT ? lagd->settings.flight : MOST_WAIT;
+static uint64_t most_wait(const struct settings *settings) {
+    return settings->flight > MOST_WAIT ? settings->flight : MOST_WAIT;
 }
 
 /* Whether a port has left: it is quiet, and was so while its peer may still ask for responses to its markers, or it was waited for long enough. */
 static bool has_left(struct lagd *lagd, struct link *link) {
-    uint64_t now = milliseconds(lagd);
+    uint64_t now = milliseconds();
     if (!link->up) return true;
     if (link->emptying) return false;
-    if (link->left_at == 0 && (is_quiet(lagd, link) || now - link->leaves_since >= most_wait(lagd))) link->left_at = now;
+    if (link->left_at == 0 && (is_quiet(lagd, link) || now - link->leaves_since >= most_wait(&lagd->settings))) link->left_at = now;
     return link->left_at != 0 && now - link->left_at >= LINGERS;
 }
 
@@ -260,12 +260,12 @@ void leave_left_ports(struct lagd *lagd) {
 /* Whether the daemon puts an interface into the device: where others choose its ports, only what the administrator asked for, and what a file has as
  * the device is made. */
 bool may_put_in(struct lagd *lagd, const struct link *link) {
-    return !lagd->settings.follow || link->puts_in || (!lagd->has_started && is_team_new(lagd));
+    return !lagd->settings.follow || link->puts_in || (!lagd->has_started && is_team_new(lagd->team));
 }
 
 /* Whether an interface is no port, as others choose the ports of the device and it is not in there. */
 bool stays_outside(struct lagd *lagd, struct link *link, int master) {
-    bool outside = carries_by_team(lagd) && master != tap_index(lagd) && !may_put_in(lagd, link);
+    bool outside = !may_put_in(lagd, link) && master != tap_index(lagd->tap);
     link->changed = link->changed || link->outside != outside;
     link->outside = outside;
     return outside;
@@ -285,7 +285,7 @@ void tell_taken_out(struct lagd *lagd, struct link *link) {
 void follow_port(struct lagd *lagd, const struct interface *interface) {
     struct port_settings settings = unset_port();
     uint16_t port = 1;
-    if (!lagd->settings.follow || !carries_by_team(lagd) || interface->master != tap_index(lagd) || interface->type != ARPHRD_ETHER) return;
+    if (!lagd->settings.follow || interface->master == 0 || interface->master != tap_index(lagd->tap) || interface->type != ARPHRD_ETHER) return;
     while (port <= lagd->slot_count && lagd->links[port - 1].used) port++;
     if (port > lagd->slot_count) return;
     memcpy(settings.name, interface->name, sizeof interface->name);
@@ -298,7 +298,7 @@ static const char *fault_of(struct lagd *lagd, const char *name) {
     struct interface interface;
     int lock;
     if (strcmp(name, lagd->settings.carry) == 0) return "it is the device itself";
-    if (!ask_interface(lagd, 0, name, &interface)) return "there is no such interface";
+    if (!ask_interface(0, name, &interface)) return "there is no such interface";
     if (interface.type != ARPHRD_ETHER) return "it is no Ethernet interface";
     for (uint16_t i = 0; i < lagd->link_count; i++)
         if (lagd->links[i].used && lagd->links[i].socket >= 0 && lagd->links[i].index == interface.index) return "it is a port by another name";
@@ -324,7 +324,7 @@ static const char *add_by_words(struct lagd *lagd, char *text, uint16_t *port, c
     }
     fault = fault_of(lagd, wanted.ports[0].name);
     if (fault) return fault;
-    if (wanted.ports[0].key != AS_BUNDLE && !has_aggregator(lagd, (uint16_t)wanted.ports[0].key))
+    if (wanted.ports[0].key != AS_BUNDLE && !has_aggregator(lagd->keys, (uint16_t)wanted.ports[0].key))
         return "no port had this key at the start: a restart of this bundle makes aggregators of it";
     for (*port = 1; *port <= lagd->slot_count && lagd->links[*port - 1].used;) ++*port;
     if (*port > lagd->slot_count) return no_room;
@@ -340,8 +340,8 @@ static bool hold_by_word(struct lagd *lagd, struct link *link, bool hold) {
         if (!hold_port(lagd, port, hold)) return true;
         lagd->settings.ports[port - 1].hold = hold;
         send_due(lagd);
-        take_views(lagd);
-        look_at_carry(lagd);
+        read_views(lagd);
+        look_at_carry(&lagd->carry);
     }
     return !hold || has_left(lagd, link);
 }

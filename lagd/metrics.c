@@ -5,52 +5,52 @@
 
 #include "daemon.h"
 
-void add_head(struct lagd *lagd, const char *name, const char *kind, const char *help) {
-    add(lagd, "# HELP lagd_%s %s\n# TYPE lagd_%s %s\n", name, help, name, kind);
+void add_head(struct report *report, const char *name, const char *kind, const char *help) {
+    add(report, "# HELP lagd_%s %s\n# TYPE lagd_%s %s\n", name, help, name, kind);
 }
 
 /* The value of a label: any octet that is not printable ASCII becomes '?'. */
-static void add_label(struct lagd *lagd, const char *name, const char *text) {
-    add(lagd, "%s=\"", name);
+static void add_label(struct report *report, const char *name, const char *text) {
+    add(report, "%s=\"", name);
     for (; *text; text++) {
         unsigned char octet = (unsigned char)*text;
-        if (octet == '"' || octet == '\\') add(lagd, "\\");
-        add(lagd, "%c", octet < 0x20 || octet > 0x7e ? '?' : octet);
+        if (octet == '"' || octet == '\\') add(report, "\\");
+        add(report, "%c", octet < 0x20 || octet > 0x7e ? '?' : octet);
     }
-    add(lagd, "\"");
+    add(report, "\"");
 }
 
-void add_value_of(struct lagd *lagd, const char *name, const char *bundle, uint64_t value) {
-    add(lagd, "lagd_%s{", name);
-    add_label(lagd, "bundle", bundle);
-    add(lagd, "} %" PRIu64 "\n", value);
+void add_value_of(struct report *report, const char *name, const char *bundle, uint64_t value) {
+    add(report, "lagd_%s{", name);
+    add_label(report, "bundle", bundle);
+    add(report, "} %" PRIu64 "\n", value);
 }
 
 void add_bundle_value(struct lagd *lagd, const char *name, const char *kind, const char *help, uint64_t value) {
-    add_head(lagd, name, kind, help);
-    add_value_of(lagd, name, lagd->settings.name, value);
+    add_head(&lagd->report, name, kind, help);
+    add_value_of(&lagd->report, name, lagd->settings.name, value);
 }
 
 void add_port_value(struct lagd *lagd, const char *name, const struct link *link, uint64_t value) {
-    add(lagd, "lagd_%s{", name);
-    add_label(lagd, "bundle", lagd->settings.name);
-    add(lagd, ",");
-    add_label(lagd, "interface", link->name);
-    add(lagd, ",port=\"%u\"} %" PRIu64 "\n", link->settings.number, value);
+    add(&lagd->report, "lagd_%s{", name);
+    add_label(&lagd->report, "bundle", lagd->settings.name);
+    add(&lagd->report, ",");
+    add_label(&lagd->report, "interface", link->name);
+    add(&lagd->report, ",port=\"%u\"} %" PRIu64 "\n", link->settings.number, value);
 }
 
 static void add_bundle_states(struct lagd *lagd) {
-    add_head(lagd, "bundle_state", "gauge", "1 for the state of the bundle, 0 for the others");
+    add_head(&lagd->report, "bundle_state", "gauge", "1 for the state of the bundle, 0 for the others");
     for (unsigned state = 0; state < BUNDLE_STATES; state++) {
-        add(lagd, "lagd_bundle_state{");
-        add_label(lagd, "bundle", lagd->settings.name);
-        add(lagd, ",state=\"%s\"} %u\n", bundle_state_text(state), state == lagd->bundle.state);
+        add(&lagd->report, "lagd_bundle_state{");
+        add_label(&lagd->report, "bundle", lagd->settings.name);
+        add(&lagd->report, ",state=\"%s\"} %u\n", bundle_state_text(state), state == lagd->bundle.state);
     }
-    add_head(lagd, "bundle_state_changes_total", "counter", "how often the bundle came to be so");
+    add_head(&lagd->report, "bundle_state_changes_total", "counter", "how often the bundle came to be so");
     for (unsigned state = 0; state < BUNDLE_STATES; state++) {
-        add(lagd, "lagd_bundle_state_changes_total{");
-        add_label(lagd, "bundle", lagd->settings.name);
-        add(lagd, ",state=\"%s\"} %" PRIu64 "\n", bundle_state_text(state), lagd->bundle.counts[state]);
+        add(&lagd->report, "lagd_bundle_state_changes_total{");
+        add_label(&lagd->report, "bundle", lagd->settings.name);
+        add(&lagd->report, ",state=\"%s\"} %" PRIu64 "\n", bundle_state_text(state), lagd->bundle.counts[state]);
     }
 }
 
@@ -115,16 +115,16 @@ void write_metrics(struct lagd *lagd) {
     add_bundle_value(lagd, "bundle_last_change_timestamp_seconds", "gauge", "when the state of the bundle changed last",
         (uint64_t)lagd->bundle.changed_at);
     for (size_t gauge = 0; gauge < sizeof GAUGES / sizeof *GAUGES; gauge++) {
-        add_head(lagd, GAUGES[gauge].name, "gauge", GAUGES[gauge].help);
+        add_head(&lagd->report, GAUGES[gauge].name, "gauge", GAUGES[gauge].help);
         for (uint16_t i = 0; i < lagd->link_count; i++)
             if (lagd->links[i].used) add_port_value(lagd, GAUGES[gauge].name, &lagd->links[i], GAUGES[gauge].value(lagd, &lagd->links[i]));
     }
     for (unsigned count = 0; count < ALL_COUNTS; count++) {
         char name[64];
         snprintf(name, sizeof name, "port_%s_total", count_name(count));
-        add_head(lagd, name, "counter", count_help(count));
+        add_head(&lagd->report, name, "counter", count_help(count));
         for (uint16_t i = 0; i < lagd->link_count; i++)
             if (lagd->links[i].used) add_port_value(lagd, name, &lagd->links[i], count_at(&lagd->links[i], count));
     }
-    write_carry_metrics(lagd);
+    lagd->plane.carrying->show(lagd, AS_METRICS);
 }

@@ -21,10 +21,10 @@ static bool move(struct lagd *lagd, uint16_t number, uint16_t port) {
 }
 
 /* The port behind this one. */
-static uint16_t next_port(struct lagd *lagd, uint16_t port) {
-    for (uint16_t i = 0; i < lagd->carry.port_count; i++)
-        if (lagd->carry.ports[i] > port) return lagd->carry.ports[i];
-    return lagd->carry.ports[0];
+static uint16_t next_port(struct carry *carry, uint16_t port) {
+    for (uint16_t i = 0; i < carry->port_count; i++)
+        if (carry->ports[i] > port) return carry->ports[i];
+    return carry->ports[0];
 }
 
 /* Moves the conversations that were asked to; answers whether some are on the move. */
@@ -34,8 +34,8 @@ static bool move_asked(struct lagd *lagd) {
         struct conversation *conversation = &lagd->carry.conversations[number];
         if (!conversation->asked) continue;
         conversation->asked = false;
-        if (is_busy(lagd, conversation) && lagd->carry.port_of[number] != 0
-            && move(lagd, number, next_port(lagd, lagd->carry.port_of[number])))
+        if (is_busy(&lagd->carry, conversation) && lagd->carry.port_of[number] != 0
+            && move(lagd, number, next_port(&lagd->carry, lagd->carry.port_of[number])))
             any = true;
     }
     return any;
@@ -47,7 +47,7 @@ static bool level(struct lagd *lagd) {
     struct niw_carried carried[CONVERSATIONS];
     bool any = false;
     for (uint16_t number = 0; number < CONVERSATIONS; number++)
-        carried[number] = (struct niw_carried){lagd->carry.port_of[number], is_busy(lagd, &lagd->carry.conversations[number])};
+        carried[number] = (struct niw_carried){lagd->carry.port_of[number], is_busy(&lagd->carry, &lagd->carry.conversations[number])};
     for (;;) {
         struct niw_move next = niw_next_move(lagd->carry.ports, lagd->carry.port_count, carried, CONVERSATIONS);
         if (!is_done(lagd, next.status, "niw_next_move") || !next.is || !move(lagd, next.conversation, next.port)) return any;
@@ -60,14 +60,14 @@ static bool level(struct lagd *lagd) {
 bool can_empty(struct lagd *lagd, uint16_t port) {
     unsigned others = 0;
     for (uint16_t i = 0; i < lagd->carry.port_count; i++) others += lagd->carry.ports[i] != port;
-    return others > 0 && peer_answering(lagd) == ANSWERS && lagd->carry.active != 0 && lagd->links[port - 1].view.aggregator == lagd->carry.active;
+    return others > 0 && peer_answering(lagd->probe) == ANSWERS && lagd->carry.active != 0 && lagd->links[port - 1].view.aggregator == lagd->carry.active;
 }
 
 /* The port that carries fewest conversations of a list, of those that carry. */
-static uint16_t emptiest(struct lagd *lagd, const unsigned *loads) {
-    uint16_t found = lagd->carry.ports[0];
-    for (uint16_t i = 1; i < lagd->carry.port_count; i++)
-        if (loads[lagd->carry.ports[i]] < loads[found]) found = lagd->carry.ports[i];
+static uint16_t emptiest(struct carry *carry, const unsigned *loads) {
+    uint16_t found = carry->ports[0];
+    for (uint16_t i = 1; i < carry->port_count; i++)
+        if (loads[carry->ports[i]] < loads[found]) found = carry->ports[i];
     return found;
 }
 
@@ -80,7 +80,7 @@ bool empty_port(struct lagd *lagd, uint16_t port) {
     for (uint16_t number = 0; number < CONVERSATIONS; number++) {
         uint16_t other;
         if (lagd->carry.port_of[number] != port) continue;
-        other = emptiest(lagd, loads);
+        other = emptiest(&lagd->carry, loads);
         if (move(lagd, number, other)) loads[other]++;
     }
     send_due(lagd);
@@ -97,14 +97,14 @@ static bool is_any_emptied(struct lagd *lagd) {
 
 /* Moves what has to move, once a tick, towards a peer that answers markers: one marker of a port tells of all that leave it. */
 void balance(struct lagd *lagd) {
-    if (lagd->carry.port_count < 2 || peer_answering(lagd) != ANSWERS || is_any_emptied(lagd) || !none_moves(lagd)
+    if (lagd->carry.port_count < 2 || peer_answering(lagd->probe) != ANSWERS || is_any_emptied(lagd) || !none_moves(lagd)
         || !ask_ports(lagd, lagd->carry.active, lagd->carry.port_of))
         return;
     if (move_asked(lagd) || level(lagd)) send_due(lagd);
 }
 
 /* Each busy conversation is to move to the next port. */
-void ask_moves(struct lagd *lagd) {
+void ask_moves(struct carry *carry) {
     for (uint16_t number = 0; number < CONVERSATIONS; number++)
-        lagd->carry.conversations[number].asked = is_busy(lagd, &lagd->carry.conversations[number]);
+        carry->conversations[number].asked = is_busy(carry, &carry->conversations[number]);
 }

@@ -56,39 +56,30 @@ static struct mnl_socket *open_netlink(int bus) {
     return NULL;
 }
 
-/* What this file keeps for a daemon. */
-struct netlink_private {
-    _Alignas(struct nlmsghdr) uint8_t part[PART_ROOM]; /* of read_answer */
-};
-
-struct netlink_private *make_netlink_private(void) {
-    return make_room(sizeof(struct netlink_private));
-}
-
 /* Reads the answer up to its last message, which the kernel has sent once it took the question; answers its error, or 0. It is EINTR where what was
  * asked for changed meanwhile, so that some of it may be missing. */
-static int read_answer(struct lagd *lagd, const struct mnl_socket *asked, message_reader read_one, void *into) {
-    struct netlink_private *own = lagd->netlink;
+static int read_answer(const struct mnl_socket *asked, message_reader read_one, void *into) {
+    static _Alignas(struct nlmsghdr) uint8_t part[PART_ROOM]; /* no reader asks anything itself */
     bool interrupted = false;
     for (int turn = 0; turn < MOST_PARTS; turn++) {
-        int left = (int)mnl_socket_recvfrom(asked, own->part, sizeof own->part);
+        int left = (int)mnl_socket_recvfrom(asked, part, sizeof part);
         if (left < 0) return errno;
-        for (const struct nlmsghdr *message = (void *)own->part; is_whole(message, left); message = mnl_nlmsg_next(message, &left)) {
+        for (const struct nlmsghdr *message = (void *)part; is_whole(message, left); message = mnl_nlmsg_next(message, &left)) {
             interrupted = interrupted || (message->nlmsg_flags & NLM_F_DUMP_INTR) != 0;
             if (message->nlmsg_type == NLMSG_ERROR || message->nlmsg_type == NLMSG_DONE)
                 return error_of(message) != 0 || !interrupted ? -error_of(message) : EINTR;
-            if (read_one) read_one(lagd, message, into);
+            if (read_one) read_one(message, into);
         }
     }
     return EPROTO;
 }
 
 /* Asks the kernel; answers whether it did so, and else errno tells why not. */
-bool ask_netlink(struct lagd *lagd, int bus, const union message *question, message_reader read_one, void *into) {
+bool ask_netlink(int bus, const union message *question, message_reader read_one, void *into) {
     struct mnl_socket *asked = open_netlink(bus);
     int fault;
     if (!asked) return false;
-    fault = mnl_socket_sendto(asked, question, question->head.nlmsg_len) < 0 ? errno : read_answer(lagd, asked, read_one, into);
+    fault = mnl_socket_sendto(asked, question, question->head.nlmsg_len) < 0 ? errno : read_answer(asked, read_one, into);
     (void)mnl_socket_close(asked);
     errno = fault;
     return fault == 0;
@@ -96,15 +87,15 @@ bool ask_netlink(struct lagd *lagd, int bus, const union message *question, mess
 
 /* As ask_netlink, of a list of which the kernel may change something while it tells it: then it is asked again. `into` has `size` octets, which are as
  * they were for each answer. */
-bool ask_list(struct lagd *lagd, int bus, const union message *question, message_reader read_one, void *into, size_t size) {
+bool ask_list(int bus, const union message *question, message_reader read_one, void *into, size_t size) {
     uint8_t before[MOST_LISTED];
     bool told = false;
-    if (size > sizeof before) return ask_netlink(lagd, bus, question, read_one, into);
+    if (size > sizeof before) return ask_netlink(bus, question, read_one, into);
     if (into) memcpy(before, into, size);
     errno = EINTR;
     for (int tries = 0; !told && errno == EINTR && tries < MOST_TRIES; tries++) {
         if (into) memcpy(into, before, size);
-        told = ask_netlink(lagd, bus, question, read_one, into);
+        told = ask_netlink(bus, question, read_one, into);
     }
     return told;
 }

@@ -13,13 +13,13 @@ union message {
 };
 
 /* What is done with each message of an answer. It asks nothing itself. */
-typedef void (*message_reader)(struct lagd *lagd, const struct nlmsghdr *message, void *into);
+typedef void (*message_reader)(const struct nlmsghdr *message, void *into);
 
 /* netlink.c */
 union message message_of(uint16_t type, unsigned flags, const void *about, size_t length);
 union message message_of_interface(uint16_t type, unsigned flags, int index);
-bool ask_netlink(struct lagd *lagd, int bus, const union message *question, message_reader read_one, void *into);
-bool ask_list(struct lagd *lagd, int bus, const union message *question, message_reader read_one, void *into, size_t size);
+bool ask_netlink(int bus, const union message *question, message_reader read_one, void *into);
+bool ask_list(int bus, const union message *question, message_reader read_one, void *into, size_t size);
 bool is_whole(const struct nlmsghdr *message, int left);
 int error_of(const struct nlmsghdr *message);
 void read_attributes(const struct nlmsghdr *message, size_t before, mnl_attr_cb_t take, void *into);
@@ -50,6 +50,6 @@ struct interface {
 
 /* interfaces.c */
 struct interface read_interface(const struct nlmsghdr *message);
-bool ask_interface(struct lagd *lagd, int index, const char *name, struct interface *interface);
+bool ask_interface(int index, const char *name, struct interface *interface);
 
 #endif

@@ -69,7 +69,6 @@ enum { PORT_WORD_COUNT = sizeof PORT_WORDS / sizeof *PORT_WORDS };
 
 enum { OPTION_ROOM = MOST_BUNDLE_KEYS + sizeof BEFORE_KEYS / sizeof *BEFORE_KEYS + sizeof BEHIND_KEYS / sizeof *BEHIND_KEYS };
 
-/* What this file keeps for a daemon. */
 struct options_private {
     struct option_text rows[OPTION_ROOM];
     size_t row_count;
@@ -84,8 +83,7 @@ struct options_private *make_options_private(void) {
 }
 
 /* The options in the order of the help, from the tables above and from that of the keys. */
-static void make_rows(struct lagd *lagd) {
-    struct options_private *own = lagd->options;
+static void make_rows(struct options_private *own) {
     for (size_t i = 0; i < sizeof BEFORE_KEYS / sizeof *BEFORE_KEYS; i++) own->rows[own->row_count++] = BEFORE_KEYS[i];
     for (size_t i = 0; bundle_key(i); i++)
         if (bundle_key(i)->letter)
@@ -131,7 +129,7 @@ static void expect(const char *expected, const char *name, const char *value) {
 }
 
 /* An option that is a key of the bundle. */
-static void take_option(struct lagd *lagd, int letter, const char *text) {
+static void apply_option(struct lagd *lagd, int letter, const char *text) {
     struct options_private *own = lagd->options;
     const struct option_text *row = own->rows;
     while (row->letter != letter) row++;
@@ -140,25 +138,23 @@ static void take_option(struct lagd *lagd, int letter, const char *text) {
     expect(set_bundle(lagd, &own->options.settings, row->name, text, THE_LINE), row->name, text);
 }
 
-static void choose(struct lagd *lagd, enum action action) {
-    struct options_private *own = lagd->options;
+static void choose(struct options_private *own, enum action action) {
     if (own->options.action != RUN)
         stop(WRONG_WORD, "usage", "one of --check, --status, --watch, --metrics, --add, --remove, --hold and --release; lagd --help tells more");
     own->options.action = action;
 }
 
 /* One file is run, or looked at. */
-static void take_file(struct lagd *lagd, const char *file) {
-    struct options_private *own = lagd->options;
+static void note_file(struct options_private *own, const char *file) {
     if (own->options.file) stop(WRONG_WORD, "usage", "one file, by --config or by --check; lagd --help tells more");
     own->options.file = file;
 }
 
 /* An option by which a bundle is changed. */
-static void choose_order(struct lagd *lagd, const char *order, const char *interface) {
-    choose(lagd, ORDER);
-    lagd->options->options.order = order;
-    lagd->options->options.interface = interface;
+static void choose_order(struct options_private *own, const char *order, const char *interface) {
+    choose(own, ORDER);
+    own->options.order = order;
+    own->options.interface = interface;
 }
 
 /* A text that the library of c/lag.c has, and the native one has not. */
@@ -179,21 +175,21 @@ static void read_option(struct lagd *lagd, int option, const char *last) {
     struct options_private *own = lagd->options;
     const char letter[] = {'-', (char)optopt, 0};
     switch (option) {
-    case 'c': take_file(lagd, optarg); break;
-    case 'k': choose(lagd, CHECK); take_file(lagd, optarg); break;
+    case 'c': note_file(lagd->options, optarg); break;
+    case 'k': choose(lagd->options, CHECK); note_file(lagd->options, optarg); break;
     case 'f': own->options.folder = optarg; break;
-    case 's': choose(lagd, SHOW); break;
-    case 'w': choose(lagd, WATCH); break;
-    case 'M': choose(lagd, METRICS); break;
-    case 'I': choose_order(lagd, "add", optarg); break;
-    case 'E': choose_order(lagd, "remove", optarg); break;
-    case 'L': choose_order(lagd, "hold", optarg); break;
-    case 'G': choose_order(lagd, "release", optarg); break;
+    case 's': choose(lagd->options, SHOW); break;
+    case 'w': choose(lagd->options, WATCH); break;
+    case 'M': choose(lagd->options, METRICS); break;
+    case 'I': choose_order(lagd->options, "add", optarg); break;
+    case 'E': choose_order(lagd->options, "remove", optarg); break;
+    case 'L': choose_order(lagd->options, "hold", optarg); break;
+    case 'G': choose_order(lagd->options, "release", optarg); break;
     case 'j': own->options.json = true; break;
     case 'h': print_help(lagd); end_printing();
     case 'V': print_version(); end_printing();
     case '?': case ':': stop(WRONG_WORD, "not an option, or its word is missing", optopt ? letter : last);
-    default: take_option(lagd, option, optarg); break;
+    default: apply_option(lagd, option, optarg); break;
     }
 }
 
@@ -248,7 +244,7 @@ static void read_rows(struct lagd *lagd, int argc, char **argv) {
     struct option names[OPTION_ROOM + 1] = {{NULL, 0, NULL, 0}};
     char letters[2 * OPTION_ROOM + 1] = "";
     size_t length = 0;
-    make_rows(lagd);
+    make_rows(lagd->options);
     for (size_t i = 0; i < own->row_count; i++) {
         names[i] = (struct option){own->rows[i].name, own->rows[i].value ? required_argument : no_argument, NULL, own->rows[i].letter};
         letters[length++] = own->rows[i].letter;

@@ -15,11 +15,6 @@
 
 static const size_t head = sizeof(struct virtio_net_hdr);
 
-/* Whether the host hands over frames of several segments. */
-bool passes_segments(struct lagd *lagd) {
-    return lagd->settings.offload || lagd->settings.fast;
-}
-
 /* The octets before each frame. */
 size_t head_octets(void) {
     return head;

@@ -6,20 +6,11 @@
 
 #include "daemon.h"
 
-/* What this file keeps for a daemon. */
-struct ports_private {
-    struct niw_view views[NIW_MOST_PORTS];
-};
-
-struct ports_private *make_ports_private(void) {
-    return make_room(sizeof(struct ports_private));
-}
-
 /* The status of a port, with what the library does not know of it. */
 static uint8_t status_of(struct lagd *lagd, const struct link *link) {
     uint8_t status = link->view.port_status;
     if (link->socket < 0) return link->outside ? OUTSIDE : MISSING;
-    if (is_halted(lagd)) return DEVICE_DOWN;
+    if (is_halted(lagd->halt)) return DEVICE_DOWN;
     if (link->leaving) return LEAVES;
     if (link->waits) return RESTORING;
     if (status != NIW_PORT_STATUS_DISTRIBUTING || !link->view.defaulted) return status;
@@ -49,26 +40,26 @@ struct facts facts_of(struct lagd *lagd, const struct link *link) {
 }
 
 /* Counts what became of a port. Its link that comes up has it EXPIRED, as one does of which no LACPDU came in time. */
-static void count_change(struct lagd *lagd, struct link *link, const struct niw_view *now) {
+static void count_change(const struct settings *settings, struct link *link, const struct niw_view *now) {
     const struct niw_view *before = &link->view;
     if (now->receive_state == NIW_RECEIVE_EXPIRED && before->receive_state == NIW_RECEIVE_CURRENT) link->counts[EXPIRED]++;
     if (now->receive_state == NIW_RECEIVE_DEFAULTED && before->receive_state != NIW_RECEIVE_DEFAULTED) {
         link->counts[DEFAULTED]++;
-        forget_partner(lagd, link);
+        forget_partner(settings, link);
     }
     if (now->mux_state == NIW_MUX_COLLECTING_DISTRIBUTING && before->mux_state != NIW_MUX_COLLECTING_DISTRIBUTING)
         link->counts[DISTRIBUTED]++;
 }
 
 /* Takes what the library tells of the ports that changed. */
-void take_views(struct lagd *lagd) {
-    struct ports_private *own = lagd->ports;
+void read_views(struct lagd *lagd) {
+    struct niw_view views[NIW_MOST_PORTS];
     uint64_t changed;
-    if (!is_told(lagd, niw_views(&lagd->own_system, own->views, NIW_MOST_PORTS), "niw_views", &changed)) return;
+    if (!is_told(lagd, niw_views(&lagd->own_system, views, NIW_MOST_PORTS), "niw_views", &changed)) return;
     for (uint16_t i = 0; i < lagd->link_count; i++) {
         if (!(changed >> i & 1)) continue;
-        count_change(lagd, &lagd->links[i], &own->views[i]);
-        lagd->links[i].view = own->views[i];
+        count_change(&lagd->settings, &lagd->links[i], &views[i]);
+        lagd->links[i].view = views[i];
         lagd->links[i].changed = true;
     }
 }
@@ -83,9 +74,10 @@ static bool is_same(const struct facts *one, const struct facts *other) {
 
 /* Why a port is in trouble, behind a comma. */
 static const char *trouble_text(struct lagd *lagd, const struct link *link, char *room, size_t size) {
+    char holder[HOLDER_ROOM];
     room[0] = 0;
     if (link->trouble == EADDRINUSE)
-        snprintf(room, size, ", another lagd has the interface: %s", holder_of(lagd, link->index));
+        snprintf(room, size, ", another lagd has the interface: %s", holder_of(lagd, link->index, holder));
     else if (link->trouble)
         snprintf(room, size, ", %s", strerror(link->trouble));
     return room;

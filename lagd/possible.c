@@ -8,6 +8,7 @@
 #include <sys/syscall.h>
 #include <unistd.h>
 
+#include "daemon.h"
 #include "team.h"
 
 /* No interface has this index. */
@@ -20,8 +21,8 @@ static void tell(struct lagd *lagd, const struct options *options, const char *k
 }
 
 /* Whether the kernel has a program run at an interface, as Linux does from 6.6 on: then it misses the interface alone. 0, or errno. */
-int fault_of_programs(struct lagd *lagd) {
-    int program = load_program(lagd, "dropper", NULL), fault = errno;
+int fault_of_programs(const struct settings *settings) {
+    int program = load_program(settings, "dropper", NULL), fault = errno;
     if (program < 0) return fault;
     fault = attach_program(program, NO_INDEX, false) < 0 && errno != ENODEV ? errno : 0;
     close(program);
@@ -30,7 +31,7 @@ int fault_of_programs(struct lagd *lagd) {
 
 /* Whether the kernel can pass data on by itself: answers how the program ends. */
 static int check_fast(struct lagd *lagd, const struct options *options) {
-    int fault = fault_of_programs(lagd);
+    int fault = fault_of_programs(&lagd->settings);
     if (fault == EPERM) {
         tell(lagd, options, "fast", "not known without CAP_BPF and CAP_NET_ADMIN");
         return DONE;
@@ -46,7 +47,7 @@ static int check_fast(struct lagd *lagd, const struct options *options) {
 
 /* Whether the kernel has a program choose the queue of a frame: answers how the program ends. */
 static int check_queues(struct lagd *lagd, const struct options *options) {
-    int fault = fault_of_programs(lagd);
+    int fault = fault_of_programs(&lagd->settings);
     if (fault == 0) return DONE;
     tell(lagd, options, "queues", fault == EPERM ? "not known without CAP_BPF and CAP_NET_ADMIN" : NO_PROGRAMS);
     return fault == EPERM ? DONE : REFUSED;
@@ -55,12 +56,12 @@ static int check_queues(struct lagd *lagd, const struct options *options) {
 /* Whether the kernel has the team driver, and its mode, which is another module: answers how the program ends. The mode is tried in a network
  * namespace that ends with the program, where that may be made. */
 static int check_team(struct lagd *lagd, const struct options *options) {
-    bool is_apart = unshare(CLONE_NEWNET) == 0, has_driver = find_team_driver(lagd);
+    bool is_apart = unshare(CLONE_NEWNET) == 0, has_driver = find_team_driver(lagd->team_netlink);
     if (!has_driver && errno == EPERM) {
         tell(lagd, options, "plane", "not known without CAP_NET_ADMIN");
         return DONE;
     }
-    if (has_driver && (!is_apart || has_team_mode(lagd))) return DONE;
+    if (has_driver && (!is_apart || has_team_mode(lagd->team_netlink))) return DONE;
     tell(lagd, options, "plane", has_driver ? "the team driver of this kernel has no mode loadbalance" : "this kernel has no team driver");
     return REFUSED;
 }

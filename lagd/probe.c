@@ -9,7 +9,6 @@
 #define AGAIN 200
 #define LATER 60000
 
-/* What this file keeps for a daemon. */
 struct probe_private {
     enum answering peer, told;
     bool asking; /* whether a marker waits for its response: one that answers none stays MUTE meanwhile */
@@ -26,8 +25,8 @@ struct probe_private *make_probe_private(void) {
     return made;
 }
 
-enum answering peer_answering(struct lagd *lagd) {
-    return lagd->probe->peer;
+enum answering peer_answering(struct probe_private *own) {
+    return own->peer;
 }
 
 /* The last daemon found that out of this partner. */
@@ -39,8 +38,7 @@ void go_on_answering(struct lagd *lagd, enum answering last) {
 }
 
 /* The peer did not answer a marker in time. */
-void suspect_partner(struct lagd *lagd) {
-    struct probe_private *own = lagd->probe;
+void suspect_partner(struct probe_private *own) {
     if (own->peer == ANSWERS) own->peer = NOT_ASKED;
 }
 
@@ -71,7 +69,7 @@ static void ask_peer(struct lagd *lagd) {
     if (own->peer == NOT_ASKED) own->peer = ASKED;
     own->asked_on = lagd->carry.ports[0];
     own->asked_at = own->sent_at = lagd->carry.time;
-    take_marker(lagd, &lagd->links[own->asked_on - 1], marker);
+    send_new_marker(lagd, &lagd->links[own->asked_on - 1], marker);
 }
 
 /* Sends the marker again: a cable may lose one. */

@@ -52,10 +52,10 @@ bool has_card(int index) {
 
 /* Whether GRO of an interface keeps frames for less than half the time for which a response to a marker waits. Without a time of its own it
  * does so until the end of a turn. */
-bool keeps_briefly(struct lagd *lagd, int index) {
+bool keeps_briefly(const struct settings *settings, int index) {
     char path[PATH_OCTETS], nanoseconds[PROCESSORS_ROOM];
     if (!path_of(index, "gro_flush_timeout", path, sizeof path) || !read_processors(path, nanoseconds, sizeof nanoseconds)) return false;
-    return strtoull(nanoseconds, NULL, 10) < lagd->settings.answer_after * 500000ull;
+    return strtoull(nanoseconds, NULL, 10) < settings->answer_after * 500000ull;
 }
 
 /* Reads processors: a mask, in hexadecimal. One that is too long is none. */

@@ -54,21 +54,21 @@ static bool share_maps(const struct programs *made, const struct fast_maps *maps
 }
 
 /* Says which program is loaded, and what it has of the settings; answers whether all of it can be. */
-static bool prepare(struct lagd *lagd, const struct programs *made, const char *name, const struct fast_maps *maps) {
+static bool prepare(const struct settings *settings, const struct programs *made, const char *name, const struct fast_maps *maps) {
     struct bpf_program *program;
     bpf_object__for_each_program(program, made->obj) (void)bpf_program__set_autoload(program,
         strcmp(bpf_program__name(program), name) == 0);
-    made->rodata->way = lagd->settings.hash;
-    made->rodata->hash_seed = lagd->settings.hash_seed;
-    made->rodata->all_queues = lagd->settings.all_queues;
+    made->rodata->way = settings->hash;
+    made->rodata->hash_seed = settings->hash_seed;
+    made->rodata->all_queues = settings->all_queues;
     return share_maps(made, maps);
 }
 
-static int load_with_log(struct lagd *lagd, const char *name, const struct fast_maps *maps, char *log) {
+static int load_with_log(const struct settings *settings, const char *name, const struct fast_maps *maps, char *log) {
     const struct bpf_object_open_opts options = {.sz = sizeof options, .kernel_log_buf = log, .kernel_log_size = LOG_ROOM};
     struct programs *made = programs__open_opts(&options);
     int loaded = -1, fault;
-    if (made && prepare(lagd, made, name, maps) && programs__load(made) == 0)
+    if (made && prepare(settings, made, name, maps) && programs__load(made) == 0)
         loaded = fcntl(bpf_program__fd(bpf_object__find_program_by_name(made->obj, name)), F_DUPFD_CLOEXEC, 0);
     fault = errno;
     programs__destroy(made);
@@ -77,12 +77,12 @@ static int load_with_log(struct lagd *lagd, const char *name, const struct fast_
 }
 
 /* Loads one program, with the tables that it has, if it has some; answers its file, or -1, and errno, and a reason. */
-int load_program(struct lagd *lagd, const char *name, const struct fast_maps *maps) {
+int load_program(const struct settings *settings, const char *name, const struct fast_maps *maps) {
     char *log = calloc(1, LOG_ROOM); /* the kernel fills what it needs of it */
     int loaded = -1, fault = ENOMEM;
     reason[0] = 0;
     (void)libbpf_set_print(keep_first);
-    if (log) loaded = load_with_log(lagd, name, maps, log);
+    if (log) loaded = load_with_log(settings, name, maps, log);
     if (log) fault = errno;
     if (log && loaded < 0) keep_last(log);
     if (loaded < 0 && !reason[0]) keep_line(strerror(fault));

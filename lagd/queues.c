@@ -23,7 +23,6 @@ struct flight {
     uint64_t place; /* which one it is of all that were sent */
 };
 
-/* What this file keeps for a daemon. */
 struct queues_private {
     struct queues {
         unsigned count; /* by how many the data of the member goes */
@@ -43,8 +42,8 @@ static uint32_t all_of(unsigned count) {
 }
 
 /* A member is taken up: nobody knows what its queues have. */
-void begin_queues(struct lagd *lagd, uint16_t port, unsigned count) {
-    struct queues *queues = &lagd->queues->ports[port - 1];
+void begin_queues(struct queues_private *own, uint16_t port, unsigned count) {
+    struct queues *queues = &own->ports[port - 1];
     queues->count = count;
     queues->dirty = all_of(count);
     for (size_t i = 0; i < MOST_FLIGHTS; i++)
@@ -52,8 +51,7 @@ void begin_queues(struct lagd *lagd, uint16_t port, unsigned count) {
 }
 
 /* Has a frame go by a queue of a member, if there are several. */
-static void mark_queue(struct lagd *lagd, const struct queues *queues, unsigned queue, struct msghdr *message) {
-    struct queues_private *own = lagd->queues;
+static void mark_queue(struct queues_private *own, const struct queues *queues, unsigned queue, struct msghdr *message) {
     struct cmsghdr *head;
     uint32_t mark = QUEUE_MARK | (queue + 1);
     if (queues->count < 2) return;
@@ -71,7 +69,7 @@ void mark_conversation(struct lagd *lagd, uint16_t port, uint16_t number, struct
     struct queues *queues = &lagd->queues->ports[port - 1];
     unsigned queue = number % MOST_QUEUES % queues->count;
     queues->dirty |= 1u << queue;
-    mark_queue(lagd, queues, queue, message);
+    mark_queue(lagd->queues, queues, queue, message);
 }
 
 static uint32_t identifier_of(const uint8_t *frame) {
@@ -94,7 +92,7 @@ static bool send_flight(struct lagd *lagd, struct link *link, const uint8_t *mar
         struct msghdr message = {0};
         if (!(flight->waiting >> queue & 1)) continue;
         set_identifier(frame, (flight->id & IDENTIFIER_BITS) | (uint32_t)queue << QUEUE_SHIFT);
-        mark_queue(lagd, queues, queue, &message);
+        mark_queue(lagd->queues, queues, queue, &message);
         done = give_marker(lagd, link, frame, &message) && done;
     }
     return done;
@@ -113,10 +111,10 @@ static struct flight *next_flight(struct queues *queues) {
 
 /* The queues with frames of which no response has told yet. Where the kernel passes frames on, that is any: how many there are is seen
  * anew, since it goes by as many as there are now. */
-static uint32_t unanswered(struct lagd *lagd, const struct link *link, struct queues *queues) {
+static uint32_t unanswered(struct members_private *own, const struct link *link, struct queues *queues) {
     uint32_t found = queues->dirty;
     for (size_t i = 0; i < MOST_FLIGHTS; i++) found |= queues->flights[i].waiting;
-    if (has_fast_member(lagd, link->settings.number)) {
+    if (has_fast_member(own, link->settings.number)) {
         unsigned now = count_entries(link->index, "tx-");
         if (now > MOST_QUEUES) now = MOST_QUEUES;
         if (now > queues->count && queues->count > 1) queues->count = now;
@@ -126,10 +124,10 @@ static uint32_t unanswered(struct lagd *lagd, const struct link *link, struct qu
 }
 
 /* Sends a marker that is due; answers whether all of it went. */
-bool send_by_queues(struct lagd *lagd, struct link *link, const uint8_t *marker) {
+static bool send_anew(struct lagd *lagd, struct link *link, const uint8_t *marker) {
     struct queues_private *own = lagd->queues;
     struct queues *queues = &own->ports[link->settings.number - 1];
-    struct flight flight = {identifier_of(marker), unanswered(lagd, link, queues), lagd->carry.time, own->all++};
+    struct flight flight = {identifier_of(marker), unanswered(lagd->members, link, queues), lagd->carry.time, own->all++};
     struct flight *place = next_flight(queues);
     queues->dirty = 0;
     *place = flight;
@@ -137,7 +135,7 @@ bool send_by_queues(struct lagd *lagd, struct link *link, const uint8_t *marker)
 }
 
 /* Sends again what has no response, of each marker that may still get one; answers whether all of it went. */
-bool send_by_queues_again(struct lagd *lagd, struct link *link, const uint8_t *marker) {
+static bool send_again_by_queues(struct lagd *lagd, struct link *link, const uint8_t *marker) {
     struct queues *queues = &lagd->queues->ports[link->settings.number - 1];
     bool done = true;
     for (size_t i = 0; i < MOST_FLIGHTS; i++) {
@@ -151,9 +149,14 @@ bool send_by_queues_again(struct lagd *lagd, struct link *link, const uint8_t *m
     return done;
 }
 
+/* Sends a marker by each queue that may have frames before it, or again by those that have no response; answers whether all of it went. */
+bool send_by_queues(struct lagd *lagd, struct link *link, const uint8_t *marker, bool again) {
+    return again ? send_again_by_queues(lagd, link, marker) : send_anew(lagd, link, marker);
+}
+
 /* A response to the marker of a queue came: answers whether it is the last one that was missing, and gives back the identifier of the library. */
-bool ends_flight(struct lagd *lagd, const struct link *link, uint32_t *id) {
-    struct queues *queues = &lagd->queues->ports[link->settings.number - 1];
+bool ends_flight(struct queues_private *own, const struct link *link, uint32_t *id) {
+    struct queues *queues = &own->ports[link->settings.number - 1];
     uint32_t bit = 1u << (*id >> QUEUE_SHIFT);
     for (size_t i = 0; i < MOST_FLIGHTS; i++) {
         struct flight *flight = &queues->flights[i];

@@ -15,7 +15,7 @@ static const char *restart_for(struct lagd *lagd, const struct settings *wanted)
     if (wanted->offload != lagd->settings.offload || wanted->fast != lagd->settings.fast) return "another offload or fast";
     if (wanted->all_queues != lagd->settings.all_queues) return "another queues";
     for (uint16_t port = 1; port <= wanted->port_count; port++)
-        if (wanted->ports[port - 1].name[0] && !has_aggregator(lagd, port_of(wanted, port).key)) return "a key that no port had at the start";
+        if (wanted->ports[port - 1].name[0] && !has_aggregator(lagd->keys, port_of(wanted, port).key)) return "a key that no port had at the start";
     return NULL;
 }
 
@@ -26,7 +26,7 @@ static bool change_port(struct lagd *lagd, uint16_t port, const struct settings 
     struct niw_port next = port_of(wanted, port);
     struct niw_change change = {.priority = next.priority, .aggregatable = next.aggregatable};
     struct niw_truth answer;
-    if (has_aggregator(lagd, next.key)) link->key = next.key;
+    if (has_aggregator(lagd->keys, next.key)) link->key = next.key;
     change.key = choose_key(lagd, link);
     answer = niw_configure(&lagd->own_system, port, &change);
     if (!is_done(lagd, answer.status, "niw_configure") || !answer.is) return false;
@@ -66,7 +66,7 @@ static void change_policy(struct lagd *lagd, const struct settings *wanted) {
     lagd->settings.policy = wanted->policy;
     lagd->settings.partner = wanted->partner;
     for (uint16_t i = 0; !same && i < lagd->link_count; i++) {
-        forget_partner(lagd, &lagd->links[i]);
+        forget_partner(&lagd->settings, &lagd->links[i]);
         if (lagd->settings.policy != PARTNER_FIRST || !lagd->links[i].up || lagd->links[i].view.defaulted) continue;
         lagd->links[i].pinned = true;
         lagd->links[i].partner.priority = lagd->links[i].view.partner_priority;
@@ -75,7 +75,7 @@ static void change_policy(struct lagd *lagd, const struct settings *wanted) {
 }
 
 /* A port is another one than it was: it goes, comes or changes. Answers whether anything differs. */
-static bool take_port(struct lagd *lagd, uint16_t port, const struct settings *wanted) {
+static bool apply_port(struct lagd *lagd, uint16_t port, const struct settings *wanted) {
     const struct link *link = &lagd->links[port - 1];
     const char *name = wanted->ports[port - 1].name;
     bool was_leaving = link->leaving;
@@ -89,7 +89,7 @@ static bool take_port(struct lagd *lagd, uint16_t port, const struct settings *w
     }
     if (!name[0]) return false;
     if (!link->used) {
-        if (!has_aggregator(lagd, port_of(wanted, port).key)) return false;
+        if (!has_aggregator(lagd->keys, port_of(wanted, port).key)) return false;
         join_port(lagd, port, &wanted->ports[port - 1]);
         return true;
     }
@@ -100,9 +100,9 @@ static bool take_port(struct lagd *lagd, uint16_t port, const struct settings *w
 }
 
 /* Takes what can be changed; answers how many ports have something else now. */
-static unsigned take(struct lagd *lagd, const struct settings *wanted) {
+static unsigned apply_settings(struct lagd *lagd, const struct settings *wanted) {
     unsigned changed = 0;
-    for (uint16_t port = 1; port <= lagd->slot_count; port++) changed += take_port(lagd, port, wanted);
+    for (uint16_t port = 1; port <= lagd->slot_count; port++) changed += apply_port(lagd, port, wanted);
     limit_links(lagd, wanted->config.max_links);
     change_policy(lagd, wanted);
     lagd->settings.partner_required = wanted->partner_required;
@@ -129,32 +129,23 @@ static bool read_again(struct lagd *lagd, const char *file, struct settings *wan
     return !lack.expected;
 }
 
-/* What this file keeps for a daemon. */
-struct reload_private {
-    struct settings wanted; /* of reload */
-};
-
-struct reload_private *make_reload_private(void) {
-    return make_room(sizeof(struct reload_private));
-}
-
 /* Reads the file again. One that is wrong changes nothing. */
 void reload(struct lagd *lagd, const char *file) {
-    struct reload_private *own = lagd->reload;
-    const char *rest;
+    struct settings wanted;
     notify_reloading();
-    if (!read_again(lagd, file, &own->wanted)) {
+    if (!read_again(lagd, file, &wanted)) {
         complain(lagd, "%s: the file is wrong, and nothing is changed", file);
-    } else if (!place_ports(lagd, &own->wanted)) {
+    } else if (!place_ports(lagd, &wanted)) {
         (void)say(lagd, LOG_WARNING | ABOUT_RESTART,
             "%s: more ports than there is room for: a restart of this bundle is needed, and nothing is changed", file);
     } else {
-        unsigned changed = (rest = restart_for(lagd, &own->wanted), take(lagd, &own->wanted));
+        const char *rest = restart_for(lagd, &wanted);
+        unsigned changed = apply_settings(lagd, &wanted);
         (void)say(lagd, LOG_NOTICE | ABOUT_RELOAD, "%s: read again, %u ports changed", file, changed);
         if (rest) (void)say(lagd, LOG_WARNING | ABOUT_RESTART, "%s: %s: a restart of this bundle is needed", file, rest);
         send_due(lagd);
-        take_views(lagd);
-        look_at_carry(lagd);
+        read_views(lagd);
+        look_at_carry(&lagd->carry);
     }
     notify_ready(lagd);
 }

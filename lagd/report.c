@@ -6,27 +6,27 @@
 #include "daemon.h"
 
 /* Adds to the report, as far as there is room. */
-void add(struct lagd *lagd, const char *format, ...) {
+void add(struct report *report, const char *format, ...) {
     va_list given;
     int length;
     va_start(given, format);
-    length = vsnprintf(lagd->report + lagd->report_length, sizeof lagd->report - lagd->report_length, format, given);
+    length = vsnprintf(report->text + report->length, sizeof report->text - report->length, format, given);
     va_end(given);
-    lagd->report_length += (size_t)length < sizeof lagd->report - lagd->report_length ? (size_t)length
-        : sizeof lagd->report - lagd->report_length - 1;
+    report->length += (size_t)length < sizeof report->text - report->length ? (size_t)length
+        : sizeof report->text - report->length - 1;
 }
 
 /* Adds a string of JSON. The kernel allows any octets in a name. */
-void add_string(struct lagd *lagd, const char *text) {
-    add(lagd, "\"");
+void add_string(struct report *report, const char *text) {
+    add(report, "\"");
     for (; *text; text++) {
         unsigned char octet = (unsigned char)*text;
         if (octet < 0x20 || octet > 0x7e || octet == '"' || octet == '\\')
-            add(lagd, "\\u%04x", octet);
+            add(report, "\\u%04x", octet);
         else
-            add(lagd, "%c", octet);
+            add(report, "%c", octet);
     }
-    add(lagd, "\"");
+    add(report, "\"");
 }
 
 /* Writes what there is to tell of a port; answers whether the library told it. */

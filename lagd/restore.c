@@ -14,7 +14,7 @@ static bool is_short_of_links(struct lagd *lagd) {
 
 /* Whether a link that waits has waited long enough. */
 static bool is_over(struct lagd *lagd, const struct link *link) {
-    return milliseconds(lagd) - link->steady_since >= lagd->settings.wait_to_restore * (uint64_t)1000 || is_short_of_links(lagd);
+    return milliseconds() - link->steady_since >= lagd->settings.wait_to_restore * (uint64_t)1000 || is_short_of_links(lagd);
 }
 
 static void set_waiting(struct link *link, bool waits) {
@@ -26,7 +26,7 @@ static void set_waiting(struct link *link, bool waits) {
  * does not wait. */
 bool is_restored(struct lagd *lagd, struct link *link) {
     if (link->up || !lagd->has_started) return true;
-    if (!link->waits) link->steady_since = milliseconds(lagd);
+    if (!link->waits) link->steady_since = milliseconds();
     set_waiting(link, !is_over(lagd, link));
     return !link->waits;
 }

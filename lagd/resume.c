@@ -11,7 +11,6 @@
 /* Where an LACPDU has the state of its actor (IEEE 802.1AX-2014, 6.4.2.3). */
 #define ACTOR_STATE (ETH_HLEN + 18)
 
-/* What this file keeps for a daemon. */
 struct resume_private {
     uint64_t began; /* when it was begun, in milliseconds of CLOCK_BOOTTIME */
 };
@@ -21,10 +20,10 @@ struct resume_private *make_resume_private(void) {
 }
 
 /* What the last daemon left of a link. An interface that was made anew is another one. */
-static const struct inherited_link *inherited_of(struct lagd *lagd, const struct link *link) {
-    for (unsigned i = 0; i < lagd->inherited.link_count; i++)
-        if (lagd->inherited.links[i].index == link->index && memcmp(lagd->inherited.links[i].mac, link->mac, sizeof link->mac) == 0)
-            return &lagd->inherited.links[i];
+static const struct inherited_link *inherited_of(struct inherited *inherited, const struct link *link) {
+    for (unsigned i = 0; i < inherited->link_count; i++)
+        if (inherited->links[i].index == link->index && memcmp(inherited->links[i].mac, link->mac, sizeof link->mac) == 0)
+            return &inherited->links[i];
     return NULL;
 }
 
@@ -40,7 +39,7 @@ static bool is_within(struct lagd *lagd, uint64_t then, uint64_t most) {
 
 /* Whether a port goes on: its carrier did not go, neither end has given the other one up, and its partner may be that. */
 static bool goes_on(struct lagd *lagd, const struct link *link) {
-    const struct inherited_link *was = link->up && !link->held ? inherited_of(lagd, link) : NULL;
+    const struct inherited_link *was = link->up && !link->held ? inherited_of(&lagd->inherited, link) : NULL;
     struct system_id actor;
     return was && was->carried && was->losses == link->kernel_losses
         && is_within(lagd, was->heard, timeout_of(link->settings.short_timeout))
@@ -50,7 +49,7 @@ static bool goes_on(struct lagd *lagd, const struct link *link) {
 
 /* What was saved of a link, as the library has it. */
 static struct niw_saved saved_of(struct lagd *lagd, const struct link *link) {
-    const struct inherited_link *was = inherited_of(lagd, link);
+    const struct inherited_link *was = inherited_of(&lagd->inherited, link);
     struct niw_saved saved = {.port = link->settings.number, .aggregator = was->aggregator};
     saved.age = (uint32_t)((lagd->resume->began - was->heard) / NIW_TICK_MILLISECONDS);
     memcpy(saved.frame, was->lacpdu, sizeof saved.frame);
@@ -59,9 +58,9 @@ static struct niw_saved saved_of(struct lagd *lagd, const struct link *link) {
 
 /* The partner of a link is that of the last daemon. */
 static void recall_partner(struct lagd *lagd, struct link *link) {
-    const struct inherited_link *was = inherited_of(lagd, link);
+    const struct inherited_link *was = inherited_of(&lagd->inherited, link);
     struct system_id actor;
-    if (may_be_partner(link, was->lacpdu, &actor)) note_actor(lagd, link, &actor, was->lacpdu);
+    if (may_be_partner(link, was->lacpdu, &actor)) note_actor(&lagd->settings, link, &actor, was->lacpdu);
     link->lacpdu_at = was->heard;
     link->lacpdus_at[MOST_LACPDUS - 1] = was->spoken;
 }
@@ -79,7 +78,7 @@ static void set_other_links(struct lagd *lagd, const bool *back) {
 }
 
 /* What were members, and are no more, get what they had. */
-static void release_former_members(struct lagd *lagd) {
+void release_former_members(struct lagd *lagd) {
     for (unsigned i = 0; i < lagd->inherited.link_count; i++) {
         bool stays = false;
         for (uint16_t port = 0; port < lagd->link_count; port++)
@@ -95,13 +94,13 @@ static void release_former_members(struct lagd *lagd) {
 void begin_resuming(struct lagd *lagd) {
     lagd->resume->began = boottime();
     for (unsigned i = 0; i < lagd->inherited.link_count; i++) lagd->resuming = lagd->resuming || lagd->inherited.links[i].carried;
-    if (lagd->inherited.others && (!lagd->settings.carry[0] || lagd->settings.plane == PLANE_TEAM)) release_former_members(lagd);
+    if (lagd->inherited.others && !lagd->plane.carrying->keeps_members) release_former_members(lagd);
 }
 
 /* Tells what became of the links of the last daemon, if some are there. */
 static void tell_links(struct lagd *lagd, unsigned count) {
     unsigned known = 0;
-    for (uint16_t i = 0; i < lagd->link_count; i++) known += lagd->links[i].socket >= 0 && inherited_of(lagd, &lagd->links[i]) != NULL;
+    for (uint16_t i = 0; i < lagd->link_count; i++) known += lagd->links[i].socket >= 0 && inherited_of(&lagd->inherited, &lagd->links[i]) != NULL;
     if (known > 0 && lagd->inherited.others)
         (void)say(lagd, LOG_WARNING | ABOUT_HANDOVER, "the state that the last daemon left is not used: it belongs to other settings");
     else if (known > 0)
@@ -147,39 +146,42 @@ static uint16_t port_on(struct lagd *lagd, int index) {
     return 0;
 }
 
-/* After the ports: the bundle and its data go on as they were. What the kernel passes on knows best where it goes. */
-void resume_data(struct lagd *lagd, unsigned count) {
-    if (lagd->inherited.bundle.aggregator > lagd->aggregator_count) count = 0;
-    take_views(lagd);
-    if (count > 0) go_on_as(lagd, &lagd->inherited.bundle);
-    if (!carries_data(lagd)) return;
-    if (count > 0) {
+/* After the ports: data goes on where it was, as far as some ports do. What the kernel passes on knows best where it goes. */
+void resume_conversations(struct lagd *lagd, bool goes_on) {
+    if (goes_on) {
         go_on_in(lagd, lagd->inherited.bundle.aggregator);
         go_on_answering(lagd, (enum answering)lagd->inherited.answering);
     }
-    for (uint16_t number = 0; count > 0 && number < CONVERSATIONS; number++) {
-        int member = carries_by_team(lagd) ? bucket_member_of(lagd, number) : fast_member_of(lagd, number);
+    for (uint16_t number = 0; goes_on && number < CONVERSATIONS; number++) {
+        int member = lagd->plane.carrying->member_of(lagd, number);
         uint16_t port = port_on(lagd, member != 0 ? member : lagd->inherited.members[number]);
         if (port != 0) stay(lagd, number, port);
     }
-    resume_fast(lagd);
+    lagd->plane.passing->resume(lagd);
+}
+
+/* After the ports: the bundle and its data go on as they were. */
+void resume_data(struct lagd *lagd, unsigned count) {
+    bool goes_on = count > 0 && lagd->inherited.bundle.aggregator <= lagd->aggregator_count;
+    read_views(lagd);
+    if (goes_on) go_on_as(lagd, &lagd->inherited.bundle);
+    lagd->plane.carrying->resume(lagd, goes_on);
 }
 
 /* All that goes on was taken over: what is left of the last daemon goes. */
 void end_resuming(struct lagd *lagd) {
-    if (carries_data(lagd)) release_former_members(lagd);
+    lagd->plane.carrying->end_resuming(lagd);
     drop_unclaimed(lagd);
 }
 
 /* The next daemon is to go on: answers whether it can. */
 bool leave_state(struct lagd *lagd) {
-    uint64_t waiting = 0;
-    if (carries_data(lagd)) keep_tap(lagd, true);
+    lagd->plane.carrying->keep_device(lagd, true);
     lagd->has_left = save_state(lagd);
-    if (!lagd->has_left && carries_data(lagd)) keep_tap(lagd, false);
+    if (!lagd->has_left) lagd->plane.carrying->keep_device(lagd, false);
     if (!lagd->has_left) return false;
     leave_store(lagd);
-    if (carries_data(lagd) && !count_all_held(lagd, &waiting)) waiting = 0;
-    (void)say(lagd, LOG_NOTICE | ABOUT_HANDOVER, "the next daemon may go on from here; %u frames that waited are lost", (unsigned)waiting);
+    (void)say(lagd, LOG_NOTICE | ABOUT_HANDOVER, "the next daemon may go on from here; %u frames that waited are lost",
+        lagd->plane.carrying->frames_waiting(lagd));
     return true;
 }

@@ -44,9 +44,9 @@ static void give_way(struct lagd *lagd, struct link *last, const struct link *ne
     if (!apply_hold(lagd, last->settings.number)) return;
     (void)say(lagd, LOG_NOTICE | ABOUT_PORT, "port %u %s: it makes way for port %u %s", last->settings.number, last->name,
         next->settings.number, next->name);
-    look_at_carry(lagd);
+    look_at_carry(&lagd->carry);
     send_due(lagd);
-    take_views(lagd);
+    read_views(lagd);
 }
 
 /* Of an aggregator with more links in use than so many, the one that gives way first; else NULL. */
@@ -67,7 +67,7 @@ static bool hold_surplus(struct lagd *lagd, uint16_t most, bool *marked) {
         for (struct link *last = surplus_of(lagd, aggregator, most); last; last = surplus_of(lagd, aggregator, most)) {
             if (!is_done(lagd, niw_hold(&lagd->own_system, last->settings.number, true), "niw_hold")) return false;
             marked[last->settings.number - 1] = true;
-            take_views(lagd);
+            read_views(lagd);
         }
     return true;
 }
@@ -76,7 +76,7 @@ static bool hold_surplus(struct lagd *lagd, uint16_t most, bool *marked) {
 void limit_links(struct lagd *lagd, uint16_t most) {
     bool marked[NIW_MOST_PORTS] = {false};
     if (most == lagd->settings.config.max_links) return;
-    take_views(lagd);
+    read_views(lagd);
     if (most != 0 && !hold_surplus(lagd, most, marked)) return;
     if (!is_done(lagd, niw_set_max_links(&lagd->own_system, most), "niw_set_max_links")) return;
     lagd->settings.config.max_links = most;
@@ -86,8 +86,8 @@ void limit_links(struct lagd *lagd, uint16_t most) {
 
 /* A second passed. One port gives way at most. */
 void pass_revert_second(struct lagd *lagd) {
-    if (!lagd->settings.revert || is_halted(lagd)) return;
-    take_views(lagd);
+    if (!lagd->settings.revert || is_halted(lagd->halt)) return;
+    read_views(lagd);
     for (uint16_t aggregator = 1; aggregator <= lagd->aggregator_count; aggregator++) {
         struct link *next = next_of(lagd, aggregator), *last = next ? last_of(lagd, aggregator) : NULL;
         if (!last || !is_below(next, last) || !is_ready(lagd, next)) continue;

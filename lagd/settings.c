@@ -56,11 +56,11 @@ static bool read_system(const char *text, struct system_id *into) {
     return read_number(priority, 0, UINT16_MAX, &into->priority) && read_mac(text + digits + 1, into->mac);
 }
 
-static bool take_key(const char *text, struct settings *settings) {
+static bool parse_key(const char *text, struct settings *settings) {
     return read_number(text, 0, UINT16_MAX, &settings->key);
 }
 
-static bool take_system(const char *text, struct settings *settings) {
+static bool parse_system(const char *text, struct settings *settings) {
     struct system_id own = {.priority = USUAL_PRIORITY};
     settings->system_auto = strcmp(text, "auto") == 0;
     if (!settings->system_auto && !read_system(text, &own)) return false;
@@ -69,53 +69,53 @@ static bool take_system(const char *text, struct settings *settings) {
     return true;
 }
 
-static bool take_partner(const char *text, struct settings *settings) {
+static bool parse_partner(const char *text, struct settings *settings) {
     bool any, named = !read_choice(text, "any", "first", &any);
     settings->policy = named ? PARTNER_GIVEN : any ? PARTNER_ANY : PARTNER_FIRST;
     return !named || read_system(text, &settings->partner);
 }
 
-static bool take_partner_required(const char *text, struct settings *settings) {
+static bool parse_partner_required(const char *text, struct settings *settings) {
     return read_choice(text, "yes", "no", &settings->partner_required);
 }
 
-static bool take_key_by_speed(const char *text, struct settings *settings) {
+static bool parse_key_by_speed(const char *text, struct settings *settings) {
     return read_choice(text, "yes", "no", &settings->key_by_speed);
 }
 
-static bool take_min_links(const char *text, struct settings *settings) {
+static bool parse_min_links(const char *text, struct settings *settings) {
     return read_number(text, 1, NIW_MOST_PORTS, &settings->min_links);
 }
 
-static bool take_max_links(const char *text, struct settings *settings) {
+static bool parse_max_links(const char *text, struct settings *settings) {
     return read_number(text, 0, NIW_MOST_PORTS, &settings->config.max_links);
 }
 
-static bool take_revert(const char *text, struct settings *settings) {
+static bool parse_revert(const char *text, struct settings *settings) {
     return read_choice(text, "yes", "no", &settings->revert);
 }
 
-static bool take_wait_to_restore(const char *text, struct settings *settings) {
+static bool parse_wait_to_restore(const char *text, struct settings *settings) {
     return read_number(text, 0, LONGEST_WAIT, &settings->wait_to_restore);
 }
 
-static bool take_port_priority(const char *text, struct settings *settings) {
+static bool parse_port_priority(const char *text, struct settings *settings) {
     return read_number(text, 0, UINT16_MAX, &settings->port_priority);
 }
 
-static bool take_timeout(const char *text, struct settings *settings) {
+static bool parse_timeout(const char *text, struct settings *settings) {
     return read_choice(text, "short", "long", &settings->short_timeout);
 }
 
-static bool take_activity(const char *text, struct settings *settings) {
+static bool parse_activity(const char *text, struct settings *settings) {
     return read_choice(text, "active", "passive", &settings->active);
 }
 
-static bool take_marker_responses(const char *text, struct settings *settings) {
+static bool parse_marker_responses(const char *text, struct settings *settings) {
     return read_number(text, 0, 10000, &settings->marker_responses);
 }
 
-static bool take_hook(const char *text, struct settings *settings) {
+static bool parse_hook(const char *text, struct settings *settings) {
     struct stat found;
     if (text[0] != '/' || strlen(text) >= sizeof settings->hook) return false;
     if (stat(text, &found) < 0 || !S_ISREG(found.st_mode) || access(text, X_OK) < 0) return false;
@@ -130,7 +130,7 @@ static bool is_name(const char *text, size_t length) {
     return right;
 }
 
-static bool take_carry(const char *text, struct settings *settings) {
+static bool parse_carry(const char *text, struct settings *settings) {
     size_t length = strlen(text);
     if (length >= sizeof settings->carry || strchr(text, '%') || !is_name(text, length)) return false;
     memset(settings->carry, 0, sizeof settings->carry);
@@ -138,13 +138,13 @@ static bool take_carry(const char *text, struct settings *settings) {
     return true;
 }
 
-static bool take_plane(const char *text, struct settings *settings) {
+static bool parse_plane(const char *text, struct settings *settings) {
     bool tap, known = read_choice(text, "tap", "team", &tap);
     settings->plane = tap ? PLANE_TAP : PLANE_TEAM;
     return known;
 }
 
-static bool take_members(const char *text, struct settings *settings) {
+static bool parse_members(const char *text, struct settings *settings) {
     return read_choice(text, "follow", "given", &settings->follow);
 }
 
@@ -162,7 +162,7 @@ const char *hash_text(enum hash hash) {
     return HASHES[hash];
 }
 
-static bool take_hash(const char *text, struct settings *settings) {
+static bool parse_hash(const char *text, struct settings *settings) {
     for (size_t i = 0; i < sizeof HASHES / sizeof *HASHES; i++) {
         if (strcmp(text, HASHES[i]) != 0) continue;
         settings->hash = (enum hash)i;
@@ -171,71 +171,71 @@ static bool take_hash(const char *text, struct settings *settings) {
     return false;
 }
 
-static bool take_hash_seed(const char *text, struct settings *settings) {
+static bool parse_hash_seed(const char *text, struct settings *settings) {
     return read_number(text, 0, UINT16_MAX, &settings->hash_seed);
 }
 
-static bool take_offload(const char *text, struct settings *settings) {
+static bool parse_offload(const char *text, struct settings *settings) {
     return read_choice(text, "yes", "no", &settings->offload);
 }
 
-static bool take_fast(const char *text, struct settings *settings) {
+static bool parse_fast(const char *text, struct settings *settings) {
     return read_choice(text, "yes", "no", &settings->fast);
 }
 
-static bool take_flight(const char *text, struct settings *settings) {
+static bool parse_flight(const char *text, struct settings *settings) {
     return read_number(text, 1, 60000, &settings->flight);
 }
 
-static bool take_queues(const char *text, struct settings *settings) {
+static bool parse_queues(const char *text, struct settings *settings) {
     return read_choice(text, "all", "one", &settings->all_queues);
 }
 
-static bool take_answer_after(const char *text, struct settings *settings) {
+static bool parse_answer_after(const char *text, struct settings *settings) {
     return read_number(text, 1, 500, &settings->answer_after);
 }
 
 /* The keys of a bundle, in the order of the help. */
 static const struct bundle_key BUNDLE_KEYS[] = {
-    {"key", A_NUMBER, take_key, 0, NULL, NULL},
-    {"system", "auto or " A_SYSTEM, take_system, 0, NULL, NULL},
-    {"port-priority", A_NUMBER, take_port_priority, 'p', "N", "0 to 65535; 32768 if not given"},
-    {"timeout", "short or long", take_timeout, 't', "short|long",
+    {"key", A_NUMBER, parse_key, 0, NULL, NULL},
+    {"system", "auto or " A_SYSTEM, parse_system, 0, NULL, NULL},
+    {"port-priority", A_NUMBER, parse_port_priority, 'p', "N", "0 to 65535; 32768 if not given"},
+    {"timeout", "short or long", parse_timeout, 't', "short|long",
         "what is asked of the peers: an LACPDU each second, as if not given, or each 30 seconds"},
-    {"activity", "active or passive", take_activity, 'a', "active|passive", "whether it speaks first: active, if not given"},
-    {"max-links", "a number from 0 to 64", take_max_links, 'm', "N",
+    {"activity", "active or passive", parse_activity, 'a', "active|passive", "whether it speaks first: active, if not given"},
+    {"max-links", "a number from 0 to 64", parse_max_links, 'm', "N",
         "the most links of an aggregator, 1 to 64; 0, as if not given: no limit"},
-    {"min-links", "a number from 1 to 64", take_min_links, 'n', "N",
+    {"min-links", "a number from 1 to 64", parse_min_links, 'n', "N",
         "with fewer links that carry the bundle is down: 1 to 64; 1, if not given"},
-    {"revert", YES_OR_NO, take_revert, 'R', NULL,
+    {"revert", YES_OR_NO, parse_revert, 'R', NULL,
         "with max-links the ports with the lowest priorities are used, not those that come first"},
-    {"wait-to-restore", "a number of seconds from 0 to 3600", take_wait_to_restore, 'W', "SECONDS",
+    {"wait-to-restore", "a number of seconds from 0 to 3600", parse_wait_to_restore, 'W', "SECONDS",
         "how long the carrier of a link that comes back has to be steady; 0 if not given"},
-    {"partner", "any, first or " A_SYSTEM, take_partner, 'r', "any|first|PRIORITY,MAC",
+    {"partner", "any, first or " A_SYSTEM, parse_partner, 'r', "any|first|PRIORITY,MAC",
         "whose LACPDUs are taken: any, if not given; first: of whom is learnt first, until the\nlink goes down"},
-    {"partner-required", YES_OR_NO, take_partner_required, 'q', NULL, "a port without a partner does not carry"},
-    {"key-by-speed", YES_OR_NO, take_key_by_speed, 'b', NULL,
+    {"partner-required", YES_OR_NO, parse_partner_required, 'q', NULL, "a port without a partner does not carry"},
+    {"key-by-speed", YES_OR_NO, parse_key_by_speed, 'b', NULL,
         "links of another speed or duplex have another key, so that they share no group"},
-    {"marker-responses", "a number from 0 to 10000", take_marker_responses, 'o', "N",
+    {"marker-responses", "a number from 0 to 10000", parse_marker_responses, 'o', "N",
         "the most that a port sends in a second; 10 if not given"},
-    {"hook", "a path that begins with /, of at most 191 characters, of a program that may be run", take_hook, 'x', "PROGRAM",
+    {"hook", "a path that begins with /, of at most 191 characters, of a program that may be run", parse_hook, 'x', "PROGRAM",
         "is run when the bundle becomes up, degraded or down"},
-    {"carry", "a name of an interface of at most 15 characters", take_carry, 'C', "NAME",
+    {"carry", "a name of an interface of at most 15 characters", parse_carry, 'C', "NAME",
         "carries the data of a device of this name, which it makes, with the MAC address of the system"},
-    {"plane", "tap or team", take_plane, 'P', "tap|team",
+    {"plane", "tap or team", parse_plane, 'P', "tap|team",
         "what that device is: a TAP device, as if not given, or one of the kernel's team driver,\nby which the kernel carries"},
-    {"members", "given or follow", take_members, 'B', "given|follow",
+    {"members", "given or follow", parse_members, 'B', "given|follow",
         "with --plane team, who says which interfaces are ports: given here, or follow: whoever puts\nthem into the device or takes them out, as the network manager does"},
-    {"hash", "layer2, layer2+3, layer3+4, encap3+4 or vlan+srcmac", take_hash, 'H', "layer2|layer2+3|layer3+4|encap3+4|vlan+srcmac",
+    {"hash", "layer2, layer2+3, layer3+4, encap3+4 or vlan+srcmac", parse_hash, 'H', "layer2|layer2+3|layer3+4|encap3+4|vlan+srcmac",
         "what frames of one conversation have in common; layer2, if not given"},
-    {"hash-seed", A_NUMBER, take_hash_seed, 'S', "N", "another number spreads conversations in another way, but by layer2; 0 if not given"},
-    {"flight", "a number of milliseconds from 1 to 60000", take_flight, 'F', "MILLISECONDS",
+    {"hash-seed", A_NUMBER, parse_hash_seed, 'S', "N", "another number spreads conversations in another way, but by layer2; 0 if not given"},
+    {"flight", "a number of milliseconds from 1 to 60000", parse_flight, 'F', "MILLISECONDS",
         "how long a frame can be on its way; 500 if not given"},
-    {"offload", YES_OR_NO, take_offload, 'O', NULL, "passes frames of several segments, which the kernel or the card cuts"},
-    {"fast", YES_OR_NO, take_fast, 'K', NULL, "the kernel passes data on by itself (Linux 6.6), of several segments too"},
-    {"queues", "one or all", take_queues, 'Q', "one|all",
+    {"offload", YES_OR_NO, parse_offload, 'O', NULL, "passes frames of several segments, which the kernel or the card cuts"},
+    {"fast", YES_OR_NO, parse_fast, 'K', NULL, "the kernel passes data on by itself (Linux 6.6), of several segments too"},
+    {"queues", "one or all", parse_queues, 'Q', "one|all",
         "how many queues of its members data goes by: one, if not given; all (Linux 6.6): each\nconversation by one of them"},
-    {"answer-after", "a number of milliseconds from 1 to 500", take_answer_after, 'A', "MILLISECONDS",
+    {"answer-after", "a number of milliseconds from 1 to 500", parse_answer_after, 'A', "MILLISECONDS",
         "how long a response to a marker waits with --queues all; 50 if not given"},
 };
 
@@ -275,7 +275,6 @@ static const char *name_of_port_key(size_t index) {
     return PORT_KEYS[index].name;
 }
 
-/* What this file keeps for a daemon. */
 struct settings_private {
     char text[512]; /* of list_words */
 };

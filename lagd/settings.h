@@ -54,7 +54,7 @@ struct port_settings {
 };
 
 /* What carries the data. */
-enum plane {
+enum device {
     PLANE_TAP,  /* a TAP device, and the daemon or programs of the kernel */
     PLANE_TEAM, /* the team driver of the kernel */
 };
@@ -74,7 +74,7 @@ struct settings {
     uint16_t marker_responses;
     char hook[PATH_ROOM]; /* the program that is run where the bundle changes, or empty */
     char carry[DEVICE_ROOM]; /* the device whose data is carried, or empty */
-    enum plane plane;        /* what that is */
+    enum device plane;        /* what that is */
     bool follow;             /* whether its ports are those that the device has, whoever put them there */
     enum hash hash;          /* of that data */
     uint16_t hash_seed;      /* by which bundles with the same hash differ; not of layer2 */

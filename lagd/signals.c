@@ -18,13 +18,13 @@ static bool is_ignored(int signal) {
 
 /* Opens the signals that end the daemon, SIGUSR1 too, SIGHUP, and SIGUSR2 where it carries data. A log that may not grow (SIGXFSZ), a reader
  * that is gone (SIGPIPE) and a hook that ends (SIGCHLD) do not disturb it. */
-int open_signals(struct lagd *lagd) {
+int open_signals(const struct settings *settings) {
     sigset_t taken;
     int fd;
     sigemptyset(&taken);
     sigaddset(&taken, SIGTERM);
     sigaddset(&taken, SIGUSR1);
-    if (lagd->settings.carry[0]) sigaddset(&taken, SIGUSR2);
+    if (settings->carry[0]) sigaddset(&taken, SIGUSR2);
     for (size_t i = 0; i < sizeof ENDS / sizeof *ENDS; i++)
         if (!is_ignored(ENDS[i])) sigaddset(&taken, ENDS[i]);
     for (int it = SIGRTMIN; it <= SIGRTMAX; it++)
@@ -32,7 +32,7 @@ int open_signals(struct lagd *lagd) {
     sigprocmask(SIG_BLOCK, &taken, NULL);
     signal(SIGPIPE, SIG_IGN);
     signal(SIGXFSZ, SIG_IGN);
-    if (!lagd->settings.carry[0]) signal(SIGUSR2, SIG_IGN);
+    if (!settings->carry[0]) signal(SIGUSR2, SIG_IGN);
     signal(SIGCHLD, SIG_IGN);
     fd = signalfd(-1, &taken, SFD_CLOEXEC);
     if (fd < 0) stop(REFUSED, "no signals", strerror(errno));

@@ -20,15 +20,9 @@
 /* What a queue has: the processors that take what it received (RPS), and those, and the queues that received, whose frames it sends (XPS). */
 enum setting { TAKEN_BY, SENT_FOR, SENT_BEHIND, SETTINGS };
 
-/* What this file keeps for a daemon. */
 struct spread_private {
     int program;
     unsigned usual; /* by how many queues the kernel passes data on, while it does so of any member */
-    char wanted_of_mask[16]; /* of wanted_of */
-    char do_all_now[PROCESSORS_ROOM]; /* of do_all */
-    char is_known_mask[PROCESSORS_ROOM]; /* of is_known */
-    char is_spread_anew_now[PROCESSORS_ROOM]; /* of is_spread_anew */
-    char gather_back_mask[PROCESSORS_ROOM], gather_back_now[PROCESSORS_ROOM]; /* of gather_back */
 };
 
 struct spread_private *make_spread_private(void) {
@@ -37,15 +31,14 @@ struct spread_private *make_spread_private(void) {
     return made;
 }
 
-/* Loads the program that chooses queues, while the daemon may. */
-void start_spreading(struct lagd *lagd) {
+/* Loads the program that chooses queues, while the daemon may, and opens what wakes it for responses. */
+void start_all_queues(struct lagd *lagd) {
     struct spread_private *own = lagd->spread;
-    int fault;
-    if (!lagd->settings.all_queues) return;
-    fault = fault_of_programs(lagd);
+    int fault = fault_of_programs(&lagd->settings);
     if (fault != 0) stop(REFUSED, "queues=all: no program of an interface, which Linux has from 6.6 on", strerror(fault));
-    own->program = load_program(lagd, "chooser", NULL);
+    own->program = load_program(&lagd->settings, "chooser", NULL);
     if (own->program < 0) stop(REFUSED, "queues=all: the kernel takes no program", program_fault());
+    start_answers(lagd);
 }
 
 static void name_setting(enum setting setting, unsigned queue, char name[static NAME_OCTETS]) {
@@ -65,13 +58,12 @@ static bool is_setting(const char *name) {
     return false;
 }
 
-/* What a queue is to have in the place of what it has now: NULL where that may stay. */
-static const char *wanted_of(struct lagd *lagd, const struct link *link, enum setting setting, unsigned queue, const char *now) {
-    struct spread_private *own = lagd->spread;
+/* What a queue is to have in the place of what it has now, for which `mask` is room: NULL where that may stay. */
+static const char *wanted_of(const struct link *link, enum setting setting, unsigned queue, const char *now, char mask[static 16]) {
     if (setting != TAKEN_BY) return is_none(now) ? NULL : "0";
     if (is_one(now) || (has_card(link->index) && is_none(now))) return NULL;
-    mask_of(link->settings.number - 1u + queue, own->wanted_of_mask);
-    return own->wanted_of_mask;
+    mask_of(link->settings.number - 1u + queue, mask);
+    return mask;
 }
 
 /* What is done with a setting that is to be changed; answers whether it was done. */
@@ -81,58 +73,55 @@ typedef bool doing(struct lagd *lagd, const struct link *link, const char *name,
 /* Does it with each setting of an interface that is to be changed; answers whether all was done. One that the kernel does not show for an
  * interface, as XPS for one queue, is off. */
 static bool do_all(struct lagd *lagd, const struct link *link, doing *act, FILE *next) {
-    struct spread_private *own = lagd->spread;
-    char name[NAME_OCTETS], path[128];
+    char name[NAME_OCTETS], path[128], now[PROCESSORS_ROOM], mask[16];
     bool done = true;
     for (enum setting setting = 0; setting < SETTINGS; setting++) {
         unsigned count = count_entries(link->index, setting == TAKEN_BY ? "rx-" : "tx-");
         for (unsigned queue = 0; queue < count; queue++) {
             const char *wanted;
             name_setting(setting, queue, name);
-            if (!path_of_queue(link->index, name, path, sizeof path) || !read_processors(path, own->do_all_now, sizeof own->do_all_now))
+            if (!path_of_queue(link->index, name, path, sizeof path) || !read_processors(path, now, sizeof now))
                 continue;
-            wanted = wanted_of(lagd, link, setting, queue, own->do_all_now);
-            if (wanted) done = act(lagd, link, name, path, own->do_all_now, wanted, next) && done;
+            wanted = wanted_of(link, setting, queue, now, mask);
+            if (wanted) done = act(lagd, link, name, path, now, wanted, next) && done;
         }
     }
     return done;
 }
 
 /* Opens what an interface had, behind the head; or answers NULL. What is of another boot, or another interface, counts for nothing. */
-static FILE *open_former(struct lagd *lagd, const struct link *link) {
-    char boot[64], mac[32], own[32];
-    FILE *file = open_kept(lagd, link, "queues", O_RDONLY, "r");
+static FILE *open_former(struct folder_private *folder, const struct link *link) {
+    char boot[BOOT_ROOM], now[BOOT_ROOM], mac[32], own[32];
+    FILE *file = open_kept(folder, link, "queues", O_RDONLY, "r");
     if (!file) return NULL;
-    if (fscanf(file, READ_HEAD, boot, mac) == 2 && strcmp(boot, boot_id(lagd)) == 0 && strcmp(mac, mac_text(link->mac, own)) == 0)
+    if (fscanf(file, READ_HEAD, boot, mac) == 2 && strcmp(boot, boot_id(now)) == 0 && strcmp(mac, mac_text(link->mac, own)) == 0)
         return file;
     fclose(file);
     return NULL;
 }
 
 /* An interface has another MAC address from now on: what its queues had stays known by that one. */
-void move_former(struct lagd *lagd, struct link *link, const uint8_t *mac) {
-    struct spread_private *own = lagd->spread;
-    char name[NAME_OCTETS], text[32];
-    FILE *file = open_former(lagd, link), *next = file ? open_kept(lagd, link, "queues.new", O_WRONLY | O_CREAT | O_TRUNC, "w") : NULL;
+void move_former(struct folder_private *folder, struct link *link, const uint8_t *mac) {
+    char name[NAME_OCTETS], boot[BOOT_ROOM], text[32], mask[PROCESSORS_ROOM];
+    FILE *file = open_former(folder, link), *next = file ? open_kept(folder, link, "queues.new", O_WRONLY | O_CREAT | O_TRUNC, "w") : NULL;
     bool done;
     memcpy(link->mac, mac, sizeof link->mac);
     if (next) {
-        fprintf(next, HEAD, boot_id(lagd), mac_text(mac, text));
-        while (fscanf(file, READ_LINE, name, own->is_known_mask) == 2) fprintf(next, "%s %s\n", name, own->is_known_mask);
+        fprintf(next, HEAD, boot_id(boot), mac_text(mac, text));
+        while (fscanf(file, READ_LINE, name, mask) == 2) fprintf(next, "%s %s\n", name, mask);
         done = !ferror(next);
-        if (fclose(next) == 0 && done) (void)replace_kept(lagd, link, "queues.new", "queues");
+        if (fclose(next) == 0 && done) (void)replace_kept(folder, link, "queues.new", "queues");
     }
     if (file) fclose(file);
 }
 
 /* Whether it is known what a setting was before an earlier daemon changed it; with `next`, all that is known is written there. */
-static bool is_known(struct lagd *lagd, const struct link *link, const char *wanted, FILE *next) {
-    struct spread_private *own = lagd->spread;
-    char name[NAME_OCTETS];
+static bool is_known(struct folder_private *folder, const struct link *link, const char *wanted, FILE *next) {
+    char name[NAME_OCTETS], mask[PROCESSORS_ROOM];
     bool found = false;
-    FILE *file = open_former(lagd, link);
-    while (file && fscanf(file, READ_LINE, name, own->is_known_mask) == 2) {
-        if (next) fprintf(next, "%s %s\n", name, own->is_known_mask);
+    FILE *file = open_former(folder, link);
+    while (file && fscanf(file, READ_LINE, name, mask) == 2) {
+        if (next) fprintf(next, "%s %s\n", name, mask);
         found = found || (wanted && strcmp(name, wanted) == 0);
     }
     if (file) fclose(file);
@@ -143,7 +132,7 @@ static bool keep_one(struct lagd *lagd, const struct link *link, const char *nam
     FILE *next) {
     (void)path;
     (void)wanted;
-    return is_known(lagd, link, name, NULL) || fprintf(next, "%s %s\n", name, now) > 0;
+    return is_known(lagd->folder, link, name, NULL) || fprintf(next, "%s %s\n", name, now) > 0;
 }
 
 static bool set_one(struct lagd *lagd, const struct link *link, const char *name, const char *path, const char *now, const char *wanted,
@@ -158,14 +147,14 @@ static bool set_one(struct lagd *lagd, const struct link *link, const char *name
 
 /* Keeps what the queues have now, before it is changed, beside what they had before an earlier daemon changed it; answers whether it did. */
 static bool keep_all(struct lagd *lagd, const struct link *link) {
-    FILE *next = open_kept(lagd, link, "queues.new", O_WRONLY | O_CREAT | O_TRUNC, "w");
-    char mac[32];
+    FILE *next = open_kept(lagd->folder, link, "queues.new", O_WRONLY | O_CREAT | O_TRUNC, "w");
+    char boot[BOOT_ROOM], mac[32];
     bool done;
     if (!next) return false;
-    fprintf(next, HEAD, boot_id(lagd), mac_text(link->mac, mac));
-    (void)is_known(lagd, link, NULL, next);
+    fprintf(next, HEAD, boot_id(boot), mac_text(link->mac, mac));
+    (void)is_known(lagd->folder, link, NULL, next);
     done = do_all(lagd, link, keep_one, next) && !ferror(next);
-    return fclose(next) == 0 && done && replace_kept(lagd, link, "queues.new", "queues");
+    return fclose(next) == 0 && done && replace_kept(lagd->folder, link, "queues.new", "queues");
 }
 
 /* How many queues an interface has, those that send above those that receive; 0 where the kernel does not tell of both. */
@@ -194,12 +183,12 @@ static bool may_set(int index) {
 
 /* Whether a member may keep all its queues once it has them, as far as that is seen before: giving them may take its link down. Where it is
  * known that settings of them are to be changed, these must be changeable. */
-bool may_spread(struct lagd *lagd, const struct link *link) {
+bool may_spread(struct folder_private *folder, const struct link *link) {
     char name[NAME_OCTETS];
-    FILE *file = open_former(lagd, link);
+    FILE *file = open_former(folder, link);
     bool changes = file && fscanf(file, "%31s", name) == 1;
     if (file) fclose(file);
-    return !link->stacked && may_have_order(lagd, link->index) && (!changes || may_set(link->index));
+    return !link->stacked && may_have_order(link->index) && (!changes || may_set(link->index));
 }
 
 /* Has a program choose the queue of each frame that the daemon sends at a member; answers whether it does. */
@@ -234,18 +223,17 @@ void note_channels(const struct link *link, struct guard *guard) {
 }
 
 /* Whether somebody else changed the queues of a member, or what chooses them. Each time another queue is looked at. */
-bool is_spread_anew(struct lagd *lagd, const struct link *link, const struct guard *guard) {
-    struct spread_private *own = lagd->spread;
-    char name[NAME_OCTETS], path[128];
+bool is_spread_anew(struct system_private *own, const struct link *link, const struct guard *guard) {
+    char name[NAME_OCTETS], path[128], now[PROCESSORS_ROOM], mask[16];
     unsigned channels = channels_of(link->index);
     if (channels == 0) return false;
     if (channels != guard->channels) return true;
     for (enum setting setting = 0; guard->spread && setting < SETTINGS; setting++) {
-        unsigned queue = (unsigned)seconds_passed(lagd) % (setting == TAKEN_BY ? channels & 0xffff : channels >> 16);
+        unsigned queue = (unsigned)seconds_passed(own) % (setting == TAKEN_BY ? channels & 0xffff : channels >> 16);
         name_setting(setting, queue, name);
         if (path_of_queue(link->index, name, path, sizeof path)
-            && read_processors(path, own->is_spread_anew_now, sizeof own->is_spread_anew_now)
-            && wanted_of(lagd, link, setting, queue, own->is_spread_anew_now))
+            && read_processors(path, now, sizeof now)
+            && wanted_of(link, setting, queue, now, mask))
             return true;
     }
     return false;
@@ -253,7 +241,7 @@ bool is_spread_anew(struct lagd *lagd, const struct link *link, const struct gua
 
 static bool has_any_fast(struct lagd *lagd) {
     for (uint16_t port = 1; port <= lagd->link_count; port++)
-        if (has_fast_member(lagd, port)) return true;
+        if (has_fast_member(lagd->members, port)) return true;
     return false;
 }
 
@@ -266,19 +254,18 @@ bool has_usual_queues(struct lagd *lagd, const struct guard *guard) {
 }
 
 /* The queues of an interface get back what they had before. What cannot be set back stays kept: all of it, where not all are back (`whole`). */
-void gather_back(struct lagd *lagd, const struct link *link, bool whole) {
-    struct spread_private *own = lagd->spread;
-    char name[NAME_OCTETS], path[128], interface[IF_NAMESIZE];
+void gather_back(struct folder_private *folder, const struct link *link, bool whole) {
+    char name[NAME_OCTETS], path[128], interface[IF_NAMESIZE], mask[PROCESSORS_ROOM], now[PROCESSORS_ROOM];
     bool done = whole && if_indextoname((unsigned)link->index, interface);
-    FILE *file = open_former(lagd, link);
+    FILE *file = open_former(folder, link);
     if (!file) return;
-    while (fscanf(file, READ_LINE, name, own->gather_back_mask) == 2) {
+    while (fscanf(file, READ_LINE, name, mask) == 2) {
         if (!is_setting(name) || !path_of_queue(link->index, name, path, sizeof path)) continue;
-        if (write_processors(path, own->gather_back_mask)) continue;
-        if (read_processors(path, own->gather_back_now, sizeof own->gather_back_now)
-            && strcmp(own->gather_back_now, own->gather_back_mask) != 0)
+        if (write_processors(path, mask)) continue;
+        if (read_processors(path, now, sizeof now)
+            && strcmp(now, mask) != 0)
             done = false;
     }
     fclose(file);
-    if (done) drop_kept(lagd, link, "queues");
+    if (done) drop_kept(folder, link, "queues");
 }

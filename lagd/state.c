@@ -24,14 +24,12 @@
 /* For how long frames may have waited, in milliseconds: with the second in which a state is written. */
 #define MOST_AWAY 3000
 
-/* What this file keeps for a daemon. */
 struct state_private {
     int file; /* the state that was written last, or -1 */
     int members[CONVERSATIONS]; /* the interface of each conversation that it has, or 0 */
     bool over; /* whether the peers are told of the end */
     bool failed; /* whether the last writing did, which has a line */
     char name[NAME_ROOM + 32], new_name[NAME_ROOM + 40];
-    char text[WAY_ROOM]; /* of way */
 };
 
 struct state_private *make_state_private(void) {
@@ -47,24 +45,19 @@ uint64_t boottime(void) {
 }
 
 /* The settings by which the rest means something. */
-static const char *way(struct lagd *lagd) {
+static const char *way(const struct settings *settings, char room[static WAY_ROOM]) {
     char system[32];
-    struct system_id own = {.priority = lagd->settings.config.priority};
-    memcpy(own.mac, lagd->settings.config.mac, sizeof own.mac);
-    snprintf(lagd->state->text, sizeof lagd->state->text, "%s/%s/%s/%u/%s", system_text(&own, system), lagd->settings.carry[0]
-        ? lagd->settings.carry : "-", hash_text(lagd->settings.hash), lagd->settings.hash_seed, way_text(&lagd->settings));
-    return lagd->state->text;
+    struct system_id own = {.priority = settings->config.priority};
+    memcpy(own.mac, settings->config.mac, sizeof own.mac);
+    snprintf(room, WAY_ROOM, "%s/%s/%s/%u/%s", system_text(&own, system), settings->carry[0]
+        ? settings->carry : "-", hash_text(settings->hash), settings->hash_seed, way_text(settings));
+    return room;
 }
 
 /* Whether settings are those of a bundle whose data the team driver carries. */
 static bool is_way_of_team(const char *given) {
     size_t length = strlen(given);
     return length >= sizeof OF_TEAM - 1 && strcmp(given + length - (sizeof OF_TEAM - 1), OF_TEAM) == 0;
-}
-
-/* Whether the next daemon is to take the device away at its end: a daemon made it. */
-static bool is_made(struct lagd *lagd) {
-    return carries_by_team(lagd) ? has_made_team(lagd) : tap_persists(lagd);
 }
 
 static void write_link(FILE *file, const struct link *link) {
@@ -100,17 +93,18 @@ static void write_conversations(struct lagd *lagd, FILE *file) {
 
 static void write_state(struct lagd *lagd, FILE *file) {
     struct niw_marker marker = niw_next_marker(&lagd->own_system);
-    fprintf(file, "lagd %u\nboot %s\nway %s\n", FORM_VERSION, boot_id(lagd), way(lagd));
+    char boot[BOOT_ROOM], room[WAY_ROOM];
+    fprintf(file, "lagd %u\nboot %s\nway %s\n", FORM_VERSION, boot_id(boot), way(&lagd->settings, room));
     fprintf(file, "written %" PRIu64 "\n", boottime());
     fprintf(file, "marker %" PRIu32 "\n", is_done(lagd, marker.status, "niw_next_marker") && marker.left ? marker.id : 0);
     fprintf(file, "bundle %u %u %lld\n", lagd->bundle.state, lagd->bundle.aggregator, (long long)lagd->bundle.changed_at);
-    if (carries_data(lagd))
-        fprintf(file, "tap %d %d %" PRIu32 " %u\n", tap_index(lagd), is_made(lagd), mtu_of_administrator(lagd), peer_answering(lagd));
+    if (tap_index(lagd->tap) != 0)
+        fprintf(file, "tap %d %d %" PRIu32 " %u\n", tap_index(lagd->tap), lagd->plane.carrying->has_made_device(lagd), mtu_of_administrator(lagd->tap), peer_answering(lagd->probe));
     write_ports(lagd, file);
     for (uint16_t i = 0; i < lagd->link_count; i++)
         if (lagd->links[i].socket >= 0) write_link(file, &lagd->links[i]);
     memset(lagd->state->members, 0, sizeof lagd->state->members);
-    if (carries_data(lagd)) write_conversations(lagd, file);
+    write_conversations(lagd, file);
     fputs("end\n", file);
 }
 
@@ -123,7 +117,7 @@ static void keep_file(struct state_private *own, int file) {
 /* Puts a whole file in the place of the last one; answers whether it did. */
 static bool replace_file(struct lagd *lagd) {
     struct state_private *own = lagd->state;
-    int fd = openat(folder_file(lagd), own->new_name, O_WRONLY | O_CREAT | O_TRUNC | O_APPEND | O_NOFOLLOW | O_CLOEXEC, 0600);
+    int fd = openat(folder_file(lagd->folder), own->new_name, O_WRONLY | O_CREAT | O_TRUNC | O_APPEND | O_NOFOLLOW | O_CLOEXEC, 0600);
     FILE *file = fd < 0 ? NULL : fdopen(fd, "a");
     bool written;
     if (!file) {
@@ -134,7 +128,7 @@ static bool replace_file(struct lagd *lagd) {
     written = fflush(file) == 0 && !ferror(file) && !lagd->broken;
     keep_file(own, written ? fcntl(fd, F_DUPFD_CLOEXEC, 0) : -1);
     written = fclose(file) == 0 && own->file >= 0;
-    return written && renameat(folder_file(lagd), own->new_name, folder_file(lagd), own->name) == 0;
+    return written && renameat(folder_file(lagd->folder), own->new_name, folder_file(lagd->folder), own->name) == 0;
 }
 
 /* It could not be written: there is none. */
@@ -144,8 +138,8 @@ static void lose_file(struct lagd *lagd) {
         (void)say(lagd, LOG_WARNING | ABOUT_HANDOVER, "its state cannot be kept, so the next daemon starts anew: %s", strerror(errno));
     own->failed = true;
     keep_file(own, -1);
-    (void)unlinkat(folder_file(lagd), own->new_name, 0);
-    (void)unlinkat(folder_file(lagd), own->name, 0);
+    (void)unlinkat(folder_file(lagd->folder), own->new_name, 0);
+    (void)unlinkat(folder_file(lagd->folder), own->name, 0);
 }
 
 /* Writes the state; answers whether it did. Where that fails there is none. */
@@ -178,8 +172,8 @@ void end_state(struct lagd *lagd) {
     int emptied;
     own->over = true;
     keep_file(own, -1);
-    if (unlinkat(folder_file(lagd), own->name, 0) == 0 || errno == ENOENT) return;
-    emptied = openat(folder_file(lagd), own->name, O_WRONLY | O_TRUNC | O_NOFOLLOW | O_CLOEXEC);
+    if (unlinkat(folder_file(lagd->folder), own->name, 0) == 0 || errno == ENOENT) return;
+    emptied = openat(folder_file(lagd->folder), own->name, O_WRONLY | O_TRUNC | O_NOFOLLOW | O_CLOEXEC);
     if (emptied >= 0)
         close(emptied);
     else
@@ -196,77 +190,77 @@ static bool read_hex(const char *text, uint8_t *octets) {
     return true;
 }
 
-static bool read_link(struct lagd *lagd, FILE *file) {
-    struct inherited_link *link = &lagd->inherited.links[lagd->inherited.link_count];
+static bool read_link(struct inherited *inherited, FILE *file) {
+    struct inherited_link *link = &inherited->links[inherited->link_count];
     char mac[32], own[32], hex[HEX_ROOM];
     unsigned octets[6];
     int carried;
-    if (lagd->inherited.link_count == NIW_MOST_PORTS) return false;
+    if (inherited->link_count == NIW_MOST_PORTS) return false;
     if (fscanf(file, "%d %31s %" SCNu32 " %d %" SCNu64 " %" SCNu64 " %" HEX_LENGTH "s %" SCNu16, &link->index, mac, &link->losses, &carried,
             &link->heard, &link->spoken, hex, &link->aggregator) != 8 || strlen(hex) != HEX_ROOM - 1 || !read_hex(hex, link->lacpdu))
         return false;
     if (sscanf(mac, "%2x:%2x:%2x:%2x:%2x:%2x", octets, octets + 1, octets + 2, octets + 3, octets + 4, octets + 5) != 6) return false;
     for (size_t i = 0; i < sizeof link->mac; i++) link->mac[i] = (uint8_t)octets[i];
     link->carried = carried == 1;
-    lagd->inherited.link_count++;
+    inherited->link_count++;
     return strcmp(mac, mac_text(link->mac, own)) == 0;
 }
 
-static bool read_port_number(struct lagd *lagd, FILE *file) {
-    struct inherited_port *port = &lagd->inherited.ports[lagd->inherited.port_count];
+static bool read_port_number(struct inherited *inherited, FILE *file) {
+    struct inherited_port *port = &inherited->ports[inherited->port_count];
     unsigned number;
-    if (lagd->inherited.port_count == NIW_MOST_PORTS) return false;
+    if (inherited->port_count == NIW_MOST_PORTS) return false;
     if (fscanf(file, "%u %d %127s", &number, &port->index, port->name) != 3) return false;
-    for (unsigned i = 0; i < lagd->inherited.port_count; i++)
-        if (lagd->inherited.ports[i].number == number || strcmp(lagd->inherited.ports[i].name, port->name) == 0) return false;
+    for (unsigned i = 0; i < inherited->port_count; i++)
+        if (inherited->ports[i].number == number || strcmp(inherited->ports[i].name, port->name) == 0) return false;
     port->number = (uint16_t)number;
-    lagd->inherited.port_count++;
+    inherited->port_count++;
     return number > 0 && number <= NIW_MOST_PORTS && port->index >= 0;
 }
 
-static bool read_conversation(struct lagd *lagd, FILE *file) {
+static bool read_conversation(struct inherited *inherited, FILE *file) {
     unsigned number;
     int index;
     if (fscanf(file, "%u %d", &number, &index) != 2 || number >= CONVERSATIONS || index <= 0) return false;
-    lagd->inherited.members[number] = index;
+    inherited->members[number] = index;
     return true;
 }
 
 /* Reads the conversations that went to another link since the state was written. The last line may be cut off. */
-static void read_changes(struct lagd *lagd, FILE *file) {
+static void read_changes(struct inherited *inherited, FILE *file) {
     unsigned number;
     int index;
     char end;
     while (fscanf(file, " on %u %d%c", &number, &index, &end) == 3 && end == '\n' && number < CONVERSATIONS && index > 0)
-        lagd->inherited.members[number] = index;
+        inherited->members[number] = index;
 }
 
-static bool read_bundle(struct lagd *lagd, FILE *file) {
+static bool read_bundle(struct inherited *inherited, FILE *file) {
     unsigned state, aggregator;
     long long changed;
     if (fscanf(file, "%u %u %lld", &state, &aggregator, &changed) != 3 || state >= BUNDLE_STATES || aggregator > NIW_MOST_PORTS)
         return false;
-    lagd->inherited.bundle = (struct bundle){.state = (enum bundle_state)state, .aggregator = (uint16_t)aggregator,
+    inherited->bundle = (struct bundle){.state = (enum bundle_state)state, .aggregator = (uint16_t)aggregator,
         .changed_at = (time_t)changed};
     return true;
 }
 
 /* Reads the lines behind the first three; answers whether the last one is there. */
-static bool read_rest(struct lagd *lagd, FILE *file) {
+static bool read_rest(struct inherited *inherited, FILE *file) {
     char word[16];
     while (fscanf(file, "%15s", word) == 1) {
         bool read = false;
         if (strcmp(word, "end") == 0) return true;
-        if (strcmp(word, "written") == 0) read = fscanf(file, "%" SCNu64, &lagd->inherited.written) == 1;
-        if (strcmp(word, "marker") == 0) read = fscanf(file, "%" SCNu32, &lagd->inherited.marker) == 1;
-        if (strcmp(word, "bundle") == 0) read = read_bundle(lagd, file);
+        if (strcmp(word, "written") == 0) read = fscanf(file, "%" SCNu64, &inherited->written) == 1;
+        if (strcmp(word, "marker") == 0) read = fscanf(file, "%" SCNu32, &inherited->marker) == 1;
+        if (strcmp(word, "bundle") == 0) read = read_bundle(inherited, file);
         if (strcmp(word, "tap") == 0)
-            read = fscanf(file, "%d %d %" SCNu32 " %u", &lagd->inherited.tap, &lagd->inherited.persists, &lagd->inherited.mtu,
-                &lagd->inherited.answering) == 4
-                && lagd->inherited.answering <= MUTE;
-        if (strcmp(word, "port") == 0) read = read_port_number(lagd, file);
-        if (strcmp(word, "link") == 0) read = read_link(lagd, file);
-        if (strcmp(word, "on") == 0) read = read_conversation(lagd, file);
+            read = fscanf(file, "%d %d %" SCNu32 " %u", &inherited->tap, &inherited->persists, &inherited->mtu,
+                &inherited->answering) == 4
+                && inherited->answering <= MUTE;
+        if (strcmp(word, "port") == 0) read = read_port_number(inherited, file);
+        if (strcmp(word, "link") == 0) read = read_link(inherited, file);
+        if (strcmp(word, "on") == 0) read = read_conversation(inherited, file);
         if (!read) return false;
     }
     return false;
@@ -292,21 +286,21 @@ static void keep_interfaces(struct lagd *lagd, bool team) {
 /* Reads a state; answers NULL, or why it counts for nothing. */
 static const char *read_state(struct lagd *lagd, FILE *file) {
     unsigned version;
-    char boot[64], given[WAY_ROOM];
+    char boot[BOOT_ROOM], now[BOOT_ROOM], given[WAY_ROOM], room[WAY_ROOM];
     if (fscanf(file, "lagd %u", &version) != 1) return "it is no state of lagd";
     if (version != FORM_VERSION) return "it is of another version";
     if (fscanf(file, " boot %63s way %95s", boot, given) != 2) return "it is cut off";
-    if (strcmp(boot, boot_id(lagd)) != 0) return "it is of another boot";
-    if (!read_rest(lagd, file)) return "it is cut off, or wrong";
-    read_changes(lagd, file);
-    if (strcmp(given, way(lagd)) != 0) keep_interfaces(lagd, is_way_of_team(given));
+    if (strcmp(boot, boot_id(now)) != 0) return "it is of another boot";
+    if (!read_rest(&lagd->inherited, file)) return "it is cut off, or wrong";
+    read_changes(&lagd->inherited, file);
+    if (strcmp(given, way(&lagd->settings, room)) != 0) keep_interfaces(lagd, is_way_of_team(given));
     return NULL;
 }
 
 /* Opens the file, if it is one of root or of this user, who alone may write it. */
 static FILE *open_state(struct lagd *lagd) {
     struct stat found;
-    int fd = openat(folder_file(lagd), lagd->state->name, O_RDONLY | O_NOFOLLOW | O_NONBLOCK | O_CLOEXEC);
+    int fd = openat(folder_file(lagd->folder), lagd->state->name, O_RDONLY | O_NOFOLLOW | O_NONBLOCK | O_CLOEXEC);
     FILE *file = NULL;
     if (fd >= 0 && fstat(fd, &found) == 0 && S_ISREG(found.st_mode) && (found.st_uid == 0 || found.st_uid == geteuid())
         && !(found.st_mode & (S_IWGRP | S_IWOTH)))
@@ -332,12 +326,12 @@ void recall_state(struct lagd *lagd) {
 }
 
 /* Whether there was no daemon for a moment only: what waits in sockets and in the TAP device is still of use. */
-bool was_away_briefly(struct lagd *lagd) {
+bool was_away_briefly(struct inherited *inherited) {
     uint64_t now = boottime();
-    return lagd->inherited.written != 0 && lagd->inherited.written <= now && now - lagd->inherited.written < MOST_AWAY;
+    return inherited->written != 0 && inherited->written <= now && now - inherited->written < MOST_AWAY;
 }
 
 /* The identifier of the first marker: none that the last daemon sent, or 0 where that is not known. */
-uint32_t first_marker_left(struct lagd *lagd) {
-    return lagd->inherited.marker == 0 || lagd->inherited.marker > UINT32_MAX / 2 ? 0 : lagd->inherited.marker + UNWRITTEN_MARKERS;
+uint32_t first_marker_left(struct inherited *inherited) {
+    return inherited->marker == 0 || inherited->marker > UINT32_MAX / 2 ? 0 : inherited->marker + UNWRITTEN_MARKERS;
 }

@@ -34,7 +34,6 @@ struct caller {
     size_t sent, answer_length;
 };
 
-/* What this file keeps for a daemon. */
 struct status_private {
     struct caller callers[MOST_CALLERS];
     int listener;
@@ -57,8 +56,7 @@ static void close_caller(struct caller *caller) {
 }
 
 /* How many connections a user has, or how many of them watch. */
-static unsigned count_of(struct lagd *lagd, uid_t user, bool watching) {
-    struct status_private *own = lagd->status;
+static unsigned count_of(struct status_private *own, uid_t user, bool watching) {
     unsigned count = 0;
     for (unsigned i = 0; i < MOST_CALLERS; i++)
         count += own->callers[i].fd >= 0 && own->callers[i].user == user && (!watching || own->callers[i].watches);
@@ -66,8 +64,7 @@ static unsigned count_of(struct lagd *lagd, uid_t user, bool watching) {
 }
 
 /* A free place for a user, or NULL, and why there is none. */
-static struct caller *place_for(struct lagd *lagd, uid_t user, const char **why) {
-    struct status_private *own = lagd->status;
+static struct caller *place_for(struct status_private *own, uid_t user, const char **why) {
     struct caller *found = NULL;
     unsigned free_ones = 0;
     for (unsigned i = 0; i < MOST_CALLERS; i++) {
@@ -75,7 +72,7 @@ static struct caller *place_for(struct lagd *lagd, uid_t user, const char **why)
         found = &own->callers[i];
         free_ones++;
     }
-    if (count_of(lagd, user, false) >= MOST_OF_USER)
+    if (count_of(own, user, false) >= MOST_OF_USER)
         *why = "this user has too many connections";
     else if (!found || (user != 0 && free_ones <= ROOTS_OWN))
         *why = "all connections are taken";
@@ -91,12 +88,12 @@ static void refuse(int fd, const char *why) {
     (void)send(fd, text, (size_t)length, MSG_NOSIGNAL | MSG_DONTWAIT);
 }
 
-static void take_caller(struct lagd *lagd, int fd) {
+static void accept_one(struct lagd *lagd, int fd) {
     struct ucred who = {0};
     socklen_t length = sizeof who;
     const char *why = NULL;
-    struct caller *place = getsockopt(fd, SOL_SOCKET, SO_PEERCRED, &who, &length) == 0 ? place_for(lagd, who.uid, &why) : NULL;
-    if (!place || !await_input(lagd, fd, CALLERS + (uint32_t)(place - lagd->status->callers))) {
+    struct caller *place = getsockopt(fd, SOL_SOCKET, SO_PEERCRED, &who, &length) == 0 ? place_for(lagd->status, who.uid, &why) : NULL;
+    if (!place || !await_input(lagd->epoll_file, fd, CALLERS + (uint32_t)(place - lagd->status->callers))) {
         refuse(fd, why ? why : strerror(errno));
         close(fd);
         return;
@@ -105,16 +102,16 @@ static void take_caller(struct lagd *lagd, int fd) {
 }
 
 /* Takes connections, in the order in which they came. Those for which there is no room now are taken at the next tick. */
-void take_callers(struct lagd *lagd) {
+void accept_callers(struct lagd *lagd) {
     struct status_private *own = lagd->status;
     while (own->left_in_tick > 0) {
         int fd = accept4(own->listener, NULL, NULL, SOCK_NONBLOCK | SOCK_CLOEXEC);
         if (fd < 0 && (errno == EAGAIN || errno == EINTR || errno == ECONNABORTED)) return;
         if (fd < 0) break; /* without a file for it, it waits for the next tick */
         own->left_in_tick--;
-        take_caller(lagd, fd);
+        accept_one(lagd, fd);
     }
-    if (own->listens) await_no_more(lagd, own->listener);
+    if (own->listens) await_no_more(lagd->epoll_file, own->listener);
     own->listens = false;
 }
 
@@ -127,7 +124,7 @@ static void send_rest(struct lagd *lagd, struct caller *caller) {
         caller->ticks = PATIENCE;
     }
     if (!waits || caller->sent == caller->answer_length
-        || !await_output(lagd, caller->fd, CALLERS + (uint32_t)(caller - lagd->status->callers)))
+        || !await_output(lagd->epoll_file, caller->fd, CALLERS + (uint32_t)(caller - lagd->status->callers)))
         close_caller(caller);
 }
 
@@ -154,7 +151,7 @@ static void obey(struct lagd *lagd, struct caller *caller) {
 /* Answers a question, a word of one line, or an order. */
 static void answer_caller(struct lagd *lagd, struct caller *caller) {
     const char *asked = caller->question;
-    unsigned watching = count_of(lagd, caller->user, true);
+    unsigned watching = count_of(lagd->status, caller->user, true);
     if (is_order(asked)) {
         obey(lagd, caller);
         return;
@@ -167,14 +164,14 @@ static void answer_caller(struct lagd *lagd, struct caller *caller) {
         return;
     }
     if (caller->watches) return;
-    lagd->report_length = 0;
+    lagd->report.length = 0;
     if (strcmp(asked, "text") == 0) write_text(lagd);
     if (strcmp(asked, "json") == 0) write_json(lagd);
     if (strcmp(asked, "metrics") == 0) write_metrics(lagd);
-    if (lagd->broken) lagd->report_length = 0; /* what the library refuses to tell is not told half */
-    caller->rest = lagd->report_length > 0 ? malloc(lagd->report_length) : NULL;
-    caller->answer_length = lagd->report_length;
-    if (caller->rest) memcpy(caller->rest, lagd->report, lagd->report_length);
+    if (lagd->broken) lagd->report.length = 0; /* what the library refuses to tell is not told half */
+    caller->rest = lagd->report.length > 0 ? malloc(lagd->report.length) : NULL;
+    caller->answer_length = lagd->report.length;
+    if (caller->rest) memcpy(caller->rest, lagd->report.text, lagd->report.length);
     if (caller->rest)
         send_rest(lagd, caller);
     else
@@ -213,21 +210,21 @@ void pass_tick_of_callers(struct lagd *lagd) {
     for (unsigned i = 0; i < MOST_CALLERS; i++)
         if (own->callers[i].fd >= 0 && !own->callers[i].watches && --own->callers[i].ticks == 0) close_caller(&own->callers[i]);
     own->left_in_tick = MOST_IN_TICK;
-    if (!own->listens) own->listens = await_input(lagd, own->listener, STATUS);
+    if (!own->listens) own->listens = await_input(lagd->epoll_file, own->listener, STATUS);
 }
 
 /* Tells those who watch; who does not keep up is let go. */
-static void tell(struct lagd *lagd, const char *text, size_t length, bool json) {
+static void tell(struct status_private *own, const char *text, size_t length, bool json) {
     for (unsigned i = 0; i < MOST_CALLERS; i++) {
-        struct caller *caller = &lagd->status->callers[i];
+        struct caller *caller = &own->callers[i];
         if (caller->fd < 0 || !caller->watches || caller->json != json) continue;
         if (send(caller->fd, text, length, MSG_NOSIGNAL | MSG_DONTWAIT) != (ssize_t)length) close_caller(caller);
     }
 }
 
 /* Tells those who watch a line. */
-void tell_watchers(struct lagd *lagd, const char *line, size_t length) {
-    tell(lagd, line, length, false);
+void tell_watchers(struct status_private *own, const char *line, size_t length) {
+    tell(own, line, length, false);
 }
 
 /* Tells those who watch in JSON how a port is now, or the bundle, where `link` is null. */
@@ -236,13 +233,13 @@ void tell_watchers_of(struct lagd *lagd, const struct link *link) {
     bool any = false;
     for (unsigned i = 0; i < MOST_CALLERS; i++) any = any || (own->callers[i].fd >= 0 && own->callers[i].watches && own->callers[i].json);
     if (!any) return;
-    lagd->report_length = 0;
+    lagd->report.length = 0;
     write_json_event(lagd, link);
-    if (!lagd->broken) tell(lagd, lagd->report, lagd->report_length, true);
+    if (!lagd->broken) tell(lagd->status, lagd->report.text, lagd->report.length, true);
 }
 
 static void remove_socket(struct lagd *lagd) {
-    (void)unlinkat(folder_file(lagd), lagd->status->own_name, 0);
+    (void)unlinkat(folder_file(lagd->folder), lagd->status->own_name, 0);
 }
 
 /* Whether somebody listens at an address. */
@@ -262,10 +259,10 @@ void open_status(struct lagd *lagd, const char *folder) {
     mode_t mask;
     for (unsigned i = 0; i < MOST_CALLERS; i++) own->callers[i].fd = -1;
     snprintf(own->own_name, sizeof own->own_name, "%lu.%.*s.sock", network_namespace(), LONGEST_NAME, lagd->settings.name);
-    length = snprintf(address.sun_path, sizeof address.sun_path, "/proc/self/fd/%d/%s", folder_file(lagd), own->own_name);
+    length = snprintf(address.sun_path, sizeof address.sun_path, "/proc/self/fd/%d/%s", folder_file(lagd->folder), own->own_name);
     if (length >= (int)sizeof address.sun_path) stop(WRONG_WORD, "too long", own->own_name);
     if (is_taken(&address)) stop(REFUSED, "another lagd has this bundle", lagd->settings.name);
-    (void)unlinkat(folder_file(lagd), own->own_name, 0);
+    (void)unlinkat(folder_file(lagd->folder), own->own_name, 0);
     own->listener = socket(AF_UNIX, SOCK_STREAM | SOCK_NONBLOCK | SOCK_CLOEXEC, 0);
     mask = umask(0117);
     fault = own->listener < 0 || bind(own->listener, (struct sockaddr *)&address, sizeof address) < 0 || listen(own->listener, 64) < 0
@@ -273,5 +270,5 @@ void open_status(struct lagd *lagd, const char *folder) {
     umask(mask);
     if (fault) stop(REFUSED, folder, strerror(fault));
     (void)call_at_exit(lagd, remove_socket);
-    own->listens = await_input(lagd, own->listener, STATUS);
+    own->listens = await_input(lagd->epoll_file, own->listener, STATUS);
 }

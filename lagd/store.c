@@ -20,10 +20,8 @@
 /* What the unit lets it keep. */
 #define MOST_FILES 512
 
-/* A file that the last daemon left. */
-/* What this file keeps for a daemon. */
 struct store_private {
-    struct stored {
+    struct stored { /* a file that the last daemon left */
         char name[NAME_OF_FILE];
         int fd;    /* -1: it is taken, or closed */
         int taken; /* the same, once it is taken, until the manager keeps it no more; else -1 */
@@ -77,7 +75,7 @@ void drop_stored(struct lagd *lagd, const char *kind, int number) {
 }
 
 /* Takes a file that the last daemon left; or -1. */
-int take_stored(struct lagd *lagd, const char *kind, int number) {
+int claim_stored(struct lagd *lagd, const char *kind, int number) {
     struct store_private *own = lagd->store;
     char name[NAME_OF_FILE];
     name_stored(kind, number, name);
@@ -188,7 +186,7 @@ void drop_stored(struct lagd *lagd, const char *kind, int number) {
     (void)number;
 }
 
-int take_stored(struct lagd *lagd, const char *kind, int number) {
+int claim_stored(struct lagd *lagd, const char *kind, int number) {
     (void)lagd;
     (void)kind;
     (void)number;
@@ -233,15 +231,15 @@ static bool is_of(int fd, int index) {
 /* A packet socket for an interface, stored for a link with an index: the one that the last daemon left, with what came meanwhile unless that
  * is old, or a new one, which takes nothing before it is bound; or -1, and errno. */
 int packet_socket(struct lagd *lagd, const char *kind, int of, int index, int type) {
-    int fd = take_stored(lagd, kind, of);
-    if (fd >= 0 && is_of(fd, index) && (type == SOCK_DGRAM || was_away_briefly(lagd))) return fd;
+    int fd = claim_stored(lagd, kind, of);
+    if (fd >= 0 && is_of(fd, index) && (type == SOCK_DGRAM || was_away_briefly(&lagd->inherited))) return fd;
     if (fd >= 0) close_stored(lagd, kind, of, fd);
     return socket(AF_PACKET, type | SOCK_NONBLOCK | SOCK_CLOEXEC, 0);
 }
 
 /* As attach_program, in the place of the program of the last daemon, where that left one; the manager of services keeps it, too. */
 int attach_stored(struct lagd *lagd, const char *kind, int program, int index, bool egress) {
-    int attached = take_stored(lagd, kind, index);
+    int attached = claim_stored(lagd, kind, index);
     if (attached >= 0 && exchange_program(attached, program, index)) return attached;
     if (attached >= 0) detach_stored(lagd, kind, index, attached);
     attached = attach_program(program, index, egress);

@@ -6,7 +6,6 @@
 
 #include "daemon.h"
 
-/* What this file keeps for a daemon. */
 struct system_private {
     uint64_t ticks;
     struct timespec began;
@@ -18,21 +17,20 @@ struct system_private *make_system_private(void) {
 }
 
 /* How many ticks passed since the start. */
-uint64_t ticks_passed(struct lagd *lagd) {
-    return lagd->system->ticks;
+uint64_t ticks_passed(struct system_private *own) {
+    return own->ticks;
 }
 
 /* How many seconds passed since the start, also while the daemon was stopped. */
-uint64_t seconds_passed(struct lagd *lagd) {
+uint64_t seconds_passed(struct system_private *own) {
     struct timespec now;
     clock_gettime(CLOCK_MONOTONIC, &now);
-    return (uint64_t)(now.tv_sec - lagd->system->began.tv_sec);
+    return (uint64_t)(now.tv_sec - own->began.tv_sec);
 }
 
 /* The time now, in milliseconds of CLOCK_MONOTONIC. */
-uint64_t milliseconds(struct lagd *lagd) {
+uint64_t milliseconds(void) {
     struct timespec now;
-    (void)lagd;
     clock_gettime(CLOCK_MONOTONIC, &now);
     return (uint64_t)now.tv_sec * 1000 + (uint64_t)now.tv_nsec / 1000000;
 }
@@ -52,7 +50,7 @@ static uint32_t random_marker(void) {
 bool apply_hold(struct lagd *lagd, uint16_t port) {
     const struct link *link = &lagd->links[port - 1];
     bool hold = (link->held || link->leaving) && !link->emptying;
-    return is_done(lagd, niw_hold(&lagd->own_system, port, hold || is_halted(lagd)), "niw_hold");
+    return is_done(lagd, niw_hold(&lagd->own_system, port, hold || is_halted(lagd->halt)), "niw_hold");
 }
 
 /* The file takes a port out of use, or lets it be used again; answers whether that is done. */
@@ -102,7 +100,7 @@ size_t resume_system(struct lagd *lagd, struct niw_saved *saved, size_t count) {
 /* Makes the system of the settings. */
 void make_system(struct lagd *lagd) {
     clock_gettime(CLOCK_MONOTONIC, &lagd->system->began);
-    lagd->settings.config.first_marker = first_marker_left(lagd);
+    lagd->settings.config.first_marker = first_marker_left(&lagd->inherited);
     if (lagd->settings.config.first_marker == 0) lagd->settings.config.first_marker = random_marker();
     choose_slots(lagd);
     if (!place_ports(lagd, &lagd->settings)) stop(WRONG_WORD, "too many interfaces", lagd->settings.name);
@@ -112,7 +110,7 @@ void make_system(struct lagd *lagd) {
     make_keys(lagd, lagd->system->keys);
     if (!is_done(lagd, put_system(lagd, NULL, 0).status, "niw_new")) return;
     hold_ports(lagd);
-    take_views(lagd);
+    read_views(lagd);
 }
 
 /* Sends what is due on a port. */
@@ -122,7 +120,7 @@ static void send_due_of(struct lagd *lagd, uint16_t port) {
         struct niw_sent due = niw_transmit(&lagd->own_system, port, frame, sizeof frame);
         if (!is_done(lagd, due.status, "niw_transmit") || !due.is) return;
         if (due.what == NIW_SENT_MARKER)
-            take_marker(lagd, &lagd->links[port - 1], frame);
+            send_new_marker(lagd, &lagd->links[port - 1], frame);
         else
             send_frame(lagd, &lagd->links[port - 1], frame);
     }
@@ -151,15 +149,15 @@ void set_link(struct lagd *lagd, uint16_t port, bool up) {
     link->unsent = false;
     link->changed = true;
     if (!up) {
-        if (!is_silent(lagd)) link->counts[LOSSES]++;
-        forget_partner(lagd, link);
+        if (!is_silent(lagd->halt)) link->counts[LOSSES]++;
+        forget_partner(&lagd->settings, link);
     }
     if (!up) lose_data(lagd, port);
     if (lagd->resuming) return;
     if (!is_done(lagd, niw_set_link(&lagd->own_system, port, up), "niw_set_link")) return;
-    look_at_carry(lagd);
+    look_at_carry(&lagd->carry);
     send_due(lagd);
-    take_views(lagd);
+    read_views(lagd);
     (void)print_change(lagd, link);
 }
 
@@ -193,7 +191,7 @@ static void pass_second(struct lagd *lagd) {
 
 /* 100 ms passed for churn detection: by what the library tells of the ports after its own tick. */
 static void watch_churn(struct lagd *lagd) {
-    take_views(lagd);
+    read_views(lagd);
     for (uint16_t i = 0; i < lagd->link_count; i++) {
         const struct niw_view *view = &lagd->links[i].view;
         if (!is_done(lagd, niw_churn_tick(&lagd->links[i].churn, view->up, view->state, view->partner_state), "niw_churn_tick")) return;

@@ -12,7 +12,6 @@
 #include <unistd.h>
 
 #include "daemon.h"
-#include "team.h"
 
 /* Of Linux 5.2, and not in older headers: the network namespace of a device. */
 #ifndef TUNGETDEVNETNS
@@ -30,7 +29,6 @@
 /* For how many ticks the carrier may be another one than was set: the kernel takes up to a second to tell. */
 #define CARRIER_TICKS 15
 
-/* What this file keeps for a daemon. */
 struct tap_private {
     int tap, asker; /* `asker`: a socket for questions about interfaces */
     int number; /* of the device, its index; 0: there is none */
@@ -62,8 +60,7 @@ static struct ifreq request_of(const char *name) {
 }
 
 /* Asks the kernel something of the device, or for something. The device goes by its index: it may have another name than it was given. */
-static bool ask_tap(struct lagd *lagd, unsigned long what, struct ifreq *request) {
-    struct tap_private *own = lagd->tap;
+static bool ask_tap(struct tap_private *own, unsigned long what, struct ifreq *request) {
     struct ifreq named = {.ifr_ifindex = own->number};
     if (own->number == 0 || ioctl(own->asker, SIOCGIFNAME, &named) < 0) return false;
     memcpy(request->ifr_name, named.ifr_name, sizeof request->ifr_name);
@@ -71,17 +68,16 @@ static bool ask_tap(struct lagd *lagd, unsigned long what, struct ifreq *request
 }
 
 /* Has the device a carrier, or none; answers whether the kernel does so. */
-static bool give_carrier(struct lagd *lagd, bool on) {
-    struct tap_private *own = lagd->tap;
-    return carries_by_team(lagd) ? set_device_carrier(lagd, own->number, on) : ioctl(own->tap, TUNSETCARRIER, &(int){on}) == 0;
+bool give_tap_carrier(struct lagd *lagd, bool on) {
+    return ioctl(lagd->tap->tap, TUNSETCARRIER, &(int){on}) == 0;
 }
 
 /* The carrier of the device, which is on while data is carried. What the kernel refuses has one line, and is tried again at each tick. */
 void set_carrier(struct lagd *lagd, bool on) {
     struct tap_private *own = lagd->tap;
     if (own->carrier == on || own->number == 0) return;
-    if (!on) open_host(lagd, false);
-    if (give_carrier(lagd, on)) {
+    if (!on) lagd->plane.passing->open_host(lagd, false);
+    if (lagd->plane.carrying->give_carrier(lagd, on)) {
         own->carrier = on;
         own->carrier_ticks = 0;
         own->refused = false;
@@ -105,17 +101,16 @@ void set_speed(struct lagd *lagd, uint32_t megabits) {
 }
 
 /* Whether the device has a carrier: an administrator may have taken it away. */
-bool has_carrier(struct lagd *lagd) {
-    struct tap_private *own = lagd->tap;
+bool has_carrier(struct tap_private *own) {
     return own->carrier && own->carrier_told;
 }
 
 /* The MTU of the device is the longest that each member takes, or a lower one that an administrator set. A higher one would lose frames. */
-static void settle_mtu(struct lagd *lagd) {
+void settle_tap_mtu(struct lagd *lagd) {
     struct tap_private *own = lagd->tap;
     struct ifreq now = {0}, wanted = {0};
     uint32_t mtu, least;
-    if (carries_by_team(lagd) || !ask_tap(lagd, SIOCGIFMTU, &now)) return; /* members have the MTU of a team device */
+    if (!ask_tap(lagd->tap, SIOCGIFMTU, &now)) return;
     mtu = (uint32_t)now.ifr_mtu;
     if (own->set_mtu != 0 && mtu != own->set_mtu) own->less_mtu = mtu < own->most_mtu ? mtu : 0;
     if (own->set_mtu != 0 && mtu != own->set_mtu && mtu > own->most_mtu)
@@ -123,68 +118,67 @@ static void settle_mtu(struct lagd *lagd) {
             own->most_mtu);
     least = own->less_mtu != 0 && own->less_mtu < own->most_mtu ? own->less_mtu : own->most_mtu;
     wanted.ifr_mtu = (int)least;
-    if (mtu == least || ask_tap(lagd, SIOCSIFMTU, &wanted)) own->set_mtu = least;
+    if (mtu == least || ask_tap(lagd->tap, SIOCSIFMTU, &wanted)) own->set_mtu = least;
 }
 
 /* The longest payload that each member takes is another one now. */
 void limit_mtu(struct lagd *lagd, uint32_t most) {
     lagd->tap->most_mtu = most < LONGEST_PAYLOAD ? most : LONGEST_PAYLOAD;
-    settle_mtu(lagd);
+    settle_tap_mtu(lagd);
 }
 
-uint32_t longest_payload(struct lagd *lagd) {
-    return lagd->tap->most_mtu;
+uint32_t longest_payload(struct tap_private *own) {
+    return own->most_mtu;
 }
 
 /* The kernel told of the device. */
 void follow_tap(struct lagd *lagd, bool has_now, const char *discipline) {
     struct tap_private *own = lagd->tap;
     own->carrier_told = has_now;
-    follow_host_queue(lagd, discipline);
-    if (own->carrier && has_now) open_host(lagd, true);
-    settle_mtu(lagd);
+    lagd->plane.passing->follow_discipline(lagd, discipline);
+    if (own->carrier && has_now) lagd->plane.passing->open_host(lagd, true);
+    lagd->plane.carrying->settle_mtu(lagd);
 }
 
 /* 100 ms passed. Of a device that is not up the kernel tells no carrier, whoever set one. */
 void pass_tap_tick(struct lagd *lagd) {
     struct tap_private *own = lagd->tap;
-    own->carrier_ticks = own->carrier && !own->carrier_told && is_tap_up(lagd) ? own->carrier_ticks + 1 : 0;
+    own->carrier_ticks = own->carrier && !own->carrier_told && is_tap_up(lagd->tap) ? own->carrier_ticks + 1 : 0;
     if (own->carrier_ticks == CARRIER_TICKS)
         (void)say(lagd, LOG_WARNING | ABOUT_CARRIER,
             "carry %s: it has no carrier, though links carry: who took it away may set it on again", lagd->settings.carry);
 }
 
 /* The index of the device. */
-int tap_index(struct lagd *lagd) {
-    return lagd->tap->number;
+int tap_index(struct tap_private *own) {
+    return own->number;
 }
 
 /* The device is there no more. */
-void forget_tap(struct lagd *lagd) {
-    struct tap_private *own = lagd->tap;
+void forget_tap(struct tap_private *own) {
     own->number = 0;
     own->carrier = false;
 }
 
 /* The MAC address that the device has now: whoever administers it may change it. */
-bool read_tap_mac(struct lagd *lagd, uint8_t *mac) {
+bool read_tap_mac(struct tap_private *own, uint8_t *mac) {
     struct ifreq request = {0};
-    if (!ask_tap(lagd, SIOCGIFHWADDR, &request)) return false;
+    if (!ask_tap(own, SIOCGIFHWADDR, &request)) return false;
     memcpy(mac, request.ifr_hwaddr.sa_data, ETH_ALEN);
     return true;
 }
 
 /* Whether the host has the device up, whatever its name is now. */
-bool is_tap_up(struct lagd *lagd) {
+bool is_tap_up(struct tap_private *own) {
     struct ifreq request = {0};
-    return ask_tap(lagd, SIOCGIFFLAGS, &request) && (request.ifr_flags & IFF_UP) != 0;
+    return ask_tap(own, SIOCGIFFLAGS, &request) && (request.ifr_flags & IFF_UP) != 0;
 }
 
 /* Has the host hand over frames of several segments, and without checksums, where they are passed; each packet tells before its frame. */
 static void choose_segments(struct lagd *lagd) {
     struct tap_private *own = lagd->tap;
     unsigned long wanted = TUN_F_CSUM | TUN_F_TSO4 | TUN_F_TSO6 | TUN_F_TSO_ECN;
-    unsigned long more = passes_segments(lagd) ? TUN_F_USO4 | TUN_F_USO6 : 0;
+    unsigned long more = lagd->plane.segments ? TUN_F_USO4 | TUN_F_USO6 : 0;
     if (ioctl(own->tap, TUNSETVNETHDRSZ, &(int){(int)head_octets()}) < 0
         || (ioctl(own->tap, TUNSETOFFLOAD, wanted | more) < 0 && ioctl(own->tap, TUNSETOFFLOAD, wanted) < 0))
         stop(REFUSED, "no frames of several segments", strerror(errno));
@@ -200,9 +194,9 @@ static bool is_here(int fd, struct ifreq *device) {
 }
 
 /* The index of the device of this name, or 0. */
-static int index_of(struct lagd *lagd, const char *name) {
+static int index_of(struct tap_private *own, const char *name) {
     struct ifreq found = request_of(name);
-    return ioctl(lagd->tap->asker, SIOCGIFINDEX, &found) == 0 ? found.ifr_ifindex : 0;
+    return ioctl(own->asker, SIOCGIFINDEX, &found) == 0 ? found.ifr_ifindex : 0;
 }
 
 /* The device is the one of the last daemon: it has all that was set of it, and outlives this one no more. */
@@ -211,7 +205,7 @@ static void go_on_with_tap(struct lagd *lagd) {
     struct ifreq now = {0};
     if (lagd->inherited.persists) (void)ioctl(own->tap, TUNSETPERSIST, 0);
     own->less_mtu = lagd->inherited.mtu;
-    if (ask_tap(lagd, SIOCGIFMTU, &now)) own->set_mtu = own->most_mtu = (uint32_t)now.ifr_mtu;
+    if (ask_tap(lagd->tap, SIOCGIFMTU, &now)) own->set_mtu = own->most_mtu = (uint32_t)now.ifr_mtu;
     choose_segments(lagd);
 }
 
@@ -222,39 +216,39 @@ static void set_up(struct lagd *lagd, const uint8_t *mac) {
     struct ifreq address = {0}, queue = {0};
     address.ifr_hwaddr.sa_family = ARPHRD_ETHER;
     memcpy(address.ifr_hwaddr.sa_data, mac, ETH_ALEN);
-    if (!ask_tap(lagd, SIOCSIFHWADDR, &address)) stop(REFUSED, "no address of the TAP device", strerror(errno));
+    if (!ask_tap(lagd->tap, SIOCSIFHWADDR, &address)) stop(REFUSED, "no address of the TAP device", strerror(errno));
     own->carrier = true;
     set_carrier(lagd, false);
     choose_segments(lagd);
     queue.ifr_qlen = HOST_QUEUE;
-    (void)ask_tap(lagd, SIOCSIFTXQLEN, &queue);
-    settle_mtu(lagd);
-    if (lagd->settings.fast) give_no_queue(lagd, own->number); /* the usual one of a machine may hold frames */
+    (void)ask_tap(lagd->tap, SIOCSIFTXQLEN, &queue);
+    settle_tap_mtu(lagd);
+    lagd->plane.passing->set_up_device(own->number);
 }
 
 /* What waits in the device is lost. */
-static void lose_waiting(struct lagd *lagd) {
+static void lose_waiting(struct tap_private *own) {
     uint8_t scrap[ETH_HLEN];
-    for (unsigned frames = 0; frames < 2 * HOST_QUEUE && read(lagd->tap->tap, scrap, sizeof scrap) > 0; frames++) continue;
+    for (unsigned frames = 0; frames < 2 * HOST_QUEUE && read(own->tap, scrap, sizeof scrap) > 0; frames++) continue;
 }
 
 /* Takes the device that the last daemon left with the manager of services, whatever an administrator named it since, and the frames that
  * wait there unless they are old; answers whether there is one. Its carrier goes where nothing goes on. */
-static bool take_inherited(struct lagd *lagd, const char *name, const uint8_t *mac) {
+static bool open_inherited(struct lagd *lagd, const char *name, const uint8_t *mac) {
     struct tap_private *own = lagd->tap;
     struct ifreq device = {0};
-    int fd = take_stored(lagd, "tap", 0);
+    int fd = claim_stored(lagd, "tap", 0);
     if (fd < 0) return false;
     if (!is_here(fd, &device)
-        || (lagd->inherited.tap == 0 ? strcmp(device.ifr_name, name) != 0 : index_of(lagd, device.ifr_name) != lagd->inherited.tap)) {
+        || (lagd->inherited.tap == 0 ? strcmp(device.ifr_name, name) != 0 : index_of(lagd->tap, device.ifr_name) != lagd->inherited.tap)) {
         close_stored(lagd, "tap", 0, fd);
         return false;
     }
     own->tap = fd;
-    own->number = index_of(lagd, device.ifr_name);
+    own->number = index_of(lagd->tap, device.ifr_name);
     own->carrier = true;
     if (!lagd->resuming) set_carrier(lagd, false);
-    if (!was_away_briefly(lagd)) lose_waiting(lagd);
+    if (!was_away_briefly(&lagd->inherited)) lose_waiting(lagd->tap);
     if (lagd->inherited.tap == own->number)
         go_on_with_tap(lagd);
     else
@@ -272,7 +266,7 @@ static void make_tap(struct lagd *lagd, const char *name, const uint8_t *mac) {
     if (own->tap < 0) stop(REFUSED, "no TAP device", strerror(errno));
     device.ifr_flags = IFF_TAP | IFF_NO_PI | IFF_VNET_HDR | NO_CARRIER;
     if (ioctl(own->tap, TUNSETIFF, &device) < 0) stop(REFUSED, name, strerror(errno));
-    own->number = index_of(lagd, device.ifr_name);
+    own->number = index_of(lagd->tap, device.ifr_name);
     if (own->number == 0) stop(REFUSED, name, strerror(errno));
     own->carrier = true; /* which older kernels set here */
     set_carrier(lagd, false);
@@ -287,7 +281,7 @@ int open_tap(struct lagd *lagd, const char *name, const uint8_t *mac) {
     struct tap_private *own = lagd->tap;
     own->asker = socket(AF_UNIX, SOCK_DGRAM | SOCK_CLOEXEC, 0);
     if (own->asker < 0) stop(REFUSED, "no TAP device", strerror(errno));
-    if (!take_inherited(lagd, name, mac)) make_tap(lagd, name, mac);
+    if (!open_inherited(lagd, name, mac)) make_tap(lagd, name, mac);
     put_stored(lagd, "tap", 0, own->tap);
     return own->tap;
 }
@@ -318,7 +312,6 @@ void end_tap(int index) {
 void keep_tap(struct lagd *lagd, bool keeps) {
     struct tap_private *own = lagd->tap;
     struct ifreq device = {0};
-    if (carries_by_team(lagd)) return;
     if (own->persists == keeps || ioctl(own->tap, TUNGETIFF, &device) < 0 || (keeps && (has_store() || (device.ifr_flags & IFF_PERSIST))))
         return;
     if (ioctl(own->tap, TUNSETPERSIST, keeps) == 0) own->persists = keeps;
@@ -329,6 +322,6 @@ bool tap_persists(struct lagd *lagd) {
 }
 
 /* A lower MTU than the members take, which an administrator set, or 0. */
-uint32_t mtu_of_administrator(struct lagd *lagd) {
-    return lagd->tap->less_mtu;
+uint32_t mtu_of_administrator(struct tap_private *own) {
+    return own->less_mtu;
 }

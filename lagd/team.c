@@ -20,7 +20,6 @@
 /* How often a name is tried that the TAP device of the last daemon has still, each 100 ms. */
 #define MOST_TRIES 10
 
-/* What this file keeps for a daemon. */
 struct team_private {
     bool opened;
     bool made; /* whether a daemon made the device, so that it goes at the end */
@@ -35,12 +34,8 @@ struct team_private *make_team_private(void) {
     return made;
 }
 
-bool carries_by_team(struct lagd *lagd) {
-    return lagd->team->opened;
-}
-
-bool is_team_port(struct lagd *lagd, uint16_t port) {
-    return lagd->team->taken[port - 1];
+bool is_team_port(struct team_private *own, uint16_t port) {
+    return own->taken[port - 1];
 }
 
 /* Whether a daemon made the device. */
@@ -49,8 +44,8 @@ bool has_made_team(struct lagd *lagd) {
 }
 
 /* Whether this daemon made the device, so that nobody has put a port there yet. */
-bool is_team_new(struct lagd *lagd) {
-    return lagd->team->is_new;
+bool is_team_new(struct team_private *own) {
+    return own->is_new;
 }
 
 static void need(bool done, const char *what) {
@@ -58,20 +53,20 @@ static void need(bool done, const char *what) {
 }
 
 /* Whether the driver takes the mode: at a device of its own, which stays. */
-bool has_team_mode(struct lagd *lagd) {
+bool has_team_mode(struct team_netlink_private *own) {
     static const uint8_t mac[ETH_ALEN] = {2, 0, 0, 0, 0, 1};
     struct interface device;
-    return make_team_device(lagd, "team0", mac, ETH_DATA_LEN) && ask_interface(lagd, 0, "team0", &device)
-        && set_team_text(lagd, device.index, "mode", MODE);
+    return make_team_device("team0", mac, ETH_DATA_LEN) && ask_interface(0, "team0", &device)
+        && set_team_text(own, device.index, "mode", MODE);
 }
 
 /* The lowest MTU of the interfaces that are there: the driver gives its ports that of the device. */
-static uint32_t least_mtu(struct lagd *lagd) {
+static uint32_t least_mtu(const struct settings *settings) {
     uint32_t least = 0;
-    for (uint16_t i = 0; i < lagd->settings.port_count; i++) {
+    for (uint16_t i = 0; i < settings->port_count; i++) {
         struct interface member;
-        const char *name = lagd->settings.ports[i].name;
-        if (name[0] && ask_interface(lagd, 0, name, &member) && member.mtu != 0 && (least == 0 || member.mtu < least))
+        const char *name = settings->ports[i].name;
+        if (name[0] && ask_interface(0, name, &member) && member.mtu != 0 && (least == 0 || member.mtu < least))
             least = member.mtu;
     }
     return least == 0 ? ETH_DATA_LEN : least;
@@ -80,10 +75,10 @@ static uint32_t least_mtu(struct lagd *lagd) {
 /* Takes the lock of a device. */
 static void lock_device(struct lagd *lagd, int index) {
     struct team_private *own = lagd->team;
-    char what[128];
+    char what[128], holder[HOLDER_ROOM];
     own->lock = lock_interface(lagd, index);
     if (own->lock < 0 && errno == EADDRINUSE) {
-        snprintf(what, sizeof what, "another lagd has the interface, %s", holder_of(lagd, index));
+        snprintf(what, sizeof what, "another lagd has the interface, %s", holder_of(lagd, index, holder));
         stop(REFUSED, what, lagd->settings.carry);
     }
     need(own->lock >= 0, lagd->settings.carry);
@@ -92,13 +87,13 @@ static void lock_device(struct lagd *lagd, int index) {
 }
 
 /* Whether each port of a device is an interface of this bundle. */
-static bool has_own_ports(struct lagd *lagd, const struct team_now *now) {
+static bool has_own_ports(const struct settings *settings, const struct team_now *now) {
     bool all = true;
     for (unsigned at = 0; at < now->port_count; at++) {
         bool own = false;
-        for (uint16_t i = 0; i < lagd->settings.port_count && !own; i++) {
+        for (uint16_t i = 0; i < settings->port_count && !own; i++) {
             struct interface member;
-            own = lagd->settings.ports[i].name[0] && ask_interface(lagd, 0, lagd->settings.ports[i].name, &member)
+            own = settings->ports[i].name[0] && ask_interface(0, settings->ports[i].name, &member)
                 && member.index == now->ports[at];
         }
         all = all && own;
@@ -107,30 +102,30 @@ static bool has_own_ports(struct lagd *lagd, const struct team_now *now) {
 }
 
 /* Takes a device that is there: that of the last daemon, or one that is of no use to others. */
-static void take_device(struct lagd *lagd, const struct interface *device, const uint8_t *mac) {
+static void adopt_device(struct lagd *lagd, const struct interface *device, const uint8_t *mac) {
     struct team_now now;
     bool known = device->index == lagd->inherited.tap;
     if (strcmp(device->kind, TEAM_KIND) != 0)
         stop(REFUSED, lagd->settings.carry, "an interface of this name is there, and is no team device");
     lock_device(lagd, device->index);
-    need(read_team(lagd, device->index, &now), lagd->settings.carry);
+    need(read_team(lagd->team_netlink, device->index, &now), lagd->settings.carry);
     if (strcmp(now.mode, MODE) != 0 && strcmp(now.mode, NO_MODE) != 0)
         stop(REFUSED, lagd->settings.carry, "a team device of another mode is there");
-    if (!lagd->settings.follow && !has_own_ports(lagd, &now) && !known)
+    if (!lagd->settings.follow && !has_own_ports(&lagd->settings, &now) && !known)
         stop(REFUSED, lagd->settings.carry, "a team device with ports of others is there");
     lagd->team->made = known && lagd->inherited.persists;
-    need(known || set_address(lagd, device->index, mac), lagd->settings.carry);
+    need(known || set_address(device->index, mac), lagd->settings.carry);
     use_team_device(lagd, device->index);
 }
 
 /* Finds the device of the last daemon, whatever an administrator named it since, or else one of this name; answers whether there is one. A
  * TAP device of the last daemon goes. */
 static bool find_device(struct lagd *lagd, const char *name, struct interface *device) {
-    int tap = take_stored(lagd, "tap", 0);
+    int tap = claim_stored(lagd, "tap", 0);
     if (tap >= 0) close_stored(lagd, "tap", 0, tap);
-    if (lagd->inherited.tap != 0 && ask_interface(lagd, lagd->inherited.tap, NULL, device) && strcmp(device->kind, TEAM_KIND) == 0)
+    if (lagd->inherited.tap != 0 && ask_interface(lagd->inherited.tap, NULL, device) && strcmp(device->kind, TEAM_KIND) == 0)
         return true;
-    for (int tries = 0; ask_interface(lagd, 0, name, device); tries++) {
+    for (int tries = 0; ask_interface(0, name, device); tries++) {
         if (strcmp(device->kind, "tun") != 0 || tries == MOST_TRIES) return true;
         (void)poll(NULL, 0, NIW_TICK_MILLISECONDS);
     }
@@ -140,42 +135,44 @@ static bool find_device(struct lagd *lagd, const char *name, struct interface *d
 /* Has the driver spread frames over buckets, and tell what each of them sent. */
 static void set_options(struct lagd *lagd, const char *mode_now) {
     struct sock_filter steps[MOST_HASH_STEPS];
-    int index = tap_index(lagd);
-    need(strcmp(mode_now, MODE) == 0 || set_team_text(lagd, index, "mode", MODE), "team: mode " MODE);
-    need(set_team_hash(lagd, index, steps, make_team_hash(lagd, steps)), "team: bpf_hash_func");
-    need(set_team_text(lagd, index, "lb_tx_method", "hash_to_port_mapping"), "team: lb_tx_method");
-    need(set_team_number(lagd, index, "lb_stats_refresh_interval", COUNTED_EVERY), "team: lb_stats_refresh_interval");
+    int index = tap_index(lagd->tap);
+    need(strcmp(mode_now, MODE) == 0 || set_team_text(lagd->team_netlink, index, "mode", MODE), "team: mode " MODE);
+    need(set_team_hash(lagd->team_netlink, index, steps, make_team_hash(&lagd->settings, steps)), "team: bpf_hash_func");
+    need(set_team_text(lagd->team_netlink, index, "lb_tx_method", "hash_to_port_mapping"), "team: lb_tx_method");
+    need(set_team_number(lagd->team_netlink, index, "lb_stats_refresh_interval", COUNTED_EVERY), "team: lb_stats_refresh_interval");
 }
 
 /* Opens the device: it has no carrier, unless the data of the last daemon goes on. */
-void open_team(struct lagd *lagd, const char *name, const uint8_t *mac) {
+void open_team(struct lagd *lagd) {
     struct team_private *own = lagd->team;
+    const char *name = lagd->settings.carry;
+    const uint8_t *mac = lagd->settings.config.mac;
     struct interface device;
     struct team_now now;
-    need(find_team_driver(lagd), "plane=team: this kernel has no team driver");
+    need(find_team_driver(lagd->team_netlink), "plane=team: this kernel has no team driver");
     if (call_at_exit(lagd, end_team) != 0) stop(REFUSED, "no memory", "for the team device");
     own->opened = true;
     if (find_device(lagd, name, &device)) {
-        take_device(lagd, &device, mac);
+        adopt_device(lagd, &device, mac);
     } else {
-        need(make_team_device(lagd, name, mac, least_mtu(lagd)) && ask_interface(lagd, 0, name, &device), name);
+        need(make_team_device(name, mac, least_mtu(&lagd->settings)) && ask_interface(0, name, &device), name);
         lock_device(lagd, device.index); /* another one may have taken it at once */
         own->made = own->is_new = true;
         use_team_device(lagd, device.index);
     }
-    need(read_team(lagd, tap_index(lagd), &now), "team");
+    need(read_team(lagd->team_netlink, tap_index(lagd->tap), &now), "team");
     set_options(lagd, now.mode);
     start_buckets(lagd);
 }
 
 /* Gives a port the address of the device: frames to that would be of another host for the network stack. The driver puts back what it had. Some
  * cards take an address only while they are down; one that takes none even then is up again. */
-static bool give_address(struct lagd *lagd, int index, const uint8_t *mac) {
+static bool give_address(int index, const uint8_t *mac) {
     int fault = 0;
-    if (set_address(lagd, index, mac)) return true;
-    if (errno != EBUSY || !set_interface_up(lagd, index, false)) return false;
-    if (!set_address(lagd, index, mac)) fault = errno;
-    if (!set_interface_up(lagd, index, true) && fault == 0) fault = errno;
+    if (set_address(index, mac)) return true;
+    if (errno != EBUSY || !set_interface_up(index, false)) return false;
+    if (!set_address(index, mac)) fault = errno;
+    if (!set_interface_up(index, true) && fault == 0) fault = errno;
     errno = fault;
     return fault == 0;
 }
@@ -184,14 +181,14 @@ static bool give_address(struct lagd *lagd, int index, const uint8_t *mac) {
  * taken up anew. */
 void give_team_addresses(struct lagd *lagd) {
     uint8_t mac[ETH_ALEN];
-    if (!read_tap_mac(lagd, mac)) return;
+    if (!read_tap_mac(lagd->tap, mac)) return;
     for (uint16_t i = 0; i < lagd->link_count; i++) {
-        if (!lagd->team->taken[i] || memcmp(lagd->links[i].mac, mac, sizeof mac) == 0 || give_address(lagd, lagd->links[i].index, mac))
+        if (!lagd->team->taken[i] || memcmp(lagd->links[i].mac, mac, sizeof mac) == 0 || give_address(lagd->links[i].index, mac))
             continue;
         (void)say(lagd, LOG_WARNING | ABOUT_DATA, "port %u %s: it does not take the address of %s: %s", lagd->links[i].settings.number,
             lagd->links[i].name, lagd->settings.carry, strerror(errno));
         lose_link(lagd, &lagd->links[i]);
-        look_again(lagd);
+        look_again(lagd->changes);
     }
 }
 
@@ -199,16 +196,16 @@ void give_team_addresses(struct lagd *lagd) {
 void leave_team_port(struct lagd *lagd, int index) {
     struct interface port;
     bool up;
-    if (!lagd->team->opened || !ask_interface(lagd, index, NULL, &port) || (port.master != 0 && port.master != tap_index(lagd))) return;
+    if (!lagd->team->opened || !ask_interface(index, NULL, &port) || (port.master != 0 && port.master != tap_index(lagd->tap))) return;
     up = port.master == 0 || (port.flags & IFF_UP);
-    if ((port.master == 0 || set_master(lagd, index, 0)) && up) (void)set_interface_up(lagd, index, true);
+    if ((port.master == 0 || set_master(index, 0)) && up) (void)set_interface_up(index, true);
 }
 
 /* Makes an interface a new port of the device, which takes it while it is down, and passes no data on it until it is told to: the driver would
  * at once. */
 static bool make_port(struct lagd *lagd, int index, bool up) {
-    return (!up || set_interface_up(lagd, index, false)) && set_master(lagd, index, tap_index(lagd))
-        && set_port_enabled(lagd, tap_index(lagd), index, false);
+    return (!up || set_interface_up(index, false)) && set_master(index, tap_index(lagd->tap))
+        && set_port_enabled(lagd->team_netlink, tap_index(lagd->tap), index, false);
 }
 
 /* Makes an interface a port of the device; answers whether it is one, and else errno tells why not. One that belongs to another device stays
@@ -218,17 +215,17 @@ bool open_team_port(struct lagd *lagd, struct link *link) {
     struct interface port;
     uint8_t mac[ETH_ALEN];
     bool up, done;
-    if (!ask_interface(lagd, link->index, NULL, &port) || !read_tap_mac(lagd, mac)) return false;
+    if (!ask_interface(link->index, NULL, &port) || !read_tap_mac(lagd->tap, mac)) return false;
     up = (port.flags & IFF_UP) != 0;
     errno = EBUSY;
-    if (port.master != tap_index(lagd) && (port.master != 0 || !may_put_in(lagd, link))) return false;
+    if (port.master != tap_index(lagd->tap) && (port.master != 0 || !may_put_in(lagd, link))) return false;
     done = port.master != 0 || make_port(lagd, link->index, up);
-    own->taken[link - lagd->links] = done && (memcmp(port.mac, mac, sizeof mac) == 0 || give_address(lagd, link->index, mac));
+    own->taken[link - lagd->links] = done && (memcmp(port.mac, mac, sizeof mac) == 0 || give_address(link->index, mac));
     forget_port(lagd, link->settings.number);
     if (!own->taken[link - lagd->links]) {
         int fault = errno;
         leave_team_port(lagd, link->index);
-        if (up) (void)set_interface_up(lagd, link->index, true);
+        if (up) (void)set_interface_up(link->index, true);
         errno = fault;
     }
     return own->taken[link - lagd->links];
@@ -248,20 +245,20 @@ void close_team_port(struct lagd *lagd, struct link *link) {
 bool is_still_team_port(struct lagd *lagd, const struct link *link, int master) {
     struct team_private *own = lagd->team;
     struct interface now;
-    if (!own->opened || !own->taken[link - lagd->links] || master == tap_index(lagd) || !ask_interface(lagd, link->index, NULL, &now))
+    if (!own->taken[link - lagd->links] || master == tap_index(lagd->tap) || !ask_interface(link->index, NULL, &now))
         return true;
-    if (now.master == tap_index(lagd)) return true;
+    if (now.master == tap_index(lagd->tap)) return true;
     (void)say(lagd, LOG_WARNING | ABOUT_DATA, "port %u %s: it was taken out of %s", link->settings.number, link->name,
         lagd->settings.carry);
     return false;
 }
 
 /* The ports that a device has of the last daemon are free. */
-static void free_inherited_ports(struct lagd *lagd, int index) {
+static void free_inherited_ports(struct inherited *inherited, int index) {
     struct interface port;
-    for (unsigned i = 0; i < lagd->inherited.link_count; i++)
-        if (ask_interface(lagd, lagd->inherited.links[i].index, NULL, &port) && port.master == index && set_master(lagd, port.index, 0))
-            (void)set_interface_up(lagd, port.index, true);
+    for (unsigned i = 0; i < inherited->link_count; i++)
+        if (ask_interface(inherited->links[i].index, NULL, &port) && port.master == index && set_master(port.index, 0))
+            (void)set_interface_up(port.index, true);
 }
 
 /* By other settings nothing goes on: the ports of the device are free, and it goes if the last daemon made it. Where another daemon has it,
@@ -269,11 +266,11 @@ static void free_inherited_ports(struct lagd *lagd, int index) {
 void leave_team(struct lagd *lagd, int index, bool with_device) {
     struct interface device;
     int held;
-    if (!find_team_driver(lagd) || !ask_interface(lagd, index, NULL, &device) || strcmp(device.kind, TEAM_KIND) != 0) return;
+    if (!find_team_driver(lagd->team_netlink) || !ask_interface(index, NULL, &device) || strcmp(device.kind, TEAM_KIND) != 0) return;
     held = lock_interface(lagd, index);
     if (held < 0) return;
-    free_inherited_ports(lagd, index);
-    if (with_device) (void)remove_device(lagd, index);
+    free_inherited_ports(&lagd->inherited, index);
+    if (with_device) (void)remove_device(index);
     close_stored(lagd, "lock", index, held);
 }
 
@@ -283,8 +280,37 @@ void end_team(struct lagd *lagd) {
     struct team_private *own = lagd->team;
     if (!own->opened || lagd->has_left) return;
     for (uint16_t i = 0; i < lagd->link_count; i++) close_team_port(lagd, &lagd->links[i]);
-    if (tap_index(lagd) != 0) free_inherited_ports(lagd, tap_index(lagd));
-    if (own->made && tap_index(lagd) != 0) (void)remove_device(lagd, tap_index(lagd));
+    if (tap_index(lagd->tap) != 0) free_inherited_ports(&lagd->inherited, tap_index(lagd->tap));
+    if (own->made && tap_index(lagd->tap) != 0) (void)remove_device(tap_index(lagd->tap));
     if (own->lock >= 0) close_stored(lagd, "lock", own->locked, own->lock);
     own->opened = false;
+}
+
+/* Has the device a carrier, or none; answers whether the kernel does so. */
+bool give_team_carrier(struct lagd *lagd, bool on) {
+    return set_device_carrier(tap_index(lagd->tap), on);
+}
+
+/* The daemon ends, or the library refused a call. */
+void end_team_plane(struct lagd *lagd) {
+    set_carrier(lagd, false);
+    close_members(lagd);
+    end_team(lagd);
+    end_held(lagd);
+}
+
+/* After calls that may have changed something: the active aggregator, and by which ports buckets go. */
+void settle_team(struct lagd *lagd) {
+    uint16_t before = lagd->carry.active;
+    choose_ports(lagd);
+    settle_buckets(lagd);
+    if (lagd->carry.active != before) forget_heard(lagd); /* until now frames came by the ports of the last one */
+}
+
+/* 100 ms passed, for all of the data. */
+void pass_tick_of_team(struct lagd *lagd) {
+    begin_carry_tick(lagd);
+    pass_bucket_tick(lagd);
+    note_heard(lagd);
+    end_carry_tick(lagd);
 }

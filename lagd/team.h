@@ -22,34 +22,37 @@ struct team_now {
 };
 
 /* team_netlink.c */
-bool find_team_driver(struct lagd *lagd);
-bool make_team_device(struct lagd *lagd, const char *name, const uint8_t *mac, uint32_t mtu);
-bool remove_device(struct lagd *lagd, int index);
-bool set_interface_up(struct lagd *lagd, int index, bool up);
-bool set_master(struct lagd *lagd, int index, int master);
-bool set_address(struct lagd *lagd, int index, const uint8_t *mac);
-bool set_device_carrier(struct lagd *lagd, int index, bool on);
-bool set_team_text(struct lagd *lagd, int index, const char *name, const char *text);
-bool set_team_number(struct lagd *lagd, int index, const char *name, uint32_t number);
-bool set_team_hash(struct lagd *lagd, int index, const struct sock_filter *steps, size_t count);
-bool set_port_enabled(struct lagd *lagd, int index, int port, bool enabled);
-bool set_bucket(struct lagd *lagd, int index, uint16_t bucket, int port);
-bool read_team(struct lagd *lagd, int index, struct team_now *now);
+bool find_team_driver(struct team_netlink_private *own);
+bool make_team_device(const char *name, const uint8_t *mac, uint32_t mtu);
+bool remove_device(int index);
+bool set_interface_up(int index, bool up);
+bool set_master(int index, int master);
+bool set_address(int index, const uint8_t *mac);
+bool set_device_carrier(int index, bool on);
+bool set_team_text(struct team_netlink_private *own, int index, const char *name, const char *text);
+bool set_team_number(struct team_netlink_private *own, int index, const char *name, uint32_t number);
+bool set_team_hash(struct team_netlink_private *own, int index, const struct sock_filter *steps, size_t count);
+bool set_port_enabled(struct team_netlink_private *own, int index, int port, bool enabled);
+bool set_bucket(struct team_netlink_private *own, int index, uint16_t bucket, int port);
+bool read_team(struct team_netlink_private *own, int index, struct team_now *now);
 
 /* team_hash.c */
 #define MOST_HASH_STEPS 256
-size_t make_team_hash(struct lagd *lagd, struct sock_filter steps[static MOST_HASH_STEPS]);
+size_t make_team_hash(const struct settings *settings, struct sock_filter steps[static MOST_HASH_STEPS]);
 
 /* team.c */
-bool carries_by_team(struct lagd *lagd);
 bool has_made_team(struct lagd *lagd);
-bool is_team_new(struct lagd *lagd);
-bool has_team_mode(struct lagd *lagd);
-void open_team(struct lagd *lagd, const char *name, const uint8_t *mac);
+bool is_team_new(struct team_private *own);
+bool has_team_mode(struct team_netlink_private *own);
+void open_team(struct lagd *lagd);
+void end_team_plane(struct lagd *lagd);
+bool give_team_carrier(struct lagd *lagd, bool on);
+void settle_team(struct lagd *lagd);
+void pass_tick_of_team(struct lagd *lagd);
 void end_team(struct lagd *lagd);
 bool open_team_port(struct lagd *lagd, struct link *link);
 void close_team_port(struct lagd *lagd, struct link *link);
-bool is_team_port(struct lagd *lagd, uint16_t port);
+bool is_team_port(struct team_private *own, uint16_t port);
 bool is_still_team_port(struct lagd *lagd, const struct link *link, int master);
 void give_team_addresses(struct lagd *lagd);
 void leave_team(struct lagd *lagd, int index, bool with_device);
@@ -62,7 +65,7 @@ void look_at_driver(struct lagd *lagd);
 void pass_bucket_tick(struct lagd *lagd);
 void forget_port(struct lagd *lagd, uint16_t port);
 int bucket_member_of(struct lagd *lagd, uint16_t number);
-uint64_t team_frames_received(struct lagd *lagd);
+uint64_t team_frames_received(struct lagd *lagd, bool looks);
 unsigned count_waiting_buckets(struct lagd *lagd);
 
 #endif

@@ -79,25 +79,25 @@ static void append(struct sock_filter *steps, size_t *count, const struct sock_f
 }
 
 /* Writes the program of the settings; answers how many steps it has. */
-size_t make_team_hash(struct lagd *lagd, struct sock_filter steps[static MOST_HASH_STEPS]) {
-    const struct sock_filter begin[] = {NUMBER(HASH_START ^ lagd->settings.hash_seed), KEEP(HASH)};
+size_t make_team_hash(const struct settings *settings, struct sock_filter steps[static MOST_HASH_STEPS]) {
+    const struct sock_filter begin[] = {NUMBER(HASH_START ^ settings->hash_seed), KEEP(HASH)};
     static const struct sock_filter end[] = {RECALL(HASH), BPF_STMT(BPF_RET | BPF_A, 0)};
     size_t count = 0;
-    if (lagd->settings.hash == HASH_LAYER2) {
+    if (settings->hash == HASH_LAYER2) {
         ADD(steps, count, BY_MACS);
         return count;
     }
     ADD(steps, count, CLEAR);
     ADD(steps, count, begin);
-    if (lagd->settings.hash == HASH_VLAN_SRCMAC) {
+    if (settings->hash == HASH_VLAN_SRCMAC) {
         ADD(steps, count, ADD_VLAN_AND_SOURCE);
     } else {
         ADD(steps, count, FIND_HEADER);
         ADD(steps, count, ADD_IPV4);
         ADD(steps, count, ADD_IPV6);
-        if (lagd->settings.hash == HASH_LAYER3_4) ADD(steps, count, UNLESS_IP);
+        if (settings->hash == HASH_LAYER3_4) ADD(steps, count, UNLESS_IP);
         ADD(steps, count, ADD_MACS);
-        if (lagd->settings.hash == HASH_LAYER3_4) ADD(steps, count, ADD_PORTS);
+        if (settings->hash == HASH_LAYER3_4) ADD(steps, count, ADD_PORTS);
     }
     ADD(steps, count, end);
     return count;

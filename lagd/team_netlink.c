@@ -15,7 +15,6 @@
 /* The types of options that are of use here, as include/net/netlink.h of the kernel has them; no header for programs does. */
 enum { TYPE_U32 = 3, TYPE_STRING = 5, TYPE_FLAG = 6, TYPE_BINARY = 11 };
 
-/* What this file keeps for a daemon. */
 struct team_netlink_private {
     uint16_t family; /* the number of the team driver in generic netlink */
 };
@@ -24,39 +23,37 @@ struct team_netlink_private *make_team_netlink_private(void) {
     return make_room(sizeof(struct team_netlink_private));
 }
 
-static bool order(struct lagd *lagd, const union message *wanted) {
-    return ask_netlink(lagd, NETLINK_ROUTE, wanted, NULL, NULL);
+static bool order(const union message *wanted) {
+    return ask_netlink(NETLINK_ROUTE, wanted, NULL, NULL);
 }
 
-static int take_family(const struct nlattr *attribute, void *into) {
+static int parse_family(const struct nlattr *attribute, void *into) {
     if (mnl_attr_get_type(attribute) == CTRL_ATTR_FAMILY_ID) (void)copy_value(attribute, into, sizeof(uint16_t));
     return MNL_CB_OK;
 }
 
-static void read_family(struct lagd *lagd, const struct nlmsghdr *message, void *into) {
-    (void)lagd;
-    read_attributes(message, sizeof(struct genlmsghdr), take_family, into);
+static void read_family(const struct nlmsghdr *message, void *into) {
+    read_attributes(message, sizeof(struct genlmsghdr), parse_family, into);
 }
 
 /* Asks for the number of the driver; answers whether it is there. */
-static bool find_family(struct lagd *lagd) {
-    struct team_netlink_private *own = lagd->team_netlink;
+static bool find_family(struct team_netlink_private *own) {
     struct genlmsghdr about = {.cmd = CTRL_CMD_GETFAMILY, .version = 1};
     union message question = message_of(GENL_ID_CTRL, NLM_F_ACK, &about, sizeof about);
     mnl_attr_put_strz(&question.head, CTRL_ATTR_FAMILY_NAME, TEAM_GENL_NAME);
-    return ask_netlink(lagd, NETLINK_GENERIC, &question, read_family, &own->family) && own->family != 0;
+    return ask_netlink(NETLINK_GENERIC, &question, read_family, &own->family) && own->family != 0;
 }
 
 /* Finds the driver; answers whether this kernel has one, and else errno tells why not. The kernel loads it for who may ask for a device: with
  * an address that none may have there is none, and by a name that it is to complete none is taken. */
-bool find_team_driver(struct lagd *lagd) {
+bool find_team_driver(struct team_netlink_private *own) {
     static const uint8_t no_address[ETH_ALEN];
-    return find_family(lagd)
-        || (!make_team_device(lagd, "team%d", no_address, ETH_DATA_LEN) && errno == EADDRNOTAVAIL && find_family(lagd));
+    return find_family(own)
+        || (!make_team_device("team%d", no_address, ETH_DATA_LEN) && errno == EADDRNOTAVAIL && find_family(own));
 }
 
 /* Makes a device of the driver; answers whether it did. */
-bool make_team_device(struct lagd *lagd, const char *name, const uint8_t *mac, uint32_t mtu) {
+bool make_team_device(const char *name, const uint8_t *mac, uint32_t mtu) {
     union message wanted = message_of_interface(RTM_NEWLINK, NLM_F_ACK | NLM_F_CREATE | NLM_F_EXCL, 0);
     struct nlattr *nest;
     mnl_attr_put_strz(&wanted.head, IFLA_IFNAME, name);
@@ -65,44 +62,44 @@ bool make_team_device(struct lagd *lagd, const char *name, const uint8_t *mac, u
     nest = mnl_attr_nest_start(&wanted.head, IFLA_LINKINFO);
     mnl_attr_put_strz(&wanted.head, IFLA_INFO_KIND, TEAM_KIND);
     mnl_attr_nest_end(&wanted.head, nest);
-    return order(lagd, &wanted);
+    return order(&wanted);
 }
 
-bool remove_device(struct lagd *lagd, int index) {
+bool remove_device(int index) {
     union message wanted = message_of_interface(RTM_DELLINK, NLM_F_ACK, index);
-    return order(lagd, &wanted);
+    return order(&wanted);
 }
 
 /* Sets an interface up or down. */
-bool set_interface_up(struct lagd *lagd, int index, bool up) {
+bool set_interface_up(int index, bool up) {
     struct ifinfomsg about = {.ifi_index = index, .ifi_flags = up ? IFF_UP : 0, .ifi_change = IFF_UP};
     union message wanted = message_of(RTM_SETLINK, NLM_F_ACK, &about, sizeof about);
-    return order(lagd, &wanted);
+    return order(&wanted);
 }
 
 /* Sets what an attribute says of an interface. */
-static bool set_attribute(struct lagd *lagd, int index, uint16_t type, const void *value, size_t length) {
+static bool set_attribute(int index, uint16_t type, const void *value, size_t length) {
     union message wanted = message_of_interface(RTM_SETLINK, NLM_F_ACK, index);
     mnl_attr_put(&wanted.head, type, length, value);
-    return order(lagd, &wanted);
+    return order(&wanted);
 }
 
 /* Makes an interface a port of another one, or, with 0, of none. */
-bool set_master(struct lagd *lagd, int index, int master) {
-    return set_attribute(lagd, index, IFLA_MASTER, &master, sizeof master);
+bool set_master(int index, int master) {
+    return set_attribute(index, IFLA_MASTER, &master, sizeof master);
 }
 
-bool set_address(struct lagd *lagd, int index, const uint8_t *mac) {
-    return set_attribute(lagd, index, IFLA_ADDRESS, mac, ETH_ALEN);
+bool set_address(int index, const uint8_t *mac) {
+    return set_attribute(index, IFLA_ADDRESS, mac, ETH_ALEN);
 }
 
-bool set_device_carrier(struct lagd *lagd, int index, bool on) {
-    return set_attribute(lagd, index, IFLA_CARRIER, &(uint8_t){on}, 1);
+bool set_device_carrier(int index, bool on) {
+    return set_attribute(index, IFLA_CARRIER, &(uint8_t){on}, 1);
 }
 
-static union message message_of_team(struct lagd *lagd, uint8_t command, unsigned flags, int index) {
+static union message message_of_team(struct team_netlink_private *own, uint8_t command, unsigned flags, int index) {
     struct genlmsghdr about = {.cmd = command, .version = TEAM_GENL_VERSION};
-    union message message = message_of(lagd->team_netlink->family, flags, &about, sizeof about);
+    union message message = message_of(own->family, flags, &about, sizeof about);
     mnl_attr_put_u32(&message.head, TEAM_ATTR_TEAM_IFINDEX, (uint32_t)index);
     return message;
 }
@@ -114,8 +111,8 @@ struct place {
 };
 
 /* Sets an option. The kernel tells who listens to changes; that nobody does is an error for it, though the option is set. */
-static bool set_option(struct lagd *lagd, int index, const char *name, struct place place, uint8_t type, const void *value, size_t length) {
-    union message wanted = message_of_team(lagd, TEAM_CMD_OPTIONS_SET, NLM_F_ACK, index);
+static bool set_option(struct team_netlink_private *own, int index, const char *name, struct place place, uint8_t type, const void *value, size_t length) {
+    union message wanted = message_of_team(own, TEAM_CMD_OPTIONS_SET, NLM_F_ACK, index);
     struct nlattr *list = mnl_attr_nest_start(&wanted.head, TEAM_ATTR_LIST_OPTION);
     struct nlattr *item = mnl_attr_nest_start(&wanted.head, TEAM_ATTR_ITEM_OPTION);
     mnl_attr_put_strz(&wanted.head, TEAM_ATTR_OPTION_NAME, name);
@@ -125,31 +122,31 @@ static bool set_option(struct lagd *lagd, int index, const char *name, struct pl
     if (place.number >= 0) mnl_attr_put_u32(&wanted.head, TEAM_ATTR_OPTION_ARRAY_INDEX, (uint32_t)place.number);
     mnl_attr_nest_end(&wanted.head, item);
     mnl_attr_nest_end(&wanted.head, list);
-    return ask_netlink(lagd, NETLINK_GENERIC, &wanted, NULL, NULL) || errno == ESRCH;
+    return ask_netlink(NETLINK_GENERIC, &wanted, NULL, NULL) || errno == ESRCH;
 }
 
-bool set_team_text(struct lagd *lagd, int index, const char *name, const char *text) {
-    return set_option(lagd, index, name, (struct place){0, -1}, TYPE_STRING, text, strlen(text) + 1);
+bool set_team_text(struct team_netlink_private *own, int index, const char *name, const char *text) {
+    return set_option(own, index, name, (struct place){0, -1}, TYPE_STRING, text, strlen(text) + 1);
 }
 
-bool set_team_number(struct lagd *lagd, int index, const char *name, uint32_t number) {
-    return set_option(lagd, index, name, (struct place){0, -1}, TYPE_U32, &number, sizeof number);
+bool set_team_number(struct team_netlink_private *own, int index, const char *name, uint32_t number) {
+    return set_option(own, index, name, (struct place){0, -1}, TYPE_U32, &number, sizeof number);
 }
 
 /* The program by which the driver finds the bucket of a frame. */
-bool set_team_hash(struct lagd *lagd, int index, const struct sock_filter *steps, size_t count) {
-    return set_option(lagd, index, "bpf_hash_func", (struct place){0, -1}, TYPE_BINARY, steps, count * sizeof *steps);
+bool set_team_hash(struct team_netlink_private *own, int index, const struct sock_filter *steps, size_t count) {
+    return set_option(own, index, "bpf_hash_func", (struct place){0, -1}, TYPE_BINARY, steps, count * sizeof *steps);
 }
 
 /* Whether a port passes data, in either direction. */
-bool set_port_enabled(struct lagd *lagd, int index, int port, bool enabled) {
-    return set_option(lagd, index, "enabled", (struct place){port, -1}, TYPE_FLAG, enabled ? "" : NULL, 0);
+bool set_port_enabled(struct team_netlink_private *own, int index, int port, bool enabled) {
+    return set_option(own, index, "enabled", (struct place){port, -1}, TYPE_FLAG, enabled ? "" : NULL, 0);
 }
 
 /* The frames of a bucket go by a port from now on. */
-bool set_bucket(struct lagd *lagd, int index, uint16_t bucket, int port) {
+bool set_bucket(struct team_netlink_private *own, int index, uint16_t bucket, int port) {
     uint32_t value = (uint32_t)port;
-    return set_option(lagd, index, "lb_tx_hash_to_port_mapping", (struct place){0, bucket}, TYPE_U32, &value, sizeof value);
+    return set_option(own, index, "lb_tx_hash_to_port_mapping", (struct place){0, bucket}, TYPE_U32, &value, sizeof value);
 }
 
 /* One option: a name, and what it has. A flag that is not set has no value. */
@@ -159,7 +156,7 @@ struct option {
     struct place place;
 };
 
-static int take_part(const struct nlattr *part, void *into) {
+static int parse_part(const struct nlattr *part, void *into) {
     struct option *option = into;
     switch (mnl_attr_get_type(part)) {
     case TEAM_ATTR_OPTION_NAME: copy_text(part, option->name, sizeof option->name); break;
@@ -188,27 +185,26 @@ static void note_option(struct team_now *now, const struct option *option) {
     if (strcmp(option->name, "lb_hash_stats") == 0) (void)copy_value(option->value, &now->octets[number], sizeof now->octets[number]);
 }
 
-static int take_option(const struct nlattr *item, void *into) {
+static int parse_option(const struct nlattr *item, void *into) {
     struct option option = {.place = {0, -1}};
     if (mnl_attr_get_type(item) != TEAM_ATTR_ITEM_OPTION) return MNL_CB_OK;
-    (void)mnl_attr_parse_nested(item, take_part, &option);
+    (void)mnl_attr_parse_nested(item, parse_part, &option);
     note_option(into, &option);
     return MNL_CB_OK;
 }
 
-static int take_list(const struct nlattr *list, void *into) {
-    if (mnl_attr_get_type(list) == TEAM_ATTR_LIST_OPTION) (void)mnl_attr_parse_nested(list, take_option, into);
+static int parse_list(const struct nlattr *list, void *into) {
+    if (mnl_attr_get_type(list) == TEAM_ATTR_LIST_OPTION) (void)mnl_attr_parse_nested(list, parse_option, into);
     return MNL_CB_OK;
 }
 
-static void take_told(struct lagd *lagd, const struct nlmsghdr *message, void *into) {
-    (void)lagd;
-    read_attributes(message, sizeof(struct genlmsghdr), take_list, into);
+static void parse_team(const struct nlmsghdr *message, void *into) {
+    read_attributes(message, sizeof(struct genlmsghdr), parse_list, into);
 }
 
 /* Reads the options of a device; answers whether it could. */
-bool read_team(struct lagd *lagd, int index, struct team_now *now) {
-    union message question = message_of_team(lagd, TEAM_CMD_OPTIONS_GET, 0, index);
+bool read_team(struct team_netlink_private *own, int index, struct team_now *now) {
+    union message question = message_of_team(own, TEAM_CMD_OPTIONS_GET, 0, index);
     *now = (struct team_now){0};
-    return ask_netlink(lagd, NETLINK_GENERIC, &question, take_told, now);
+    return ask_netlink(NETLINK_GENERIC, &question, parse_team, now);
 }

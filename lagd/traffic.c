@@ -26,14 +26,14 @@ static union message question_of(uint16_t type, unsigned flags, int index, uint3
     return message_of(type, NLM_F_ACK | flags, &about, sizeof about);
 }
 
-static bool order(struct lagd *lagd, const union message *question) {
-    return ask_netlink(lagd, NETLINK_ROUTE, question, NULL, NULL);
+static bool order(const union message *question) {
+    return ask_netlink(NETLINK_ROUTE, question, NULL, NULL);
 }
 
 /* The name of the queueing discipline that an interface has now; answers whether the kernel tells it. */
-bool read_discipline(struct lagd *lagd, int index, char name[static DISCIPLINE_ROOM]) {
+bool read_discipline(int index, char name[static DISCIPLINE_ROOM]) {
     struct interface interface;
-    if (!ask_interface(lagd, index, NULL, &interface) || !interface.discipline[0]) return false;
+    if (!ask_interface(index, NULL, &interface) || !interface.discipline[0]) return false;
     memcpy(name, interface.discipline, DISCIPLINE_ROOM);
     return true;
 }
@@ -50,25 +50,25 @@ static uint32_t most_queued(uint32_t megabits) {
     return octets < LEAST_QUEUED ? LEAST_QUEUED : (uint32_t)octets;
 }
 
-static bool set_fifo(struct lagd *lagd, int index, uint32_t megabits, unsigned flags, uint32_t parent, uint32_t handle) {
+static bool set_fifo(int index, uint32_t megabits, unsigned flags, uint32_t parent, uint32_t handle) {
     union message question = question_of(RTM_NEWQDISC, flags, index, parent, handle);
     struct tc_fifo_qopt most = {most_queued(megabits)};
     mnl_attr_put_strz(&question.head, TCA_KIND, "bfifo");
     mnl_attr_put(&question.head, TCA_OPTIONS, sizeof most, &most);
-    return order(lagd, &question);
+    return order(&question);
 }
 
 /* Gives an interface one queue that keeps the order, in place of what the kernel gave it by itself: where an administrator set another
  * one, the kernel refuses. Answers whether it has one of the daemon now. */
-bool give_fifo(struct lagd *lagd, int index, uint32_t megabits) {
-    return set_fifo(lagd, index, megabits, NLM_F_CREATE, TC_H_ROOT, FIFO);
+bool give_fifo(int index, uint32_t megabits) {
+    return set_fifo(index, megabits, NLM_F_CREATE, TC_H_ROOT, FIFO);
 }
 
 /* Gives an interface a discipline that has a queue for each of its own, in place of what the kernel gave it by itself. */
-static bool give_queues(struct lagd *lagd, int index) {
+static bool give_queues(int index) {
     union message question = question_of(RTM_NEWQDISC, NLM_F_CREATE, index, TC_H_ROOT, FIFO);
     mnl_attr_put_strz(&question.head, TCA_KIND, "mq");
-    return order(lagd, &question);
+    return order(&question);
 }
 
 /* What is seen of the queueing disciplines of an interface. */
@@ -80,21 +80,20 @@ struct disciplines {
     unsigned queues; /* how many that send have one of their own, below that of the daemon */
 };
 
-static int take_kind(const struct nlattr *attribute, void *into) {
+static int read_kind(const struct nlattr *attribute, void *into) {
     if (mnl_attr_get_type(attribute) == TCA_KIND) copy_text(attribute, into, DISCIPLINE_ROOM);
     return MNL_CB_OK;
 }
 
 /* Sees one of them: the root, one of a queue, or one below that. A tbf has one row. */
-static void take_one(struct lagd *lagd, const struct nlmsghdr *message, void *into) {
+static void parse_discipline(const struct nlmsghdr *message, void *into) {
     struct disciplines *seen = into;
     const struct tcmsg *about = mnl_nlmsg_get_payload(message);
     char kind[DISCIPLINE_ROOM] = "";
     bool in_order;
-    (void)lagd;
     if (message->nlmsg_type != RTM_NEWQDISC || mnl_nlmsg_get_payload_len(message) < sizeof *about) return;
     if (about->tcm_ifindex != seen->index || about->tcm_parent == TC_H_CLSACT) return;
-    read_attributes(message, sizeof *about, take_kind, kind);
+    read_attributes(message, sizeof *about, read_kind, kind);
     in_order = about->tcm_parent == TC_H_ROOT ? about->tcm_handle == FIFO && strcmp(kind, "mq") == 0 : strcmp(kind, "tbf") == 0;
     in_order = in_order || keeps_order(kind);
     seen->queues += TC_H_MAJ(about->tcm_parent) == FIFO && TC_H_MIN(about->tcm_parent) <= seen->sends;
@@ -103,59 +102,59 @@ static void take_one(struct lagd *lagd, const struct nlmsghdr *message, void *in
 }
 
 /* Sees the queueing disciplines of an interface. The kernel tells of those of all: what it does not tell in full may be of others. */
-static struct disciplines read_disciplines(struct lagd *lagd, int index) {
+static struct disciplines read_disciplines(int index) {
     union message question = question_of(RTM_GETQDISC, NLM_F_DUMP, index, 0, 0);
     struct disciplines seen = {index, count_entries(index, "tx-"), true, true, 0};
-    if (!ask_list(lagd, NETLINK_ROUTE, &question, take_one, &seen, sizeof seen)) seen.in_order = seen.changeable = false;
+    if (!ask_list(NETLINK_ROUTE, &question, parse_discipline, &seen, sizeof seen)) seen.in_order = seen.changeable = false;
     return seen;
 }
 
 /* Whether each queue of an interface has a discipline still, and that keeps the order, whatever others put there. A queue without one loses all. */
-bool have_order(struct lagd *lagd, int index) {
-    struct disciplines seen = read_disciplines(lagd, index);
+bool have_order(int index) {
+    struct disciplines seen = read_disciplines(index);
     return seen.in_order && seen.queues == seen.sends;
 }
 
 /* Whether each queue of an interface keeps the order, or would as soon as give_fifos gave it a discipline. */
-bool may_have_order(struct lagd *lagd, int index) {
-    return read_disciplines(lagd, index).changeable;
+bool may_have_order(int index) {
+    return read_disciplines(index).changeable;
 }
 
 /* As give_fifo, for each queue of an interface: so the order of one stays, and none waits for another one. The last daemon may have left one
  * for all. What an administrator gave a queue stays; answers whether all keep the order. */
-bool give_fifos(struct lagd *lagd, int index, unsigned queues, uint32_t megabits) {
+bool give_fifos(int index, unsigned queues, uint32_t megabits) {
     bool given;
-    if (queues <= 1) return give_fifo(lagd, index, megabits);
-    given = give_queues(lagd, index);
-    if (!given) take_fifo(lagd, index);
-    if (!given && !give_queues(lagd, index)) return false;
-    fit_fifos(lagd, index, queues, megabits);
-    return have_order(lagd, index);
+    if (queues <= 1) return give_fifo(index, megabits);
+    given = give_queues(index);
+    if (!given) drop_fifo(index);
+    if (!given && !give_queues(index)) return false;
+    fit_fifos(index, queues, megabits);
+    return have_order(index);
 }
 
 /* The link has this speed now: the queue of an interface gets its length, if it is one of the daemon. */
-void fit_fifo(struct lagd *lagd, int index, uint32_t megabits) {
-    (void)set_fifo(lagd, index, megabits, 0, TC_H_ROOT, FIFO);
+void fit_fifo(int index, uint32_t megabits) {
+    (void)set_fifo(index, megabits, 0, TC_H_ROOT, FIFO);
 }
 
 /* The same, for each queue. Where an administrator set another one, the kernel refuses. */
-void fit_fifos(struct lagd *lagd, int index, unsigned queues, uint32_t megabits) {
-    if (queues <= 1) fit_fifo(lagd, index, megabits);
+void fit_fifos(int index, unsigned queues, uint32_t megabits) {
+    if (queues <= 1) fit_fifo(index, megabits);
     for (unsigned queue = 0; queues > 1 && queue < queues; queue++)
-        (void)set_fifo(lagd, index, megabits, NLM_F_CREATE, FIFO | (queue + 1), 0);
+        (void)set_fifo(index, megabits, NLM_F_CREATE, FIFO | (queue + 1), 0);
 }
 
 /* The kernel gives an interface what it chooses by itself, if its queue is one of the daemon. */
-void take_fifo(struct lagd *lagd, int index) {
+void drop_fifo(int index) {
     union message question = question_of(RTM_DELQDISC, 0, index, TC_H_ROOT, FIFO);
-    (void)order(lagd, &question);
+    (void)order(&question);
 }
 
 /* An interface gets no queueing discipline, unless an administrator gave it one. Which it has then is told with all interfaces. */
-void give_no_queue(struct lagd *lagd, int index) {
+void give_no_queue(int index) {
     union message question = question_of(RTM_NEWQDISC, NLM_F_CREATE | NLM_F_EXCL, index, TC_H_ROOT, 0);
     mnl_attr_put_strz(&question.head, TCA_KIND, "noqueue");
-    (void)order(lagd, &question);
+    (void)order(&question);
 }
 
 static union message question_of_place(uint16_t type, unsigned flags, int index) {
@@ -173,9 +172,9 @@ static union message question_of_classifier(uint16_t type, unsigned flags, int i
     return question;
 }
 
-static bool has_classifier(struct lagd *lagd, int index, uint32_t handle) {
+static bool has_classifier(int index, uint32_t handle) {
     union message question = question_of_classifier(RTM_GETTFILTER, 0, index, handle);
-    return order(lagd, &question);
+    return order(&question);
 }
 
 /* Whether a message tells of nothing but the classifier of the daemon: first of its priority, and then of itself. */
@@ -186,43 +185,42 @@ static bool is_own(const struct nlmsghdr *message) {
         && about->tcm_parent == TC_H_MAKE(TC_H_CLSACT, TC_H_MIN_INGRESS);
 }
 
-static void take_filter(struct lagd *lagd, const struct nlmsghdr *message, void *into) {
+static void parse_filter(const struct nlmsghdr *message, void *into) {
     bool *alone = into;
-    (void)lagd;
     *alone = *alone && is_own(message);
 }
 
 /* Whether nobody else has a filter in this direction of a place. What is not told in full may be of others. */
-static bool has_own_alone(struct lagd *lagd, int index, uint32_t direction) {
+static bool has_own_alone(int index, uint32_t direction) {
     union message question = question_of(RTM_GETTFILTER, NLM_F_DUMP, index, TC_H_MAKE(TC_H_CLSACT, direction), 0);
     bool alone = true;
-    return ask_list(lagd, NETLINK_ROUTE, &question, take_filter, &alone, sizeof alone) && alone;
+    return ask_list(NETLINK_ROUTE, &question, parse_filter, &alone, sizeof alone) && alone;
 }
 
 /* The classifier goes: with its place, if the daemon made that and nobody else uses it by now. */
-static void leave_place(struct lagd *lagd, int index, bool made) {
-    bool alone = made && has_own_alone(lagd, index, TC_H_MIN_INGRESS) && has_own_alone(lagd, index, TC_H_MIN_EGRESS);
+static void leave_place(int index, bool made) {
+    bool alone = made && has_own_alone(index, TC_H_MIN_INGRESS) && has_own_alone(index, TC_H_MIN_EGRESS);
     union message place = question_of_place(RTM_DELQDISC, 0, index);
     union message own = question_of_classifier(RTM_DELTFILTER, 0, index, made ? PLACE_MADE : PLACE_FOUND);
-    (void)order(lagd, alone ? &place : &own);
+    (void)order(alone ? &place : &own);
 }
 
 /* Has a program look at what the stack of an interface would get, on a kernel without TCX. It stays when the daemon is killed, and the next
  * one takes it over. */
-enum classifier set_classifier(struct lagd *lagd, int program, int index) {
+enum classifier set_classifier(int program, int index) {
     union message place = question_of_place(RTM_NEWQDISC, NLM_F_CREATE | NLM_F_EXCL, index), question;
-    bool made = order(lagd, &place) || has_classifier(lagd, index, PLACE_MADE);
+    bool made = order(&place) || has_classifier(index, PLACE_MADE);
     struct nlattr *nest;
     question = question_of_classifier(RTM_NEWTFILTER, NLM_F_CREATE, index, made ? PLACE_MADE : PLACE_FOUND);
     nest = mnl_attr_nest_start(&question.head, TCA_OPTIONS);
     mnl_attr_put_u32(&question.head, TCA_BPF_FD, (uint32_t)program);
     mnl_attr_put_u32(&question.head, TCA_BPF_FLAGS, TCA_BPF_FLAG_ACT_DIRECT);
     mnl_attr_nest_end(&question.head, nest);
-    if (order(lagd, &question)) return made ? CLASSIFIER_ALONE : CLASSIFIER_BEHIND_OTHERS;
-    if (made) leave_place(lagd, index, true);
+    if (order(&question)) return made ? CLASSIFIER_ALONE : CLASSIFIER_BEHIND_OTHERS;
+    if (made) leave_place(index, true);
     return NO_CLASSIFIER;
 }
 
-void drop_classifier(struct lagd *lagd, int index) {
-    leave_place(lagd, index, has_classifier(lagd, index, PLACE_MADE));
+void drop_classifier(int index) {
+    leave_place(index, has_classifier(index, PLACE_MADE));
 }

@@ -21,7 +21,7 @@ static int open_bit(unsigned bit, int pair[2]) {
     const struct sock_filter rest[] = {BPF_STMT(BPF_ST, 0), BPF_STMT(BPF_ALU | BPF_RSH | BPF_K, 16), BPF_STMT(BPF_LDX | BPF_MEM, 0),
         BPF_STMT(BPF_ALU | BPF_XOR | BPF_X, 0), BPF_STMT(BPF_ST, 0), BPF_STMT(BPF_ALU | BPF_RSH | BPF_K, 8), BPF_STMT(BPF_LDX | BPF_MEM, 0),
         BPF_STMT(BPF_ALU | BPF_XOR | BPF_X, 0), BPF_STMT(BPF_ALU | BPF_AND | BPF_K, 1u << bit), BPF_STMT(BPF_RET | BPF_A, 0)};
-    size_t count = make_team_hash(lagd, steps) - 1; /* without the one that answers */
+    size_t count = make_team_hash(&lagd->settings, steps) - 1; /* without the one that answers */
     struct sock_fprog program = {(unsigned short)(count + sizeof rest / sizeof *rest), steps};
     memcpy(steps + count, rest, sizeof rest);
     return socketpair(AF_UNIX, SOCK_DGRAM | SOCK_NONBLOCK, 0, pair) == 0

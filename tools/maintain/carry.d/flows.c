@@ -148,7 +148,7 @@ static void take_mark(const struct mark *mark, uint64_t time) {
     if (time - mark->sent_at > longest) longest = time - mark->sent_at;
 }
 
-static void take_frame(const uint8_t *frame, size_t length, unsigned count, uint64_t time) {
+static void accept_frame(const uint8_t *frame, size_t length, unsigned count, uint64_t time) {
     struct mark mark;
     if (length != OCTETS || frame[1] != 0xbb || frame[36] != TO_PORT >> 8 || frame[37] != (TO_PORT & 0xff)) return;
     memcpy(&mark, frame + HEADERS, sizeof mark);
@@ -191,7 +191,7 @@ static int receive_flows(char **words) {
             messages[i].msg_hdr = (struct msghdr){.msg_iov = &parts[i], .msg_iovlen = 1};
         }
         got = recvmmsg(fd, messages, BATCH, MSG_DONTWAIT, NULL);
-        for (int i = 0; i < got; i++) take_frame(frames[i], messages[i].msg_len, count, now());
+        for (int i = 0; i < got; i++) accept_frame(frames[i], messages[i].msg_len, count, now());
     }
     (void)getsockopt(fd, SOL_PACKET, PACKET_STATISTICS, &stats, &length);
     print_flows(count, stats.tp_drops);

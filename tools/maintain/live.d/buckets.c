@@ -103,7 +103,8 @@ static bool refuses(void) {
     return refusals > 0 && refusals-- > 0;
 }
 
-bool set_port_enabled(struct lagd *lagd, int index, int port, bool wanted) {
+bool set_port_enabled(struct team_netlink_private *own, int index, int port, bool wanted) {
+    (void)own;
     uint16_t number = (uint16_t)(port - INDEX);
     if (index != DEVICE || !is_port[number] || refuses()) return false;
     for (uint16_t bucket = 0; !wanted && bucket < CONVERSATIONS; bucket++) {
@@ -115,25 +116,24 @@ bool set_port_enabled(struct lagd *lagd, int index, int port, bool wanted) {
     return true;
 }
 
-bool set_bucket(struct lagd *lagd, int index, uint16_t bucket, int port) {
+bool set_bucket(struct team_netlink_private *own, int index, uint16_t bucket, int port) {
     uint16_t before = member_of[bucket] == 0 ? 0 : (uint16_t)(member_of[bucket] - INDEX);
     bool leaves = before != 0 && before != port - INDEX && distributes[before] && placed_in == aggregator;
-    (void)lagd;
+    (void)own;
     if (index != DEVICE || !enabled[port - INDEX] || refuses()) return false;
     if (leaves && last_counted[bucket] + FLIGHT > counted_at) early = true;
     member_of[bucket] = port;
     return true;
 }
 
-bool ask_interface(struct lagd *lagd, int index, const char *name, struct interface *device) {
-    (void)lagd;
+bool ask_interface(int index, const char *name, struct interface *device) {
     (void)name;
     *device = (struct interface){.index = index, .octets_sent = all_sent};
     return true;
 }
 
-bool read_team(struct lagd *lagd, int index, struct team_now *now) {
-    (void)lagd;
+bool read_team(struct team_netlink_private *own, int index, struct team_now *now) {
+    (void)own;
     *now = (struct team_now){0};
     errno = ENOBUFS;
     if (unread > 0 && unread-- > 0) return false;
@@ -148,28 +148,29 @@ bool read_team(struct lagd *lagd, int index, struct team_now *now) {
 }
 
 /* What the daemon has beside. */
-uint64_t milliseconds(struct lagd *lagd) {
+uint64_t milliseconds(void) {
     return lagd->carry.time;
 }
-uint64_t ticks_passed(struct lagd *lagd) {
+uint64_t ticks_passed(struct system_private *own) {
+    (void)own;
     return lagd->carry.time / TICK;
 }
-int tap_index(struct lagd *lagd) {
-    (void)lagd;
+int tap_index(struct tap_private *own) {
+    (void)own;
     return DEVICE;
 }
-bool is_team_port(struct lagd *lagd, uint16_t port) {
-    (void)lagd;
+bool is_team_port(struct team_private *own, uint16_t port) {
+    (void)own;
     return is_port[port];
 }
 void give_team_addresses(struct lagd *lagd) {
     (void)lagd;
 }
-void look_at_carry(struct lagd *lagd) {
-    lagd->carry.changed = true;
+void look_at_carry(struct carry *carry) {
+    carry->changed = true;
 }
-void look_again(struct lagd *lagd) {
-    (void)lagd;
+void look_again(struct changes_private *own) {
+    (void)own;
 }
 void set_carrier(struct lagd *lagd, bool on) {
     (void)lagd;
@@ -182,7 +183,7 @@ bool say(struct lagd *lagd, int level, const char *format, ...) {
     return true;
 }
 
-static void choose_ports(void) {
+static void choose_distributing(void) {
     lagd->carry.port_count = 0;
     for (uint16_t port = 1; port <= PORTS; port++)
         if (distributes[port]) lagd->carry.ports[lagd->carry.port_count++] = port;
@@ -239,7 +240,7 @@ static void happen(void) {
 static void settle(void) {
     for (unsigned turn = 0; turn < 8; turn++) {
         lagd->carry.changed = false;
-        choose_ports();
+        choose_distributing();
         settle_buckets(lagd);
         if (!lagd->carry.changed) break;
     }
@@ -252,7 +253,7 @@ static void pass(bool eventful) {
     if (eventful) happen();
     if (eventful) send_some();
     if (!eventful || random_below(4) > 0) count();
-    choose_ports();
+    choose_distributing();
     pass_bucket_tick(lagd);
     settle();
 }

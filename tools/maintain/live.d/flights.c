@@ -26,13 +26,12 @@ static bool is_fast_member;
 static unsigned sent, by_mark, answered, entries = 4;
 static uint32_t ids[64], marks[64];
 
-uint64_t milliseconds(struct lagd *lagd) {
-    (void)lagd;
+uint64_t milliseconds(void) {
     return now;
 }
 
-bool has_fast_member(struct lagd *lagd, uint16_t port) {
-    (void)lagd;
+bool has_fast_member(struct members_private *own, uint16_t port) {
+    (void)own;
     (void)port;
     return is_fast_member;
 }
@@ -43,8 +42,8 @@ unsigned count_entries(int index, const char *begin) {
     return entries;
 }
 
-bool await_input(struct lagd *lagd, int fd, uint32_t tag) {
-    (void)lagd;
+bool await_input(int epoll_file, int fd, uint32_t tag) {
+    (void)epoll_file;
     return fd >= 0 && tag == RESPONSES;
 }
 
@@ -53,7 +52,7 @@ void stop(int status, const char *what, const char *which) {
     _Exit(status);
 }
 
-void take_data(struct lagd *lagd, uint16_t port) {
+void receive_data(struct lagd *lagd, uint16_t port) {
     (void)lagd;
     (void)port;
 }
@@ -95,20 +94,17 @@ static unsigned ask(uint32_t id, bool again) {
     set_identifier(frame, id);
     sent = by_mark = 0;
     lagd->carry.time = now;
-    if (again)
-        (void)send_by_queues_again(lagd, &lagd->links[PORT - 1], frame);
-    else
-        (void)send_by_queues(lagd, &lagd->links[PORT - 1], frame);
+    (void)send_by_queues(lagd, &lagd->links[PORT - 1], frame, again);
     return sent;
 }
 
 /* A response comes; answers the identifier that the library gets, or 0 where it gets none. */
 static uint32_t hear(uint32_t id) {
-    return ends_flight(lagd, &lagd->links[PORT - 1], &id) ? id : 0;
+    return ends_flight(lagd->queues, &lagd->links[PORT - 1], &id) ? id : 0;
 }
 
 static void try_one_flight(void) {
-    begin_queues(lagd, PORT, 4);
+    begin_queues(lagd->queues, PORT, 4);
     check(ask(0x51234567, false) == 4, __func__, "nobody knows what a new member has in its queues: a marker goes by each");
     check(ids[0] == 0x01234567 && ids[1] == 0x11234567 && ids[3] == 0x31234567, __func__, "its identifier has the queue");
     check(marks[0] == (QUEUE_MARK | 1) && marks[3] == (QUEUE_MARK | 4), __func__, "its mark has the queue, from 1 on");
@@ -139,10 +135,10 @@ static void try_dirty(void) {
 }
 
 static void try_many(void) {
-    begin_queues(lagd, PORT, 1);
+    begin_queues(lagd->queues, PORT, 1);
     for (uint32_t id = 21; id < 27; id++) check(ask(id, false) == 1 && by_mark == 0, __func__, "by one queue a marker has no mark");
     check(hear(21) == 0 && hear(22) == 0 && hear(23) == 23 && hear(26) == 26, __func__, "the last four markers may be answered");
-    begin_queues(lagd, PORT, 16);
+    begin_queues(lagd->queues, PORT, 16);
     check(ask(30, false) == 16 && ids[15] == 0xf000001e, __func__, "there are sixteen queues at most");
 }
 
@@ -150,28 +146,28 @@ static void try_answers(void) {
     uint8_t frame[NIW_FRAME] = {0};
     unsigned taken = 0;
     start_answers(lagd);
-    while (taken < 100 && answer_marker(lagd, &lagd->links[PORT - 1], frame)) taken++;
+    while (taken < 100 && answer_later(lagd, &lagd->links[PORT - 1], frame)) taken++;
     check(taken == 64, __func__, "sixty-four responses wait, and no more");
     serve_answers(lagd);
     check(answered == 0, __func__, "none goes before its time");
     now += AFTER + 1;
     serve_answers(lagd);
     check(answered == 0, __func__, "nor while its socket may have what came before");
-    note_unread(lagd, PORT, 64, false);
+    note_unread(lagd->answers, PORT, 64, false);
     serve_answers(lagd);
     check(answered == 0, __func__, "or was not read to its end");
-    note_unread(lagd, PORT, 3, true);
+    note_unread(lagd->answers, PORT, 3, true);
     serve_answers(lagd);
     check(answered == 64, __func__, "then all go");
-    check(answer_marker(lagd, &lagd->links[PORT - 1], frame), __func__, "there is room again");
-    forget_answers(lagd, PORT);
+    check(answer_later(lagd, &lagd->links[PORT - 1], frame), __func__, "there is room again");
+    forget_answers(lagd->answers, PORT);
     now += 10 * AFTER;
-    note_unread(lagd, PORT, 0, true);
+    note_unread(lagd->answers, PORT, 0, true);
     serve_answers(lagd);
     check(answered == 64, __func__, "with the link down none goes");
-    check(answer_marker(lagd, &lagd->links[PORT - 1], frame), __func__, "there is room then");
+    check(answer_later(lagd, &lagd->links[PORT - 1], frame), __func__, "there is room then");
     now += AFTER + 1;
-    for (unsigned read = 0; read < 32768; read += 64) note_unread(lagd, PORT, 64, false);
+    for (unsigned read = 0; read < 32768; read += 64) note_unread(lagd->answers, PORT, 64, false);
     serve_answers(lagd);
     check(answered == 65, __func__, "a flood of data does not hold a response for ever");
 }
@@ -179,7 +175,6 @@ static void try_answers(void) {
 int main(void) {
     lagd->answers = make_answers_private();
     lagd->queues = make_queues_private();
-    lagd->settings.all_queues = true;
     lagd->settings.answer_after = AFTER;
     lagd->link_count = PORT;
     for (uint16_t i = 0; i < lagd->link_count; i++) lagd->links[i].settings.number = (uint16_t)(i + 1);

@@ -30,19 +30,19 @@ static int wire[2];                             /* the packet socket of the firs
 static const uint8_t *waiting;                  /* what waits there, or is the answer of the kernel; or NULL */
 static size_t waiting_length;
 
-bool await_input(struct lagd *lagd, int fd, uint32_t tag) {
-    (void)lagd;
+bool await_input(int epoll_file, int fd, uint32_t tag) {
+    (void)epoll_file;
     (void)fd;
     (void)tag;
     return true;
 }
 
-bool await_output(struct lagd *lagd, int fd, uint32_t tag) {
-    return await_input(lagd, fd, tag);
+bool await_output(int epoll_file, int fd, uint32_t tag) {
+    return await_input(epoll_file, fd, tag);
 }
 
-void await_no_more(struct lagd *lagd, int fd) {
-    (void)lagd;
+void await_no_more(int epoll_file, int fd) {
+    (void)epoll_file;
     (void)fd;
 }
 
@@ -105,7 +105,7 @@ static void fuzz_file(const uint8_t *octets, size_t length) {
 
 static void fuzz_frame(const uint8_t *octets, size_t length) {
     struct arrival arrival = {octets, length, PACKET_MULTICAST, lagd->links[0].index, false};
-    take_frame(lagd, &lagd->links[0], &arrival);
+    accept_frame(lagd, &lagd->links[0], &arrival);
     send_due(lagd);
 }
 
@@ -114,14 +114,14 @@ static void fuzz_auxiliary(const uint8_t *octets, size_t length) {
     lagd->links[0].socket = wire[0];
     waiting = octets;
     waiting_length = length;
-    take_frames(lagd, 1);
+    receive_frames(lagd, 1);
     waiting = NULL;
     lagd->links[0].socket = -1;
     while (recv(wire[1], scrap, sizeof scrap, MSG_DONTWAIT) > 0) continue;
 }
 
 static void serve_all(void) {
-    take_callers(lagd);
+    accept_callers(lagd);
     for (uint32_t caller = 0; caller < MOST_CALLERS; caller++) serve_caller(lagd, caller);
 }
 
@@ -149,11 +149,12 @@ static void fuzz_caller(const uint8_t *octets, size_t length) {
 /* What the last daemon left, behind the number of this boot; and a daemon that goes on from it. */
 static void fuzz_state(const uint8_t *octets, size_t length) {
     char name[64];
+    char boot[BOOT_ROOM];
     FILE *file;
     snprintf(name, sizeof name, "%s/%lu.%s.state", folder, network_namespace(), lagd->settings.name);
     file = fopen(name, "we");
     if (!file) abort();
-    fprintf(file, "lagd 2\nboot %s\n", boot_id(lagd));
+    fprintf(file, "lagd 2\nboot %s\n", boot_id(boot));
     (void)fwrite(octets, 1, length, file);
     fclose(file);
     lagd->inherited = (struct inherited){0};
@@ -189,11 +190,11 @@ static void fuzz_answers(const uint8_t *octets, size_t length) {
     static struct team_now now;
     waiting_length = length;
     waiting = octets;
-    (void)ask_interface(lagd, 1, NULL, &interface);
+    (void)ask_interface(1, NULL, &interface);
     waiting = octets;
-    (void)read_team(lagd, 1, &now);
+    (void)read_team(lagd->team_netlink, 1, &now);
     waiting = octets;
-    drop_classifier(lagd, 1);
+    drop_classifier(1);
     waiting = NULL;
 }
 
@@ -202,7 +203,7 @@ static void fuzz_messages(const uint8_t *octets, size_t length) {
     uint8_t *messages = malloc(length);
     if (!messages) return;
     memcpy(messages, octets, length);
-    take_messages(lagd, messages, length);
+    read_messages(lagd, messages, length);
     free(messages);
 }
 

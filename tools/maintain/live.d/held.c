@@ -65,7 +65,7 @@ static uint32_t take(uint16_t conversation, size_t wanted) {
     size_t length;
     const uint8_t *packet;
     uint32_t number;
-    packet = take_held(lagd, conversation, &length);
+    packet = remove_held(lagd, conversation, &length);
     if (!packet) return UINT32_MAX;
     memcpy(&number, packet, sizeof number);
     CHECK(length == wanted);
@@ -103,7 +103,7 @@ static void check_order(void) {
             CHECK(drop_held(lagd, 7, HELD_TOO_LONG));
     }
     CHECK(lagd->carry.counts[HELD_TOO_LONG] == 2 && waits(7, 0));
-    free_left(lagd);
+    free_left(lagd->held);
 }
 
 /* A full conversation gets many frames more: each is refused, or the oldest one is lost for it. Then there is room for as many frames of
@@ -119,7 +119,7 @@ static void check_refused(bool loses) {
     for (uint16_t number = 1; number < ALL / EACH; number++) others += put_many(number, EACH + 1, SMALL_OCTETS);
     CHECK(others == ALL - EACH && all_wait(ALL) && put_many(ALL / EACH, MANY, SMALL_OCTETS) == 0);
     CHECK(take(0, SMALL_OCTETS) == (loses ? MANY : 0));
-    free_left(lagd);
+    free_left(lagd->held);
     CHECK(put(0, 0, SMALL_OCTETS) && lose(CONVERSATIONS) == ALL && all_wait(0));
 }
 
@@ -128,7 +128,7 @@ static void check_large(void) {
     CHECK(put_many(0, EACH, SMALL_OCTETS) == EACH && put_many(0, MANY, LARGE_OCTETS) == 0);
     CHECK(put_many(1, EACH, LARGE_OCTETS) == LARGE_FRAMES && put_many(2, 1, LARGE_OCTETS) == 0 && put_many(2, 1, SMALL_OCTETS) == 1);
     CHECK(take(1, LARGE_OCTETS) == 0 && put_many(2, 1, LARGE_OCTETS) == 0);
-    free_left(lagd);
+    free_left(lagd->held);
     CHECK(put_many(2, 2, LARGE_OCTETS) == 1 && lose(CONVERSATIONS) == EACH + LARGE_FRAMES + 1);
 }
 

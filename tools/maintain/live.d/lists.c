@@ -13,8 +13,7 @@
 
 const char *const program = "lists";
 
-/* The daemon, as far as it is here; how many answers are interrupted, and how many were asked for. */
-static struct lagd tested, *lagd = &tested;
+/* How many answers are interrupted, and how many were asked for. */
 static unsigned interrupted, asked, part;
 
 ssize_t __wrap_mnl_socket_sendto(const struct mnl_socket *socket, const void *question, size_t length);
@@ -44,8 +43,7 @@ ssize_t __wrap_mnl_socket_recvfrom(const struct mnl_socket *socket, void *into, 
     return 20;
 }
 
-static void count(struct lagd *of, const struct nlmsghdr *message, void *into) {
-    (void)of;
+static void count(const struct nlmsghdr *message, void *into) {
     *(unsigned *)into += message->nlmsg_type == RTM_NEWLINK;
 }
 
@@ -55,20 +53,19 @@ static void try_list(unsigned broken, bool wanted, unsigned tries) {
     bool told;
     interrupted = broken;
     asked = 0;
-    told = ask_list(lagd, NETLINK_ROUTE, &question, count, &seen, sizeof seen);
+    told = ask_list(NETLINK_ROUTE, &question, count, &seen, sizeof seen);
     CHECK(told == wanted && asked == tries && seen == 9 && (told || errno == EINTR));
 }
 
 int main(void) {
     union message question = message_of_interface(RTM_GETLINK, NLM_F_DUMP, 0);
     unsigned seen = 0;
-    lagd->netlink = make_netlink_private();
     try_list(0, true, 1);
     try_list(1, true, 2);
     try_list(9, true, 10);
     try_list(100, false, 10);
     interrupted = 1;
     asked = 0;
-    CHECK(!ask_netlink(lagd, NETLINK_ROUTE, &question, count, &seen) && errno == EINTR && asked == 1);
+    CHECK(!ask_netlink(NETLINK_ROUTE, &question, count, &seen) && errno == EINTR && asked == 1);
     return tell_checks();
 }

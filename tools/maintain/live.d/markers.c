@@ -19,6 +19,9 @@ static struct lagd tested, *lagd = &tested;
 
 const char *const program = "markers";
 
+/* Its members have one queue. */
+static const struct queueing ONE_QUEUE = {.markers_at_once = 1};
+
 static uint64_t now = 5 * MINUTE;
 static unsigned lines; /* that were said */
 static uint32_t last_id = FIRST_ID - 1;
@@ -27,13 +30,12 @@ static bool answered; /* whether the response to the last marker came */
 
 static const uint8_t OWN[6] = {2, 0, 0, 0, 0, 0xaa}, PARTNER[6] = {2, 0, 0, 0, 0, 0xbb}, STRANGER[6] = {2, 0, 0, 0, 0, 0xcc};
 
-uint64_t milliseconds(struct lagd *lagd) {
-    (void)lagd;
+uint64_t milliseconds(void) {
     return now;
 }
 
-uint64_t ticks_passed(struct lagd *lagd) {
-    (void)lagd;
+uint64_t ticks_passed(struct system_private *own) {
+    (void)own;
     return now / TICK;
 }
 
@@ -62,7 +64,7 @@ const char *mac_text(const uint8_t *mac, char room[static 32]) {
     return room[0] = 0, room;
 }
 
-void take_marker(struct lagd *lagd, struct link *link, const uint8_t *frame) {
+void send_new_marker(struct lagd *lagd, struct link *link, const uint8_t *frame) {
     (void)lagd;
     (void)link;
     (void)frame;
@@ -108,7 +110,7 @@ static bool respond(const uint8_t *source, uint16_t port, uint32_t id) {
     struct niw_pdu response;
     write_frame(frame, source, NIW_MARKER_RESPONSE, port, id);
     CHECK(read_response(lagd, &arrival, &response));
-    if (!is_partners_response(lagd, &lagd->links[0], &arrival, &response)) {
+    if (!is_partners_response(&lagd->settings, &lagd->links[0], &arrival, &response)) {
         note_odd_marker(&lagd->links[0], &arrival, FOREIGN_RESPONSES);
         return false;
     }
@@ -139,43 +141,43 @@ static void begin(void) {
     lagd->links[0].view.partner_key = (uint16_t)now;
     look_at_partner(lagd);
     sent = again = lines = 0;
-    CHECK(peer_answering(lagd) == NOT_ASKED);
+    CHECK(peer_answering(lagd->probe) == NOT_ASKED);
 }
 
 /* A peer that answers after three ticks answers markers, and nothing else is said meanwhile. */
 static void check_slow(void) {
     begin();
     pass(4);
-    CHECK(peer_answering(lagd) == ASKED && lines == 0 && sent == 1 && again == 1);
-    CHECK(respond(PARTNER, 1, last_id) && peer_answering(lagd) == ANSWERS && lines == 1);
+    CHECK(peer_answering(lagd->probe) == ASKED && lines == 0 && sent == 1 && again == 1);
+    CHECK(respond(PARTNER, 1, last_id) && peer_answering(lagd->probe) == ANSWERS && lines == 1);
     pass(1200);
-    CHECK(peer_answering(lagd) == ANSWERS && lines == 1 && sent == 1);
+    CHECK(peer_answering(lagd->probe) == ANSWERS && lines == 1 && sent == 1);
 }
 
 /* A peer that never answers is told of once, and is not taken for another one while it is asked again, each minute. */
 static void check_mute(void) {
     begin();
     pass(12);
-    CHECK(peer_answering(lagd) == MUTE && lines == 1 && sent == 1);
+    CHECK(peer_answering(lagd->probe) == MUTE && lines == 1 && sent == 1);
     for (unsigned tick = 0; tick < 2400; tick++) {
         pass(1);
-        CHECK(peer_answering(lagd) == MUTE);
+        CHECK(peer_answering(lagd->probe) == MUTE);
     }
     CHECK(lines == 1 && sent == 4 + 1);
-    CHECK(respond(PARTNER, 1, last_id) && peer_answering(lagd) == ANSWERS && lines == 2);
+    CHECK(respond(PARTNER, 1, last_id) && peer_answering(lagd->probe) == ANSWERS && lines == 2);
 }
 
 /* No response of another one, of another port or of another number makes a mute peer one that answers; a late one does. */
 static void check_forged(void) {
     begin();
     pass(12);
-    CHECK(!respond(STRANGER, 1, last_id) && !respond(PARTNER, 2, last_id) && !respond(STRANGER, 0, 0) && peer_answering(lagd) == MUTE);
-    for (uint32_t id = 0; id < 1000; id++) CHECK(respond(PARTNER, 1, id) && peer_answering(lagd) == MUTE);
+    CHECK(!respond(STRANGER, 1, last_id) && !respond(PARTNER, 2, last_id) && !respond(STRANGER, 0, 0) && peer_answering(lagd->probe) == MUTE);
+    for (uint32_t id = 0; id < 1000; id++) CHECK(respond(PARTNER, 1, id) && peer_answering(lagd->probe) == MUTE);
     CHECK(lines == 1 && lagd->links[0].counts[FOREIGN_RESPONSES] == 3);
     tell_markers(lagd, &lagd->links[0]);
     tell_markers(lagd, &lagd->links[0]);
     CHECK(lines == 2);
-    CHECK(respond(PARTNER, 1, last_id) && peer_answering(lagd) == ANSWERS);
+    CHECK(respond(PARTNER, 1, last_id) && peer_answering(lagd->probe) == ANSWERS);
 }
 
 /* Markers come each `step` milliseconds for a minute; the most that were answered within any second, and how many in all. */
@@ -228,6 +230,7 @@ static void check_budgets(void) {
 
 int main(void) {
     lagd->probe = make_probe_private();
+    lagd->plane.queueing = &ONE_QUEUE;
     memcpy(lagd->settings.config.mac, OWN, sizeof OWN);
     check_slow();
     check_mute();

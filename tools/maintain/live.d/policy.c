@@ -152,12 +152,11 @@ static void put_slow(struct end *end, uint16_t port, uint8_t *frame) {
 }
 
 /* What the policy asks of the rest of the daemon: the clock, */
-uint64_t milliseconds(struct lagd *lagd) {
-    (void)lagd;
+uint64_t milliseconds(void) {
     return now;
 }
-uint64_t ticks_passed(struct lagd *lagd) {
-    (void)lagd;
+uint64_t ticks_passed(struct system_private *own) {
+    (void)own;
     return now / TICK;
 }
 uint64_t boottime(void) {
@@ -177,9 +176,9 @@ void flush_data(struct lagd *lagd) {
     struct end *end = end_of(lagd);
     for (unsigned i = 0; i < end->out_count; i++) (void)put_on_wire(end, end->out[i].port, end->out[i].packet, OCTETS);
     end->out_count = 0;
-    free_left(lagd);
+    free_left(lagd->held);
 }
-void take_marker(struct lagd *lagd, struct link *link, const uint8_t *frame) {
+void send_new_marker(struct lagd *lagd, struct link *link, const uint8_t *frame) {
     struct end *end = end_of(lagd);
     flush_data(lagd);
     memcpy(end->marker[link->settings.number], frame, NIW_FRAME);
@@ -253,7 +252,7 @@ bool carries(struct lagd *lagd, const struct link *link) {
     (void)lagd;
     return link->view.port_status == NIW_PORT_STATUS_DISTRIBUTING;
 }
-void take_views(struct lagd *lagd) {
+void read_views(struct lagd *lagd) {
     struct niw_view views[NIW_MOST_PORTS];
     uint64_t changed;
     if (!is_told(lagd, niw_views(&lagd->own_system, views, NIW_MOST_PORTS), "niw_views", &changed)) return;
@@ -267,7 +266,7 @@ void send_due(struct lagd *lagd) {
             struct niw_sent due = niw_transmit(&lagd->own_system, port, frame, sizeof frame);
             if (!is_done(lagd, due.status, "niw_transmit") || !due.is) break;
             if (due.what == NIW_SENT_MARKER)
-                take_marker(lagd, &lagd->links[port - 1], frame);
+                send_new_marker(lagd, &lagd->links[port - 1], frame);
             else
                 put_slow(end_of(lagd), port, frame);
         }
@@ -294,8 +293,8 @@ bool has_right_length(const uint8_t *packet, size_t length, uint32_t mtu) {
     (void)packet;
     return length <= mtu + ETH_HLEN;
 }
-uint32_t longest_payload(struct lagd *lagd) {
-    (void)lagd;
+uint32_t longest_payload(struct tap_private *own) {
+    (void)own;
     return ETH_DATA_LEN;
 }
 struct niw_number conversation_of(struct lagd *lagd, const uint8_t *frame, size_t length) {
@@ -303,18 +302,14 @@ struct niw_number conversation_of(struct lagd *lagd, const uint8_t *frame, size_
     (void)length;
     return (struct niw_number){.status = NIW_OK, .number = conversation_at(frame)};
 }
-bool carries_data(struct lagd *lagd) {
-    (void)lagd;
-    return true;
-}
 
 /* and what is of members with several queues, of which there are none here; */
-bool answer_marker(struct lagd *lagd, struct link *link, const uint8_t *response) {
+static bool answer(struct lagd *lagd, struct link *link, const uint8_t *response) {
     send_frame(lagd, link, response);
     return true;
 }
-bool ends_flight(struct lagd *lagd, const struct link *link, uint32_t *id) {
-    (void)lagd;
+bool ends_flight(struct queues_private *own, const struct link *link, uint32_t *id) {
+    (void)own;
     (void)link;
     (void)id;
     return false;
@@ -324,34 +319,19 @@ void set_identifier(uint8_t *frame, uint32_t id) {
     (void)id;
 }
 
-/* and what is not here: the kernel's plane, the team driver, the settings of the device. */
+/* and what is not here: the settings of the device. */
 #define NOTHING(name) \
     void name(struct lagd *lagd) { (void)lagd; }
-#define NEVER(name) \
-    bool name(struct lagd *lagd) { (void)lagd; return false; }
-NOTHING(announce_soon)
 NOTHING(count_losses)
-NOTHING(look_at_driver)
 NOTHING(pass_announcing_tick)
-NOTHING(pass_bucket_tick)
-NOTHING(pass_fast_tick)
-NOTHING(pass_on)
 NOTHING(pass_tap_tick)
-NOTHING(set_collecting)
-NOTHING(settle_buckets)
-NOTHING(take_fast_counts)
-NOTHING(take_host)
-NOTHING(watch_queues)
-NOTHING(withdraw)
-NEVER(carries_by_team)
-NEVER(is_fast)
+static NOTHING(nothing)
+void announce_soon(struct announce_private *own) {
+    (void)own;
+}
 void note_taken(struct conversation *conversation, uint32_t segments) {
     (void)conversation;
     (void)segments;
-}
-uint64_t team_frames_received(struct lagd *lagd) {
-    (void)lagd;
-    return 0;
 }
 uint32_t sum_speeds(struct lagd *lagd) {
     (void)lagd;
@@ -367,8 +347,8 @@ void run_hook(struct lagd *lagd, const char *path, enum bundle_state before) {
     (void)before;
 }
 /* The device is up here, and no port comes or goes. */
-bool is_halted(struct lagd *lagd) {
-    (void)lagd;
+bool is_halted(struct halt_private *own) {
+    (void)own;
     return false;
 }
 
@@ -386,16 +366,23 @@ _Noreturn void stop(int status, const char *what, const char *which) {
     exit(status);
 }
 
+/* The plane: frames come here alone, and members have one queue. */
+static const struct carrying FRAMES = {.settle = settle_frames, .tick = pass_tick_of_frames, .keeps_aggregator = hears_peer,
+    .frames_heard = frames_handed_up, .tell_host = tell_speed_and_carrier, .go_on = settle_carry};
+static const struct passing BY_DAEMON = {.count = nothing, .withdraw = nothing, .pass_on = nothing, .set_collecting = nothing,
+    .look_for_losses = nothing, .tick = nothing};
+static const struct queueing ONE_QUEUE = {.watch = nothing, .accept_response = accept_response, .answer = answer, .markers_at_once = 1};
+
 /* The link of a port is up or down for an end. */
 static void set_link_of(struct end *end, uint16_t port, bool up) {
     struct link *link = &end->lagd.links[port - 1];
     if (link->up == up) return;
     link->up = up;
-    if (!up) forget_partner(&end->lagd, link);
+    if (!up) forget_partner(&end->lagd.settings, link);
     if (!is_done(&end->lagd, niw_set_link(&end->lagd.own_system, port, up), "niw_set_link")) return;
-    look_at_carry(&end->lagd);
+    look_at_carry(&end->lagd.carry);
     send_due(&end->lagd);
-    take_views(&end->lagd);
+    read_views(&end->lagd);
     settle_carry(&end->lagd);
 }
 
@@ -408,6 +395,9 @@ static void make_end(struct end *end, uint8_t which) {
     lagd->flight = make_flight_private();
     lagd->held = make_held_private();
     lagd->probe = make_probe_private();
+    lagd->plane.carrying = &FRAMES;
+    lagd->plane.passing = &BY_DAEMON;
+    lagd->plane.queueing = &ONE_QUEUE;
     lagd->carry.changed = lagd->has_started = true;
     lagd->link_count = lagd->settings.port_count = PORTS;
     lagd->settings.flight = FLIGHT;
@@ -457,7 +447,7 @@ static void send_burst(struct end *end, unsigned most) {
         end->made[number]++;
         memcpy(packet + CONVERSATION_AT, &number, sizeof number);
         memcpy(packet + NUMBER_AT, &end->made[number], sizeof end->made[number]);
-        take_from_host(&end->lagd, packet, OCTETS);
+        accept_from_host(&end->lagd, packet, OCTETS);
         events++;
     }
     flush_data(&end->lagd);
@@ -472,7 +462,7 @@ static void take(struct end *end, uint16_t port, uint8_t *frame, size_t length) 
     uint8_t response[NIW_FRAME];
     events++;
     if (is_slow(frame)) {
-        take_frame(lagd, link, &arrival);
+        accept_frame(lagd, link, &arrival);
         lagd->carry.changed = true;
         send_due(lagd);
     } else {
@@ -525,7 +515,7 @@ static void hold(struct end *end, uint16_t port, bool held) {
     struct link *link = &end->lagd.links[port - 1];
     link->emptying = false;
     CHECK(niw_hold(&end->lagd.own_system, port, held) == NIW_OK);
-    take_views(&end->lagd);
+    read_views(&end->lagd);
     end->lagd.carry.changed = true;
     send_due(&end->lagd);
     settle_carry(&end->lagd);
@@ -551,7 +541,7 @@ static void pass_time(struct end *end, unsigned ticks) {
     struct lagd *lagd = &end->lagd;
     for (; ticks > 0; ticks--) {
         CHECK(niw_tick(&lagd->own_system) == NIW_OK);
-        take_views(lagd);
+        read_views(lagd);
         pass_carry_tick(lagd);
         end_emptying(end);
         if (now / 1000 != (now - TICK) / 1000) allow_bundle_line(lagd);
@@ -559,7 +549,7 @@ static void pass_time(struct end *end, unsigned ticks) {
     }
     check_waiting(end);
     send_due(lagd);
-    take_views(lagd);
+    read_views(lagd);
     look_at_bundle(lagd);
     settle_carry(lagd);
     CHECK(!end->carrier || any_distributes(lagd));
@@ -589,7 +579,7 @@ static void happen(struct end *end) {
     uint16_t port = (uint16_t)(1 + below(PORTS));
     if (what < weather.burst) send_burst(end, what < 20 ? BATCH : 6);
     for (bool more = below(1000) < weather.changes; more; more = below(2) == 0) change_cable((uint16_t)(1 + below(PORTS)));
-    if (what >= 710 && what < 713) ask_moves(&end->lagd);
+    if (what >= 710 && what < 713) ask_moves(&end->lagd.carry);
     if (what == 720) end->mute_until = now + below(20000);
     if (what == 721) end->mute_until = 0;
     if (what == 722) end->short_until = now + below(300);

@@ -1,0 +1,104 @@
+/* What carries the data, as tables of functions. One switch chooses them (plane.c); nobody else asks which ones they are. */
+#ifndef LAGD_PLANE_H
+#define LAGD_PLANE_H
+
+#include <stdbool.h>
+#include <stddef.h>
+#include <stdint.h>
+
+struct arrival;
+struct guard;
+struct lagd;
+struct link;
+struct msghdr;
+struct settings;
+
+/* How something is told to whoever asks. */
+enum form { AS_TEXT, AS_JSON, AS_METRICS };
+
+/* The device, what is done with an interface that is a port, and where conversations go: by nothing, a TAP device or a team device. */
+struct carrying {
+    void (*open)(struct lagd *lagd);
+    void (*end)(struct lagd *lagd);                   /* nothing goes or comes from here on, and members are as they were */
+    void (*lose_device)(struct lagd *lagd);           /* it was deleted, or moved to another namespace */
+    void (*keep_device)(struct lagd *lagd, bool keeps); /* it outlives the daemon, or goes with it */
+    bool (*has_made_device)(struct lagd *lagd);       /* whether the next daemon is to take it away at its end */
+    bool (*give_carrier)(struct lagd *lagd, bool on); /* whether the kernel does so */
+    void (*settle_mtu)(struct lagd *lagd);
+    bool (*add)(struct lagd *lagd, struct link *link); /* whether an interface is taken up, and else errno tells why not */
+    void (*remove)(struct lagd *lagd, struct link *link);
+    bool (*renew)(struct lagd *lagd, struct link *link); /* it has another queueing discipline: whether it is still taken up */
+    void (*move)(struct lagd *lagd, struct link *link, const uint8_t *mac); /* it has another MAC address */
+    void (*follow_mtu)(struct lagd *lagd, struct link *link, uint32_t mtu);
+    void (*follow_speed)(struct lagd *lagd, const struct link *link, const char *interface);
+    bool (*can_empty)(struct lagd *lagd, uint16_t port); /* whether its conversations can move behind markers */
+    void (*settle)(struct lagd *lagd);                 /* calls may have changed something */
+    void (*tick)(struct lagd *lagd);                   /* 100 ms passed */
+    bool (*keeps_aggregator)(struct lagd *lagd);       /* whether the active one stays where another one has as many ports */
+    uint64_t (*frames_heard)(struct lagd *lagd, bool counts_now); /* how many of the peer came, as was counted last, or now */
+    void (*tell_host)(struct lagd *lagd);              /* the active aggregator is chosen */
+    void (*resume)(struct lagd *lagd, bool goes_on);   /* the ports were taken over, and data goes on where it was */
+    void (*go_on)(struct lagd *lagd);                  /* in the aggregator of the last daemon */
+    int (*member_of)(struct lagd *lagd, uint16_t number); /* the interface by which the kernel has a conversation go, or 0 */
+    void (*end_resuming)(struct lagd *lagd);
+    unsigned (*frames_waiting)(struct lagd *lagd);
+    void (*show)(struct lagd *lagd, enum form form);
+    void (*show_member)(struct lagd *lagd, const struct link *link, enum form form);
+    void (*show_markers)(struct lagd *lagd);           /* in a line of text */
+    void (*show_waiting)(struct lagd *lagd, enum form form);
+    unsigned first_count, end_count, member_counts;    /* the counts that it has, and how many of a member */
+    bool keeps_members; /* whether what the last daemon set of members may be of use */
+};
+
+/* Who passes frames on: the daemon alone, or the kernel, too (`fast`). */
+struct passing {
+    void (*start)(struct lagd *lagd);
+    void (*end)(struct lagd *lagd);
+    void (*set_up_device)(int index);
+    void (*run_programs)(struct lagd *lagd, const struct link *link, struct guard *guard);
+    void (*count)(struct lagd *lagd);                         /* what the kernel did since the last time */
+    void (*withdraw)(struct lagd *lagd);                      /* what is not, or no longer, where the kernel passes it on */
+    void (*withdraw_port)(struct lagd *lagd, uint16_t port);  /* its link goes down */
+    void (*pass_on)(struct lagd *lagd);                       /* all that was put was sent */
+    void (*note_read)(struct lagd *lagd, unsigned packets, bool drained); /* of the device */
+    void (*open_host)(struct lagd *lagd, bool open);          /* frames of the host are taken for a while */
+    void (*follow_discipline)(struct lagd *lagd, const char *discipline); /* of the device */
+    void (*set_collecting)(struct lagd *lagd);
+    void (*look_for_losses)(struct lagd *lagd);
+    void (*tick)(struct lagd *lagd);
+    int (*member_of)(struct lagd *lagd, uint16_t number);
+    void (*resume)(struct lagd *lagd);
+    bool steers; /* whether one processor has to take what a member of one queue receives */
+};
+
+/* By how many queues of a member its data goes: one, or all. */
+struct queueing {
+    void (*start)(struct lagd *lagd);
+    unsigned (*fifos_of)(int index);
+    bool (*set)(struct lagd *lagd, struct link *link, struct guard *guard); /* false where that is looked at again once it has queues */
+    void (*set_again)(struct lagd *lagd, struct link *link, struct guard *guard);
+    bool (*follow)(struct lagd *lagd, struct link *link); /* a discipline changed: whether the member is still taken up */
+    void (*watch)(struct lagd *lagd);
+    void (*mark)(struct lagd *lagd, uint16_t port, uint16_t number, struct msghdr *message);
+    bool (*send_marker)(struct lagd *lagd, struct link *link, const uint8_t *marker, bool again);
+    void (*accept_response)(struct lagd *lagd, struct link *link, const struct arrival *arrival, uint32_t id);
+    bool (*answer)(struct lagd *lagd, struct link *link, const uint8_t *response); /* false where too many wait */
+    void (*show)(struct lagd *lagd, const struct link *link, enum form form);
+    const char *text;         /* behind the way, in the status */
+    unsigned markers_at_once; /* how many come in the place of one, of a peer whose members are like ours */
+};
+
+struct plane {
+    const struct carrying *carrying;
+    const struct passing *passing;
+    const struct queueing *queueing;
+    bool segments;   /* whether frames of several segments are passed */
+    bool wants_fifo; /* whether members get a queueing discipline that keeps the order */
+    bool renews;     /* whether a member with another one is taken up anew */
+};
+
+/* plane.c */
+void choose_no_plane(struct plane *plane);
+void choose_plane(struct plane *plane, const struct settings *settings);
+
+#endif
