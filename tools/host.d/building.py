@@ -8,8 +8,8 @@ import subprocess
 from typing import Callable, NamedTuple
 
 from fetched import Source, Sources
-from library import HEADER
-from repository import TOP, Missing, want
+from library import HEADER, PORTABLE, archive, one_object, portable, proved
+from repository import TOP, Missing, say, want
 
 HOSTS = os.path.join(TOP, "hosts")
 SHARED = os.path.join(HOSTS, "shared")
@@ -37,6 +37,16 @@ class Host(NamedTuple):
     pack: Callable[[Sources, Order], list[str]]
     # The packages that it takes the place of, with their versions.
     before: Callable[[Sources], dict[str, str]]
+
+
+def archives(folder: str) -> list[str]:
+    """The library to link a host with: that of LAG_FOLDER, or one made in this folder, of LIBRARY, of c/lag.c, or of the proved crate."""
+    if "LAG_FOLDER" in os.environ:
+        return [os.path.abspath(os.path.join(os.environ["LAG_FOLDER"], "liblag.a"))]
+    os.makedirs(folder, exist_ok=True)
+    of_c = os.path.exists(PORTABLE) and "LIBRARY" not in os.environ
+    say(f"with the {'portable' if of_c else 'proved'} library")
+    return [archive(folder, portable(folder) if of_c else one_object(folder, proved(folder)))]
 
 
 def done(words: list[str], cwd: str, log: str, **environment: str) -> None:
