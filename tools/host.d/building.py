@@ -2,6 +2,7 @@
 
 from __future__ import annotations
 
+import glob
 import os
 import shutil
 import subprocess
@@ -67,10 +68,8 @@ def exchange(ours: str, theirs: str) -> None:
     if not os.path.exists(theirs):
         raise Missing(f"the sources have no {theirs}")
     shutil.copy(ours, theirs)
-    for name in sorted(os.listdir(SHARED)):
-        if name.endswith(".h"):
-            shutil.copy(os.path.join(SHARED, name), os.path.dirname(theirs))
-    shutil.copy(HEADER, os.path.dirname(theirs))
+    for header in [*glob.glob(f"{os.path.dirname(ours)}/*.h"), *glob.glob(f"{SHARED}/*.h"), HEADER]:
+        shutil.copy(header, os.path.dirname(theirs))
 
 
 def before(names: tuple[str, ...]) -> Callable[[Sources], dict[str, str]]:
