@@ -44,9 +44,14 @@ def archives(folder: str) -> list[str]:
     """The library to link a host with: that of LAG_FOLDER, or one made in this folder, of LIBRARY, of c/lag.c, or of the proved crate."""
     if "LAG_FOLDER" in os.environ:
         return [os.path.abspath(os.path.join(os.environ["LAG_FOLDER"], "liblag.a"))]
-    os.makedirs(folder, exist_ok=True)
     of_c = os.path.exists(PORTABLE) and "LIBRARY" not in os.environ
-    say(f"with the {'portable' if of_c else 'proved'} library")
+    folder = os.path.join(folder, "portable" if of_c else "proved")
+    made = os.path.join(folder, "liblag.a")
+    # The command is called once for each host, and for each way to build it.
+    if of_c and os.path.exists(made) and os.path.getmtime(made) > max(os.path.getmtime(it) for it in (PORTABLE, HEADER)):
+        return [made]
+    os.makedirs(folder, exist_ok=True)
+    say(f"with the {os.path.basename(folder)} library")
     return [archive(folder, portable(folder) if of_c else one_object(folder, proved(folder)))]
 
 

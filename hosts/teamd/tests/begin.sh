@@ -34,15 +34,15 @@ BOTH="eth1 current true, eth2 current true, carrier 1"
 # Whether something is so: its name, what is wanted, and what there is.
 is() { if [ "$2" = "$3" ]; then echo "passed: $1"; else echo "FAILED: $1"; echo "  wanted: $2"; echo "  is:     $3"; fi; }
 # Waits until the state is this one, for so many seconds at most; for more of them where teamd is $SLOW times as slow.
-until_state() { for _ in $(seq $((10 * $2 * ${SLOW:-1}))); do [ "$(state $3)" = "$1" ] && return; sleep 0.1; done; }
+until_state() { last=$(($(date +%s) + $2 * ${SLOW:-1})); until [ "$(state $3)" = "$1" ] || [ "$(date +%s)" -gt $last ]; do sleep 0.1; done; }
 # The key and the port priority that a port of the peer was told.
 told() { ip netns exec far sed -n "/Slave Interface: $1\$/,/^\$/{s/^ *oper key: //p;s/^ *port priority: //p}" /proc/net/bonding/bond0 | tail -2 | paste -s -d' '; }
 # Numbered frames both ways, 250 a second each, while a command runs after 2 s; LOST is how many were lost to and from the peer.
 trip() { # NAME SECONDS COMMAND..
     name=$1; seconds=$2; shift 2
     ip link set team0 promisc on; ip -n far link set bond0 promisc on
-    ip netns exec far /mnt/flows receive bond0 16 $((seconds + 3)) >/run/to.received 2>&1 & a=$!
-    /mnt/flows receive team0 16 $((seconds + 3)) >/run/from.received 2>&1 & b=$!
+    ip netns exec far /mnt/flows receive bond0 16 $((seconds + ${AFTER:-3})) >/run/to.received 2>&1 & a=$!
+    /mnt/flows receive team0 16 $((seconds + ${AFTER:-3})) >/run/from.received 2>&1 & b=$!
     sleep 0.5
     ip netns exec far /mnt/flows send bond0 ${RATE:-250} 16 $seconds ports >/run/from.sent 2>&1 & c=$!
     /mnt/flows send team0 ${RATE:-250} 16 $seconds ports >/run/to.sent 2>&1 & d=$!
