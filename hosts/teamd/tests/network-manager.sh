@@ -42,6 +42,8 @@ C
 chmod 600 $R/etc/NetworkManager/system-connections/*
 manager() { chroot $R NetworkManager --debug >>/run/log 2>&1 & nm=$!; }
 nmcli() { chroot $R nmcli "$@" >>/run/nmcli 2>&1; }
+# It may take a while until it has taken the device over.
+manages() { for _ in $(seq 300); do chroot $R nmcli -g GENERAL.STATE device show team0 2>/dev/null | grep -q ^100 && return; sleep 0.2; done; echo "FAILED: NetworkManager has the device"; }
 ports() { ip -br link show master team0 | cut -d@ -f1 | sort | paste -s -d' '; }
 # Pings each 100 ms, while a command runs after a second: how many were answered.
 pings() { count=$1; shift; ping -c $count -i 0.1 192.0.2.2 >/run/ping & p=$!; sleep 1; eval "$*" >>/run/nmcli 2>&1; wait $p; grep -o '[0-9]* received' /run/ping; }
@@ -60,8 +62,8 @@ out=0; for k in 1 2 3 4 5 6 7 8; do nmcli c down eth2; sleep 2; [ "$(ports)" = e
 until_state "$BOTH" 15; is "8 times down and up: out each time, and both carry" "8 $BOTH" "$out $(state)"
 pid=$(cat /run/teamd/team0.pid)
 all "NetworkManager is killed, and starts again" 120 "$(pings 120 'kill -9 $nm; sleep 1; manager')"
-all "NetworkManager ends, and starts again" 140 "$(pings 140 'kill $nm; sleep 2; manager')"
-is "teamd went on" $pid "$(cat /run/teamd/team0.pid)"
+manages; all "NetworkManager ends, and starts again" 140 "$(pings 140 'kill $nm; sleep 2; manager')"
+manages; is "teamd went on" $pid "$(cat /run/teamd/team0.pid)"
 answered=$(pings 150 'kill_it; from=$(date +%s%N); for _ in $(seq 400); do [ "$(item setup.pid)" -ne $pid ] && break; sleep 0.05; done; echo $((($(date +%s%N) - from) / 1000000)) >/run/without')
 echo "row: teamd is killed: NetworkManager starts another, which answers after $(cat /run/without) ms"
 until_state "$BOTH" 20; is "teamd is killed, and NetworkManager starts another: both carry" "$BOTH" "$(state)"

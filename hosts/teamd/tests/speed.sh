@@ -36,7 +36,7 @@ anew() {
     ip link set team0 up; ip addr replace 192.0.2.1/24 dev team0; within 30; ended=$?
     [ $ended = 0 ] && TOOK=$((($(now) - from) / 100000000)) || TOOK=never
 }
-ready() { within "${1:-12}" && sleep 2 || { cell "$2" "carries no more"; anew; sleep 2; }; }
+ready() { if within "$1"; then cell "$2: carries within $1 s" yes; else cell "$2: carries within $1 s" no; anew; fi; sleep 2; }
 of_trip() { cell "$1: frames lost to / from the peer, of 1,500" "${LOST% *} / ${LOST#* }"; cell "$1: longest gap of a flow, ms" "$GAP"; }
 busy() { awk '{print $1}' /proc/$1/schedstat; }
 streams() { /mnt/iperf3 -c 192.0.2.2 -t 3 -P $1 -J 2>/dev/null | tr -d ' \t\n' | sed -n 's/.*"sum_received":{[^}]*"bits_per_second":\([0-9]*\).*/\1/p' | awk '{printf "%.0f", $1 / 1e6}'; }
