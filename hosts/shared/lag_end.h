@@ -158,14 +158,47 @@ lag_end_save(struct lag_port *ports, size_t count, struct niw_saved *saved, int6
     return kept;
 }
 
+/* Makes the system of `count` ports, of which the first `kept` of `saved` go on. Where one of them can't, it begins anew and the others go on. */
+static inline struct niw_made
+lag_end_resume(struct lag_end *end, const struct niw_config *config, struct lag_port *ports, size_t count, struct niw_saved *saved, size_t kept)
+{
+    struct niw_port own[NIW_MOST_PORTS];
+    uint16_t keys[NIW_MOST_PORTS];
+
+    for (size_t i = 0; i < count; i++) {
+        own[i] = ports[i].port;
+        keys[i] = own[i].key;
+    }
+    for (;;) {
+        struct niw_made made = niw_resume(&end->system, config, keys, count, own, count, saved, kept);
+        size_t i = 0;
+
+        if (made.status != NIW_STALE && made.status != NIW_NOT_DISTRIBUTING) {
+            return made;
+        }
+        while (i < kept && saved[i].port != made.place) {
+            i++;
+        }
+        if (i == kept) {
+            return made;
+        }
+        for (size_t j = 0; j < count; j++) {
+            if (own[j].number == made.place) {
+                ports[j].begins = true;
+                ports[j].why = made.status;
+            }
+        }
+        memmove(&saved[i], &saved[i + 1], (--kept - i) * sizeof *saved);
+    }
+}
+
 /* Makes the system anew, of `count` ports, in the place of the one that is there; `end` has none then if `count` is 0 or the call is refused.
- * `config` is as for niw_new, but its first_marker is seen to. The ports are sorted by their numbers, no two of which may be equal. There are as many aggregators as ports. */
+ * `config` is as for niw_new, but its first_marker is seen to. The ports are sorted by their numbers, no two of which may be equal. There are as
+ * many aggregators as ports. */
 static inline struct niw_made
 lag_end_remake(struct lag_end *end, const struct niw_config *config, struct lag_port *ports, size_t count, int64_t now)
 {
-    struct niw_port own[NIW_MOST_PORTS];
     struct niw_saved saved[NIW_MOST_PORTS];
-    uint16_t keys[NIW_MOST_PORTS];
     struct niw_config with = *config;
     struct niw_made made = { .status = NIW_OK };
     size_t kept;
@@ -178,38 +211,13 @@ lag_end_remake(struct lag_end *end, const struct niw_config *config, struct lag_
         return (struct niw_made) { .status = NIW_BAD_CONFIG, .reason = NIW_REASON_PORTS };
     }
     qsort(ports, count, sizeof *ports, lag_port_order);
-    for (size_t i = 0; i < count; i++) {
-        own[i] = ports[i].port;
-        keys[i] = own[i].key;
-    }
     with.first_marker = end->next_marker ? end->next_marker : 1;
     kept = lag_end_save(ports, count, saved, now);
-    for (;;) {
-        size_t i = 0;
-
-        made = niw_resume(&end->system, &with, keys, count, own, count, saved, kept);
-        if (made.status != NIW_STALE && made.status != NIW_NOT_DISTRIBUTING) {
-            break;
-        }
-        /* One port can't go on: it begins anew, and the others go on. */
-        while (i < kept && saved[i].port != made.place) {
-            i++;
-        }
-        if (i == kept) {
-            break;
-        }
-        for (size_t j = 0; j < count; j++) {
-            if (own[j].number == made.place) {
-                ports[j].begins = true;
-                ports[j].why = made.status;
-            }
-        }
-        memmove(&saved[i], &saved[i + 1], (--kept - i) * sizeof *saved);
-    }
+    made = lag_end_resume(end, &with, ports, count, saved, kept);
     if (made.status == NIW_OK) {
         end->ticked = now;
         for (size_t i = 0; i < count; i++) {
-            niw_set_link(&end->system, own[i].number, ports[i].up);
+            niw_set_link(&end->system, ports[i].port.number, ports[i].up);
         }
     }
     return made;

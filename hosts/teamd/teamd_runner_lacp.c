@@ -4,113 +4,28 @@
  * are answered. What each port last heard stands in a file, TEAMD_RUN_DIR DEVICE.lacp, so that a teamd that takes the device over (-o),
  * after a crash or after an end that left the ports in it, goes on where the one before it was, and its peers notice nothing. */
 #include <errno.h>
-#include <limits.h>
 #include <netinet/in.h>
 #include <sys/ioctl.h>
 #include <sys/socket.h>
-#include <sys/stat.h>
 #include <sys/timerfd.h>
-#include <sys/types.h>
 #include <unistd.h>
 
 #include <linux/ethtool.h>
-#include <linux/if_ether.h>
 #include <linux/if_packet.h>
 #include <linux/sockios.h>
-#include <private/misc.h>
-#include <team.h>
 
-#include "teamd.h"
-#include "teamd_config.h"
-#include "teamd_link_watch.h"
-#include "teamd_state.h"
-#include "teamd_workq.h"
-
-#include "lag_end.h"
-#include "lag_state.h"
+#include "lacp_config.h"
+#include "lacp_file.h"
+#include "lacp_groups.h"
+#include "lacp_team.h"
+#include "lacp_values.h"
 
 #define TICK_NAME "lacp_tick"
 #define SOCKET_NAME "lacp_socket"
 #define TELLING_MS 1200	/* while the device goes down: how long the peers are told, before the links fall silent */
 #define RETRY_MS 1000	/* until a system that was refused is tried again */
-#define PRIO 255	/* of a port, where its configuration tells none */
-#define CONFIG_MS 1000	/* how often the configuration of the ports is read again */
 
 static const uint8_t slow_address[ETH_ALEN] = { 0x01, 0x80, 0xC2, 0x00, 0x00, 0x02 };
-
-static const char *const policies[] = { "lacp_prio", "lacp_prio_stable", "bandwidth", "count", "port_config" };
-enum policy { LACP_PRIO, LACP_PRIO_STABLE, BANDWIDTH, COUNT, PORT_CONFIG };
-
-struct lacp {
-	struct teamd_context *ctx;
-	struct teamd_balancer *tb;
-	struct lag_end end;	/* without a system while there is no port */
-	struct lacp_port *lead;	/* the best port of the group that carries, or NULL */
-	struct lag_state kept;	/* what the teamd before this one left */
-	int clock;		/* a timerfd */
-	int64_t try_at;		/* when a system that was refused is tried again, in ms */
-	int64_t config_at;	/* when the configuration of the ports was read */
-	int64_t silent_at;	/* when the links fall silent, of a device that is down; 0 of one that is up */
-	bool carrier_up;
-	bool due;		/* the system has to be made anew */
-	bool changed;		/* the group that carries has to be chosen again */
-	bool dirty;		/* the file is older than what it tells */
-	bool stays;		/* teamd ends, and leaves the ports in the device */
-	bool unsaved;		/* the last state was not written */
-	struct {
-		bool active;
-		bool fast_rate;
-		int sys_prio;
-		int min_ports;
-		bool hold;	/* ports outside of the group that carries are held */
-		enum policy policy;
-	} cfg;
-};
-
-struct lacp_port {
-	struct teamd_context *ctx;
-	struct teamd_port *tdport;
-	struct lacp *lacp;
-	int sock;
-	uint16_t number;	/* 0: the port is left out */
-	uint8_t mac[ETH_ALEN];	/* the source of its LACPDUs */
-	uint64_t carrier_changes;
-	struct niw_view view;	/* as niw_views last told it; .port is 0 before */
-	struct lacp_port *lead;	/* the best port of its group; NULL without a partner */
-	bool listed;		/* while a system is made: it is in it */
-	bool selected;		/* it has a partner */
-	bool chosen;		/* its group carries */
-	bool resumes;		/* it distributed before teamd started */
-	bool held;
-	bool watched;		/* its link watch is obeyed */
-	bool from_file;		/* its priority and key are those of the teamd before */
-	struct lag_heard heard;
-	struct lag_limit limit;
-	struct {
-		int prio;
-		int key;
-		bool sticky;
-	} cfg;
-};
-
-static struct lacp_port *port_of(struct lacp *lacp, struct teamd_port *tdport)
-{
-	struct lacp_port *port = teamd_get_first_port_priv_by_creator(tdport, lacp);
-
-	/* Before port_init, and after port_fini, it is none. */
-	return port && port->tdport ? port : NULL;
-}
-
-static bool distributes(const struct lacp_port *port)
-{
-	return (port->view.state & NIW_STATE_DISTRIBUTING) && !port->view.defaulted;
-}
-
-/* Whether frames may pass on the port. */
-static bool may_carry(const struct lacp_port *port)
-{
-	return port->chosen && !port->lacp->silent_at && distributes(port);
-}
 
 static bool is_up(const struct lacp_port *port)
 {
@@ -121,152 +36,6 @@ static bool is_up(const struct lacp_port *port)
 	/* Some drivers tell neither speed nor duplex. */
 	return team_is_port_link_up(link) && !duplex == !speed &&
 	       (!port->watched || teamd_link_watch_port_up(port->ctx, port->tdport));
-}
-
-static int order(uint32_t a, uint32_t b)
-{
-	return a < b ? -1 : a > b;
-}
-
-/* Whether one port is better than another: by the end of each with the better system, as teamd has it. */
-static bool is_better(struct lacp_port *one, struct lacp_port *two)
-{
-	struct lacp_port *ports[2] = { one, two };
-	struct { uint32_t priority, port_priority, port; const uint8_t *mac; } ends[2] = { { 0 } };
-	int by;
-
-	if (one->lacp->cfg.policy == PORT_CONFIG) {
-		by = teamd_port_prio(one->ctx, one->tdport) - teamd_port_prio(two->ctx, two->tdport);
-		return by ? by > 0 : one->number < two->number;
-	}
-	for (int i = 0; i < 2; i++) {
-		const struct lacp_port *port = ports[i];
-		const uint8_t *own = (const uint8_t *) port->ctx->hwaddr;
-
-		by = order(port->lacp->cfg.sys_prio, port->view.partner_priority);
-		if (by < 0 || (!by && memcmp(own, port->view.partner_mac, ETH_ALEN) < 0)) {
-			ends[i].priority = port->lacp->cfg.sys_prio;
-			ends[i].mac = own;
-			ends[i].port_priority = port->cfg.prio;
-			ends[i].port = port->number;
-		} else {
-			ends[i].priority = port->view.partner_priority;
-			ends[i].mac = port->view.partner_mac;
-			ends[i].port_priority = port->view.partner_port_priority;
-			ends[i].port = port->view.partner_port;
-		}
-	}
-	if (!(by = order(ends[0].priority, ends[1].priority)) && !(by = memcmp(ends[0].mac, ends[1].mac, ETH_ALEN)) &&
-	    !(by = order(ends[0].port_priority, ends[1].port_priority)))
-		by = order(ends[0].port, ends[1].port);
-	return by ? by < 0 : one->number < two->number;
-}
-
-static bool same_group(const struct lacp_port *one, const struct lacp_port *two)
-{
-	const struct niw_view *a = &one->view, *b = &two->view;
-
-	return one == two ||
-	       (one->cfg.key == two->cfg.key && a->partner_key == b->partner_key && a->partner_priority == b->partner_priority &&
-		!memcmp(a->partner_mac, b->partner_mac, ETH_ALEN) && (a->partner_state & b->partner_state & NIW_STATE_AGGREGATION));
-}
-
-/* Finds the groups: the ports that have a partner, each with the best port of its group. */
-static void find_groups(struct lacp *lacp)
-{
-	struct teamd_port *tdport, *other;
-
-	teamd_for_each_tdport(tdport, lacp->ctx) {
-		struct lacp_port *port = port_of(lacp, tdport);
-
-		if (!port)
-			continue;
-		port->lead = port->selected ? port : NULL;
-		if (!port->selected)
-			continue;
-		teamd_for_each_tdport(other, lacp->ctx) {
-			struct lacp_port *it = port_of(lacp, other);
-
-			if (it && it->selected && same_group(port, it) && is_better(it, port->lead))
-				port->lead = it;
-		}
-	}
-}
-
-/* How much a group is worth beside another by the policy: whether frames may pass there comes first. */
-struct worth {
-	bool carries;
-	bool sticky;
-	uint64_t most;
-};
-
-static struct worth worth(struct lacp *lacp, struct lacp_port *lead)
-{
-	struct worth it = { 0 };
-	struct teamd_port *tdport;
-
-	teamd_for_each_tdport(tdport, lacp->ctx) {
-		struct lacp_port *port = port_of(lacp, tdport);
-
-		if (!port || port->lead != lead)
-			continue;
-		/* A held port does not distribute. */
-		it.carries |= lacp->cfg.hold || distributes(port);
-		it.sticky |= port->cfg.sticky;
-		it.most += lacp->cfg.policy == BANDWIDTH ? team_get_port_speed(tdport->team_port) : 1;
-	}
-	return it;
-}
-
-static bool is_worth_more(struct lacp *lacp, struct lacp_port *one, struct lacp_port *two)
-{
-	struct worth a = worth(lacp, one), b = worth(lacp, two);
-
-	if (a.carries != b.carries)
-		return a.carries;
-	if (lacp->cfg.policy == BANDWIDTH || lacp->cfg.policy == COUNT)
-		return a.most > b.most;
-	return is_better(one, two);
-}
-
-/* Chooses the group that carries. */
-static void choose(struct lacp *lacp)
-{
-	struct lacp_port *now = NULL, *best;
-	struct teamd_port *tdport;
-	struct worth it;
-
-	if (!lacp->changed)
-		return;
-	lacp->changed = false;
-	find_groups(lacp);
-	/* The group of before: that of its best port, or else of any port of it. */
-	if (lacp->lead && lacp->lead->selected)
-		now = lacp->lead->lead;
-	teamd_for_each_tdport(tdport, lacp->ctx) {
-		struct lacp_port *port = port_of(lacp, tdport);
-
-		if (!now && port && port->chosen && port->selected)
-			now = port->lead;
-	}
-	best = now;
-	it = now ? worth(lacp, now) : (struct worth) { 0 };
-	if (!it.carries || !(lacp->cfg.policy == LACP_PRIO_STABLE || (lacp->cfg.policy == PORT_CONFIG && it.sticky))) {
-		teamd_for_each_tdport(tdport, lacp->ctx) {
-			struct lacp_port *port = port_of(lacp, tdport);
-
-			if (port && port->selected && port->lead == port && port != best &&
-			    (!best || is_worth_more(lacp, port, best)))
-				best = port;
-		}
-	}
-	lacp->lead = best;
-	teamd_for_each_tdport(tdport, lacp->ctx) {
-		struct lacp_port *port = port_of(lacp, tdport);
-
-		if (port)
-			port->chosen = best && port->selected && port->lead == best;
-	}
 }
 
 static int set_carrier(struct lacp *lacp, bool up)
@@ -284,23 +53,6 @@ static int set_carrier(struct lacp *lacp, bool up)
 }
 
 static int send_due(struct lacp *lacp);
-static void save(struct lacp *lacp);
-
-static const char *const state_names[] = { "disabled", "current", "expired", "defaulted" };
-
-static const char *state_name(const struct niw_view *view)
-{
-	switch (view->port ? view->receive_state : NIW_RECEIVE_PORT_DISABLED) {
-	case NIW_RECEIVE_CURRENT:
-		return state_names[1];
-	case NIW_RECEIVE_EXPIRED:
-		return state_names[2];
-	case NIW_RECEIVE_DEFAULTED:
-		return state_names[3];
-	default:
-		return state_names[0];
-	}
-}
 
 static void take_view(struct lacp_port *port, const struct niw_view *view)
 {
@@ -336,19 +88,13 @@ static void hold(struct lacp *lacp)
 	}
 }
 
-/* Takes over what the system shows now: which ports may carry, and the carrier of the team. */
-static int look(struct lacp *lacp)
+static void take_views(struct lacp *lacp)
 {
 	struct niw_view views[NIW_MOST_PORTS];
 	uint16_t numbers[NIW_MOST_PORTS];
 	struct teamd_port *tdport;
 	size_t count;
-	int carry = 0, failed = 0, err;
 
-	if (!lacp->end.system.live) {
-		save(lacp);
-		return set_carrier(lacp, false);
-	}
 	memset(views, 0, sizeof(views));
 	niw_views(&lacp->end.system, views, NIW_MOST_PORTS);
 	count = niw_ports(&lacp->end.system, numbers, NIW_MOST_PORTS).number;
@@ -359,6 +105,19 @@ static int look(struct lacp *lacp)
 			if (port->number && views[i].port == port->number)
 				take_view(port, &views[i]);
 	}
+}
+
+/* Takes over what the system shows now: which ports may carry, and the carrier of the team. */
+static int look(struct lacp *lacp)
+{
+	struct teamd_port *tdport;
+	int carry = 0, failed = 0, err;
+
+	if (!lacp->end.system.live) {
+		save(lacp);
+		return set_carrier(lacp, false);
+	}
+	take_views(lacp);
 	choose(lacp);
 	hold(lacp);
 	teamd_for_each_tdport(tdport, lacp->ctx) {
@@ -380,86 +139,6 @@ static int look(struct lacp *lacp)
 	return err ? err : failed;
 }
 
-static void state_path(const struct lacp *lacp, char *path, size_t room)
-{
-	snprintf(path, room, TEAMD_RUN_DIR "%s.lacp", lacp->ctx->team_devname);
-}
-
-static uint64_t carrier_changes_of(const struct lacp_port *port)
-{
-	char path[64 + IFNAMSIZ];
-	uint64_t changes = 0;
-	FILE *file;
-
-	snprintf(path, sizeof(path), "/sys/class/net/%s/carrier_changes", port->tdport->ifname);
-	file = fopen(path, "re");
-	if (!file)
-		return 0;
-	if (fscanf(file, "%" SCNu64, &changes) != 1)
-		changes = 0;
-	fclose(file);
-	return changes;
-}
-
-/* Writes the file, if it is older than what it tells. */
-static void save(struct lacp *lacp)
-{
-	struct lag_state state = { .ifindex = lacp->ctx->ifindex };
-	struct teamd_port *tdport;
-	char path[PATH_MAX];
-	int err;
-
-	if (!lacp->dirty)
-		return;
-	lacp->dirty = false;
-	snprintf(state.device, sizeof(state.device), "%s", lacp->ctx->team_devname);
-	memcpy(state.mac, lacp->ctx->hwaddr, ETH_ALEN);
-	if (lacp->end.system.live) {
-		struct niw_marker next = niw_next_marker(&lacp->end.system);
-
-		state.next_marker = next.left ? next.id : 1;
-	}
-	teamd_for_each_tdport(tdport, lacp->ctx) {
-		struct lacp_port *port = port_of(lacp, tdport);
-		struct lag_state_port *it = &state.ports[state.count];
-
-		if (!port || !port->number || state.count == NIW_MOST_PORTS)
-			continue;
-		*it = (struct lag_state_port) {
-			.ifindex = tdport->ifindex, .number = port->number, .priority = port->cfg.prio, .key = port->cfg.key,
-			.carrier_changes = port->carrier_changes, .carried = distributes(port) && !lacp->silent_at, .chosen = port->chosen,
-			.aggregator = port->view.aggregator, .heard = port->heard,
-		};
-		snprintf(it->name, sizeof(it->name), "%s", tdport->ifname);
-		memcpy(it->mac, port->mac, ETH_ALEN);
-		state.count++;
-	}
-	state_path(lacp, path, sizeof(path));
-	err = lag_state_write(path, &state);
-	if (err && !lacp->unsaved)
-		teamd_log_warn("No state saved, so nothing is taken over from here: %s", strerror(-err));
-	lacp->unsaved = err != 0;
-}
-
-/* Reads the file. One of another device tells nothing. */
-static void load(struct lacp *lacp)
-{
-	char path[PATH_MAX];
-
-	state_path(lacp, path, sizeof(path));
-	if (!lag_state_read(path, &lacp->kept))
-		return;
-	if (strcmp(lacp->kept.device, lacp->ctx->team_devname) || lacp->kept.ifindex != lacp->ctx->ifindex)
-		lacp->kept.count = 0;
-	else
-		lacp->end.next_marker = lacp->kept.next_marker;
-}
-
-static const struct lag_state_port *kept_of(struct lacp *lacp, const struct teamd_port *tdport)
-{
-	return lag_state_find(&lacp->kept, tdport->ifname, tdport->ifindex);
-}
-
 /* Gives a port its number: that of its interface, if it is one of LACP and no other port's, else the highest that is free. */
 static void give_number(struct lacp *lacp, struct lacp_port *port)
 {
@@ -479,7 +158,7 @@ static void give_number(struct lacp *lacp, struct lacp_port *port)
 	}
 	if (it != port->tdport->ifindex)
 		teamd_log_info("%s: LACP has port numbers up to 65535: it is port %" PRIu32 ".", port->tdport->ifname, it);
-	port->number = it;
+	port->number = (uint16_t) it;
 }
 
 /* Puts the ports into a list, but one; returns how many. Those that are in already stay in, when there are too many. */
@@ -583,46 +262,6 @@ static void set_links(struct lacp *lacp)
 	}
 }
 
-static int number_of(struct teamd_context *ctx, int *value, int other, int least, int most, const char *path, const char *name)
-{
-	int err = name ? teamd_config_int_get(ctx, value, path, name) : teamd_config_int_get(ctx, value, path);
-
-	if (err)
-		*value = other;
-	else if (*value < least || *value > most) {
-		teamd_log_err("\"%s\" value is out of its limits.", path);
-		return -EINVAL;
-	}
-	return 0;
-}
-
-/* The configuration of a port changed while it is in, as by `teamdctl port config update`: what the peer sees of it changes, too. */
-static void read_ports_again(struct lacp *lacp)
-{
-	struct teamd_port *tdport;
-
-	if (lag_now() - lacp->config_at < CONFIG_MS)
-		return;
-	lacp->config_at = lag_now();
-	teamd_for_each_tdport(tdport, lacp->ctx) {
-		struct lacp_port *port = port_of(lacp, tdport);
-		int prio, key;
-
-		if (!port || port->from_file)
-			continue;
-		if (teamd_config_int_get(lacp->ctx, &prio, "$.ports.%s.lacp_prio", tdport->ifname))
-			prio = PRIO;
-		if (teamd_config_int_get(lacp->ctx, &key, "$.ports.%s.lacp_key", tdport->ifname))
-			key = 0;
-		if (prio < 0 || prio > USHRT_MAX || key < 0 || key > USHRT_MAX)
-			continue;
-		if (prio != port->cfg.prio || key != port->cfg.key)
-			lacp->due = true;
-		port->cfg.prio = prio;
-		port->cfg.key = key;
-	}
-}
-
 static int tick(struct teamd_context *ctx, int events, void *priv)
 {
 	struct lacp *lacp = priv;
@@ -655,7 +294,7 @@ static int receive(struct teamd_context *ctx, int events, void *priv)
 	    memcmp(frame, slow_address, ETH_ALEN))
 		return 0;
 	advance(lacp);
-	got = niw_receive(&lacp->end.system, port->number, frame, length, response, sizeof(response));
+	got = niw_receive(&lacp->end.system, port->number, frame, (size_t) length, response, sizeof(response));
 	if (got.status != NIW_OK)
 		return 0;
 	if (got.what == NIW_RECEIVED_RESPOND && lag_may_respond(&port->limit, lag_now()))
@@ -735,41 +374,16 @@ static void find_state(struct lacp_port *port)
 	port->chosen = kept->chosen;
 }
 
-/* A link watch is obeyed that waits after the link came up. Those that ping can't pass before LACP has taken the link into use. */
-static bool is_watched(struct teamd_context *ctx, const char *port)
-{
-	const char *name;
-	int delay;
-
-	/* Of a port that was in the device teamd 1.31 often has a watch that tells no link until it comes up again. */
-	if (ctx->pre_add_ports)
-		return false;
-	if (!teamd_config_string_get(ctx, &name, "$.ports.%s.link_watch.name", port))
-		return !strcmp(name, "ethtool") && !teamd_config_int_get(ctx, &delay, "$.ports.%s.link_watch.delay_up", port) && delay > 0;
-	return !teamd_config_string_get(ctx, &name, "$.link_watch.name") && !strcmp(name, "ethtool") &&
-	       !teamd_config_int_get(ctx, &delay, "$.link_watch.delay_up") && delay > 0;
-}
-
 static int port_init(struct teamd_context *ctx, struct teamd_port *tdport, void *priv, void *creator)
 {
 	struct lacp_port *port = priv;
-	const struct lag_state_port *kept;
 	int err;
 
 	port->ctx = ctx;
 	port->tdport = tdport;
 	port->lacp = creator;
-	/* Who starts teamd with -n configures each port as it is added, and says nothing of those that are in: NetworkManager. */
-	kept = ctx->pre_add_ports && ctx->init_no_ports ? kept_of(port->lacp, tdport) : NULL;
-	if ((err = number_of(ctx, &port->cfg.prio, kept ? kept->priority : PRIO, 0, USHRT_MAX, "$.ports.%s.lacp_prio", tdport->ifname)) ||
-	    (err = number_of(ctx, &port->cfg.key, kept ? kept->key : 0, 0, USHRT_MAX, "$.ports.%s.lacp_key", tdport->ifname)))
-		goto none;
-	port->from_file = kept != NULL;
-	if (teamd_config_bool_get(ctx, &port->cfg.sticky, "$.ports.%s.sticky", tdport->ifname))
-		port->cfg.sticky = false;
-	port->watched = is_watched(ctx, tdport->ifname);
-	err = teamd_packet_sock_open_type(SOCK_RAW, &port->sock, tdport->ifindex, htons(ETH_P_SLOW), NULL, NULL);
-	if (err)
+	if ((err = load_port_config(ctx, port)) ||
+	    (err = teamd_packet_sock_open_type(SOCK_RAW, &port->sock, tdport->ifindex, htons(ETH_P_SLOW), NULL, NULL)))
 		goto none;
 	if ((err = slow_membership(port, SIOCADDMULTI)) ||
 	    (err = teamd_loop_callback_fd_add(ctx, SOCKET_NAME, port, receive, port->sock, TEAMD_LOOP_FD_EVENT_READ)))
@@ -928,147 +542,42 @@ static const struct teamd_event_watch_ops watch = {
 	.admin_state_changed = watch_admin_state,
 };
 
-/* What teamdctl reads. */
-
-#define GETTER(name, type, field, value)					\
-static int get_##name(struct teamd_context *ctx, struct team_state_gsc *gsc, void *priv)	\
-{										\
-	type it = TYPE_OF_##type(gsc, priv);					\
-	if (!it)								\
-		return -ENOENT;							\
-	gsc->data.field = value;						\
-	return 0;								\
-}
-typedef struct lacp *team_t;
-typedef struct lacp_port *port_t;
-#define TYPE_OF_team_t(gsc, priv) (priv)
-#define TYPE_OF_port_t(gsc, priv) port_of(priv, (gsc)->info.tdport)
-
-/* The aggregator of a port has the number of the interface of its best port. */
-static int aggregator_id(struct lacp_port *port)
+/* Takes over what the teamd before left, and lets the carrier of a device that goes on be: the first tick tells whether it does. */
+static int take_over(struct lacp *lacp)
 {
-	return port->lead && port->lead->tdport ? port->lead->tdport->ifindex : 0;
-}
-
-GETTER(active, team_t, bool_val, it->cfg.active)
-GETTER(sys_prio, team_t, int_val, it->cfg.sys_prio)
-GETTER(fast_rate, team_t, bool_val, it->cfg.fast_rate)
-GETTER(policy, team_t, str_val.ptr, policies[it->cfg.policy])
-GETTER(selected, port_t, bool_val, it->selected)
-GETTER(agg_id, port_t, int_val, aggregator_id(it))
-GETTER(agg_selected, port_t, bool_val, it->chosen)
-GETTER(state, port_t, str_val.ptr, state_name(&it->view))
-GETTER(key, port_t, int_val, it->cfg.key)
-GETTER(prio, port_t, int_val, it->cfg.prio)
-GETTER(actor_system_priority, port_t, int_val, it->lacp->cfg.sys_prio)
-GETTER(actor_key, port_t, int_val, it->cfg.key)
-GETTER(actor_port_priority, port_t, int_val, it->cfg.prio)
-GETTER(actor_port, port_t, int_val, it->number)
-GETTER(actor_state, port_t, int_val, it->view.state)
-GETTER(partner_system_priority, port_t, int_val, it->view.partner_priority)
-GETTER(partner_key, port_t, int_val, it->view.partner_key)
-GETTER(partner_port_priority, port_t, int_val, it->view.partner_port_priority)
-GETTER(partner_port, port_t, int_val, it->view.partner_port)
-GETTER(partner_state, port_t, int_val, it->view.partner_state)
-
-static int get_address(struct team_state_gsc *gsc, const void *address)
-{
-	char *text = a_hwaddr_str((char *) address, ETH_ALEN);
-
-	if (!text)
-		return -ENOMEM;
-	gsc->data.str_val.ptr = text;
-	gsc->data.str_val.free = true;
-	return 0;
-}
-
-static int get_actor_system(struct teamd_context *ctx, struct team_state_gsc *gsc, void *priv)
-{
-	return get_address(gsc, ctx->hwaddr);
-}
-
-static int get_partner_system(struct teamd_context *ctx, struct team_state_gsc *gsc, void *priv)
-{
-	return get_address(gsc, port_of(priv, gsc->info.tdport)->view.partner_mac);
-}
-
-/* The group carries until something changes. */
-static int set_agg_selected(struct teamd_context *ctx, struct team_state_gsc *gsc, void *priv)
-{
-	struct lacp_port *port = port_of(priv, gsc->info.tdport);
-	struct lacp *lacp = priv;
-	struct teamd_port *tdport;
-
-	if (!gsc->data.bool_val)
-		return -EOPNOTSUPP;
-	if (!port || !port->selected)
-		return -EINVAL;
-	choose(lacp);
-	lacp->lead = port->lead;
-	teamd_for_each_tdport(tdport, ctx) {
-		struct lacp_port *it = port_of(lacp, tdport);
-
-		if (it)
-			it->chosen = it->selected && it->lead == lacp->lead;
-	}
-	lacp->dirty = true;
-	return 0;	/* the next tick enables its ports */
-}
-
-#define VALUE(path, kind, name) { .subpath = path, .type = TEAMD_STATE_ITEM_TYPE_##kind, .getter = get_##name }
-static const struct teamd_state_val team_values[] = {
-	VALUE("active", BOOL, active), VALUE("sys_prio", INT, sys_prio), VALUE("fast_rate", BOOL, fast_rate),
-	VALUE("select_policy", STRING, policy),
-};
-static const struct teamd_state_val actor_values[] = {
-	VALUE("system_priority", INT, actor_system_priority), VALUE("system", STRING, actor_system), VALUE("key", INT, actor_key),
-	VALUE("port_priority", INT, actor_port_priority), VALUE("port", INT, actor_port), VALUE("state", INT, actor_state),
-};
-static const struct teamd_state_val partner_values[] = {
-	VALUE("system_priority", INT, partner_system_priority), VALUE("system", STRING, partner_system), VALUE("key", INT, partner_key),
-	VALUE("port_priority", INT, partner_port_priority), VALUE("port", INT, partner_port), VALUE("state", INT, partner_state),
-};
-static const struct teamd_state_val port_values[] = {
-	VALUE("selected", BOOL, selected), VALUE("aggregator.id", INT, agg_id),
-	{ .subpath = "aggregator.selected", .type = TEAMD_STATE_ITEM_TYPE_BOOL, .getter = get_agg_selected, .setter = set_agg_selected },
-	VALUE("state", STRING, state), VALUE("key", INT, key), VALUE("prio", INT, prio),
-	{ .subpath = "actor_lacpdu_info", .vals = actor_values, .vals_count = ARRAY_SIZE(actor_values) },
-	{ .subpath = "partner_lacpdu_info", .vals = partner_values, .vals_count = ARRAY_SIZE(partner_values) },
-};
-static const struct teamd_state_val groups[] = {
-	{ .subpath = "runner", .vals = team_values, .vals_count = ARRAY_SIZE(team_values) },
-	{ .subpath = "runner", .vals = port_values, .vals_count = ARRAY_SIZE(port_values), .per_port = true },
-};
-static const struct teamd_state_val values = { .vals = groups, .vals_count = ARRAY_SIZE(groups) };
-
-static int load_config(struct teamd_context *ctx, struct lacp *lacp)
-{
-	const char *policy;
 	int err;
 
-	if (teamd_config_bool_get(ctx, &lacp->cfg.active, "$.runner.active"))
-		lacp->cfg.active = true;
-	if (teamd_config_bool_get(ctx, &lacp->cfg.fast_rate, "$.runner.fast_rate"))
-		lacp->cfg.fast_rate = false;
-	if (teamd_config_bool_get(ctx, &lacp->cfg.hold, "$.runner.hold_unselected"))
-		lacp->cfg.hold = false;
-	if ((err = number_of(ctx, &lacp->cfg.sys_prio, USHRT_MAX, 0, USHRT_MAX, "$.runner.sys_prio", NULL)) ||
-	    (err = number_of(ctx, &lacp->cfg.min_ports, 1, 1, UCHAR_MAX, "$.runner.min_ports", NULL)))
-		return err;
-	if (teamd_config_string_get(ctx, &policy, "$.runner.agg_select_policy"))
-		policy = policies[LACP_PRIO];
-	for (lacp->cfg.policy = 0; lacp->cfg.policy < ARRAY_SIZE(policies); lacp->cfg.policy++)
-		if (!strcmp(policies[lacp->cfg.policy], policy))
-			return 0;
-	teamd_log_err("Unknown \"agg_select_policy\" named \"%s\" passed.", policy);
-	return -ENOENT;
+	if (lacp->ctx->take_over)
+		load(lacp);
+	for (size_t i = 0; i < lacp->kept.count; i++)
+		lacp->carrier_up |= lacp->kept.ports[i].carried && lacp->kept.ports[i].chosen;
+	if (!team_get_ifinfo_admin_state(lacp->ctx->ifinfo))
+		lacp->silent_at = lag_now();
+	err = lacp->carrier_up ? 0 : team_carrier_set(lacp->ctx->th, false);
+	return err == -EOPNOTSUPP ? 0 : err;
+}
+
+static int start_clock(struct lacp *lacp)
+{
+	const struct timespec tick_time = { .tv_nsec = NIW_TICK_MILLISECONDS * 1000000L };
+	const struct itimerspec every = { tick_time, tick_time };
+	int err;
+
+	lacp->clock = timerfd_create(CLOCK_MONOTONIC, TFD_NONBLOCK | TFD_CLOEXEC);
+	if (lacp->clock < 0)
+		return -errno;
+	err = timerfd_settime(lacp->clock, 0, &every, NULL) ? -errno
+							      : teamd_loop_callback_fd_add(lacp->ctx, TICK_NAME, lacp, tick, lacp->clock, TEAMD_LOOP_FD_EVENT_READ);
+	if (err)
+		close(lacp->clock);
+	else
+		teamd_loop_callback_enable(lacp->ctx, TICK_NAME, lacp);
+	return err;
 }
 
 static int lacp_init(struct teamd_context *ctx, void *priv)
 {
-	struct itimerspec every = { { .tv_nsec = NIW_TICK_MILLISECONDS * 1000000L }, { .tv_nsec = NIW_TICK_MILLISECONDS * 1000000L } };
 	struct lacp *lacp = priv;
-	bool resumes = false;
 	int err;
 
 	if (ctx->hwaddr_len != ETH_ALEN) {
@@ -1076,40 +585,18 @@ static int lacp_init(struct teamd_context *ctx, void *priv)
 		return -EINVAL;
 	}
 	lacp->ctx = ctx;
-	if ((err = teamd_hash_func_set(ctx)) || (err = load_config(ctx, lacp)))
-		return err;
-	if (ctx->take_over)
-		load(lacp);
-	for (size_t i = 0; i < lacp->kept.count; i++)
-		resumes |= lacp->kept.ports[i].carried && lacp->kept.ports[i].chosen;
-	/* Of a device that carries the first tick tells whether it goes on. */
-	lacp->carrier_up = resumes;
-	if (!resumes) {
-		err = team_carrier_set(ctx->th, false);
-		if (err && err != -EOPNOTSUPP)
-			return err;
-	}
-	if (!team_get_ifinfo_admin_state(ctx->ifinfo))
-		lacp->silent_at = lag_now();
-	if ((err = teamd_event_watch_register(ctx, &watch, lacp)))
+	if ((err = teamd_hash_func_set(ctx)) || (err = load_config(ctx, lacp)) || (err = take_over(lacp)) ||
+	    (err = teamd_event_watch_register(ctx, &watch, lacp)))
 		return err;
 	if ((err = teamd_balancer_init(ctx, &lacp->tb)))
 		goto watch_unregister;
 	if ((err = teamd_state_val_register(ctx, &values, lacp)))
 		goto balancer_fini;
-	lacp->clock = timerfd_create(CLOCK_MONOTONIC, TFD_NONBLOCK | TFD_CLOEXEC);
-	if (lacp->clock < 0 || timerfd_settime(lacp->clock, 0, &every, NULL)) {
-		err = -errno;
-		goto clock_close;
-	}
-	if ((err = teamd_loop_callback_fd_add(ctx, TICK_NAME, lacp, tick, lacp->clock, TEAMD_LOOP_FD_EVENT_READ)))
-		goto clock_close;
-	teamd_loop_callback_enable(ctx, TICK_NAME, lacp);
+	if ((err = start_clock(lacp)))
+		goto values_unregister;
 	return 0;
 
-clock_close:
-	if (lacp->clock >= 0)
-		close(lacp->clock);
+values_unregister:
 	teamd_state_val_unregister(ctx, &values, lacp);
 balancer_fini:
 	teamd_balancer_fini(lacp->tb);

@@ -2,14 +2,15 @@
 
 from __future__ import annotations
 
+import glob
 import os
 import shutil
 import subprocess
 from typing import Callable, NamedTuple
 
 from fetched import Source, Sources
-from library import HEADER
-from repository import TOP, Missing, want
+from library import HEADER, PORTABLE, archive, one_object, portable, proved
+from repository import TOP, Missing, say, want
 
 HOSTS = os.path.join(TOP, "hosts")
 SHARED = os.path.join(HOSTS, "shared")
@@ -39,6 +40,21 @@ class Host(NamedTuple):
     before: Callable[[Sources], dict[str, str]]
 
 
+def archives(folder: str) -> list[str]:
+    """The library to link a host with: that of LAG_FOLDER, or one made in this folder, of LIBRARY, of c/lag.c, or of the proved crate."""
+    if "LAG_FOLDER" in os.environ:
+        return [os.path.abspath(os.path.join(os.environ["LAG_FOLDER"], "liblag.a"))]
+    of_c = os.path.exists(PORTABLE) and "LIBRARY" not in os.environ
+    folder = os.path.join(folder, "portable" if of_c else "proved")
+    made = os.path.join(folder, "liblag.a")
+    # The command is called once for each host, and for each way to build it.
+    if of_c and os.path.exists(made) and os.path.getmtime(made) > max(os.path.getmtime(it) for it in (PORTABLE, HEADER)):
+        return [made]
+    os.makedirs(folder, exist_ok=True)
+    say(f"with the {os.path.basename(folder)} library")
+    return [archive(folder, portable(folder) if of_c else one_object(folder, proved(folder)))]
+
+
 def done(words: list[str], cwd: str, log: str, **environment: str) -> None:
     """Runs a step of a build; its output stands in a file."""
     if not words[0].startswith("."):
@@ -57,10 +73,8 @@ def exchange(ours: str, theirs: str) -> None:
     if not os.path.exists(theirs):
         raise Missing(f"the sources have no {theirs}")
     shutil.copy(ours, theirs)
-    for name in sorted(os.listdir(SHARED)):
-        if name.endswith(".h"):
-            shutil.copy(os.path.join(SHARED, name), os.path.dirname(theirs))
-    shutil.copy(HEADER, os.path.dirname(theirs))
+    for header in [*glob.glob(f"{os.path.dirname(ours)}/*.h"), *glob.glob(f"{SHARED}/*.h"), HEADER]:
+        shutil.copy(header, os.path.dirname(theirs))
 
 
 def before(names: tuple[str, ...]) -> Callable[[Sources], dict[str, str]]:

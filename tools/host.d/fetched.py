@@ -111,6 +111,8 @@ class Sources:
 def unpacked(source: Source, folder: str, with_packaging: bool) -> str:
     """A fresh tree of the sources."""
     shutil.rmtree(folder, ignore_errors=True)
+    # dpkg-source puts a copy of the archive beside the tree.
+    os.makedirs(os.path.dirname(folder), exist_ok=True)
     if with_packaging:
         words = ["dpkg-source", "--no-check", "-x", source.described, folder]
     else:

@@ -20,7 +20,7 @@ take() { $T -g -d -o ${N:+-N} -t team0 -c "$(config "$@")" 2>>/run/log; }
 # The same in the foreground, where what it says can be heard, until it says what becomes of its ports.
 take_aloud() {
     $T -g -o -t team0 -c "$(config "$@")" >/run/log 2>&1 &
-    for _ in $(seq 30); do sleep 0.1; grep -q -E 'taken over|negotiates anew|Changed port state' /run/log && break; done; sleep 0.3
+    for _ in $(seq $((30 * ${SLOW:-1}))); do sleep 0.1; grep -q -E 'taken over|negotiates anew|Changed port state' /run/log && break; done; sleep 0.3
 }
 kill_it() { kill -9 "$(cat /run/teamd/team0.pid)"; }
 end() { $T -k -t team0; sleep 0.3; }
@@ -33,23 +33,24 @@ state() {
 BOTH="eth1 current true, eth2 current true, carrier 1"
 # Whether something is so: its name, what is wanted, and what there is.
 is() { if [ "$2" = "$3" ]; then echo "passed: $1"; else echo "FAILED: $1"; echo "  wanted: $2"; echo "  is:     $3"; fi; }
-# Waits until the state is this one, for so many seconds at most.
-until_state() { for _ in $(seq $((10 * $2))); do [ "$(state $3)" = "$1" ] && return; sleep 0.1; done; }
-peers_ports() { ip netns exec far grep 'Number of ports' /proc/net/bonding/bond0 | tr -dc 0-9; }
+# Waits until the state is this one, for so many seconds at most; for more of them where teamd is $SLOW times as slow.
+until_state() { last=$(($(date +%s) + $2 * ${SLOW:-1})); until [ "$(state $3)" = "$1" ] || [ "$(date +%s)" -gt $last ]; do sleep 0.1; done; }
+# The key and the port priority that a port of the peer was told.
+told() { ip netns exec far sed -n "/Slave Interface: $1\$/,/^\$/{s/^ *oper key: //p;s/^ *port priority: //p}" /proc/net/bonding/bond0 | tail -2 | paste -s -d' '; }
 # Numbered frames both ways, 250 a second each, while a command runs after 2 s; LOST is how many were lost to and from the peer.
 trip() { # NAME SECONDS COMMAND..
     name=$1; seconds=$2; shift 2
     ip link set team0 promisc on; ip -n far link set bond0 promisc on
-    ip netns exec far /mnt/flows receive bond0 16 $((seconds + 3)) >/run/to.received 2>&1 & a=$!
-    /mnt/flows receive team0 16 $((seconds + 3)) >/run/from.received 2>&1 & b=$!
+    ip netns exec far /mnt/flows receive bond0 16 $((seconds + ${AFTER:-3})) >/run/to.received 2>&1 & a=$!
+    /mnt/flows receive team0 16 $((seconds + ${AFTER:-3})) >/run/from.received 2>&1 & b=$!
     sleep 0.5
-    ip netns exec far /mnt/flows send bond0 250 16 $seconds ports >/run/from.sent 2>&1 & c=$!
-    /mnt/flows send team0 250 16 $seconds ports >/run/to.sent 2>&1 & d=$!
+    ip netns exec far /mnt/flows send bond0 ${RATE:-250} 16 $seconds ports >/run/from.sent 2>&1 & c=$!
+    /mnt/flows send team0 ${RATE:-250} 16 $seconds ports >/run/to.sent 2>&1 & d=$!
     sleep 2; eval "$*" >/run/trip.out 2>&1; wait $a $b $c $d
     LOST=$(for w in to from; do
         sent=$(sed 's/.*"sent":\([0-9]*\).*/\1/' /run/$w.sent) got=$(sed 's/.*"received":\([0-9]*\).*/\1/' /run/$w.received)
         echo $((sent - got))
     done | paste -s -d' ')
     GAP=$(sed 's/.*"gap_ms":\([0-9]*\).*/\1/' /run/to.received /run/from.received | sort -n | tail -1)
-    echo "row: $name | $LOST of $((250 * seconds)) | $GAP ms"
+    echo "row: $name | $LOST of $((${RATE:-250} * seconds)) | $GAP ms"
 }

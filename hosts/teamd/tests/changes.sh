@@ -3,8 +3,12 @@ bond; begin; until_state "$BOTH" 10; sleep 1
 ip link set team0 down; sleep 1; is "the device goes down: the peer stops at once" 0 "$(ip netns exec far sed -n 's/.*port state: //p' /proc/net/bonding/bond0 | awk '{n += int($1 / 32) % 2} END {print n + 0}')"
 sleep 3; ip link set team0 up; until_state "$BOTH" 10; is "it comes up: both carry" "$BOTH" "$(state)"
 teamdctl team0 port config update eth1 '{"lacp_prio": 7, "lacp_key": 5}' 2>/dev/null; teamdctl team0 port config update eth2 '{"lacp_key": 5}' 2>/dev/null; sleep 2
-is "another key and priority reach the peer" "5 7" "$(ip netns exec far sed -n '/far1/,/far2/{s/^ *oper key: //p;s/^ *port priority: //p}' /proc/net/bonding/bond0 | tail -2 | paste -s -d' ')"
-until_state "$BOTH" 10; is "both carry with them" "$BOTH" "$(state)"
+is "another key and priority reach the peer" "5 7" "$(told far1)"; until_state "$BOTH" 10; is "both carry with them" "$BOTH" "$(state)"
+# As NetworkManager starts it, which has no word of ports that are in.
+kill_it; $T -g -d -o -n -t team0 -c "$(config '' ' ')" 2>>/run/log; sleep 1.5; is "a teamd that follows with -n: both carry with them" "$BOTH 5 7" "$(state) $(told far1)"
+teamdctl team0 port config update eth1 '{"lacp_prio": 9, "lacp_key": 5}' 2>/dev/null; sleep 2; is "what it is told then reaches the peer" "5 9" "$(told far1)"
+for n in 1 2; do teamdctl team0 port config update eth$n '{}' 2>/dev/null; done; sleep 2; is "and where it is told nothing, what is usual" "0 255, 0 255" "$(told far1), $(told far2)"
+until_state "$BOTH" 10; is "both carry then" "$BOTH" "$(state)"
 ip link set team0 address 52:54:00:00:0c:77; sleep 1; until_state "$BOTH" 10; is "another address of the device: both carry" "$BOTH" "$(state)"
 is "the peer has it" "52:54:00:00:0c:77" "$(ip netns exec far sed -n 's/.*Partner Mac Address: //p' /proc/net/bonding/bond0)"
 ip link set eth1 down; sleep 1; is "a link goes down: the other one carries" "eth1 disabled false, eth2 current true, carrier 1" "$(state)"; ip link set eth1 up; end

@@ -6,9 +6,9 @@ import glob
 import os
 import subprocess
 
+from building import archives
 from checking import Failed
 from fetched import Sources
-from linked import library
 from repository import COMPILER, MAINTAIN, TOOLS, TOP
 
 HOSTS = os.path.join(TOP, "hosts")
@@ -40,7 +40,7 @@ class Built:
         return self.trees[key]
 
     def archives(self) -> list[str]:
-        return library(f"{self.sources.cache}/library")
+        return archives(f"{self.sources.cache}/library")
 
     def shared(self) -> str:
         """The library for Python."""

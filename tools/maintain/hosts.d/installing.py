@@ -18,10 +18,14 @@ mkdir -p "$D/tree/packages"; mount --bind "$2" "$D/tree/packages"
 printf '#!/bin/sh\\nexit 101\\n' >"$D/tree/usr/sbin/policy-rc.d"; chmod +x "$D/tree/usr/sbin/policy-rc.d"
 exec chroot "$D/tree" sh -c "$3"
 """
+# What the new one writes down, and that which the one of before is to tell of it: a bond in the database of Open vSwitch, without a network.
+WRITES = {"openvswitch": "base ovs-vsctl --no-wait add-br br0 -- add-bond br0 bond0 b0 b1 lacp=active"}
+READS = {"openvswitch": ("base ovs-vsctl --no-wait get port bond0 lacp", "active")}
 STEPS = """export DEBIAN_FRONTEND=noninteractive; sums() {{ md5sum {program} | cut -d' ' -f1; for p in {names}; do dpkg-query -W -f '${{Version}} ' $p; dpkg -V $p | grep -v '^??5?????? c ' || true; done; echo; }}
 install() {{ apt-get install -y --no-install-recommends "$@" >/run/log 2>&1 || tail -5 /run/log; }}
-install {names}; echo "before $(sums)"; install /packages/*.deb; echo "new $(sums)"; {program} --version 2>&1 | head -1
-install --reinstall --allow-downgrades {old}; echo "back $(sums)"
+base() {{ unshare -n sh -c 'C=/usr/share/openvswitch/scripts/ovs-ctl; $C --no-ovs-vswitchd --system-id=random start >/run/base 2>&1 || tail -3 /run/base; "$@"; $C stop >>/run/base 2>&1' sh "$@"; }}
+install {names}; echo "before $(sums)"; install /packages/*.deb; echo "new $(sums)"; {program} --version 2>&1 | head -1; {writes}
+install --reinstall --allow-downgrades {old}; echo "back $(sums)"; echo "old: $({reads})"
 """
 
 
@@ -34,9 +38,11 @@ def there_and_back(built: Built) -> None:
         if not old:
             raise Failed("tools/host says how to go back", told)
         names = " ".join(it.split("=")[0] for it in old.group(1).split())
-        steps = STEPS.format(program=program, names=names, old=old.group(1))
+        reads, wanted = READS.get(name, ("true", ""))
+        steps = STEPS.format(program=program, names=names, old=old.group(1), writes=WRITES.get(name, "true"), reads=reads)
         ended = subprocess.run(["unshare", "-m", "sh", "-c", OVERLAY, "sh", place, out, steps], capture_output=True, text=True)
-        said = dict(re.findall(r"^(before|new|back) (.*(?:\n[^bn].*)*?)$", ended.stdout, re.M))
+        said = dict(re.findall(r"^(before|new|back) (.*(?:\n[^bno].*)*?)$", ended.stdout, re.M))
         print(ended.stdout.strip())
         check(said.get("new") and "+niw" in said["new"] and said.get("new") != said.get("before"), f"{name}: the packages are installed", ended.stdout[-1200:], ended.stderr[-600:])
         check(said.get("before") and said.get("before") == said.get("back"), f"{name}: those of before come back", ended.stdout[-1200:])
+        check(f"old: {wanted}\n" in ended.stdout, f"{name}: they know what was written meanwhile", ended.stdout[-1200:], ended.stderr[-600:])

@@ -9,15 +9,25 @@ import subprocess
 from typing import Callable
 
 from built import HOSTS, UNDEFINED, Built
-from checking import Failed, check
+from checking import Failed, Skipped, check
 from repository import TOP
 from switches import words_of
 
 TESTS = os.path.join(HOSTS, "teamd", "tests")
 # How long a guest may take, in seconds.
-LONGEST = {"conform": 2400}
-USUAL = 900
+LONGEST = {"conform": 2400, "speed": 3600}
+USUAL = 1200
 NAMES = "restarts", "changes", "files"
+# NetworkManager, and of what it wants that which a small Debian has not.
+MANAGER = ("network-manager", "libnm0", "libndp0", "libteamdctl0", "libmm-glib0", "libbluetooth3", "libcurl3-gnutls", "libjansson4", "libpsl5", "libreadline8", "libdaemon0",
+           "libapparmor1", "libdbus-1-3", "dbus-bin", "dbus-daemon", "dbus-system-bus-common", "dbus-session-bus-common", "libteam-utils", "libteam5")  # fmt: skip
+
+# A teamd under valgrind, whose log teamd does not close.
+VALGRIND = """#!/bin/sh
+exec env LD_PRELOAD=/mnt/kept.so valgrind --log-file=/run/valgrind.%p --leak-check=full --show-leak-kinds=definite /mnt/teamd-for-valgrind "$@"
+"""
+# The files and functions of this project, in a stack.
+OURS = re.compile(r"teamd_runner_lacp\.c|lacp_(team|groups|file|config|values)\.h|lag_(end|state)\.h|lagffi_|niw_")
 
 
 def place(built: Built) -> str:
@@ -36,19 +46,29 @@ def place(built: Built) -> str:
     return folder
 
 
-def guest(built: Built, script: str, program: str, name: str) -> str:
-    """Runs a script in a guest, of a teamd; answers what it printed."""
+def guest(built: Built, script: str, program: str, name: str, *more: str) -> str:
+    """Runs a script in a guest, of a teamd, with more words of its environment; answers what it printed."""
     folder, own = place(built), f"{built.folder}/{script}-{name}"
+    if script == MANAGER[0] and not os.path.exists(f"{folder}/{script}"):
+        shutil.copytree(built.unpacked(*MANAGER), f"{folder}/{script}", symlinks=True)
+        # The /lib of the machine is a link to usr/lib, which a folder in an overlay would hide.
+        shutil.copytree(f"{folder}/{script}/lib", f"{folder}/{script}/usr/lib", symlinks=True, dirs_exist_ok=True)
+        shutil.rmtree(f"{folder}/{script}/lib")
     shutil.copy(program, f"{folder}/{name}")
     os.makedirs(own, exist_ok=True)
     linux = f"{built.sources.cache}/unpacked/user-mode-linux/usr/bin/linux.uml"
-    said = ["mem=512M", "root=/dev/root", "rootfstype=hostfs", "rootflags=/", "ro", f"init={TESTS}/init", f"uml_dir={own}", "con=null", "con0=null,fd:1", "ssl=null", "panic=-1", "quiet"]
-    said += [f"SCRIPT={script}", f"TEAMD={name}", f"PLACE={folder}", f"TESTS={TESTS}", f"PROJECT={TOP}"]
+    said = ["mem=1024M", "root=/dev/root", "rootfstype=hostfs", "rootflags=/", "ro", f"init={TESTS}/init", f"uml_dir={own}", "con=null", "con0=null,fd:1", "ssl=null", "panic=-1", "quiet"]
+    said += [f"SCRIPT={script}", f"TEAMD={name}", f"PLACE={folder}", f"TESTS={TESTS}", f"PROJECT={TOP}", *more]
     try:
-        ended = subprocess.run([linux, *said], stdin=subprocess.DEVNULL, stdout=subprocess.PIPE, stderr=subprocess.DEVNULL, timeout=LONGEST.get(script, USUAL))
+        run = subprocess.run([linux, *said], stdin=subprocess.DEVNULL, stdout=subprocess.PIPE, stderr=subprocess.DEVNULL, timeout=LONGEST.get(script, USUAL))
     except subprocess.TimeoutExpired as why:
         raise Failed(f"{script}: the guest ends in time", (why.stdout or b"").decode(errors="replace")[-1500:]) from why
-    return ended.stdout.decode(errors="replace").replace("\r", "")
+    return run.stdout.decode(errors="replace").replace("\r", "")
+
+
+def ended(told: str) -> bool:
+    """Whether a guest came to its end."""
+    return "guest: done" in told.splitlines()
 
 
 def judge(script: str, told: str) -> None:
@@ -62,7 +82,7 @@ def judge(script: str, told: str) -> None:
             print(line)
     if any(line.startswith("question ") for line in lines):
         print("\n".join(line for line in lines if re.match(r"question |[<>] ", line)))
-    check("guest: done" in lines, f"{script}: the guest comes to its end", told[-800:])
+    check(ended(told), f"{script}: the guest comes to its end", told[-800:])
 
 
 def program(built: Built, own: bool = False, **environment: str) -> str:
@@ -90,6 +110,33 @@ def sanitized(built: Built) -> None:
     made = program(built, CFLAGS=UNDEFINED)
     for script in NAMES:
         judge(f"{script}, sanitized", guest(built, script, made, "sanitized"))
+
+
+def findings(told: str) -> list[str]:
+    """What valgrind told of its processes, each finding as one line: its words, and the functions of its stack."""
+    text = "\n".join(re.sub(r"^valgrind: (==\d+== ?)?", "", line) for line in told.splitlines() if line.startswith("valgrind: "))
+    blocks = re.findall(r"^(\S.*)\n((?:   (?:at|by) 0x.*\n)+)", text + "\n", re.M)
+    return [f"{re.sub(r'0x[0-9A-F]+', 'ADDRESS', words)}: {' < '.join(re.findall(r'0x[0-9A-F]+: (.*)', stack))}" for words, stack in blocks]
+
+
+def valgrind(built: Built) -> None:
+    """teamd under valgrind. Its time is another one, so what the scripts judge does not count; what valgrind finds in our files does."""
+    if not shutil.which("valgrind"):
+        raise Skipped("there is no valgrind (Debian: valgrind)")
+    folder = place(built)
+    shutil.copy(program(built), f"{folder}/teamd-for-valgrind")
+    built.compile("-shared", "-fPIC", "-o", f"{folder}/kept.so", os.path.join(TESTS, "kept.c"))
+    wrapper = f"{built.folder}/valgrind-teamd"
+    with open(wrapper, "w", encoding="utf-8") as it:
+        it.write(VALGRIND)
+    os.chmod(wrapper, 0o755)
+    for script in NAMES:
+        told = guest(built, script, wrapper, "valgrind-teamd", "SLOW=6")
+        print(f"{script} under valgrind: {len(re.findall('^passed: ', told, re.M))} checks passed; not passed, and not counted:", *re.findall("^FAILED: (.*)$", told, re.M), sep="\n  ")
+        found = findings(told)
+        print(f"valgrind finds, by {len(set(re.findall(r'^valgrind: ==([0-9]+)==', told, re.M)))} processes:", *(f"{found.count(it)} times {it}" for it in sorted(set(found))), sep="\n  ")
+        check(not [it for it in found if OURS.search(it)], f"{script}: valgrind finds nothing in the runner and the library", *[it for it in found if OURS.search(it)][:5])
+        check(ended(told) and "valgrind: " in told, f"{script}: the guest comes to its end", told[-800:])
 
 
 def conform(built: Built) -> None:
