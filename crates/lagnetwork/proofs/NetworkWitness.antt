@@ -408,9 +408,10 @@ fixed₀ = record {
           ]
     ]
 
-abbrev up : ℕ → PortFacts
-up q = record (first_port (party_of 1 q)) {
-  partner = party_of 2 q;
+-- port q, which names the same port of the other system, carries
+abbrev up : ℕ → ℕ → ℕ → PortFacts
+up n m q = record (first_port (party_of n q)) {
+  partner = party_of m q;
   synchronized = true;
   defaulted = false;
   aggregator = Some 1;
@@ -426,8 +427,10 @@ one_aggregator_reaches_two = (
       ∷ NetworkEvent.Move_conversation 1 1 48 2 ∷ NetworkEvent.Emit 1 1 ∷ NetworkEvent.Deliver 2 1 ∷ NetworkEvent.Deliver 1 1
       ∷ NetworkEvent.Offer 1 1 frame ∷ NetworkEvent.Deliver 3 2 ∷ [],
   w₂₀,
-  up 1,
-  up 2,
+  up 1 2 1,
+  up 1 2 2,
+  up 2 1 1,
+  up 2 1 2,
   fixed₀,
   (
     w₁,
@@ -490,6 +493,10 @@ one_aggregator_reaches_two = (
   refl,
   record { is = refl; distributes = refl; defaulted = refl; taken = (record { pdu = agreed 1; stamp = 0 }, refl, refl) },
   record { is = refl; distributes = refl; defaulted = refl; taken = (record { pdu = agreed 2; stamp = 0 }, refl, refl) },
+  record { is = refl; distributes = refl; defaulted = refl; taken = (record { pdu = answer 1; stamp = 0 }, refl, refl) },
+  record { is = refl; distributes = refl; defaulted = refl; taken = (record { pdu = answer 2; stamp = 0 }, refl, refl) },
+  refl,
+  refl,
   refl,
   refl,
   refl,

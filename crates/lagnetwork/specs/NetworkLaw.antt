@@ -141,19 +141,23 @@ LawfulCallsAreCalls =
     → new ≡ record (network_after_acts x s stamp accepts seen v mid) { count = count } → NetworkCall x s call stamp old mid new
 
 -- There is a run of three systems, of which systems 2 and 3 have one identifier: both ports of system 1 distribute in its
--- aggregator 1, one towards each of them, not on defaults; and conversation 48, never forced, had its first frame handed up
--- at system 2, moved, and had its second handed up at system 3.
+-- aggregator 1, one towards each of them, and so does each port at the other end, none on defaults; and conversation 48, never
+-- forced, had its first frame handed up at system 2, moved, and had its second handed up at system 3.
 abbrev pub OneAggregatorReachesTwo : Type 0
 OneAggregatorReachesTwo =
-    (x : NetworkSetup) × (events : List NetworkEvent) × (w : Network) × (a b : PortFacts)
+    (x : NetworkSetup) × (events : List NetworkEvent) × (w : Network) × (a b c d : PortFacts)
     × IsNetworkSetup x
     × NetworkRun x events (first_network x) w
     × (x.far 1 1 ≡ Some (record { system = 2; port = 1 }))
     × (x.far 1 2 ≡ Some (record { system = 3; port = 2 }))
     × IsUpToDate w 1 1 2 1 a
     × IsUpToDate w 1 2 3 2 b
+    × IsUpToDate w 2 1 1 1 c
+    × IsUpToDate w 3 2 1 2 d
     × (a.aggregator ≡ Some 1)
     × (b.aggregator ≡ Some 1)
     × (w.forced 1 1 48 ≡ false)
     × (w.sent 1 1 48 ≡ 0 ∷ 1 ∷ [])
     × (w.collected 1 1 48 ≡ 0 ∷ 1 ∷ [])
+    × (w.arrived 2 1 1 1 48 ≡ 0 ∷ [])
+    × (w.arrived 3 1 1 1 48 ≡ 1 ∷ [])
