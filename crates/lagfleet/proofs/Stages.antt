@@ -1,28 +1,44 @@
 -- One system beside any peer: what it does moves the scene as the law has it.
-use Rattle.std.proofs.Common.{Bool, Err, List, Ok, Option, Result, Some, [], ap, inl, refl, subst, sym, true, ℕ, ◌∙◌, ◌∷◌, ◌≡◌}
+use Rattle.std.proofs.Common.{Bool, Err, List, Ok, Option, Result, Some, [], ap, arith, false, inl, inr, refl, subst, sym, true, ℕ, ◌∙◌, ◌∷◌, ◌≡◌}
+use Rattle.std.proofs.lemmas.Bool.{true≢false}
 use Rattle.lagtypes.specs.declared.identifiers.AggId.{AggId}
-use Rattle.lagmodel.specs.View.{ModelCall, SystemSetup, IsSystemSetup, View, first_view}
+use Rattle.lagmodel.specs.View.{ControlMessage, Flushing, ModelCall, On, SystemSetup, IsSystemSetup, View, conversation_port, first_view, is_restart}
+use Rattle.lagmodel.specs.View.{Force, Receive, Set_link}
 use Rattle.lagmodel.specs.Move.{Act, LawfulMoves}
 use Rattle.lagmodel.specs.Law.{Members, OnePartner}
 use Rattle.lagmodel.specs.World.{One, at_two, on_cable_after, sent_after, taken_after}
-use Rattle.lagmodel.specs.AnyPeer.{Answers, Calls, Comes, Cuts, Forces, Gone, HandsUp, Happening, Joins, OvertakesBack, OvertakesOut, Restarts, Says}
+use Rattle.lagmodel.specs.AnyPeer.{Answers, Calls, Comes, Cuts, Fits, Forces, Gone, HandsUp, Happening, Joins, OvertakesBack, OvertakesOut, Restarts, Says}
 use Rattle.lagmodel.specs.AnyPeer.{Scene, Takes, OrderHolds, SerialsCountFromZero, TookInSync, first_scene, scene_after_acts}
 use Rattle.lagmodel.proofs.AnyPeer.{Kept, comes_kept, counted_comes, each_call_is_one, first_kept, none_counted, unsent}
 use Rattle.lagnetwork.proofs.NetworkLaws.{took_in_sync}
+use Rattle.lagmodel.proofs.Lanes.{two_cases}
 use Rattle.lagmodel.proofs.Orderly.{handed_front}
 use Rattle.lagmodel.proofs.Ports.{one_partner}
+use Rattle.lagsystem.specs.declared.drive.HostCall.{HostCall}
+use Rattle.lagsystem.specs.declared.drive.HostCall.TheVariants as host
+use Rattle.lagsystem.specs.declared.drive.HostReply.{HostReply}
+use Rattle.lagsystem.specs.declared.drive.HostReply.TheVariants as told
+use Rattle.lagsystem.specs.declared.drive.Reply.TheVariants as reply
 use Rattle.lagsystem.specs.declared.fault.SystemFault.{SystemFault}
+use Rattle.lagsystem.specs.Calls.{Call}
 use Rattle.lagsystem.specs.First.{IsFirst}
+use Rattle.lagsystem.specs.HostCalls.{HostPromise}
+use Rattle.lagsystem.specs.Leaving.{system_rest_result}
 use Rattle.lagsystem.specs.ModelView.{model_setup, model_view}
+use Rattle.lagsystem.specs.Offers.{system_force_result}
+use Rattle.lagsystem.specs.Sound.{CallPromise}
+use Rattle.lagsystem.specs.State.{SystemState}
 use Rattle.lagsystem.proofs.FirstView.{configured_setup, first_shows}
 use Rattle.lagnetwork.specs.Network.{also_forced, freed_view}
 use Rattle.lagnetwork.proofs.NetworkLines.{lanes_freed, lanes_succeeded}
-use Rattle.lagfleet.specs.Doing.{Doing}
-use Rattle.lagfleet.specs.Fleet.{is_held}
+use Rattle.lagfleet.specs.Doing.{Doing, Does, offered}
+use Rattle.lagfleet.specs.Fleet.{IsOther, is_held}
 use Rattle.lagfleet.specs.BesideAnyPeer.{Acts, EachCallBesideAnyPeer, HoldsBesideAnyPeer, IsOutside, Stage, StageEvent, StageForces, StageForcesHeld}
 use Rattle.lagfleet.specs.BesideAnyPeer.{StageRun, StageSteps, takes_all, Makes_call, Starts_again, Forces_conversation, Offers_conversation}
 use Rattle.lagfleet.specs.BesideAnyPeer.{Leaves_conversation, Probes_port, Rests_conversation, Forces_port, Changes_setting, Gives_way, Befalls}
-use Rattle.lagfleet.proofs.Doings.{does_lawfully, held_freed}
+use Rattle.lagfleet.specs.BesideAnyPeer.{EachForceBesideAnyPeer, EachHappeningBesideAnyPeer, EachHostCallBesideAnyPeer, EachRestartBesideAnyPeer}
+use Rattle.lagfleet.specs.BesideAnyPeer.{EachSettingBesideAnyPeer, IsHostEvent, IsSceneSuccessor, LeadsTo, MayGiveWayToItself, scene_after_force}
+use Rattle.lagfleet.proofs.Doings.{does_lawfully, held_freed, refused_same}
 
 -- ---- what stays true of the system and its scene
 
@@ -200,3 +216,136 @@ calls_beside gives ends old call answer accepts after stamp promise fits = (
   refl,
   refl,
 )
+
+-- nothing that comes has to fit these calls
+abbrev asks_nothing : ModelCall → Bool
+asks_nothing ModelCall.Tick = true
+asks_nothing ModelCall.Transmit = true
+asks_nothing ModelCall.Offer = true
+asks_nothing ModelCall.Move_conversation = true
+asks_nothing law = false
+
+fits_any : (law : ModelCall) (ends : ℕ → Option ℕ) (w : Scene) → is_restart law ≡ false → asks_nothing law ≡ true → Fits law 0 ends w
+fits_any law ends w r h = record {
+  running = r;
+  came = λ p pdu e. absurd (true≢false (sym h ∙ ap asks_nothing e));
+  downed = λ p e. absurd (true≢false (sym h ∙ ap asks_nothing e));
+  forcing = λ g k e. absurd (true≢false (sym h ∙ ap asks_nothing e));
+}
+
+receive_force : (p g k : ℕ) (a : Option ControlMessage) → Force g k ≡ Receive p a → ⊥
+receive_force p g k a e = cc
+
+link_force : (p g k : ℕ) (up : Bool) → Force g k ≡ Set_link p up → ⊥
+link_force p g k up e = cc
+
+force_parts : (g k h j : ℕ) → Force g k ≡ Force h j → (g ≡ h) × (k ≡ j)
+force_parts g k h j e = (cc, cc)
+
+fits_forced : (g k : ℕ) (ends : ℕ → Option ℕ) (w : Scene) → Fits (Force g k) 0 ends (record w { forced = at_two w.forced g k true })
+fits_forced g k ends w = record {
+  running = refl;
+  came = λ p pdu e. absurd (receive_force p g k (Some pdu) e);
+  downed = λ p e. absurd (link_force p g k false e);
+  forcing = λ h j e.
+      let two = force_parts g k h j e in
+      subst (λ h. at_two w.forced g k true h j ≡ true) two.0 (subst (λ j. at_two w.forced g k true g j ≡ true) two.1 counts);
+}
+  where
+    counts : at_two w.forced g k true g k ≡ true
+    counts = elim (two_cases w.forced g k true g k) [ inl y ↦ y.2 | inr y ↦ absurd (y.0 (refl, refl)) ]
+
+module _ (gives : ℕ → ℕ → ℕ → Type 0) (ends : ℕ → Option ℕ) (old : Stage) (after : SystemState) where
+  -- the system goes on so, and leaves this scene
+  abbrev stage : SystemState → Scene → Stage
+  stage system scene = record { system = system; scene = scene }
+
+  quiet : (doing : Doing) (law : ModelCall) (accepts : Act → Bool) (acts : List Act) → is_restart law ≡ false → asks_nothing law ≡ true
+      → Does gives doing law acts old.system after
+      → Acts gives ends doing law 0 accepts old old.scene (stage after (scene_after_acts ends 0 accepts acts (model_view after) old.scene))
+  quiet doing law accepts acts r h does = record { acts = acts; does = does; fits = fits_any law ends old.scene r h; leaves = refl }
+
+  forced : (agg : AggId) (conv : ℕ) (doing : Doing) (done : Unit) → Does gives doing (Force agg.0 conv) [] old.system after
+      → StageForces gives ends agg conv doing (Ok done) old (stage after (scene_after_force agg conv (Ok done) after old.scene))
+  forced agg conv doing done does = record { acts = []; does = does; fits = fits_forced agg.0 conv ends old.scene; leaves = refl }
+
+  unchanged : after ≡ old.system → stage after old.scene ≡ old
+  unchanged same = ap (λ (s : SystemState). stage s old.scene) same
+
+  each_force : (agg : AggId) (conv : ℕ) (answer : Result Unit SystemFault)
+      → CallPromise gives old.system (Call.Force agg conv) (reply.Force answer) after
+      → LeadsTo gives ends old (Forces_conversation agg conv answer) after (scene_after_force agg conv answer after old.scene)
+  each_force agg conv (Ok done) promise = forced agg conv (Doing.Forces agg conv) done (promise, refl, refl)
+  each_force agg conv (Err fault) promise =
+      let same = refused_same agg conv (system_force_result old.system agg conv) fault old.system after promise.step in
+      (subst (CallPromise gives old.system (Call.Force agg conv) (reply.Force (Err fault))) same promise, unchanged same)
+
+  each_host_call : (call : HostCall) (answer : HostReply) (accepts : Act → Bool) → IsOther call → HostPromise gives old.system call answer after
+      → IsHostEvent gives ends old accepts after call answer
+  each_host_call (host.OfferConversation agg conv) (told.OfferConversation answer) accepts h promise =
+      quiet (Doing.Offers agg conv answer) ModelCall.Offer accepts (offered agg conv answer) refl refl (promise, refl, refl)
+  each_host_call (host.LeaveConversation agg conv) (told.LeaveConversation answer) accepts h promise =
+      quiet (Doing.Leaves agg conv answer) ModelCall.Move_conversation takes_all [] refl refl (promise, refl, refl)
+  each_host_call (host.Probe port) (told.Probe answer) accepts h promise = (
+    promise.1.0,
+    promise.1.1,
+    quiet (Doing.Probes port answer) ModelCall.Transmit accepts promise.1.0 refl refl (promise, refl, refl),
+  )
+  each_host_call (host.Rest agg conv) (told.Rest (Ok done)) accepts h promise =
+      forced agg conv (Doing.Rests agg conv) done (promise, refl, refl)
+  each_host_call (host.Rest agg conv) (told.Rest (Err fault)) accepts h promise =
+      let same = refused_same agg conv (system_rest_result old.system agg conv) fault old.system after promise.0 in
+      (subst (HostPromise gives old.system (host.Rest agg conv) (told.Rest (Err fault))) same promise, unchanged same)
+  each_host_call (host.ForcePort port) (told.ForcePort (Ok count)) accepts h promise = record { promise = promise; leaves = refl }
+  each_host_call (host.ForcePort port) (told.ForcePort (Err fault)) accepts h promise =
+      let same = promise.1.same in
+      (subst (HostPromise gives old.system (host.ForcePort port) (told.ForcePort (Err fault))) same promise, unchanged same)
+  each_host_call (host.Call call) answer accepts h promise = absurd h
+  each_host_call call answer accepts h promise = absurd promise
+
+pub restarts_beside : (gives : ℕ → ℕ → ℕ → Type 0) → EachRestartBesideAnyPeer gives
+restarts_beside gives ends old after promise = (promise, refl)
+
+pub forces_beside : (gives : ℕ → ℕ → ℕ → Type 0) → EachForceBesideAnyPeer gives
+forces_beside gives ends old agg conv answer after promise = each_force gives ends old after agg conv answer promise
+
+pub host_calls_beside : (gives : ℕ → ℕ → ℕ → Type 0) → EachHostCallBesideAnyPeer gives
+host_calls_beside gives ends old call answer accepts after h promise = each_host_call gives ends old after call answer accepts h promise
+
+pub settings_beside : (gives : ℕ → ℕ → ℕ → Type 0) → EachSettingBesideAnyPeer gives
+settings_beside gives ends old setting answer after promise =
+    quiet gives ends old after (Doing.Sets setting answer) ModelCall.Tick takes_all [] refl refl (promise, refl, refl)
+
+pub happenings_beside : (gives : ℕ → ℕ → ℕ → Type 0) → EachHappeningBesideAnyPeer gives
+happenings_beside gives ends old (Calls call stamp moves) scene c r f z = absurd (c call stamp moves refl)
+happenings_beside gives ends old Restarts scene c r f z = absurd (r refl)
+happenings_beside gives ends old (Forces g k) scene c r f z = absurd (f g k refl)
+happenings_beside gives ends old (Gone b m ms) scene c r f z = (tt, refl, z)
+happenings_beside gives ends old (Says b kept m) scene c r f z = (tt, refl, z)
+happenings_beside gives ends old (Answers b kept mac p n stamp ms) scene c r f z = (tt, refl, z)
+happenings_beside gives ends old (HandsUp b g k n ms) scene c r f z = (tt, refl, z)
+happenings_beside gives ends old (Takes b m ms) scene c r f z = (tt, refl, z)
+happenings_beside gives ends old (OvertakesOut b ms) scene c r f z = (tt, refl, z)
+happenings_beside gives ends old (OvertakesBack b ms) scene c r f z = (tt, refl, z)
+happenings_beside gives ends old (Cuts b) scene c r f z = (tt, refl, z)
+happenings_beside gives ends old (Joins b) scene c r f z = (tt, refl, z)
+
+-- what flushes is not On a port
+waits_not_on : (p q n : ℕ) → Flushing p n ≡ On q → ⊥
+waits_not_on p q n e = cc
+
+pub gives_way_beside : (gives : ℕ → ℕ → ℕ → Type 0) → MayGiveWayToItself gives
+gives_way_beside gives ends events start end one first e z on =
+    let i = stood gives ends events start end one first e z in
+    let own : IsSceneSuccessor (model_setup start.system) end.scene end.scene.view = record {
+      members = i.kept.members;
+      heard = i.kept.heard;
+      on = on;
+      waits = λ g k p n h. waits_not_on p p n (sym h ∙ on g k p (ap conversation_port h));
+      next = omega arith;
+    } in (
+      subst (λ (u : SystemSetup). IsSceneSuccessor u end.scene (model_view end.system)) (sym i.setup)
+          (subst (λ (v : View). IsSceneSuccessor (model_setup start.system) end.scene v) i.view own),
+      refl,
+      ap (λ (v : View). record end.scene { view = v }) i.view,
+    )

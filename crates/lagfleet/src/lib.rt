@@ -52,15 +52,19 @@ pub fn each_call_is_an_event<F: Fn(u16, usize) -> usize>()
 
 ghost use Rattle.lagmodel.specs.AnyPeer.{OrderHolds, SerialsCountFromZero, TookInSync};
 ghost use Rattle.lagmodel.specs.Law.{OnePartner};
-ghost use Rattle.lagfleet.specs.BesideAnyPeer.{EachCallBesideAnyPeer, HoldsBesideAnyPeer};
+ghost use Rattle.lagfleet.specs.BesideAnyPeer.{EachCallBesideAnyPeer, EachForceBesideAnyPeer, EachHappeningBesideAnyPeer, EachHostCallBesideAnyPeer};
+ghost use Rattle.lagfleet.specs.BesideAnyPeer.{EachRestartBesideAnyPeer, EachSettingBesideAnyPeer, HoldsBesideAnyPeer, MayGiveWayToItself};
 
 // promise: **one `System` beside any peers**, which may lie, overtake and send what others sent, however they are wired: ports that
 //    distribute in one aggregator name one partner; a distributing port, not on defaults, took last an LACPDU that said IN_SYNC, and names
-//    its Actor; what the peers hand up of an unforced conversation is in order, and nothing twice; each call of `drive` but a restart and a
-//    force is such an event, and leaves what its answer shows, whatever cables accept
-// contract: `beside_any_peer` (`one_partner`, `took_synchronized`, `in_order`, `counts_from_zero`, `each_call`)
-// premises: a Marker Response on a cable answers the marker that came there first; no port has two cables; a link is said to be down only
-//    while its cable is cut; a restart loses what is on the cables; a takeover as above (`IsSceneSuccessor`)
+//    its Actor; what the peers hand up of an unforced conversation is in order, and nothing twice. Each call of `drive`, each of the five
+//    calls of hosts and each setting is such an event, and leaves what its answer shows, whatever cables accept; a system of which no
+//    conversation waits may take its own place
+// contract: `beside_any_peer` (`one_partner`, `took_synchronized`, `in_order`, `counts_from_zero`, `each_call`, `each_restart`,
+//    `each_force`, `each_host_call`, `each_setting`, `each_happening`, `takeovers`)
+// premises: a Marker Response on a cable answers the marker that came there first; no port has two cables; cables and peers keep the order
+//    of frames, and repeat none; a link is said to be down only while its cable is cut; what comes in a call stands first on its cable
+//    (`Fits`); a restart loses what is on the cables; a takeover as above (`IsSceneSuccessor`)
 /// One system beside peers of any kind and number, however they are wired, as `order_with_any_peer` of `lagmodel` has it of definitions:
 /// after every list of calls, octets received, with those of hosts, settings and takeovers. One premise: on a cable a Marker Response
 /// answers the marker that has come there first (6.2.4, 6.4.9, 6.4.14, 6.5.4; profile).
@@ -70,4 +74,10 @@ pub fn beside_any_peer<F: Fn(u16, usize) -> usize>()
     ensures in_order { (algorithm : F) → HoldsBesideAnyPeer (F.post algorithm) OrderHolds }
     ensures counts_from_zero { (algorithm : F) → HoldsBesideAnyPeer (F.post algorithm) SerialsCountFromZero }
     ensures each_call { (algorithm : F) → EachCallBesideAnyPeer (F.post algorithm) }
+    ensures each_restart { (algorithm : F) → EachRestartBesideAnyPeer (F.post algorithm) }
+    ensures each_force { (algorithm : F) → EachForceBesideAnyPeer (F.post algorithm) }
+    ensures each_host_call { (algorithm : F) → EachHostCallBesideAnyPeer (F.post algorithm) }
+    ensures each_setting { (algorithm : F) → EachSettingBesideAnyPeer (F.post algorithm) }
+    ensures each_happening { (algorithm : F) → EachHappeningBesideAnyPeer (F.post algorithm) }
+    ensures takeovers { (algorithm : F) → MayGiveWayToItself (F.post algorithm) }
 {}
