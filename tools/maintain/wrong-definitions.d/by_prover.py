@@ -1,4 +1,4 @@
-"""The wrong definitions that the prover refuses: those of the laws of two systems and of progress, and those that operators make.
+"""The wrong definitions that the prover refuses: those of the laws of systems and of progress, and those that operators make.
 
 What crates kept in out/ is used, and what is not kept is proved first. An edit of lagprogress may make a definition of a crate below
 wrong, with the body that meets it: that crate has to be proved still.
@@ -15,7 +15,7 @@ from typing import Iterator
 from edits import DEFINITIONS, Trial, apply, copy_crates, read, restore, unbuilt, write
 from repository import RT
 
-CRATES = ("lagmodel", "lagbeside", "lagprogress")
+CRATES = ("lagmodel", "lagnetwork", "lagfleet", "lagbeside", "lagprogress")
 
 
 def check(crate: str) -> tuple[bool, str]:
