@@ -7,8 +7,8 @@ use Rattle.lagmodel.specs.View.{Force, Receive, Set_link}
 use Rattle.lagmodel.specs.Move.{Act, LawfulMoves}
 use Rattle.lagmodel.specs.Law.{Members, OnePartner}
 use Rattle.lagmodel.specs.World.{One, at_two, on_cable_after, sent_after, taken_after}
-use Rattle.lagmodel.specs.AnyPeer.{Answers, Calls, Comes, Cuts, Fits, Forces, Gone, HandsUp, Happening, Joins, OvertakesBack, OvertakesOut, Restarts, Says}
-use Rattle.lagmodel.specs.AnyPeer.{Scene, Takes, OrderHolds, SerialsCountFromZero, TookInSync, first_scene, scene_after_acts}
+use Rattle.lagmodel.specs.AnyPeer.{Answers, Calls, Comes, Cuts, Fits, Forces, Gone, HandsUp, Happening, Joins, OvertakesBack, OvertakesOut, Restarts}
+use Rattle.lagmodel.specs.AnyPeer.{Says, Scene, Takes, OrderHolds, SerialsCountFromZero, TookInSync, first_scene, scene_after_acts}
 use Rattle.lagmodel.proofs.AnyPeer.{Kept, comes_kept, counted_comes, each_call_is_one, first_kept, none_counted, unsent}
 use Rattle.lagnetwork.proofs.NetworkLaws.{took_in_sync}
 use Rattle.lagmodel.proofs.Lanes.{two_cases}

@@ -1,5 +1,5 @@
-use Rattle.lagfleet.proofs.Stages.{calls_beside, counts_beside, forces_beside, gives_way_beside, happenings_beside, host_calls_beside}
-use Rattle.lagfleet.proofs.Stages.{order_beside, partner_beside, restarts_beside, settings_beside, took_beside}
+use Rattle.lagfleet.proofs.Stages.{calls_beside, counts_beside, forces_beside, gives_way_beside, happenings_beside, host_calls_beside, order_beside}
+use Rattle.lagfleet.proofs.Stages.{partner_beside, restarts_beside, settings_beside, took_beside}
 use Rattle.lagfleet.proofs.beside_any_peer.Goals as goal
 
 pub returns-clause-one_partner : goal.returns-clause-one_partner
