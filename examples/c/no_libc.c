@@ -1,7 +1,8 @@
 /* Two ends without a C library and without a heap: the six functions that liblag.a imports stand here, over a buffer of the program's, which is as
  * large as NIW_MEMORY says for two systems.
  *
- * cc -ffreestanding -nostdlib -static -o no_libc examples/c/no_libc.c -l:liblag.a && ./no_libc
+ * cc -ffreestanding -nostdlib -static -Iout/lib -o no_libc examples/c/no_libc.c out/lib/liblag.a && ./no_libc
+ * It is for Linux on x86-64 and arm64, since it ends by a call of that kernel.
  * No header of a C library is wanted.
  *
  * Only niw_new asks for memory, and what it got goes back by niw_free alone: so nothing is kept of a block but its length. */
