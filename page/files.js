@@ -9,6 +9,8 @@ const NANO = [0xa1b23c4d, 0x4d3cb2a1];
 const COMMENT = 1, IF_NAME = 2, IF_TSRESOL = 9, IF_TSOFFSET = 14;
 /* Octets of an LACPDU: up to the end of the partner's; all of it. Behind the partner's: the collector's TLV, and the terminator. */
 const BOTH_ENDS = 42, WHOLE = 110, COLLECTOR = [3, 16];
+/* The subtype of an LACPDU, its first octet. */
+const LACPDU = 1;
 /* Of one file so much is looked at for names and comments. */
 const MOST_LOOKED = 1 << 24;
 
@@ -107,6 +109,7 @@ export async function* packetsOf(blob, told = {}, most = blob.size) {
     const viewOf = async (offset, count) => new DataView(await blob.slice(offset, offset + count).arrayBuffer());
     const reading = new Reading(await viewOf(0, 24));
     if (!reading.isCapture) return;
+    told.end = Math.min(reading.start, blob.size);
     for (let offset = reading.start, room = PIECE_READ; offset < Math.min(blob.size, most);) {
         told.end = offset;
         const view = await viewOf(offset, room);
@@ -178,23 +181,25 @@ export function captureOf(links, packets) {
 const stemOf = (name) => name.replace(/\.(pcap|pcapng|cap|dmp)$/i, "");
 
 /* Slow protocols frames of several files as one capture, by their times; with the last packet of each, up to which it goes. `names` has
- * whence each interface is, `places` for each packet its file and its number there, `faults` what cannot be read. Packets that were cut get
- * whole. */
+ * whence each interface is, `places` for each packet its file and its number there, `faults` what cannot be read, and `silent` the files that can
+ * be read and have no LACPDU. Packets that were cut get whole. */
 export async function merged(files) {
-    const kept = [], links = [], faults = [], names = new Map();
+    const kept = [], links = [], faults = [], silent = [], names = new Map();
     for (const file of files) {
         const known = new Map(), told = { end: -1 };
-        let last = null;
+        let last = null, isSilent = true;
         for await (const it of packetsOf(file, told)) {
             if (!known.has(it.from)) known.set(it.from, links.push(it.from.link) - 1);
             const at = payloadAt(it), number = known.get(it.from), time = it.time ?? 0n;
             last = { file, number, time, of: it.number, octets: it.octets.slice(0, 60), comment: it.comment };
             if (at >= 0) kept.push({ ...last, octets: wholeOf(it.octets, it.original, at).slice() });
             else last.isAlone = true;
+            if (at >= 0 && it.octets[at] === LACPDU) isSilent = false;
         }
         if (last?.isAlone) kept.push(last);
         if (told.end < 0) faults.push(`cannot read ${file.name}: neither pcap nor pcapng`);
         else if (told.end < file.size) faults.push(`cannot read ${file.name}: octet ${told.end}: cut short, or broken`);
+        else if (isSilent) silent.push(stemOf(file.name));
         for (const [from, number] of known) {
             const more = known.size > 1 || files.length === 1 ? from.name || (from.number ? `interface ${from.number}` : "") : "";
             names.set(number, [files.length > 1 ? stemOf(file.name) : "", more].filter(Boolean).join(" "));
@@ -203,5 +208,5 @@ export async function merged(files) {
     kept.sort((one, other) => one.time < other.time ? -1 : Number(one.time > other.time));
     const places = new Map(kept.map(({ file, of }, number) => [number + 1, { file: file.name, number: of }]));
     const comments = new Map(kept.flatMap(({ comment }, number) => comment ? [[number + 1, comment]] : []));
-    return { capture: captureOf(links, kept), names, places, comments, faults };
+    return { capture: captureOf(links, kept), names, places, comments, faults, silent };
 }

@@ -111,15 +111,15 @@ function lastingOf({ lasts }) {
 /* What is read: the one capture as it is, with what it says of interfaces and packets; several as one, and one whose LACPDUs are cut made whole. */
 async function given(files) {
     const looked = files.length === 1 ? await lookedAt(files[0]) : null;
-    if (looked && !looked.cut) return { capture: files[0], ...looked, places: new Map(), faults: [], note: "" };
+    if (looked && !looked.cut) return { capture: files[0], ...looked, places: new Map(), faults: [], silent: [], note: "" };
     const note = looked ? `Its packets are cut behind ${looked.cut} octets: both ends are in them, and what follows, as CollectorMaxDelay, is taken as 0.` : "";
     return { ...await merged(files), note };
 }
 
 /* The records first, with what they show; then the text. */
 async function explain(lagtool, name, files) {
-    const { capture, names, comments, places, faults, note } = await given(files), records = new Records();
-    Object.assign(records, { names, comments, places: files.length > 1 ? places : new Map() });
+    const { capture, names, comments, places, faults, silent, note } = await given(files), records = new Records();
+    Object.assign(records, { names, comments, silent, places: files.length > 1 ? places : new Map() });
     const text = new Text();
     const onStop = (error) => error.message === "stopped" ? error : Promise.reject(error);
     let told = await run(lagtool, capture, { json: true }, (piece) => records.addLines(piece)).catch(onStop);

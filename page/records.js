@@ -104,6 +104,7 @@ export class Records {
         this.counts = null;
         this.names = new Map();
         this.comments = new Map();
+        this.silent = [];
         this.places = new Map();
     }
 

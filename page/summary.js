@@ -68,10 +68,11 @@ function lineOf(link, bundle, until) {
     return { link, port: heard[0].port, name: label ? `${label} (${ends})` : ends, how, why, isVague };
 }
 
-/* The lines of all links, those that do not carry first. */
+/* The lines of all links, those that do not carry first; beside links, each file of them without an LACPDU is one, too. */
 export function linesOf(records, bundles) {
     const lines = bundles.flatMap((bundle) => bundle.links.map((it) => lineOf(it, bundle, records.lacpdus.last))).filter(Boolean);
     lines.sort((one, other) => one.port - other.port);
+    if (lines.length) lines.push(...records.silent.map((name) => ({ link: null, name, how: IDLE, why: `no LACPDU is in the file ${name}: neither end sends on that link` })));
     return [IDLE, CARRIES_APART, UNKNOWN, CARRIES].flatMap((how) => lines.filter((it) => it.how === how));
 }
 

@@ -33,9 +33,9 @@ const textOfAll = ({ headline, lines, counts, causes, placeOf = String }) => [
 ].join("\n");
 
 async function ofCaptures(lagtool, files) {
-    const looked = files.length === 1 ? await lookedAt(files[0]) : null, given = looked && !looked.cut ? { capture: files[0], ...looked, faults: [] } : await merged(files);
+    const looked = files.length === 1 ? await lookedAt(files[0]) : null, given = looked && !looked.cut ? { capture: files[0], ...looked, faults: [], silent: [] } : await merged(files);
     const { printed, said } = lagtool.capture(new Uint8Array(await given.capture.arrayBuffer()), { json: true }), records = new Records();
-    Object.assign(records, { names: given.names, places: files.length > 1 ? given.places : new Map() });
+    Object.assign(records, { names: given.names, silent: given.silent, places: files.length > 1 ? given.places : new Map() });
     records.addLines(printed);
     const bundles = bundlesOf(records), causes = causesOf(records, bundles), lines = linesOf(records, bundles), [found] = headlineOf(lines, causes);
     const headline = found || "No LACPDU is in this capture: capture the members of the bond (eth0, eth1), not the bond; look whether LACP is on.";

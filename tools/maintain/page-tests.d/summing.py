@@ -110,6 +110,12 @@ def of_files(tests: Tests, browser: Browser, folder: str) -> None:
     tests.same("two files are read as one", [shown["name"], *browser.value(f"[{CAUSES}, {LINES}]")], ["eth1.pcap, eth2.pcap", ["Keys differ within one pair of systems"], lines])
     places = browser.value("[...document.querySelectorAll('#findings a')].map((it) => it.textContent)")
     tests.same("a packet is named by its file", [it.split(" packet ")[0] for it in places], ["eth1.pcap", "eth1.pcap"])
+    empty = os.path.join(folder, "eth4.pcap")
+    made.pcap(empty, [])
+    browser.begin(paths[0], empty)
+    silent = "does not carry: no LACPDU is in the file eth4: neither end sends on that link"
+    wanted = [0, "1 of 2 links carries. No LACPDU is in the file eth4: neither end", f"eth4: {silent}"]
+    tests.same("a file without an LACPDU is a link that does not carry", [browser.shown()["status"], *browser.value(f"[{HEADLINE}.slice(0, 64), {LINES}[0]]")], wanted)
     broken = os.path.join(folder, "eth3.pcap.gz")
     with open(broken, "wb") as out:
         out.write(b"\x1f\x8b\x08" + bytes(40))
