@@ -1,7 +1,7 @@
 /* What is shown of a capture: a line a link, the causes, then a time axis for each pair of systems, then the frames and the text. */
 
 import { addressOf, bundlesOf, isRemark, nameOf, ruleOf, saidBy, secondsOf } from "./records.js";
-import { causesOf, counted, FAULT, frameOf } from "./causes.js";
+import { capitalized, causesOf, counted, FAULT, frameOf } from "./causes.js";
 import { CARRIES, IDLE, linesOf, textOfLine } from "./summary.js";
 import { Packets } from "./packets.js";
 import { fieldsOf } from "./fields.js";
@@ -14,7 +14,6 @@ import { button, made, table } from "./shapes.js";
 /* The most frames that are listed of a link, besides those of findings; the most lines of links, places of a cause and lines of it that do
  * not fold. */
 const MOST = 400, MOST_LINES = 10, MOST_PLACES = 2, MOST_SAID = 6;
-const upper = (text) => text[0].toUpperCase() + text.slice(1);
 const lookOf = (finding) => isRemark(finding) ? "quiet" : "bad";
 const frameRow = (packet) => `packet-${packet}`;
 
@@ -95,7 +94,7 @@ class Pair {
         const place = this.records.places.has(frame.packet) ? ` (${this.records.placeOf(frame.packet)})` : "", comment = this.records.comments.get(frame.packet);
         const head = made("h3", `Packet ${frame.packet}${place} at ${secondsOf(frame.seconds)} s, from ${frame.end.name}`);
         const findings = this.bundle.findings.filter((it) => it.packet === frame.packet && it.at === frame.end);
-        const said = findings.map((it) => made("p", `${upper(it.name)} (${ruleOf(it)}). ${it.advice}`, lookOf(it)));
+        const said = findings.map((it) => made("p", `${capitalized(it.name)} (${ruleOf(it)}). ${it.advice}`, lookOf(it)));
         const octets = found ? octetsBeside(found.octets, fieldsOf(found.octets, found.link)) : made("p", "Its octets are not found in the file.");
         this.fields.replaceChildren(button("Close", () => this.close(), "close"), head, ...comment ? [made("em", comment)] : [], ...said, octets);
         this.fields.hidden = false;
@@ -147,7 +146,7 @@ const ruleIn = ({ rule, clause }) => rule ? [made("span", ` (rule ${rule}, ${cla
 function effectsOf({ effects }, pairOf) {
     if (!effects.length) return [];
     const said = effects.map((it) => it.places > 1 ? `${it.title} (${counted(it.places, "place")})` : it.title).join("; ");
-    return [opening(`Likely effects: ${said}`, () => effects.flatMap((it) => [headOf(upper(it.title), it), ...placesOf(it, pairOf)]), false)];
+    return [opening(`Likely effects: ${said}`, () => effects.flatMap((it) => [headOf(capitalized(it.title), it), ...placesOf(it, pairOf)]), false)];
 }
 
 function headOf(title, item) {
@@ -158,7 +157,7 @@ function headOf(title, item) {
 
 /* A cause: what, what to do, what is seen, where it shows, and what follows from it. */
 export function causeItem(item, pairOf) {
-    const it = made("li"), title = item.kind === FAULT ? upper(item.title) : `${upper(item.kind)}: ${item.title}`;
+    const it = made("li"), title = item.kind === FAULT ? capitalized(item.title) : `${capitalized(item.kind)}: ${item.title}`;
     const said = foldedBehind(item.lines.map((line, number) => made("span", line, number ? "line" : "line first")), MOST_SAID, "line");
     it.append(headOf(title, item), made("span", item.unexplained ? `${item.advice} ${item.unexplained}` : item.advice), ...said);
     it.append(...placesOf(item, pairOf), ...effectsOf(item, pairOf));

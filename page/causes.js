@@ -1,7 +1,7 @@
 /* What is wrong, by causes: the findings of a capture in the order in which they explain each other, each cause with what follows from it.
  * The findings are the module's; the order, what is told beside them, and what to do in a case that the records tell apart are this page's. */
 
-import { addressOf, bitsOf, isKnown, isRemark, isSilent, SHORT_TIMEOUT } from "./records.js";
+import { addressOf, bitsOf, isKnown, isRemark, isSilent, roundedSeconds, SHORT_TIMEOUT } from "./records.js";
 
 export const FAULT = "fault";
 export const EFFECT = "likely effect";
@@ -15,18 +15,19 @@ const ORDER = [...LEADING, 15, 10, 9, 7, 5, 14, 18, 11, 12, 16, 2, 3, 4, 23, 25,
  * at one end it is looked which cables are crossed. So many seconds the last LACPDUs of two ends may stand apart where a link goes down. */
 const START = 3, SLOW_GAP = 10, MARGIN = 1.1, MOST_KEYS = 5;
 /* What is said of effects on links of two systems that have no fault. */
-export const CAUSELESS = "This capture does not show why: ask both ends, and capture all links.";
+export const CAUSELESS = "this capture does not show why: ask both ends, and capture all links.";
 const AT_START = [13, "Right after a start rule 13 is normal if both ends distribute later."];
 
 const isFault = (finding) => !isRemark(finding) && !FOLLOWING.includes(finding.rule);
 export const counted = (number, word) => `${number} ${word}${number === 1 ? "" : "s"}`;
+export const capitalized = (text) => text[0].toUpperCase() + text.slice(1);
 export const frameOf = (finding) => finding.at.frames.find((it) => it.packet === finding.packet);
 const namesOf = (ends) => [...new Set(ends.map((it) => it.short))].join(", ");
 
 /* ---- The keys of the links of two systems (6.3.6) ---- */
 
 /* The keys of a link, of its first and its second system; null where it does not name both. */
-function keysOf({ ends: [one, other] }) {
+function keysAtBothEnds({ ends: [one, other] }) {
     const first = one?.last?.actor.key ?? other?.last?.partner.key, second = other?.last?.actor.key ?? one?.last?.partner.key;
     const isNamed = one && other ? true : isKnown(one?.named ?? "");
     return isNamed && first !== undefined && second !== undefined ? [first, second] : null;
@@ -34,7 +35,7 @@ function keysOf({ ends: [one, other] }) {
 
 /* The groups of links that share a key, at one end or the other, with how often each pair of keys is there. */
 export function keyGroups(bundle) {
-    const links = bundle.links.map((link) => ({ link, keys: keysOf(link) })).filter(({ keys }) => keys), groups = [];
+    const links = bundle.links.map((link) => ({ link, keys: keysAtBothEnds(link) })).filter(({ keys }) => keys), groups = [];
     for (const it of links) {
         const near = groups.filter((group) => group.some(({ keys }) => keys[0] === it.keys[0] || keys[1] === it.keys[1]));
         groups.splice(0, groups.length, ...groups.filter((group) => !near.includes(group)), [...near.flat(), it]);
@@ -85,7 +86,7 @@ function swapped(links) {
 }
 
 /* What is said of a group of links that share keys: one key at one end beside several at the other, or cables that cross. */
-function ofKeys(group, systems) {
+function ofMixedGroup(group, systems) {
     const [ones, others] = [0, 1].map((way) => distinct(group.map(({ keys }) => keys[way])));
     if (ones.length > 1 && others.length > 1) return ofCables(group, systems, ones, others);
     const way = ones.length > 1 ? 0 : 1, keys = way ? others : ones, who = addressOf(systems[way]);
@@ -105,7 +106,7 @@ function ofCables(group, systems, ones, others) {
     return {
         title: "cables of two bundles are crossed, or a port is in the group of another link",
         lines: [`${addressOf(systems[0])} has keys ${joinedBy(byNumber(ones))}, ${addressOf(systems[1])} ${joinedBy(byNumber(others))}: ${which}`, ...each],
-        advice: !astray.length ? "Compare each cable with the groups of both of its ports." : swaps ? `${swaps[0].toUpperCase()}${swaps.slice(1)}; or put the ports there into each other's groups. Leave the other links as they are.`
+        advice: !astray.length ? "Compare each cable with the groups of both of its ports." : swaps ? `${capitalized(swaps)}; or put the ports there into each other's groups. Leave the other links as they are.`
             : `Look where ${listOf(astray)} ends: it joins a group to one that is another bundle's. Move its far end to a port of the right group, or put that port there.`,
     };
 }
@@ -113,7 +114,6 @@ function ofCables(group, systems, ones, others) {
 /* ---- What a finding is in its case: a title, what to do, lines of what is seen ---- */
 
 const has = (frame, bit) => bitsOf(frame.actor.state).includes(bit);
-const secondsIn = (it) => `${it.toFixed(1)} s`;
 
 /* Whether the other end sends nothing either between two LACPDUs of an end. */
 function isPause(before, frame, { ends }) {
@@ -125,7 +125,7 @@ function isPause(before, frame, { ends }) {
 
 const ofDeadLink = ({ ends }, { lacpdus }) => ({
     isFirst: true, title: "both ends of a link send nothing more",
-    lines: [`${ends.map((it) => it.short).join(" and ")} send nothing after ${secondsIn(Math.max(...ends.map((it) => it.record.last)))}; the capture goes on to ${secondsIn(lacpdus.last)}`],
+    lines: [`${ends.map((it) => it.short).join(" and ")} send nothing after ${roundedSeconds(Math.max(...ends.map((it) => it.record.last)))}; the capture goes on to ${roundedSeconds(lacpdus.last)}`],
     advice: "The link went down, or this capture lost it: look at carrier and cable (ip link, show interfaces).",
 });
 
@@ -136,21 +136,21 @@ function ofSilence(finding, { records, link }) {
     const isLast = frame && frame === at.last && record && record.last < records.lacpdus.last;
     if (isLast) return {
         isFirst: true, title: "an end sends nothing more",
-        lines: [`${at.short} sends nothing after ${secondsIn(record.last)}; the capture goes on to ${secondsIn(records.lacpdus.last)}`],
+        lines: [`${at.short} sends nothing after ${roundedSeconds(record.last)}; the capture goes on to ${roundedSeconds(records.lacpdus.last)}`],
         advice: "Look at this end, not at its partner: its interface, driver or fibre sends no more (the direction to the partner may be dead alone), or the system hangs or is gone.",
     };
     if (frame && before && isPause(before, frame, link)) return {
-        title: "a link is silent at both ends for a while", lines: [`nothing is sent on ${linkName(link)} from ${secondsIn(before.seconds)} to ${secondsIn(frame.seconds)}`],
+        title: "a link is silent at both ends for a while", lines: [`nothing is sent on ${linkName(link)} from ${roundedSeconds(before.seconds)} to ${roundedSeconds(frame.seconds)}`],
         advice: "Its carrier went, or this capture lost it: look at carrier, cable and errors (ip -s link, show interfaces).",
     };
     if (frame && before && has(frame, "defaulted") && !has(before, "expired")) return {
         title: "an end was silent, and starts anew",
-        lines: [`${at.short} sends nothing from ${secondsIn(before.seconds)} to ${secondsIn(frame.seconds)}, and knows no partner then`],
+        lines: [`${at.short} sends nothing from ${roundedSeconds(before.seconds)} to ${roundedSeconds(frame.seconds)}, and knows no partner then`],
         advice: "If it was restarted, or its port was down, this is right, and no frame is lost. Else look why it starts anew.",
     };
     if (record && record.median !== null && record.median >= SLOW_GAP) return {
         title: "an end sends less often than its partner asks",
-        lines: [`${at.short} sends each ${secondsIn(record.median)}`],
+        lines: [`${at.short} sends each ${roundedSeconds(record.median)}`],
         advice: "It does not follow the partner's timeout: set its rate, or ask for long timeouts (bonding: lacp_rate; switch: lacp rate).",
     };
     return { advice: "Look for lost frames: it sends in time else (errors of the link: ethtool -S, show interfaces; a host that was busy, or stood still)." };
@@ -182,9 +182,9 @@ const ofUnheard = ({ at }, { link }) => {
 const ofRelapse = ({ at }, { link }) => {
     const other = link.ends.find((it) => it && it !== at), { median } = other?.record ?? {};
     if (median === undefined || median === null) return {};
-    if (median < SLOW_GAP) return { advice: `${other.short} sends each ${secondsIn(median)}, and not all arrives: look for what loses frames on the way (errors of the link, a filter, a device between).` };
+    if (median < SLOW_GAP) return { advice: `${other.short} sends each ${roundedSeconds(median)}, and not all arrives: look for what loses frames on the way (errors of the link, a filter, a device between).` };
     return {
-        title: "an end loses its partner again and again, which sends too seldom", lines: [`${other.short} sends each ${secondsIn(median)}`],
+        title: "an end loses its partner again and again, which sends too seldom", lines: [`${other.short} sends each ${roundedSeconds(median)}`],
         advice: `Set the rate of ${at.short}, by which it asks, to slow (bonding: lacp_rate; switch: lacp rate), or mend ${other.short}: it does not follow what it is asked for.`,
     };
 };
@@ -279,7 +279,7 @@ class Looking {
     toldOfKeys(finding) {
         const { bundle, link } = this.at(finding), group = this.groups.get(bundle).find((it) => it.some((one) => one.link === link));
         const isMixed = group && [0, 1].some((way) => distinct(group.map(({ keys }) => keys[way])).length > 1);
-        return isMixed ? ofKeys(group, bundle.systems) : {};
+        return isMixed ? ofMixedGroup(group, bundle.systems) : {};
     }
 }
 
@@ -318,8 +318,8 @@ function folded(items, looking) {
 
 /* What is said of an effect where its pair of systems has no fault. */
 function unexplained(item) {
-    const [rule, said] = AT_START;
-    return item.rule === rule ? `${CAUSELESS} ${said}` : CAUSELESS;
+    const [rule, said] = AT_START, causeless = capitalized(CAUSELESS);
+    return item.rule === rule ? `${causeless} ${said}` : causeless;
 }
 
 /* An end that is silent comes before lost frames, which it may look like elsewhere. */

@@ -1,8 +1,9 @@
 /* The LACPDUs that texts of a status imply, as a capture that the module explains. Each port of a text has an interface; of a link that one
  * text has, the other end's LACPDU is what it told this end. Times say nothing: each end says the same again and again. */
 
+import { hexadecimal } from "./records.js";
 import { captureOf } from "./files.js";
-import { EXPIRED_BIT, NO_ADDRESS } from "./status.js";
+import { EXPIRED_BIT, NO_ADDRESS, TIMEOUT_BIT } from "./status.js";
 
 const STEP_SECONDS = 2, LASTING = 94, BEGIN = 1700000000, ETHERNET_LINK_TYPE = 1;
 /* lagtool examines 64 ends: so many links. */
@@ -15,7 +16,7 @@ export const OF_STATUS = [2, 3, 4, 5, 12, 14, 15, 17, 22, 29, 30];
 function filledIn(port, number) {
     const fill = (it, other) => Object.fromEntries(Object.entries(other).map(([key, value]) => [key, it[key] ?? value]));
     const own = { priority: 65535, key: 1, portPriority: 255, port: number + 1, state: 0 }, actor = fill(port.actor, { ...own, system: "02:ff:00:00:00:01" });
-    if (!port.partner) return { actor, partner: { priority: 0, system: NO_ADDRESS, key: 0, portPriority: 0, port: 0, state: port.actor.state & EXPIRED_BIT ? 0 : 2 } };
+    if (!port.partner) return { actor, partner: { priority: 0, system: NO_ADDRESS, key: 0, portPriority: 0, port: 0, state: port.actor.state & EXPIRED_BIT ? 0 : TIMEOUT_BIT } };
     return { actor, partner: fill(port.partner, { ...own, priority: port.partner.system === null ? 65535 : 0, system: "02:ff:00:00:00:02" }) };
 }
 
@@ -54,15 +55,13 @@ function lacpduOctets(source, actor, partner) {
     return octets;
 }
 
-const hexOf = (number) => number.toString(16).padStart(2, "0");
-
 /* Who sends on a link: its end, and the other one, as a text has it or as this end was told. An implied peer has an address of its own, and is
  * left out where it has the end's system, since another LACPDU would be the same. */
 function sendersOf([end, far], number) {
     const sender = (it) => ({ number, source: it.source || it.actor.system, actor: it.actor, partner: it.partner, of: it });
     if (far) return [sender(end), sender(far)];
     if (!end.isHeard || end.actor.state & EXPIRED_BIT || end.partner.system === end.actor.system) return [sender(end)];
-    return [sender(end), { number, source: `02:fe:00:00:${hexOf(number >> 8)}:${hexOf(number & 255)}`, actor: end.partner, partner: end.actor, of: { ...end, isImplied: true } }];
+    return [sender(end), { number, source: `02:fe:00:00:${hexadecimal(number >> 8)}:${hexadecimal(number & 255)}`, actor: end.partner, partner: end.actor, of: { ...end, isImplied: true } }];
 }
 
 /* A capture, how many links are in it and how many are left out, and which port of which text an end is, by interface, source and port. */

@@ -17,7 +17,7 @@ import { byId } from "./shapes.js";
 const MOST_SHOWN = 2000000, MOST_BEHIND = 100000;
 /* A larger file is no script and no payload. */
 const MOST_TEXT = 16000000;
-/* So many seconds of LACPDUs show each time-out: the longest is 90. */
+/* So many seconds of LACPDUs show each timeout: the longest is 90. */
 const ENOUGH = 93;
 
 const octetsIn = (id) => Uint8Array.from(atob(byId(id).textContent), (it) => it.charCodeAt(0));
@@ -105,7 +105,7 @@ function verdictOf(records, { lines, causes }, said) {
 function lastingOf({ lasts }) {
     if (lasts === null) return "";
     const said = `Its LACPDUs span ${(Math.floor(10 * lasts) / 10).toFixed(1)} s`;
-    return lasts < ENOUGH ? `${said}, shorter than ${ENOUGH} s: not each time-out may show.` : `${said}.`;
+    return lasts < ENOUGH ? `${said}, shorter than ${ENOUGH} s: not each timeout may show.` : `${said}.`;
 }
 
 /* What is read: the one capture as it is, with what it says of interfaces and packets; several as one, and one whose LACPDUs are cut made whole. */
@@ -187,25 +187,29 @@ async function kindOf(file) {
     return { kind: statusIn(text) ? "status" : text.trim() && !/[\u0001-\u0008\ufffd]/.test(text) ? "text" : "capture", text };
 }
 
-function listen(lagtool) {
-    const playing = new Playing(lagtool, JSON.parse(byId("example-scripts").textContent)), payload = new Payload(lagtool), drop = byId("drop");
-    const texts = new Texts(lagtool, (name) => {
-        clear(name, false);
-        byId("printed").hidden = byId("report").hidden = true;
-        return ([verdict, look], said) => {
-            put(name, verdict, look, said);
-            window.shown = { name, status: look === "good" ? 0 : 1, printed: "", said };
-        };
-    });
-    /* Captures together, and texts of a status; of what else is given the last of each kind. */
-    const take = async (files) => {
+/* Begins to show texts of a status; gives what shows their headline. */
+function showTexts(name) {
+    clear(name, false);
+    byId("printed").hidden = byId("report").hidden = true;
+    return ([verdict, look], said) => {
+        put(name, verdict, look, said);
+        window.shown = { name, status: look === "good" ? 0 : 1, printed: "", said };
+    };
+}
+
+/* What takes files: captures together, and texts of a status; of what else is given the last of each kind. */
+function takerOf(lagtool) {
+    const playing = new Playing(lagtool, JSON.parse(byId("example-scripts").textContent)), payload = new Payload(lagtool), texts = new Texts(lagtool, showTexts);
+    const loaded = (part, id) => (text) => { part.load(text); byId(id).scrollIntoView(); };
+    const load = { script: loaded(playing, "scripts"), payload: loaded(payload, "payloads") };
+    return async (files) => {
         const name = files.map((it) => it.name).join(", "), captures = [], said = [];
         try {
             for (const file of files) {
                 const { kind, text } = await kindOf(file);
                 if (kind === "capture") captures.push(file);
                 else if (kind === "status" || kind === "text") said.push(text);
-                else take[kind](text);
+                else load[kind](text);
             }
         } catch (error) {
             clear(name);
@@ -214,9 +218,11 @@ function listen(lagtool) {
         if (captures.length) return show(lagtool, captures.map((it) => it.name).join(", "), captures);
         return said.length ? texts.load(said) : undefined;
     };
-    const loaded = (part, id) => (text) => { part.load(text); byId(id).scrollIntoView(); };
-    Object.assign(take, { script: loaded(playing, "scripts"), payload: loaded(payload, "payloads") });
-    const isOver = (over) => (event) => { event.preventDefault(); drop.classList.toggle("over", over); };
+}
+
+/* Files come by a drop, a paste or a choice. */
+function listenForFiles(take) {
+    const isOver = (over) => (event) => { event.preventDefault(); byId("drop").classList.toggle("over", over); };
     addEventListener("dragover", isOver(true));
     addEventListener("dragleave", isOver(false));
     addEventListener("drop", (event) => {
@@ -232,6 +238,10 @@ function listen(lagtool) {
         if (event.target.files.length) take([...event.target.files]);
         event.target.value = "";
     });
+}
+
+function listen(lagtool) {
+    listenForFiles(takerOf(lagtool));
     byId("example").addEventListener("click", () => show(lagtool, "unequal-keys.pcapng, an example", [new Blob([octetsIn("capture")])]));
     byId("copy").addEventListener("click", copy);
     byId("stop").addEventListener("click", () => now.job?.stop());

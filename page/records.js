@@ -15,6 +15,8 @@ export const ruleOf = (finding) => `rule ${finding.rule}, ${finding.clause}`;
 export const bitsOf = (octet) => BITS.filter((_, bit) => (octet >> bit) & 1);
 export const hexadecimal = (number, digits = 2) => number.toString(16).padStart(digits, "0");
 export const secondsOf = (seconds) => seconds === null ? "-" : seconds.toFixed(6);
+/* A time as it stands in a sentence. */
+export const roundedSeconds = (seconds) => `${seconds.toFixed(1)} s`;
 
 /* The receive and the mux machine, as far as a state octet shows them. */
 export function machinesOf(octet) {
@@ -255,12 +257,6 @@ export function bundlesOf(records) {
     }
     for (const it of bundles.values()) it.links = findingsFirst(it.links);
     return findingsFirst([...bundles.values()]);
-}
-
-/* How many links have an LACPDU, and on how many of them not both ends distribute at the end. */
-export function carriedOf(bundles) {
-    const links = bundles.flatMap((it) => it.links).filter(({ ends }) => ends.some((it) => it?.system));
-    return { all: links.length, idle: links.filter(({ ends }) => !ends.every((it) => it?.distributes)).length };
 }
 
 /* The MAC address of a system. */

@@ -2,9 +2,9 @@
  * LACPDUs that the texts imply; facts that no LACPDU has get their own words. A text is a moment: what is starting looks as what stays so. */
 
 import { bitsOf, machinesOf } from "./records.js";
-import { counted, EFFECT, FAULT, REMARK } from "./causes.js";
-import { CARRIES, IDLE, UNKNOWN } from "./summary.js";
-import { DEFAULTED_BIT, DISTRIBUTING_BIT, EXPIRED_BIT } from "./status.js";
+import { capitalized, counted, EFFECT, FAULT, REMARK } from "./causes.js";
+import { CARRIES, FLOW, howManyCarry, IDLE, UNKNOWN } from "./summary.js";
+import { ACTIVITY_BIT, DEFAULTED_BIT, DISTRIBUTING_BIT, EXPIRED_BIT } from "./status.js";
 import { linksOfTexts } from "./implied.js";
 
 const isSeveral = (list, valueOf) => new Set(list.map(valueOf).filter((it) => it !== null && it !== undefined)).size > 1;
@@ -19,40 +19,41 @@ function eachOf(ports, valueOf) {
     return [...values].map(([value, list]) => `${list.slice(0, 3).join(", ")}${list.length > 3 ? ` and ${list.length - 3} more` : ""}: ${value}`).join("; ");
 }
 
-/* ---- Facts: a name, ports, a title and what to do ---- */
+/* ---- Facts: a name, ports, a title and what to do; one without ports is none ---- */
 
 function linkFacts({ name, ports }) {
-    const facts = [], add = (fact, of, title, advice) => { if (of.length) facts.push({ name: fact, ports: of, title, advice }); };
     const down = ports.filter((it) => it.link === false), up = ports.filter((it) => isLinked(it) && it.aggregator !== null), linked = ports.filter(isLinked);
-    add("link-down", down, `the link of ${namesIn(down)} is down`, "Nothing of LACP is to be judged there: look at the cable and at the other end's port.");
     const parts = [...new Set(up.map((it) => it.aggregator))];
-    add("aggregators", parts.length > 1 ? up : [], `${name} is in ${parts.length} parts, of which one is used`,
-        `${up.map((it) => `${it.name} in ${it.aggregator}`).join(", ")}: each has another partner, key or speed, or no partner.`);
-    add("speeds", isSeveral(linked, (it) => it.speed) ? linked : [], `speed or duplex of ${name} differ`,
-        `${linked.map((it) => `${it.name} ${it.speed}`).join(", ")}: give them one speed and full duplex.`);
-    return facts;
+    return [
+        { name: "link-down", ports: down, title: `the link of ${namesIn(down)} is down`, advice: "Nothing of LACP is to be judged there: look at the cable and at the other end's port." },
+        { name: "aggregators", ports: parts.length > 1 ? up : [], title: `${name} is in ${parts.length} parts, of which one is used`,
+            advice: `${up.map((it) => `${it.name} in ${it.aggregator}`).join(", ")}: each has another partner, key or speed, or no partner.` },
+        { name: "speeds", ports: isSeveral(linked, (it) => it.speed) ? linked : [], title: `speed or duplex of ${name} differ`,
+            advice: `${linked.map((it) => `${it.name} ${it.speed}`).join(", ")}: give them one speed and full duplex.` },
+    ];
 }
 
 function silentFacts({ ports }, form) {
-    const facts = [], add = (fact, of, title, advice) => { if (of.length) facts.push({ name: fact, ports: of, title, advice }); };
-    const silent = ports.filter((it) => it.actor && !it.partner && isLinked(it)), passive = silent.filter((it) => !(it.actor.state & 1));
-    add("passive-unheard", passive, `passive, and hears nobody: ${namesIn(passive)}`, "Set this end, or the other one, to active.");
+    const silent = ports.filter((it) => it.actor && !it.partner && isLinked(it)), passive = silent.filter((it) => !(it.actor.state & ACTIVITY_BIT));
     const both = DEFAULTED_BIT | EXPIRED_BIT, loops = form === "bonding" || form === "ip" ? silent.filter((it) => (it.actor.state & both) === both) : [];
-    add("never-heard", loops, `no LACPDU was ever accepted on ${namesIn(loops)}`,
-        "Linux drops LACPDUs of its own system (dmesg: \"An illegal loopback occurred\"): look for a loop, or for two machines with one system.");
-    return facts;
+    return [
+        { name: "passive-unheard", ports: passive, title: `passive, and hears nobody: ${namesIn(passive)}`, advice: "Set this end, or the other one, to active." },
+        { name: "never-heard", ports: loops, title: `no LACPDU was ever accepted on ${namesIn(loops)}`,
+            advice: "Linux drops LACPDUs of its own system (dmesg: \"An illegal loopback occurred\"): look for a loop, or for two machines with one system." },
+    ];
 }
 
 function partnerFacts({ name, ports }) {
-    const facts = [], add = (fact, of, title, advice) => { if (of.length) facts.push({ name: fact, ports: of, title, advice }); };
     const heard = ports.filter((it) => it.partner), apart = heard.filter((it) => isLinked(it) && it.partner.system === null && it.aggregator !== null);
-    add("apart", apart, `another aggregator than the one in use has ${namesIn(apart)}`,
-        `Both ends speak there: it has another partner, or another key. As root, cat /proc/net/bonding/${name} names it.`);
     const alike = heard.filter((it) => it.partner.system === it.actor.system && it.partner.priority !== null && it.partner.priority !== it.actor.priority);
-    add("own-address", alike, `the partner of ${namesIn(alike)} has this end's MAC address, with another priority`, "Linux drops such LACPDUs: give each system its own address.");
     const twins = heard.filter((it) => heard.some((other) => other !== it && it.partner.port !== null && other.partner.system === it.partner.system && other.partner.port === it.partner.port));
-    add("same-partner-port", twins, `${namesIn(twins)} name one port of one system`, "Right with switches that act as one (MLAG); else two machines have one system.");
-    return facts;
+    return [
+        { name: "apart", ports: apart, title: `another aggregator than the one in use has ${namesIn(apart)}`,
+            advice: `Both ends speak there: it has another partner, or another key. As root, cat /proc/net/bonding/${name} names it.` },
+        { name: "own-address", ports: alike, title: `the partner of ${namesIn(alike)} has this end's MAC address, with another priority`,
+            advice: "Linux drops such LACPDUs: give each system its own address." },
+        { name: "same-partner-port", ports: twins, title: `${namesIn(twins)} name one port of one system`, advice: "Right with switches that act as one (MLAG); else two machines have one system." },
+    ];
 }
 
 /* Two texts of different interfaces with one system. */
@@ -70,7 +71,7 @@ function systemFacts(texts) {
 export function factsIn(texts) {
     const bundles = texts.flatMap((text) => text.bundles.map((it) => ({ ...it, form: text.form })));
     const facts = bundles.flatMap((it) => [...linkFacts(it), ...silentFacts(it, it.form), ...partnerFacts(it)]);
-    return [...facts, ...systemFacts(texts)];
+    return [...facts.filter((it) => it.ports.length), ...systemFacts(texts)];
 }
 
 /* ---- Rules, by names and advice for a moment ---- */
@@ -167,14 +168,12 @@ export function linesOfTexts(texts) {
     return [IDLE, UNKNOWN, CARRIES].flatMap((how) => lines.filter((it) => it.how === how));
 }
 
-const FLOW = "One flow has the speed of one link: the hash chooses it.";
-
 /* The headline, and how it looks. */
 export function headlineOfTexts(texts, lines, causes) {
     const carry = lines.filter(({ how }) => how === CARRIES).length, all = lines.length, [cause] = causes.filter(({ kind }) => kind === FAULT);
-    const head = all && !lines.some(({ how }) => how === UNKNOWN) ? `${carry} of ${counted(all, "link")} ${carry === 1 || all === 1 ? "carries" : "carry"}. ` : "";
+    const head = all && !lines.some(({ how }) => how === UNKNOWN) ? `${howManyCarry(carry, all)}. ` : "";
     if (texts.some((it) => it.bundles.some((bundle) => bundle.isCut))) return ["The text is cut: nothing is named. Give all of it, with the line behind it.", "bad"];
-    if (cause) return [`${head}${cause.title[0].toUpperCase()}${cause.title.slice(1)}.`, "bad"];
+    if (cause) return [`${head}${capitalized(cause.title)}.`, "bad"];
     if (!all) return ["No port of an LACP bundle is in this text.", "bad"];
     if (carry < all) return [`${head}The text does not show why: give the text of the other end, or capture.`, ""];
     return [`${head}LACP is not your trouble${texts.length > 1 ? "" : ", if the other end says so, too"}. ${FLOW}`, "good"];

@@ -12,6 +12,8 @@ const WORDS = [
     ["activity", "active"], ["timeout", "short_timeout"], ["aggregation", "aggregating"], ["synchronization", "synchronized", "in_sync"], ["collecting"],
     ["distributing"], ["defaulted"], ["expired"],
 ];
+export const ACTIVITY_BIT = 1;
+export const TIMEOUT_BIT = 2;
 export const DISTRIBUTING_BIT = 32;
 export const DEFAULTED_BIT = 64;
 export const EXPIRED_BIT = 128;
@@ -189,12 +191,12 @@ function partyOfShow(said, side) {
 }
 
 /* Ticks of 100 ms behind which the next LACPDU is overdue: its period is 1 s or 30 s. */
-const overdueIn = (actor) => actor.state & 2 ? 30 - 15 : 900 - 350;
+const overdueIn = (actor) => actor.state & TIMEOUT_BIT ? 30 - 15 : 900 - 350;
 
 function factsOfShow(part, said, receive, actor) {
     const counts = Object.fromEntries([...part.matchAll(/(\w+_(?:received|sent|losses|changes)) (\d+)/g)].map(([, key, value]) => [key, value]));
     const rests = numberOf(said.get("current_while")), why = said.get("status"), facts = [];
-    const whole = actor && actor.state & 2 ? 30 : 900;
+    const whole = actor && actor.state & TIMEOUT_BIT ? 30 : 900;
     if (actor && rests !== null && receive.startsWith("CURRENT") && rests < overdueIn(actor)) facts.push(`its last LACPDU came ${(whole - rests) / 10} s ago: the next is overdue, and the link still counts as heard`);
     if (why && why !== "it distributes") facts.push(`lagd says: ${why}`);
     if (said.has("other system")) facts.push(`another system speaks: ${said.get("other system")}`);

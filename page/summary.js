@@ -1,19 +1,17 @@
 /* What is said before all else: of each link in one line whether it carries, and why not; and a headline. */
 
-import { addressOf, isKnown, isSilent, machinesOf } from "./records.js";
-import { astrayIn, counted, EFFECT, FAULT, joinedBy, keyGroups, REMARK } from "./causes.js";
+import { addressOf, isKnown, isSilent, machinesOf, roundedSeconds } from "./records.js";
+import { astrayIn, capitalized, CAUSELESS, counted, EFFECT, FAULT, joinedBy, keyGroups, REMARK } from "./causes.js";
 
 export const CARRIES = "carries";
 export const CARRIES_APART = "carries apart";
 export const IDLE = "does not carry";
 export const UNKNOWN = "not seen";
 
-const seconds = (it) => `${it.toFixed(1)} s`;
-
 const isUp = ({ ends }) => ends.every((it) => it?.distributes && !it.has("defaulted") && !it.has("expired"));
 
 /* How the keys of a link differ from those of the other links that share one with it, and carry if any does; nothing where they do not. */
-function ofKeysOf(link, bundle) {
+function keyDifference(link, bundle) {
     const group = keyGroups(bundle).find((it) => it.some((one) => one.link === link)), own = group?.find((it) => it.link === link);
     const others = group?.filter((it) => it !== own) ?? [], up = others.filter((it) => isUp(it.link));
     if (!own || (isUp(link) && !up.length)) return "";
@@ -34,7 +32,7 @@ function ofKeysOf(link, bundle) {
 function ofOneEnd(end, until) {
     if (!end.last) return [UNKNOWN, "no LACPDU of it could be read"];
     if (end.named === end.system) return [IDLE, `${end.short} hears itself: a loop`];
-    if (isSilent(end, until)) return [IDLE, `${end.short} sends nothing after ${seconds(end.record.last)}, and nobody else speaks here`];
+    if (isSilent(end, until)) return [IDLE, `${end.short} sends nothing after ${roundedSeconds(end.record.last)}, and nobody else speaks here`];
     if (end.distributes && isKnown(end.named)) return [UNKNOWN, `${end.short} says that it carries; the other direction is not in this capture`];
     return isKnown(end.named) ? [UNKNOWN, `${end.short} alone is in this capture: it names ${addressOf(end.named)}`] : [IDLE, end.has("active") ? `nobody answers ${end.short}` : `${end.short} is passive, and nobody answers it`];
 }
@@ -43,11 +41,11 @@ function ofOneEnd(end, until) {
 function ofBothEnds(link, bundle, until) {
     const { ends } = link, silent = ends.filter((it) => isSilent(it, until)), lost = ends.filter((it) => it.has("defaulted") || it.has("expired"));
     const never = lost.filter((it) => !it.hasHeard), deaf = never.length ? never : lost;
-    const keys = ofKeysOf(link, bundle);
+    const keys = keyDifference(link, bundle);
     if (ends[0].system === ends[1].system) return [IDLE, "both ends have one system: a loop, or a copied identifier"];
     if (ends.every((it) => !it.has("active"))) return [IDLE, "both ends are passive"];
-    if (silent.length === 1) return [IDLE, `${silent[0].short} sends nothing after ${seconds(silent[0].record.last)}`];
-    if (silent.length) return [IDLE, `nothing is sent on it after ${seconds(Math.max(...silent.map((it) => it.record.last)))}`];
+    if (silent.length === 1) return [IDLE, `${silent[0].short} sends nothing after ${roundedSeconds(silent[0].record.last)}`];
+    if (silent.length) return [IDLE, `nothing is sent on it after ${roundedSeconds(Math.max(...silent.map((it) => it.record.last)))}`];
     if (isUp(link)) return keys ? [CARRIES_APART, `both ways: ${keys}`] : [CARRIES, "both ways"];
     if (keys && !deaf.length) return [IDLE, keys];
     if (deaf.length) return [IDLE, `${deaf.map((it) => it.short).join(" and ")} ${deaf.length === 1 ? "hears" : "hear"} nobody`];
@@ -79,20 +77,22 @@ export function linesOf(records, bundles) {
 /* A line as a text. */
 export const textOfLine = ({ name, how, why }) => `${name}: ${how}${how === CARRIES_APART || how === CARRIES ? ", " : ": "}${why}`;
 
-const HASH = "LACP is not your trouble. One flow has the speed of one link: the hash chooses it.";
+/* What a headline says of links, and what a bundle that carries does with a flow. */
+export const howManyCarry = (carry, all) => `${carry} of ${counted(all, "link")} ${carry === 1 || all === 1 ? "carries" : "carry"}`;
+export const FLOW = "One flow has the speed of one link: the hash chooses it.";
 const ONE = "It is one link: of a bundle capture all links, since keys and partners are compared between them.";
 
 /* The headline: how many links carry, and the first cause; with how it looks. */
 export function headlineOf(lines, causes) {
     const [cause] = causes.filter(({ kind }) => kind === FAULT), carry = lines.filter(({ how }) => how === CARRIES).length, all = lines.length;
-    const head = `${carry} of ${counted(all, "link")} ${carry === 1 || all === 1 ? "carries" : "carry"}`, more = causes.filter(({ kind }) => kind === FAULT).length - 1;
-    if (cause) return [`${all ? `${head}. ` : ""}${cause.title[0].toUpperCase()}${cause.title.slice(1)}${more ? `, and ${counted(more, "more cause")}` : ""}.`, "bad"];
+    const head = howManyCarry(carry, all), more = causes.filter(({ kind }) => kind === FAULT).length - 1;
+    if (cause) return [`${all ? `${head}. ` : ""}${capitalized(cause.title)}${more ? `, and ${counted(more, "more cause")}` : ""}.`, "bad"];
     if (!all) return ["", ""];
     const idle = lines.find(({ how, isVague }) => how === IDLE && !isVague);
-    if (idle) return [`${head}. ${idle.why[0].toUpperCase()}${idle.why.slice(1)}; this capture does not show why: ask both ends, and capture all links.`, ""];
+    if (idle) return [`${head}. ${capitalized(idle.why)}; ${CAUSELESS}`, ""];
     if (carry < all) return [`${head}. No cause is in this capture: ask both ends, and capture all links.`, ""];
     if (causes.some(({ kind }) => kind === EFFECT)) return [`${all === 1 ? "The link carries" : `${all} links carry`}, both ways, at the end.`, ""];
-    return [all === 1 ? `The link carries, both ways. ${ONE}` : `${all} links carry, both ways: ${HASH}`, "good"];
+    return [all === 1 ? `The link carries, both ways. ${ONE}` : `${all} links carry, both ways: LACP is not your trouble. ${FLOW}`, "good"];
 }
 
 /* How many causes, effects and remarks there are, and at how many places. */

@@ -1,13 +1,13 @@
-"""Devices with one fault each, and the tests that have to find it: those of one link's frames and machines."""
+"""Devices with one fault each, and the tests that have to find it: the frames that it sends, and the receive machine."""
 
 from __future__ import annotations
 
-from typing import Iterable, Optional
+from typing import Iterable
 
-from conform_device import OWN, SLOW, Device, is_lacpdu, part, put
-from niwhopera import MuxState, ReceiveState, State
+from conform_device import OWN, Device, is_lacpdu, part, put
+from niwhopera import MuxState, ReceiveState
 
-SYNC, CARRIES = 8, 0x30
+SYNC = 8
 # Where a field stands in the Actor TLV of a payload; in the Partner TLV it stands 20 octets behind.
 FIELDS = {"priority": (4, 2), "system": (6, 6), "key": (12, 2), "port_priority": (14, 2), "port": (16, 2), "aggregation": (18, 1)}
 AGGREGATION = 4
@@ -426,6 +426,7 @@ class LowOctet(Device):
     def says(self, port: int, frame: bytes) -> Iterable[bytes]:
         yield put(frame, 32, self.high[port])
 
+
 class VendorOfPartner(Device):
     """Compares the last three octets of the partner's system alone."""
 
@@ -473,67 +474,6 @@ class SyncOnDefaults(Device):
         yield set_bits(frame, 18, SYNC, True) if frame[32] & 0x40 else frame
 
 
-class DisabledByChurn(Device):
-    """A partner that is out of sync for 10 s takes the port out for 30 s."""
-
-    finds = "MX-09"
-
-    def __init__(self) -> None:
-        super().__init__()
-        self.since: dict[int, float] = {}
-        self.out: dict[int, float] = {}
-
-    def ticked(self) -> None:
-        for port in (1, 2):
-            if self.on.mux_state(port) is not MuxState.ATTACHED:
-                self.since[port] = self.now
-            elif self.now - self.since.get(port, self.now) > 10:
-                self.out[port], self.since[port] = self.now + 30, self.now
-
-    def hears(self, port: int, frame: bytes) -> Iterable[bytes]:
-        if self.now >= self.out.get(port, 0):
-            yield frame
-
-
-class DisabledByLongChurn(DisabledByChurn):
-    """A partner that is out of sync for 60 s takes the port out: what churn detection finds."""
-
-    finds, long = "MX-10", True
-
-    def ticked(self) -> None:
-        for port in (1, 2):
-            if self.on.mux_state(port) is not MuxState.ATTACHED:
-                self.since[port] = self.now
-            elif self.now - self.since.get(port, self.now) > 60:
-                self.out[port], self.since[port] = self.now + 30, self.now
-
-
-class AnswersOtherBits(Device):
-    """Answers an LACPDU that tells any bit of its state otherwise."""
-
-    finds = "TX-07"
-
-    def hears(self, port: int, frame: bytes) -> Iterable[bytes]:
-        other = is_lacpdu(frame) and frame[52] ^ self.own(port)[14]
-        yield put(frame, 38, bytes([frame[52] ^ 2])) if other and not (frame[52] ^ self.own(port)[14]) & 0x0F else frame
-
-
-class OneASecond(Device):
-    """Sends one LACPDU a second at most."""
-
-    finds = "TX-09"
-
-    def __init__(self) -> None:
-        super().__init__()
-        self.sent = -9.0
-
-    def may_send(self) -> bool:
-        if self.now - self.sent < 0.95:
-            return False
-        self.sent = self.now if self.on.due() else self.sent
-        return True
-
-
 class LinkUnseen(Device):
     """Does not see that a link goes down."""
 
@@ -559,233 +499,6 @@ class StartsCarrying(Device):
             self.on.receive(port, frame)
 
 
-class SlowClock(Device):
-    """Its clock is slow: a second has 1.45 s."""
-
-    finds, tick_seconds = "PT-01 RX-02", 0.145
-
-
-class FastClock(Device):
-    """Its clock is fast."""
-
-    finds, tick_seconds = "PT-01 MX-01 RX-02", 0.055
-
-
-class AlwaysShort(Device):
-    """Sends each second, whatever the partner asks for."""
-
-    finds = "PT-02 PT-04 TX-04"
-
-    def hears(self, port: int, frame: bytes) -> Iterable[bytes]:
-        yield set_bits(frame, 18, 2, True) if is_lacpdu(frame) else frame
-
-
-class AlwaysLong(Device):
-    """Sends each 30 s, whatever the partner asks for."""
-
-    finds = "PT-01 PT-03 PT-06"
-
-    def hears(self, port: int, frame: bytes) -> Iterable[bytes]:
-        yield set_bits(frame, 18, 2, False) if is_lacpdu(frame) else frame
-
-
-class LateToShort(Device):
-    """Notices two seconds late that the partner asks for short timeouts."""
-
-    finds = "PT-03"
-    since = 0.0
-
-    def hears(self, port: int, frame: bytes) -> Iterable[bytes]:
-        if is_lacpdu(frame) and port == 1:
-            if not frame[32] & 2:
-                self.since = self.now
-            elif self.now - self.since < 2 and self.since:
-                frame = set_bits(frame, 18, 2, False)
-        yield frame
-
-
-class QuietInExpired(Device):
-    """Tells once that it is EXPIRED."""
-
-    finds = "PT-05"
-
-    def __init__(self) -> None:
-        super().__init__()
-        self.told = {1: False, 2: False}
-
-    def says(self, port: int, frame: bytes) -> Iterable[bytes]:
-        expired = bool(frame[32] & 0x80)
-        if not (expired and self.told[port]):
-            yield frame
-        self.told[port] = expired
-
-
-class QuietToPassive(Device):
-    """Sends nothing periodically to a passive partner."""
-
-    finds = "PT-06"
-
-    def __init__(self) -> None:
-        super().__init__()
-        self.last: dict[int, bytes] = {}
-
-    def says(self, port: int, frame: bytes) -> Iterable[bytes]:
-        told, self.last[port] = self.last.get(port), frame[:54]
-        if frame[52] & 1 or told != frame[:54]:
-            yield frame
-
-
-class CollectsAsPartner(Device):
-    """Takes a partner that does not collect for one out of sync."""
-
-    finds = "MX-02 MX-04"
-
-    def hears(self, port: int, frame: bytes) -> Iterable[bytes]:
-        yield set_bits(frame, 18, SYNC, False) if is_lacpdu(frame) and not frame[32] & 0x10 else frame
-
-
-class TellsOldBits(Device):
-    """Tells once more that it carries when it has detached."""
-
-    finds = "MX-05"
-
-    def __init__(self) -> None:
-        super().__init__()
-        self.last: dict[int, int] = {}
-
-    def says(self, port: int, frame: bytes) -> Iterable[bytes]:
-        last, self.last[port] = self.last.get(port, 0), frame[32]
-        yield put(frame, 18, bytes([last])) if last & SYNC and not frame[32] & SYNC else frame
-
-
-class LateBits(Device):
-    """Tells Collecting and Distributing a second too long."""
-
-    finds = "MX-03 MX-07 IV-02"
-
-    def __init__(self) -> None:
-        super().__init__()
-        self.since: dict[int, float] = {}
-
-    def says(self, port: int, frame: bytes) -> Iterable[bytes]:
-        if frame[32] & CARRIES:
-            self.since[port] = self.now
-        late = self.now - self.since.get(port, -9) < 1.05
-        yield set_bits(frame, 18, CARRIES | SYNC, True) if late else frame
-
-
-class AggregatesAlways(Device):
-    """Tells a partner that is individual as aggregatable."""
-
-    finds = "MX-08"
-
-    def says(self, port: int, frame: bytes) -> Iterable[bytes]:
-        yield set_bits(frame, 38, AGGREGATION, True) if any(part(frame, 26, 6)) else frame
-
-
-class CollectsAlone(Device):
-    """Tells Collecting without Synchronization."""
-
-    finds = "IV-01"
-
-    def says(self, port: int, frame: bytes) -> Iterable[bytes]:
-        yield frame if frame[32] & SYNC else set_bits(frame, 18, 0x10, True)
-
-
-class MixesLinks(Device):
-    """Tells on link 2 the partner of link 1."""
-
-    finds = "IV-04"
-    first = b""
-
-    def says(self, port: int, frame: bytes) -> Iterable[bytes]:
-        if port == 1:
-            self.first = part(frame, 24, 14)
-        yield put(frame, 24, self.first) if port == 2 and self.first else frame
-
-
-class Chatty(Device):
-    """Answers each LACPDU."""
-
-    finds = "TX-01 TX-04 TX-05 RB-05 RB-06 IV-05"
-
-    def took(self, port: int, frame: bytes) -> None:
-        if is_lacpdu(frame):
-            own, partner = self.own(port), self.on.partner(port)
-            told = partner.system.priority.to_bytes(2, "big") + partner.system.mac + partner.key.to_bytes(2, "big")
-            told += partner.port.priority.to_bytes(2, "big") + partner.port.number.to_bytes(2, "big") + bytes([int(partner.state)])
-            payload = b"\1\1\1\x14" + own + bytes(3) + b"\2\x14" + told + bytes(3) + b"\3\x10" + bytes(66)
-            self.world.emit(port, b"\x01\x80\xc2\0\0\2" + bytes([2, 0, 0, 0, 0xBB, port]) + SLOW + payload)
-
-
-class NoNtt(Device):
-    """Waits 0.9 s before it sends what is due."""
-
-    finds = "TX-02b TX-02c TX-02d TX-02e TX-02f TX-03a TX-03b TX-03c TX-06 MX-03 MX-07"
-    due_since: Optional[float] = None
-
-    def may_send(self) -> bool:
-        if 1 not in self.on.due():
-            self.due_since = None
-            return False
-        if self.due_since is None:
-            self.due_since = self.now
-        if self.now - self.due_since < 0.9:
-            return False
-        self.due_since = None
-        return True
-
-
-class LooksOnceASecond(Device):
-    """Sends what is due once a second."""
-
-    finds = "TX-02b TX-02e TX-03b"
-    looked = 0.0
-
-    def may_send(self) -> bool:
-        if self.now - self.looked < 0.99:
-            return False
-        self.looked = self.now
-        return True
-
-
-class TimeoutUnchecked(Device):
-    """Does not look at its LACP_Timeout as the partner tells it."""
-
-    finds = "TX-03b"
-
-    def hears(self, port: int, frame: bytes) -> Iterable[bytes]:
-        yield set_bits(frame, 38, 2, self.is_on(port, State.TIMEOUT)) if is_lacpdu(frame) else frame
-
-
-class OwnSyncUnchecked(Device):
-    """Does not look at its Synchronization as the partner tells it."""
-
-    finds = "TX-03c"
-
-    def hears(self, port: int, frame: bytes) -> Iterable[bytes]:
-        yield set_bits(frame, 38, SYNC, self.is_on(port, State.SYNCHRONIZATION)) if is_lacpdu(frame) else frame
-
-
-class Stale(Device):
-    """What waits behind three LACPDUs is told three seconds long as it was when it began to wait."""
-
-    finds = "TX-05"
-
-    def __init__(self) -> None:
-        super().__init__()
-        self.times: list[float] = []
-        self.old, self.until = b"", 0.0
-
-    def says(self, port: int, frame: bytes) -> Iterable[bytes]:
-        self.times = [it for it in self.times if self.now - it < 1.2] + [self.now]
-        if len(self.times) == 4 and self.now >= self.until:
-            self.until = self.now + 3
-        if self.now >= self.until or port != 1:
-            self.old = frame
-        yield self.old or frame
-
-
 class LongTimer(Device):
     """Asks for long timeouts, and waits 80 s."""
 
@@ -794,22 +507,3 @@ class LongTimer(Device):
     def ticked(self) -> None:
         if any(self.on.receive_state(port) is ReceiveState.CURRENT and self.on.current_while(port) == 100 for port in (1, 2)):
             self.on.tick(100)
-
-
-class SlowPeriod(Device):
-    """Its clock is a twentieth slow."""
-
-    finds, tick_seconds, long = "PT-07", 0.105, True
-
-
-class SilentOnDefaults(Device):
-    """Says nothing where it has no partner."""
-
-    finds, long = "PT-08", True
-
-    def says(self, port: int, frame: bytes) -> Iterable[bytes]:
-        if not frame[32] & 0x40:
-            yield frame
-
-
-FAULTS: list[type[Device]] = [it for it in list(vars().values()) if isinstance(it, type) and issubclass(it, Device) and it.finds]

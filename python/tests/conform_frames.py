@@ -582,6 +582,3 @@ class ForgetsNaming(Device):
     def hears(self, port: int, frame: bytes) -> Iterable[bytes]:
         nobody = is_lacpdu(frame) and not any(part(frame, 24, 14))
         yield set_bits(put(frame, 24, self.own(port)), 38, 4, True) if nobody else frame
-
-
-FAULTS: list[type[Device]] = [it for it in list(vars().values()) if isinstance(it, type) and issubclass(it, Device) and it.finds]

@@ -9,6 +9,7 @@ from typing import Sequence, Type
 
 import conform_faults
 import conform_frames
+import conform_machines
 import pytest
 from conform_device import Device, World
 
@@ -18,7 +19,8 @@ from lagconform.model import FAIL, INCONCLUSIVE, PASS, Result
 from lagconform.model import Test as Case
 from lagconform.runner import meet, ordered, run_all
 
-FAULTS: list[Type[Device]] = [*conform_faults.FAULTS, *conform_frames.FAULTS]
+NAMED = [it for module in (conform_faults, conform_machines, conform_frames) for it in vars(module).values()]
+FAULTS: list[Type[Device]] = [it for it in NAMED if isinstance(it, type) and issubclass(it, Device) and it.finds]
 BY_NAME = {it.id: it for it in TESTS}
 
 

@@ -13,8 +13,9 @@ from typing import Iterable, Iterator, Type
 
 import pytest
 from conform_device import Device, World, put
-from conform_faults import CutOff, KeyUnchecked, NoNtt, PartnerLength, RestartsOnChange, WrongEcho
+from conform_faults import CutOff, KeyUnchecked, PartnerLength, RestartsOnChange, WrongEcho
 from conform_frames import OtherId, VersionChecked
+from conform_machines import NoNtt
 
 from lagconform import causes, command, floods, matrix
 from lagconform.bench import Bench

@@ -39,12 +39,12 @@ class Sources:
 
     def __init__(self, cache: str, may_fetch: bool) -> None:
         self.cache, self.may_fetch, self.known = cache, may_fetch, False
-        for folder in "apt/lists/partial", "apt/sources.d", "apt/archives/partial", "sources":
+        for folder in "apt/lists/partial", "apt/sources.list.d", "apt/archives/partial", "sources":
             os.makedirs(f"{cache}/{folder}", exist_ok=True)
 
     def apt(self, name: str, *words: str, sources: bool = True, cwd: str | None = None) -> subprocess.CompletedProcess[str]:
         """One of apt's commands; over the lists of sources, or over those of the packages of the machine."""
-        own = {"Dir::State::Lists": "lists", "Dir::Etc::SourceParts": "sources.d", "Dir::Cache": "."} if sources else {}
+        own = {"Dir::State::Lists": "lists", "Dir::Etc::SourceParts": "sources.list.d", "Dir::Cache": "."} if sources else {}
         options = [f"{key}={self.cache}/apt/{place}" for key, place in own.items()] + ["APT::Sandbox::User=root"]
         options += ["Dir::Etc::SourceList=/dev/null"] if sources else []
         want(name)
@@ -54,10 +54,9 @@ class Sources:
         """Fetches the lists of sources, once a run: of each place from which the machine has packages of Debian."""
         if self.known or not self.may_fetch:
             return
-        places = dict.fromkeys((it.uri, it.keys, release) for it in mirrors.places() for release in (it.release, *RELEASES))
-        with open(f"{self.cache}/apt/sources.d/all.sources", "w", encoding="utf-8") as it:
-            for uri, keys, release in places:
-                it.write(f"Types: deb-src\nURIs: {uri}\nSuites: {release}\nComponents: main\n" + (f"Signed-By: {keys}\n" if keys else "") + "\n")
+        lines = dict.fromkeys(place.line("deb-src", release) for place in mirrors.places() for release in (place.release, *RELEASES))
+        with open(f"{self.cache}/apt/sources.list.d/all.list", "w", encoding="utf-8") as it:
+            it.writelines(lines)
         # A place that has no such release fails alone.
         self.apt("apt-get", "update")
         self.known = True

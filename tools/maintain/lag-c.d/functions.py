@@ -252,7 +252,7 @@ class Writer:
         self.stack += [Value(name, kind) for name, kind in zip(block.results, block.kind.told)]
 
     def call(self, which: int) -> None:
-        kind, count = self.module.functions[which].kind, 0
+        kind = self.module.functions[which].kind
         count = len(kind.given)
         given = self.stack[len(self.stack) - count :]
         del self.stack[len(self.stack) - count :]

@@ -254,10 +254,10 @@ def of_unread(tests: Tests, browser: Browser, folder: str) -> None:
 
 
 def of_lasting(tests: Tests, browser: Browser, folder: str) -> None:
-    """A capture says how long it lasts, and whether that is too short for time-outs."""
+    """A capture says how long it lasts, and whether that is too short for timeouts."""
     one, other = made.Party(1, 7, 1, made.UP), made.Party(2, 7, 1, made.UP)
     frames, path = [made.frame(it.source(), made.lacpdu(it, one if it is other else other)) for it in (one, other)], os.path.join(folder, "long.pcap")
-    for last, more in (92, ", shorter than 93 s: not each time-out may show."), (93, "."):
+    for last, more in (92, ", shorter than 93 s: not each timeout may show."), (93, "."):
         made.pcap(path, [(second, frames[way]) for second in range(last + 1) for way in (0, 1)])
         browser.choose(path)
         said = browser.value("document.getElementById('lasts').textContent")
