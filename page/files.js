@@ -9,8 +9,6 @@ const NANO = [0xa1b23c4d, 0x4d3cb2a1];
 const COMMENT = 1, IF_NAME = 2, IF_TSRESOL = 9, IF_TSOFFSET = 14;
 /* Octets of an LACPDU: up to the end of the partner's; all of it. Behind the partner's: the collector's TLV, and the terminator. */
 const BOTH_ENDS = 42, WHOLE = 110, COLLECTOR = [3, 16];
-/* The subtype of an LACPDU, its first octet. */
-const LACPDU = 1;
 /* Of one file so much is looked at for names and comments. */
 const MOST_LOOKED = 1 << 24;
 
@@ -133,10 +131,13 @@ function payloadAt({ octets, from: { link } }) {
     return (link === 1 || link === 113) && word(at) === 0x8809 ? at + 2 : -1;
 }
 
+/* Whether the payload there is an LACPDU, by its subtype. */
+const isLacpdu = (octets, at) => octets[at] === 1;
+
 /* An LACPDU that was cut behind what it says of both ends gets the rest by the standard; of others nothing changes. */
 function wholeOf(octets, original, at) {
     const count = octets.length - at;
-    if (octets[at] !== 1 || count < BOTH_ENDS || count >= WHOLE || original - at < WHOLE) return octets;
+    if (!isLacpdu(octets, at) || count < BOTH_ENDS || count >= WHOLE || original - at < WHOLE) return octets;
     const whole = new Uint8Array(at + WHOLE);
     whole.set(octets.subarray(0, at + BOTH_ENDS));
     whole.set(COLLECTOR, at + BOTH_ENDS);
@@ -194,7 +195,7 @@ export async function merged(files) {
             last = { file, number, time, of: it.number, octets: it.octets.slice(0, 60), comment: it.comment };
             if (at >= 0) kept.push({ ...last, octets: wholeOf(it.octets, it.original, at).slice() });
             else last.isAlone = true;
-            if (at >= 0 && it.octets[at] === LACPDU) isSilent = false;
+            if (at >= 0 && isLacpdu(it.octets, at)) isSilent = false;
         }
         if (last?.isAlone) kept.push(last);
         if (told.end < 0) faults.push(`cannot read ${file.name}: neither pcap nor pcapng`);
