@@ -58,7 +58,7 @@ def remarks() -> list[str]:
 
 def test_trouble_ranks_findings_as_the_page_does() -> None:
     ranks = dict(re.findall(r"(LEADING|FOLLOWING) = \[([\d, ]+)\]", packing.text_of("causes.js")))
-    told = re.search(r"Rules (.*) explain others\. Those of (.*) often follow[^.]*\.\s+(.*) want nothing\.", told_in("docs", "TROUBLE.md"))
+    told = re.search(r"Rules (.*) explain others\. Those of (.*) often follow[^.]*\.\s+(.*) want nothing: leave them\.", told_in("docs", "TROUBLE.md"))
     assert told
     for text, rules in zip(told.groups(), (ranks["LEADING"], ranks["FOLLOWING"], " ".join(remarks()))):
         assert numbers(text) == numbers(rules), text
