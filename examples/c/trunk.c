@@ -1,6 +1,6 @@
 /* A trunk of a switch chip whose ports may be in several aggregators: one runs on defaults, since its peer is silent, others have a partner.
- * The active aggregator fills the rows of the chip; a new link gets its share; a link that dies silently is left; and a new control plane
- * takes the trunk over. The chip is an array here, and the peer a second system at the other ends of the cables. */
+ * The active aggregator fills the rows of the chip; a new link gets its share, if the peer answers markers; a link that dies silently is left;
+ * and a new control plane takes the trunk over. The chip is an array here, and the peer a second system at the other ends of the cables. */
 #include <stdio.h>
 #include <stdlib.h>
 
@@ -8,14 +8,15 @@
 
 #define PORTS 4
 #define ROWS NIW_FEW_CONVERSATIONS
-#define WORST_DELAY 30 /* ticks that a frame can be on its way at most */
+#define WORST_DELAY 50 /* ticks that a frame can be on its way at most */
 
 static struct niw_system here, peer;
 static bool silent[PORTS + 1];            /* the cables that carry nothing, though their links are up */
+static bool deaf;                         /* whether the peer answers no markers */
 static uint16_t row[ROWS];                /* of the chip: the port of each conversation, or 0, with which it drops the frames */
 static uint16_t active;                   /* the aggregator that is the trunk, or 0 */
 static bool suspended;                    /* whether the trunk passes no data, since it runs on defaults */
-static unsigned stopped[PORTS + 1];       /* how many ticks ago the port stopped to distribute */
+static unsigned stopped[PORTS + 1];       /* for how many ticks the port has not distributed with a partner */
 static struct niw_saved saved[PORTS + 1]; /* the last LACPDU of each port, and how old it is */
 static unsigned flushes;
 
@@ -47,23 +48,15 @@ static void clear_rows(void) {
         if (ports[i] != row[i]) row[i] = 0;
 }
 
-/* Takes every conversation off an aggregator: behind a marker, or, where nothing was sent, at once. */
-static void leave(uint16_t aggregator, bool was_suspended) {
-    for (uint16_t i = 0; i < ROWS; i++) {
-        if (was_suspended) niw_rest(&here, aggregator, i);
-        else niw_leave_conversation(&here, aggregator, i);
-    }
-}
-
 /* Which aggregator is the trunk. One that runs on defaults is suspended here: nothing is offered there, so that nothing waits for a marker
- * that a silent peer will not answer. */
+ * that a silent peer will not answer. One that carried is left behind markers. */
 static void choose_trunk(void) {
     uint16_t before = active, ports[NIW_MOST_PORTS];
     bool was_suspended = suspended;
     active = (uint16_t)niw_active_aggregator(&here, before).number;
     suspended = active != 0 && niw_distributing(&here, active, ports, NIW_MOST_PORTS).number > 0 && niw_defaulted(&here, ports[0]).is;
-    if (before == 0 || (before == active && suspended == was_suspended)) return;
-    leave(before, was_suspended);
+    if (before == 0 || was_suspended || (before == active && !suspended)) return;
+    for (uint16_t i = 0; i < ROWS; i++) niw_leave_conversation(&here, before, i);
 }
 
 /* Offers each conversation whose row is clear. */
@@ -83,7 +76,7 @@ static void carry(struct niw_system *from, struct niw_system *to, uint16_t port,
     struct niw_received received;
     if (silent[port]) return;
     received = niw_receive(to, port, frame, NIW_FRAME, response, sizeof response);
-    if (received.what == NIW_RECEIVED_RESPOND) niw_receive(from, port, response, NIW_FRAME, unused, sizeof unused);
+    if (received.what == NIW_RECEIVED_RESPOND && !deaf) niw_receive(from, port, response, NIW_FRAME, unused, sizeof unused);
     if (received.what != NIW_RECEIVED_TOOK_LACPDU || to != &here) return;
     saved[port] = (struct niw_saved){.port = port};
     memcpy(saved[port].frame, frame, NIW_FRAME);
@@ -107,10 +100,12 @@ static void settle(void) {
     fill_rows();
 }
 
-/* A port that has not distributed for longer than frames can be on their way holds nothing any more. */
+/* A port that has not distributed with a partner for longer than frames can be on their way holds nothing any more. On defaults it
+ * distributes again, but has no rows here. */
 static void leave_silent_ports(void) {
     for (uint16_t port = 1; port <= PORTS; port++) {
-        stopped[port] = niw_distributes(&here, port).is ? 0 : stopped[port] + 1;
+        bool carries = niw_distributes(&here, port).is && !niw_defaulted(&here, port).is;
+        stopped[port] = carries ? 0 : stopped[port] + 1;
         if (stopped[port] > WORST_DELAY && niw_load(&here, port).number > 0) niw_force_port(&here, port);
     }
 }
@@ -127,11 +122,21 @@ static void pass(unsigned ticks) {
     }
 }
 
-/* Moves conversations until each link has its share: a link that came up gets rows no other way. */
+/* Whether the peer of a port answers markers. These cables have no delay: a chip waits for the response. */
+static bool answers(uint16_t port) {
+    uint8_t frame[NIW_FRAME];
+    if (niw_probe(&here, port, frame, sizeof frame).is) carry(&here, &peer, port, frame);
+    return niw_answers(&here, port).number == NIW_ANSWERS_ANSWERED;
+}
+
+/* Moves conversations until each link has its share: a link that came up gets rows no other way. Where no marker is answered, a row that
+ * is moved would stay clear. */
 static void balance(void) {
     struct niw_carried carried[ROWS];
     uint16_t ports[NIW_MOST_PORTS];
     size_t count = niw_distributing(&here, active, ports, NIW_MOST_PORTS).number;
+    for (size_t i = 0; i < count; i++)
+        if (!answers(ports[i])) return;
     for (unsigned i = 0; i < ROWS; i++) carried[i] = (struct niw_carried){.port = row[i], .load = 1};
     for (;;) {
         struct niw_move move = niw_next_move(ports, count, carried, ROWS);
@@ -190,6 +195,11 @@ int main(void) {
         pass(50);
         show(port == 3 ? "port 3 carries" : "port 4 carries, too");
     }
+    deaf = true;
+    balance();
+    pass(5);
+    show("the peer answers no markers");
+    deaf = false;
     balance();
     pass(5);
     show("balanced");
