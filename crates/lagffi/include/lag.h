@@ -92,8 +92,9 @@ enum {
     NIW_SLOW_FRAME = 4,         /* an offered frame is one of the slow protocols, EtherType 0x8809 */
     NIW_HELD = 5,               /* the conversation is wanted or flushing, so its frames are held: until the marker's response comes,
                                    the link of its port goes down, or niw_force or niw_force_port frees it. A link that falls
-                                   silent and stays up holds them for ever: once its port has not distributed for longer
-                                   than frames can take through the network, niw_force_port. niw_offer_in_active_aggregator and
+                                   silent and stays up holds them for ever: once its port has neither carried a frame nor
+                                   distributed with a partner for longer than frames can take through the network,
+                                   niw_force_port. niw_offer_in_active_aggregator and
                                    niw_offer_conversation_in_active_aggregator: the same, or it is on a port or held in another aggregator;
                                    niw_adopt: the same, or it is on another port */
     NIW_NONE_DISTRIBUTING = 6,  /* the conversation is free, and no port distributes in the aggregator */
