@@ -394,7 +394,7 @@ def test_pages_have_the_time_of_a_run_and_which_tests_are_long() -> None:
     for name, wanted in (
         ("CONFORM.md", f"those of more than {LONG} s;"),
         ("CONFORMANCE.md", f"of more than {LONG} s were not run"),
-        ("PEERS.md", f"tests of more than {LONG} s,"),
+        ("PEERS.md", f"that take at most {LONG} s each"),
     ):
         assert wanted in (page_of(name) or wanted)
 
