@@ -148,8 +148,8 @@ void suspect_aggregator(struct lagd *lagd, uint32_t aggregator) {
     lagd->carry.changed = true;
 }
 
-/* Whether the active aggregator stays where another one has as many ports: the peer has it, too, since its frames come there. Ends that differ come together, if both send or neither does: neither has frames of the
- * other one then, and both take the one with the least group. */
+/* Whether the active aggregator stays where another one has as many ports: the peer has it, too, since its frames come there. Ends that differ
+ * come together, if both send or neither does: neither has frames of the other one then, and both take the one with the least group. */
 bool hears_peer(struct lagd *lagd) {
     struct carry_private *own = lagd->carry_private;
     return own->heard_at != 0 && lagd->carry.time - own->heard_at < HEARD;
@@ -277,7 +277,7 @@ void settle_frames(struct lagd *lagd) {
     look_at_partner(lagd);
     if (lagd->carry.waiting) release(lagd);
     if (own->to_balance) balance(lagd);
-    if (own->to_balance) lagd->plane.passing->look_for_losses(lagd);
+    if (own->to_balance) lagd->plane.passing->read_host(lagd);
     own->to_balance = false;
 }
 

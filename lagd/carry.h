@@ -233,7 +233,6 @@ bool keeps_order(const char *discipline);
 bool read_discipline(int index, char name[static DISCIPLINE_ROOM]);
 bool have_order(int index);
 bool may_have_order(int index);
-bool give_fifo(int index, uint32_t megabits);
 bool give_fifos(int index, unsigned queues, uint32_t megabits);
 void fit_fifo(int index, uint32_t megabits);
 void fit_fifos(int index, unsigned queues, uint32_t megabits);

@@ -41,7 +41,8 @@ void show_frames_waiting(struct lagd *lagd, enum form form) {
     switch (form) {
     case AS_TEXT: add(&lagd->report, "\n  waiting: %" PRIu64 ", conversations of the kernel: %u\n", waiting, count_fast(&lagd->carry)); break;
     case AS_JSON:
-        add(&lagd->report, "\"markers\":\"%s\",\"waiting\":%" PRIu64 ",\"fast_conversations\":%u", answering_text(lagd->probe), waiting, count_fast(&lagd->carry));
+        add(&lagd->report, "\"markers\":\"%s\",\"waiting\":%" PRIu64 ",\"fast_conversations\":%u", answering_text(lagd->probe), waiting,
+            count_fast(&lagd->carry));
         break;
     case AS_METRICS:
         add_bundle_value(lagd, "carry_waiting", "gauge", "how many frames wait", waiting);
@@ -69,7 +70,8 @@ static void write_text_of_carry(struct lagd *lagd) {
     const struct carrying *carrying = lagd->plane.carrying;
     unsigned told = 0;
     add(&lagd->report, "  carry: %s, carrier %s, hash %s, flight %u ms, ", lagd->settings.carry,
-        has_carrier(lagd->tap) ? "on" : is_halted(lagd->halt) ? "off, the device is down" : "off", hash_text(lagd->settings.hash), lagd->settings.flight);
+        has_carrier(lagd->tap) ? "on" : is_halted(lagd->halt) ? "off, the device is down" : "off", hash_text(lagd->settings.hash),
+        lagd->settings.flight);
     carrying->show_markers(lagd);
     add(&lagd->report, "%s%s", way_text(&lagd->settings), lagd->plane.queueing->text);
     for (unsigned i = carrying->first_count; i < carrying->end_count; i++)

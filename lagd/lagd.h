@@ -234,6 +234,7 @@ enum {
     KINDS = 0xf000,
 };
 _Noreturn void stop(int status, const char *what, const char *which);
+void need(bool done, const char *what);
 bool is_done(struct lagd *lagd, uint32_t status, const char *call) MUST_USE;
 bool is_told(struct lagd *lagd, struct niw_number answer, const char *call, uint64_t *number) MUST_USE;
 bool say(struct lagd *lagd, int level, const char *format, ...) __attribute__((format(printf, 3, 4)));
@@ -471,7 +472,7 @@ void settle_carry(struct lagd *lagd);
 void pass_carry_tick(struct lagd *lagd);
 
 /* host.c */
-void lose_tap(struct lagd *lagd);
+void lose_device(struct lagd *lagd);
 void open_carry(struct lagd *lagd);
 void end_carry(struct lagd *lagd);
 void serve_data(struct lagd *lagd, uint32_t tag);

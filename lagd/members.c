@@ -172,7 +172,8 @@ static bool open_sockets(struct lagd *lagd, struct member *member, const struct 
     if (member->socket < 0 || !fast) return member->socket >= 0 && await_input(lagd->epoll_file, member->socket, tag);
     member->markers = open_markers(lagd, link, tap_index(lagd->tap), link->settings.number);
     member->direct = open_markers(lagd, link, link->index, 0);
-    return member->markers >= 0 && member->direct >= 0 && await_input(lagd->epoll_file, member->markers, tag) && await_input(lagd->epoll_file, member->direct, tag);
+    return member->markers >= 0 && member->direct >= 0 && await_input(lagd->epoll_file, member->markers, tag)
+        && await_input(lagd->epoll_file, member->direct, tag);
 }
 
 /* Opens the sockets of a member whose programs run; answers whether it did. Else, it is no member any more, and errno tells why. */

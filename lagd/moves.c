@@ -60,7 +60,8 @@ static bool level(struct lagd *lagd) {
 bool can_empty(struct lagd *lagd, uint16_t port) {
     unsigned others = 0;
     for (uint16_t i = 0; i < lagd->carry.port_count; i++) others += lagd->carry.ports[i] != port;
-    return others > 0 && peer_answering(lagd->probe) == ANSWERS && lagd->carry.active != 0 && lagd->links[port - 1].view.aggregator == lagd->carry.active;
+    return others > 0 && peer_answering(lagd->probe) == ANSWERS && lagd->carry.active != 0
+        && lagd->links[port - 1].view.aggregator == lagd->carry.active;
 }
 
 /* The port that carries fewest conversations of a list, of those that carry. */

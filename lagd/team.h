@@ -49,7 +49,6 @@ void end_team_plane(struct lagd *lagd);
 bool give_team_carrier(struct lagd *lagd, bool on);
 void settle_team(struct lagd *lagd);
 void pass_tick_of_team(struct lagd *lagd);
-void end_team(struct lagd *lagd);
 bool open_team_port(struct lagd *lagd, struct link *link);
 void close_team_port(struct lagd *lagd, struct link *link);
 bool is_team_port(struct team_private *own, uint16_t port);
@@ -61,7 +60,6 @@ void leave_team_port(struct lagd *lagd, int index);
 /* buckets.c */
 void start_buckets(struct lagd *lagd);
 void settle_buckets(struct lagd *lagd);
-void look_at_driver(struct lagd *lagd);
 void pass_bucket_tick(struct lagd *lagd);
 void forget_port(struct lagd *lagd, uint16_t port);
 int bucket_member_of(struct lagd *lagd, uint16_t number);

@@ -111,7 +111,8 @@ struct place {
 };
 
 /* Sets an option. The kernel tells who listens to changes; that nobody does is an error for it, though the option is set. */
-static bool set_option(struct team_netlink_private *own, int index, const char *name, struct place place, uint8_t type, const void *value, size_t length) {
+static bool set_option(struct team_netlink_private *own, int index, const char *name, struct place place, uint8_t type, const void *value,
+    size_t length) {
     union message wanted = message_of_team(own, TEAM_CMD_OPTIONS_SET, NLM_F_ACK, index);
     struct nlattr *list = mnl_attr_nest_start(&wanted.head, TEAM_ATTR_LIST_OPTION);
     struct nlattr *item = mnl_attr_nest_start(&wanted.head, TEAM_ATTR_ITEM_OPTION);

@@ -370,7 +370,7 @@ _Noreturn void stop(int status, const char *what, const char *which) {
 static const struct carrying FRAMES = {.settle = settle_frames, .tick = pass_tick_of_frames, .keeps_aggregator = hears_peer,
     .frames_heard = frames_handed_up, .tell_host = tell_speed_and_carrier, .go_on = settle_carry};
 static const struct passing BY_DAEMON = {.count = nothing, .withdraw = nothing, .pass_on = nothing, .set_collecting = nothing,
-    .look_for_losses = nothing, .tick = nothing};
+    .read_host = nothing, .tick = nothing};
 static const struct queueing ONE_QUEUE = {.watch = nothing, .accept_response = accept_response, .answer = answer, .markers_at_once = 1};
 
 /* The link of a port is up or down for an end. */
