@@ -210,7 +210,7 @@ static bool place_buckets(struct lagd *lagd) {
 }
 
 /* Whether a port carries in the active aggregator. */
-static bool is_active(struct carry *carry, uint16_t port) {
+static bool is_active(const struct carry *carry, uint16_t port) {
     for (uint16_t i = 0; i < carry->port_count; i++)
         if (carry->ports[i] == port) return true;
     return false;
@@ -235,7 +235,7 @@ void settle_buckets(struct lagd *lagd) {
 }
 
 /* The port to which a bucket goes by its number, once it is still. */
-static uint16_t usual_port(struct carry *carry, uint16_t number) {
+static uint16_t usual_port(const struct carry *carry, uint16_t number) {
     return carry->ports[number % carry->port_count];
 }
 

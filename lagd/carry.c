@@ -45,7 +45,7 @@ bool is_held(const struct niw_assignment *state) {
 }
 
 /* Whether a conversation had a frame of late, in the active aggregator. */
-bool is_busy(struct carry *carry, const struct conversation *conversation) {
+bool is_busy(const struct carry *carry, const struct conversation *conversation) {
     bool is_recent = conversation->last != 0 && carry->time - conversation->last < BUSY;
     return conversation->home == carry->active && (conversation->used || is_recent);
 }
@@ -83,7 +83,7 @@ static void send_on(struct lagd *lagd, const struct conversation *conversation, 
 }
 
 /* Whether a frame of the host may go: of a right length, which each member takes, and none of the slow protocols. */
-static bool is_fit(struct tap_private *own, const uint8_t *packet, size_t length) {
+static bool is_fit(const struct tap_private *own, const uint8_t *packet, size_t length) {
     const uint8_t *frame = packet + head_octets();
     return has_right_length(packet, length, longest_payload(own))
         && ((unsigned)frame[12] << 8 | frame[13]) != ETH_P_SLOW;

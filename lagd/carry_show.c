@@ -9,13 +9,13 @@
 static const struct count_text CARRY_COUNTERS[] = {EACH_CARRY_COUNT(COUNT_TEXT)};
 static const struct count_text MEMBER_COUNTERS[] = {EACH_MEMBER_COUNT(COUNT_TEXT)};
 
-static const char *answering_text(struct probe_private *own) {
+static const char *answering_text(const struct probe_private *own) {
     static const char *const texts[] = {[NOT_ASKED] = "not asked", [ASKED] = "asked", [ANSWERS] = "answered", [MUTE] = "not answered"};
     return texts[peer_answering(own)];
 }
 
 /* How many conversations of a port are busy. */
-static unsigned count_busy(struct carry *carry, uint16_t port) {
+static unsigned count_busy(const struct carry *carry, uint16_t port) {
     unsigned busy = 0;
     for (unsigned i = 0; i < CONVERSATIONS; i++)
         busy += is_busy(carry, &carry->conversations[i]) && carry->conversations[i].port == port;
@@ -23,7 +23,7 @@ static unsigned count_busy(struct carry *carry, uint16_t port) {
 }
 
 /* How many conversations the kernel passes on. */
-static unsigned count_fast(struct carry *carry) {
+static unsigned count_fast(const struct carry *carry) {
     unsigned fast = 0;
     for (unsigned i = 0; i < CONVERSATIONS; i++) fast += carry->conversations[i].fast.port > 0;
     return fast;

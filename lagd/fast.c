@@ -155,7 +155,7 @@ static uint64_t word_of(struct fast_private *own, uint16_t number) {
 }
 
 /* The number of a conversation. */
-static uint16_t number_in(struct carry *carry, const struct conversation *conversation) {
+static uint16_t number_in(const struct carry *carry, const struct conversation *conversation) {
     return (uint16_t)(conversation - carry->conversations);
 }
 

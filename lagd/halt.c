@@ -17,12 +17,12 @@ struct halt_private *make_halt_private(void) {
 }
 
 /* Whether the device is down, so that no port may carry. */
-bool is_halted(struct halt_private *own) {
+bool is_halted(const struct halt_private *own) {
     return own->down;
 }
 
 /* Whether the peers were told, so that no port speaks. */
-bool is_silent(struct halt_private *own) {
+bool is_silent(const struct halt_private *own) {
     return own->silent;
 }
 

@@ -337,7 +337,7 @@ void watch_carriers(struct lagd *lagd, bool all);
 /* keys.c */
 void choose_slots(struct lagd *lagd);
 void make_keys(struct lagd *lagd, uint16_t keys[static NIW_MOST_PORTS]);
-bool has_aggregator(struct keys_private *own, uint16_t given);
+bool has_aggregator(const struct keys_private *own, uint16_t given);
 uint16_t free_key(struct lagd *lagd, uint16_t behind, const struct link *but);
 uint16_t choose_key(struct lagd *lagd, const struct link *link);
 struct speed read_speed(int socket, const char *name);
@@ -355,8 +355,8 @@ void lose_link(struct lagd *lagd, struct link *link);
 void send_due(struct lagd *lagd);
 void send_again(struct lagd *lagd);
 void pass_tick(struct lagd *lagd);
-uint64_t ticks_passed(struct system_private *own);
-uint64_t seconds_passed(struct system_private *own);
+uint64_t ticks_passed(const struct system_private *own);
+uint64_t seconds_passed(const struct system_private *own);
 uint64_t milliseconds(void);
 void expect_lacpdu(struct link *link);
 void tell_end(struct lagd *lagd);
@@ -383,8 +383,8 @@ void follow_port(struct lagd *lagd, const struct interface *interface);
 void answer_order(struct lagd *lagd, char *order, char answer[static ORDER_ROOM]);
 
 /* halt.c */
-bool is_halted(struct halt_private *own);
-bool is_silent(struct halt_private *own);
+bool is_halted(const struct halt_private *own);
+bool is_silent(const struct halt_private *own);
 void follow_device(struct lagd *lagd, bool up);
 void start_halt(struct lagd *lagd);
 void halt_if_down(struct lagd *lagd);
@@ -413,7 +413,7 @@ void reload(struct lagd *lagd, const char *file);
 
 /* folder.c */
 void open_folder(struct lagd *lagd, const char *folder);
-int folder_file(struct folder_private *folder);
+int folder_file(const struct folder_private *folder);
 unsigned long network_namespace(void);
 
 /* kept.c */
@@ -435,8 +435,8 @@ int packet_socket(struct lagd *lagd, const char *kind, int of, int index, int ty
 /* state.c */
 uint64_t boottime(void);
 void recall_state(struct lagd *lagd);
-uint32_t first_marker_left(struct inherited *inherited);
-bool was_away_briefly(struct inherited *inherited);
+uint32_t first_marker_left(const struct inherited *inherited);
+bool was_away_briefly(const struct inherited *inherited);
 bool save_state(struct lagd *lagd);
 void keep_port(struct lagd *lagd, uint16_t number, uint16_t port);
 void end_state(struct lagd *lagd);
@@ -463,7 +463,7 @@ void tell_watchers(struct status_private *own, const char *line, size_t length);
 void tell_watchers_of(struct lagd *lagd, const struct link *link);
 
 /* tap.c */
-int tap_index(struct tap_private *own);
+int tap_index(const struct tap_private *own);
 void follow_tap(struct lagd *lagd, bool has_carrier, const char *discipline);
 
 /* carry.c */

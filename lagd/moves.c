@@ -21,7 +21,7 @@ static bool move(struct lagd *lagd, uint16_t number, uint16_t port) {
 }
 
 /* The port behind this one. */
-static uint16_t next_port(struct carry *carry, uint16_t port) {
+static uint16_t next_port(const struct carry *carry, uint16_t port) {
     for (uint16_t i = 0; i < carry->port_count; i++)
         if (carry->ports[i] > port) return carry->ports[i];
     return carry->ports[0];
@@ -65,7 +65,7 @@ bool can_empty(struct lagd *lagd, uint16_t port) {
 }
 
 /* The port that carries fewest conversations of a list, of those that carry. */
-static uint16_t emptiest(struct carry *carry, const unsigned *loads) {
+static uint16_t emptiest(const struct carry *carry, const unsigned *loads) {
     uint16_t found = carry->ports[0];
     for (uint16_t i = 1; i < carry->port_count; i++)
         if (loads[carry->ports[i]] < loads[found]) found = carry->ports[i];

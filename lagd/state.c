@@ -327,12 +327,12 @@ void recall_state(struct lagd *lagd) {
 }
 
 /* Whether there was no daemon for a moment only: what waits in sockets and in the TAP device is still of use. */
-bool was_away_briefly(struct inherited *inherited) {
+bool was_away_briefly(const struct inherited *inherited) {
     uint64_t now = boottime();
     return inherited->written != 0 && inherited->written <= now && now - inherited->written < MOST_AWAY;
 }
 
 /* The identifier of the first marker: none that the last daemon sent, or 0 where that is not known. */
-uint32_t first_marker_left(struct inherited *inherited) {
+uint32_t first_marker_left(const struct inherited *inherited) {
     return inherited->marker == 0 || inherited->marker > UINT32_MAX / 2 ? 0 : inherited->marker + UNWRITTEN_MARKERS;
 }

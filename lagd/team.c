@@ -34,7 +34,7 @@ struct team_private *make_team_private(void) {
     return made;
 }
 
-bool is_team_port(struct team_private *own, uint16_t port) {
+bool is_team_port(const struct team_private *own, uint16_t port) {
     return own->taken[port - 1];
 }
 
@@ -44,12 +44,12 @@ bool has_made_team(struct lagd *lagd) {
 }
 
 /* Whether this daemon made the device, so that nobody has put a port there yet. */
-bool is_team_new(struct team_private *own) {
+bool is_team_new(const struct team_private *own) {
     return own->is_new;
 }
 
 /* Whether the driver takes the mode: at a device of its own, which stays. */
-bool has_team_mode(struct team_netlink_private *own) {
+bool has_team_mode(const struct team_netlink_private *own) {
     static const uint8_t mac[ETH_ALEN] = {2, 0, 0, 0, 0, 1};
     struct interface device;
     return make_team_device("team0", mac, ETH_DATA_LEN) && ask_interface(0, "team0", &device)
@@ -227,7 +227,7 @@ bool is_still_team_port(struct lagd *lagd, const struct link *link, int master) 
 }
 
 /* The ports that a device has of the last daemon are free. */
-static void free_inherited_ports(struct inherited *inherited, int index) {
+static void free_inherited_ports(const struct inherited *inherited, int index) {
     struct interface port;
     for (unsigned i = 0; i < inherited->link_count; i++)
         if (ask_interface(inherited->links[i].index, NULL, &port) && port.master == index && set_master(port.index, 0))
