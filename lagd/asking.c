@@ -176,7 +176,7 @@ static void print_who_answers(struct lagd *lagd) {
 }
 
 /* Ends the program where no daemon answers. */
-static _Noreturn void refuse_all(struct asking_private *own, const char *folder) {
+static _Noreturn void refuse_all(const struct asking_private *own, const char *folder) {
     if (own->denied) stop(REFUSED, "permission denied", own->denied);
     stop(REFUSED, "no lagd answers in", folder);
 }

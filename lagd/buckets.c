@@ -41,12 +41,6 @@ struct buckets_private *make_buckets_private(void) {
     return make_room(sizeof(struct buckets_private));
 }
 
-/* How many frames of the peer came, as the driver told last, or tells now. */
-uint64_t team_frames_received(struct lagd *lagd, bool looks) {
-    if (looks) look_at_driver(lagd);
-    return lagd->buckets->frames_received;
-}
-
 /* The interface by which the frames of a bucket went at the start, or 0. */
 int bucket_member_of(struct lagd *lagd, uint16_t number) {
     return lagd->buckets->members_at_start[number];
@@ -98,7 +92,7 @@ static void note_counted(struct lagd *lagd, const struct team_now *now, uint64_t
 }
 
 /* Looks at what the driver has: at the device before its buckets. Where the device is gone, the kernel tells, too. */
-void look_at_driver(struct lagd *lagd) {
+static void look_at_driver(struct lagd *lagd) {
     struct interface device;
     struct team_now now;
     lagd->buckets->looked_at = lagd->carry.time;
@@ -114,6 +108,12 @@ void look_at_driver(struct lagd *lagd) {
     note_octets(lagd, &now);
     note_changes(lagd, &now);
     note_counted(lagd, &now, device.octets_sent);
+}
+
+/* How many frames of the peer came, as the driver told last, or tells now. */
+uint64_t team_frames_received(struct lagd *lagd, bool looks) {
+    if (looks) look_at_driver(lagd);
+    return lagd->buckets->frames_received;
 }
 
 /* What the device has at the start. */
@@ -210,7 +210,7 @@ static bool place_buckets(struct lagd *lagd) {
 }
 
 /* Whether a port carries in the active aggregator. */
-static bool is_active(struct carry *carry, uint16_t port) {
+static bool is_active(const struct carry *carry, uint16_t port) {
     for (uint16_t i = 0; i < carry->port_count; i++)
         if (carry->ports[i] == port) return true;
     return false;
@@ -235,7 +235,7 @@ void settle_buckets(struct lagd *lagd) {
 }
 
 /* The port to which a bucket goes by its number, once it is still. */
-static uint16_t usual_port(struct carry *carry, uint16_t number) {
+static uint16_t usual_port(const struct carry *carry, uint16_t number) {
     return carry->ports[number % carry->port_count];
 }
 

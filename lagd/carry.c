@@ -45,7 +45,7 @@ bool is_held(const struct niw_assignment *state) {
 }
 
 /* Whether a conversation had a frame of late, in the active aggregator. */
-bool is_busy(struct carry *carry, const struct conversation *conversation) {
+bool is_busy(const struct carry *carry, const struct conversation *conversation) {
     bool is_recent = conversation->last != 0 && carry->time - conversation->last < BUSY;
     return conversation->home == carry->active && (conversation->used || is_recent);
 }
@@ -83,7 +83,7 @@ static void send_on(struct lagd *lagd, const struct conversation *conversation, 
 }
 
 /* Whether a frame of the host may go: of a right length, which each member takes, and none of the slow protocols. */
-static bool is_fit(struct tap_private *own, const uint8_t *packet, size_t length) {
+static bool is_fit(const struct tap_private *own, const uint8_t *packet, size_t length) {
     const uint8_t *frame = packet + head_octets();
     return has_right_length(packet, length, longest_payload(own))
         && ((unsigned)frame[12] << 8 | frame[13]) != ETH_P_SLOW;
@@ -148,8 +148,8 @@ void suspect_aggregator(struct lagd *lagd, uint32_t aggregator) {
     lagd->carry.changed = true;
 }
 
-/* Whether the active aggregator stays where another one has as many ports: the peer has it, too, since its frames come there. Ends that differ come together, if both send or neither does: neither has frames of the
- * other one then, and both take the one with the least group. */
+/* Whether the active aggregator stays where another one has as many ports: the peer has it, too, since its frames come there. Ends that differ
+ * come together, if both send or neither does: neither has frames of the other one then, and both take the one with the least group. */
 bool hears_peer(struct lagd *lagd) {
     struct carry_private *own = lagd->carry_private;
     return own->heard_at != 0 && lagd->carry.time - own->heard_at < HEARD;
@@ -277,7 +277,7 @@ void settle_frames(struct lagd *lagd) {
     look_at_partner(lagd);
     if (lagd->carry.waiting) release(lagd);
     if (own->to_balance) balance(lagd);
-    if (own->to_balance) lagd->plane.passing->look_for_losses(lagd);
+    if (own->to_balance) lagd->plane.passing->read_host(lagd);
     own->to_balance = false;
 }
 

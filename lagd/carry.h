@@ -62,7 +62,7 @@ void go_on_in(struct lagd *lagd, uint16_t aggregator);
 bool ask_state(struct lagd *lagd, uint16_t aggregator, uint16_t number, struct niw_assignment *state) MUST_USE;
 bool ask_ports(struct lagd *lagd, uint16_t aggregator, uint16_t *ports) MUST_USE;
 bool is_held(const struct niw_assignment *state);
-bool is_busy(struct carry *carry, const struct conversation *conversation);
+bool is_busy(const struct carry *carry, const struct conversation *conversation);
 bool hears_peer(struct lagd *lagd);
 uint64_t frames_handed_up(struct lagd *lagd, bool counts_now);
 void forget_heard(struct lagd *lagd);
@@ -134,10 +134,10 @@ void use_team_device(struct lagd *lagd, int index);
 bool give_tap_carrier(struct lagd *lagd, bool on);
 void settle_tap_mtu(struct lagd *lagd);
 void set_carrier(struct lagd *lagd, bool on);
-bool has_carrier(struct tap_private *own);
+bool has_carrier(const struct tap_private *own);
 void set_speed(struct lagd *lagd, uint32_t megabits);
 void limit_mtu(struct lagd *lagd, uint32_t most);
-uint32_t longest_payload(struct tap_private *own);
+uint32_t longest_payload(const struct tap_private *own);
 void pass_tap_tick(struct lagd *lagd);
 void forget_tap(struct tap_private *own);
 bool read_tap_mac(struct tap_private *own, uint8_t *mac);
@@ -145,7 +145,7 @@ bool is_tap_up(struct tap_private *own);
 void end_tap(int index);
 void keep_tap(struct lagd *lagd, bool keeps);
 bool tap_persists(struct lagd *lagd);
-uint32_t mtu_of_administrator(struct tap_private *own);
+uint32_t mtu_of_administrator(const struct tap_private *own);
 
 /* announce.c */
 void announce_soon(struct announce_private *own);
@@ -219,13 +219,13 @@ struct kept {
     struct ethtool_channels queues; /* what there was; all 0 where there was one queue */
 };
 FILE *open_kept(struct folder_private *folder, const struct link *link, const char *kind, int flags, const char *mode);
-bool replace_kept(struct folder_private *folder, const struct link *link, const char *from, const char *to);
-void drop_kept(struct folder_private *folder, const struct link *link, const char *kind);
+bool replace_kept(const struct folder_private *folder, const struct link *link, const char *from, const char *to);
+void drop_kept(const struct folder_private *folder, const struct link *link, const char *kind);
 void write_settings(struct lagd *lagd, const struct link *link, const struct kept *kept);
 void keep_settings(struct lagd *lagd, const struct link *link, struct kept *kept);
 void recall_settings(struct folder_private *folder, const struct link *link, struct kept *kept);
-void forget_settings(struct folder_private *folder, const struct link *link);
-void forget_interface(struct folder_private *folder, const struct link *link);
+void forget_settings(const struct folder_private *folder, const struct link *link);
+void forget_interface(const struct folder_private *folder, const struct link *link);
 
 /* traffic.c: queueing disciplines and classifiers of members */
 enum classifier { NO_CLASSIFIER, CLASSIFIER_ALONE, CLASSIFIER_BEHIND_OTHERS };
@@ -233,7 +233,6 @@ bool keeps_order(const char *discipline);
 bool read_discipline(int index, char name[static DISCIPLINE_ROOM]);
 bool have_order(int index);
 bool may_have_order(int index);
-bool give_fifo(int index, uint32_t megabits);
 bool give_fifos(int index, unsigned queues, uint32_t megabits);
 void fit_fifo(int index, uint32_t megabits);
 void fit_fifos(int index, unsigned queues, uint32_t megabits);
@@ -276,7 +275,7 @@ void spread(struct lagd *lagd, const struct link *link, struct guard *guard);
 void stop_spreading(struct lagd *lagd, const struct link *link, struct guard *guard);
 void note_channels(const struct link *link, struct guard *guard);
 bool has_usual_queues(struct lagd *lagd, const struct guard *guard);
-bool is_spread_anew(struct system_private *own, const struct link *link, const struct guard *guard);
+bool is_spread_anew(const struct system_private *own, const struct link *link, const struct guard *guard);
 void move_former(struct folder_private *folder, struct link *link, const uint8_t *mac);
 void gather_back(struct folder_private *folder, const struct link *link, bool whole);
 bool may_spread(struct folder_private *folder, const struct link *link);
@@ -302,9 +301,9 @@ bool follow_member_queues(struct lagd *lagd, struct link *link);
 bool send_by_one_queue(struct lagd *lagd, struct link *link, const uint8_t *marker, bool again);
 bool give_marker(struct lagd *lagd, struct link *link, const uint8_t *marker, struct msghdr *message);
 void watch_queues(struct lagd *lagd);
-unsigned member_queues(struct members_private *own, uint16_t port);
+unsigned member_queues(const struct members_private *own, uint16_t port);
 void put_back_members(struct lagd *lagd);
-bool has_fast_member(struct members_private *own, uint16_t port);
+bool has_fast_member(const struct members_private *own, uint16_t port);
 uint32_t sum_speeds(struct lagd *lagd);
 void add_fast_counts(struct lagd *lagd, uint16_t port, const struct fast_member *more);
 void note_passed(struct lagd *lagd, uint16_t port, uint64_t frames);
@@ -313,7 +312,7 @@ void flush_data(struct lagd *lagd);
 void receive_data(struct lagd *lagd, uint16_t port);
 bool send_marker_again(struct lagd *lagd, uint16_t port);
 void count_losses(struct lagd *lagd);
-uint64_t member_count(struct members_private *own, uint16_t port, enum member_count count);
+uint64_t member_count(const struct members_private *own, uint16_t port, enum member_count count);
 
 /* held.c */
 void start_held(struct lagd *lagd);
@@ -333,7 +332,7 @@ void balance(struct lagd *lagd);
 
 /* probe.c */
 void go_on_answering(struct lagd *lagd, enum answering last);
-enum answering peer_answering(struct probe_private *own);
+enum answering peer_answering(const struct probe_private *own);
 void look_at_partner(struct lagd *lagd);
 void pass_probe_tick(struct lagd *lagd);
 void suspect_partner(struct probe_private *own);

@@ -9,13 +9,13 @@
 static const struct count_text CARRY_COUNTERS[] = {EACH_CARRY_COUNT(COUNT_TEXT)};
 static const struct count_text MEMBER_COUNTERS[] = {EACH_MEMBER_COUNT(COUNT_TEXT)};
 
-static const char *answering_text(struct probe_private *own) {
+static const char *answering_text(const struct probe_private *own) {
     static const char *const texts[] = {[NOT_ASKED] = "not asked", [ASKED] = "asked", [ANSWERS] = "answered", [MUTE] = "not answered"};
     return texts[peer_answering(own)];
 }
 
 /* How many conversations of a port are busy. */
-static unsigned count_busy(struct carry *carry, uint16_t port) {
+static unsigned count_busy(const struct carry *carry, uint16_t port) {
     unsigned busy = 0;
     for (unsigned i = 0; i < CONVERSATIONS; i++)
         busy += is_busy(carry, &carry->conversations[i]) && carry->conversations[i].port == port;
@@ -23,7 +23,7 @@ static unsigned count_busy(struct carry *carry, uint16_t port) {
 }
 
 /* How many conversations the kernel passes on. */
-static unsigned count_fast(struct carry *carry) {
+static unsigned count_fast(const struct carry *carry) {
     unsigned fast = 0;
     for (unsigned i = 0; i < CONVERSATIONS; i++) fast += carry->conversations[i].fast.port > 0;
     return fast;
@@ -41,7 +41,8 @@ void show_frames_waiting(struct lagd *lagd, enum form form) {
     switch (form) {
     case AS_TEXT: add(&lagd->report, "\n  waiting: %" PRIu64 ", conversations of the kernel: %u\n", waiting, count_fast(&lagd->carry)); break;
     case AS_JSON:
-        add(&lagd->report, "\"markers\":\"%s\",\"waiting\":%" PRIu64 ",\"fast_conversations\":%u", answering_text(lagd->probe), waiting, count_fast(&lagd->carry));
+        add(&lagd->report, "\"markers\":\"%s\",\"waiting\":%" PRIu64 ",\"fast_conversations\":%u", answering_text(lagd->probe), waiting,
+            count_fast(&lagd->carry));
         break;
     case AS_METRICS:
         add_bundle_value(lagd, "carry_waiting", "gauge", "how many frames wait", waiting);
@@ -69,7 +70,8 @@ static void write_text_of_carry(struct lagd *lagd) {
     const struct carrying *carrying = lagd->plane.carrying;
     unsigned told = 0;
     add(&lagd->report, "  carry: %s, carrier %s, hash %s, flight %u ms, ", lagd->settings.carry,
-        has_carrier(lagd->tap) ? "on" : is_halted(lagd->halt) ? "off, the device is down" : "off", hash_text(lagd->settings.hash), lagd->settings.flight);
+        has_carrier(lagd->tap) ? "on" : is_halted(lagd->halt) ? "off, the device is down" : "off", hash_text(lagd->settings.hash),
+        lagd->settings.flight);
     carrying->show_markers(lagd);
     add(&lagd->report, "%s%s", way_text(&lagd->settings), lagd->plane.queueing->text);
     for (unsigned i = carrying->first_count; i < carrying->end_count; i++)

@@ -43,10 +43,6 @@ static bool wait_for_programs(void) {
     return syscall(SYS_membarrier, MEMBARRIER_CMD_GLOBAL, 0, 0) == 0;
 }
 
-static void need(bool done, const char *what) {
-    if (!done) stop(REFUSED, what, strerror(errno));
-}
-
 static int needed(int program) {
     if (program < 0) stop(REFUSED, "fast: the kernel takes no program", program_fault());
     return program;
@@ -159,7 +155,7 @@ static uint64_t word_of(struct fast_private *own, uint16_t number) {
 }
 
 /* The number of a conversation. */
-static uint16_t number_in(struct carry *carry, const struct conversation *conversation) {
+static uint16_t number_in(const struct carry *carry, const struct conversation *conversation) {
     return (uint16_t)(conversation - carry->conversations);
 }
 
@@ -260,7 +256,8 @@ static void withdraw_chosen(struct lagd *lagd, bool (*is_chosen)(struct lagd *la
 
 static bool is_wrong(struct lagd *lagd, const struct conversation *conversation, uint16_t port) {
     (void)port;
-    return lagd->carry.port_of[number_in(&lagd->carry, conversation)] != conversation->fast.port || !has_fast_member(lagd->members, conversation->fast.port);
+    return lagd->carry.port_of[number_in(&lagd->carry, conversation)] != conversation->fast.port
+        || !has_fast_member(lagd->members, conversation->fast.port);
 }
 
 /* Where the library refuses to tell, or the queue of the TAP device holds frames, the kernel passes nothing on. */

@@ -18,7 +18,7 @@ struct folder_private *make_folder_private(void) {
     return made;
 }
 
-int folder_file(struct folder_private *folder) {
+int folder_file(const struct folder_private *folder) {
     return folder->opened;
 }
 

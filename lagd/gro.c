@@ -80,7 +80,7 @@ static bool has_same_headers(const uint8_t *one, const uint8_t *other, const str
 }
 
 /* Whether a packet follows those that wait. */
-static bool follows(struct gro_private *own, const uint8_t *packet, const struct tcp_packet *tcp) {
+static bool follows(const struct gro_private *own, const uint8_t *packet, const struct tcp_packet *tcp) {
     const uint8_t *first = own->packets[0].iov_base;
     struct tcp_packet alone = own->all;
     alone.length = own->packets[0].iov_len;

@@ -17,17 +17,17 @@ struct halt_private *make_halt_private(void) {
 }
 
 /* Whether the device is down, so that no port may carry. */
-bool is_halted(struct halt_private *own) {
+bool is_halted(const struct halt_private *own) {
     return own->down;
 }
 
 /* Whether the peers were told, so that no port speaks. */
-bool is_silent(struct halt_private *own) {
+bool is_silent(const struct halt_private *own) {
     return own->silent;
 }
 
 /* Each port is held, or as the file has it again. */
-static void hold_ports(struct lagd *lagd) {
+static void hold_or_release_ports(struct lagd *lagd) {
     for (uint16_t port = 1; port <= lagd->link_count; port++)
         if (!apply_hold(lagd, port)) return;
 }
@@ -41,7 +41,7 @@ static void fall_silent(struct lagd *lagd) {
 /* Tells each peer that its port is out of use, and then nothing more. */
 static void begin_halt(struct lagd *lagd) {
     for (uint16_t i = 0; i < lagd->link_count; i++) expect_lacpdu(&lagd->links[i]);
-    hold_ports(lagd);
+    hold_or_release_ports(lagd);
     send_due(lagd);
     read_views(lagd);
     lagd->halt->ticks = 0;
@@ -50,7 +50,7 @@ static void begin_halt(struct lagd *lagd) {
 
 /* The ports go on as new ones, once the kernel told of their interfaces. */
 static void end_halt(struct lagd *lagd) {
-    hold_ports(lagd);
+    hold_or_release_ports(lagd);
     lagd->halt->silent = false;
     ask_links(lagd);
 }

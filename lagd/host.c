@@ -41,7 +41,7 @@ struct host_private *make_host_private(void) {
 
 /* The device is gone, or it is in another namespace, where interfaces of others have the numbers of our members: first of all nothing
  * is passed on any more. Then the peers are told, and the daemon ends, so that whoever started it starts it again, with a new device. */
-void lose_tap(struct lagd *lagd) {
+void lose_device(struct lagd *lagd) {
     struct host_private *own = lagd->host;
     if (lagd->broken) return;
     lagd->broken = true;
@@ -151,7 +151,7 @@ static unsigned read_next(struct lagd *lagd, uint8_t *packet) {
     length = read(lagd->host->tap, packet, packet_room());
     if (length < 0 && (errno == EAGAIN || errno == EINTR)) return 0;
     if (length < 0 && (errno == EBADFD || errno == EIO || errno == ENODEV)) {
-        lose_tap(lagd);
+        lose_device(lagd);
         return 0;
     }
     if (length >= (ssize_t)head_octets() && !lagd->plane.segments) return accept_in_turn(lagd, packet, (size_t)length);

@@ -41,7 +41,7 @@ FILE *open_kept(struct folder_private *folder, const struct link *link, const ch
 }
 
 /* Puts a file of an interface in the place of another one; answers whether it did. */
-bool replace_kept(struct folder_private *folder, const struct link *link, const char *from, const char *to) {
+bool replace_kept(const struct folder_private *folder, const struct link *link, const char *from, const char *to) {
     char old[64], next[64];
     name_file(link, from, old);
     name_file(link, to, next);
@@ -49,7 +49,7 @@ bool replace_kept(struct folder_private *folder, const struct link *link, const 
 }
 
 /* What a file of an interface has is of no use any more. */
-void drop_kept(struct folder_private *folder, const struct link *link, const char *kind) {
+void drop_kept(const struct folder_private *folder, const struct link *link, const char *kind) {
     char name[64];
     name_file(link, kind, name);
     (void)unlinkat(folder_file(folder), name, 0);
@@ -102,12 +102,12 @@ void recall_settings(struct folder_private *folder, const struct link *link, str
 }
 
 /* The interface has what it had before. */
-void forget_settings(struct folder_private *folder, const struct link *link) {
+void forget_settings(const struct folder_private *folder, const struct link *link) {
     drop_kept(folder, link, "member");
 }
 
 /* The interface is gone for good. One that went to another namespace may come back, and is what it was made then. */
-void forget_interface(struct folder_private *folder, const struct link *link) {
+void forget_interface(const struct folder_private *folder, const struct link *link) {
     forget_settings(folder, link);
     drop_kept(folder, link, "queues");
 }

@@ -33,7 +33,7 @@ struct keys_private *make_keys_private(void) {
 }
 
 /* Whether aggregators of a key were made, for ports to which it was given. */
-bool has_aggregator(struct keys_private *own, uint16_t given) {
+bool has_aggregator(const struct keys_private *own, uint16_t given) {
     for (uint16_t i = 0; i < own->known_count; i++)
         if (own->known[i].given == given) return true;
     return false;
@@ -65,7 +65,7 @@ void choose_slots(struct lagd *lagd) {
 }
 
 /* A key of aggregators, for ports to which this one was given: the first one is that one itself. */
-static uint16_t key_for(struct keys_private *own, uint16_t given, uint16_t number) {
+static uint16_t key_for(const struct keys_private *own, uint16_t given, uint16_t number) {
     for (uint16_t i = 0; i < own->known_count; i++)
         if (own->known[i].given == given && number-- == 0) return own->known[i].key;
     return given;

@@ -234,6 +234,7 @@ enum {
     KINDS = 0xf000,
 };
 _Noreturn void stop(int status, const char *what, const char *which);
+void need(bool done, const char *what);
 bool is_done(struct lagd *lagd, uint32_t status, const char *call) MUST_USE;
 bool is_told(struct lagd *lagd, struct niw_number answer, const char *call, uint64_t *number) MUST_USE;
 bool say(struct lagd *lagd, int level, const char *format, ...) __attribute__((format(printf, 3, 4)));
@@ -336,7 +337,7 @@ void watch_carriers(struct lagd *lagd, bool all);
 /* keys.c */
 void choose_slots(struct lagd *lagd);
 void make_keys(struct lagd *lagd, uint16_t keys[static NIW_MOST_PORTS]);
-bool has_aggregator(struct keys_private *own, uint16_t given);
+bool has_aggregator(const struct keys_private *own, uint16_t given);
 uint16_t free_key(struct lagd *lagd, uint16_t behind, const struct link *but);
 uint16_t choose_key(struct lagd *lagd, const struct link *link);
 struct speed read_speed(int socket, const char *name);
@@ -354,8 +355,8 @@ void lose_link(struct lagd *lagd, struct link *link);
 void send_due(struct lagd *lagd);
 void send_again(struct lagd *lagd);
 void pass_tick(struct lagd *lagd);
-uint64_t ticks_passed(struct system_private *own);
-uint64_t seconds_passed(struct system_private *own);
+uint64_t ticks_passed(const struct system_private *own);
+uint64_t seconds_passed(const struct system_private *own);
 uint64_t milliseconds(void);
 void expect_lacpdu(struct link *link);
 void tell_end(struct lagd *lagd);
@@ -382,8 +383,8 @@ void follow_port(struct lagd *lagd, const struct interface *interface);
 void answer_order(struct lagd *lagd, char *order, char answer[static ORDER_ROOM]);
 
 /* halt.c */
-bool is_halted(struct halt_private *own);
-bool is_silent(struct halt_private *own);
+bool is_halted(const struct halt_private *own);
+bool is_silent(const struct halt_private *own);
 void follow_device(struct lagd *lagd, bool up);
 void start_halt(struct lagd *lagd);
 void halt_if_down(struct lagd *lagd);
@@ -412,7 +413,7 @@ void reload(struct lagd *lagd, const char *file);
 
 /* folder.c */
 void open_folder(struct lagd *lagd, const char *folder);
-int folder_file(struct folder_private *folder);
+int folder_file(const struct folder_private *folder);
 unsigned long network_namespace(void);
 
 /* kept.c */
@@ -434,8 +435,8 @@ int packet_socket(struct lagd *lagd, const char *kind, int of, int index, int ty
 /* state.c */
 uint64_t boottime(void);
 void recall_state(struct lagd *lagd);
-uint32_t first_marker_left(struct inherited *inherited);
-bool was_away_briefly(struct inherited *inherited);
+uint32_t first_marker_left(const struct inherited *inherited);
+bool was_away_briefly(const struct inherited *inherited);
 bool save_state(struct lagd *lagd);
 void keep_port(struct lagd *lagd, uint16_t number, uint16_t port);
 void end_state(struct lagd *lagd);
@@ -462,7 +463,7 @@ void tell_watchers(struct status_private *own, const char *line, size_t length);
 void tell_watchers_of(struct lagd *lagd, const struct link *link);
 
 /* tap.c */
-int tap_index(struct tap_private *own);
+int tap_index(const struct tap_private *own);
 void follow_tap(struct lagd *lagd, bool has_carrier, const char *discipline);
 
 /* carry.c */
@@ -471,7 +472,7 @@ void settle_carry(struct lagd *lagd);
 void pass_carry_tick(struct lagd *lagd);
 
 /* host.c */
-void lose_tap(struct lagd *lagd);
+void lose_device(struct lagd *lagd);
 void open_carry(struct lagd *lagd);
 void end_carry(struct lagd *lagd);
 void serve_data(struct lagd *lagd, uint32_t tag);

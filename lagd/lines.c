@@ -1,11 +1,13 @@
 /* Lines for whoever reads them, printed only where that cannot stop the daemon. */
 #define _GNU_SOURCE
+#include <errno.h>
 #include <fcntl.h>
 #include <inttypes.h>
 #include <poll.h>
 #include <stdarg.h>
 #include <stdio.h>
 #include <stdlib.h>
+#include <string.h>
 #include <sys/stat.h>
 #include <unistd.h>
 
@@ -83,6 +85,11 @@ _Noreturn void stop(int status, const char *what, const char *which) {
     (void)escape(text, sizeof text, raw, length < (int)sizeof raw ? (size_t)length : sizeof raw - 1, false);
     write_error(text);
     exit(status);
+}
+
+/* Ends the program, unless something that it starts with was done: errno tells why not. */
+void need(bool done, const char *what) {
+    if (!done) stop(REFUSED, what, strerror(errno));
 }
 
 /* Whether the library did what it was called for. It refuses only what this program should not ask: then the loop tells the peers, and

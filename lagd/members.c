@@ -48,7 +48,7 @@ static struct member *member_of(struct lagd *lagd, const struct link *link) {
     return &lagd->members->members[link - lagd->links];
 }
 
-uint64_t member_count(struct members_private *own, uint16_t port, enum member_count count) {
+uint64_t member_count(const struct members_private *own, uint16_t port, enum member_count count) {
     return own->members[port - 1].counts[count];
 }
 
@@ -172,7 +172,8 @@ static bool open_sockets(struct lagd *lagd, struct member *member, const struct 
     if (member->socket < 0 || !fast) return member->socket >= 0 && await_input(lagd->epoll_file, member->socket, tag);
     member->markers = open_markers(lagd, link, tap_index(lagd->tap), link->settings.number);
     member->direct = open_markers(lagd, link, link->index, 0);
-    return member->markers >= 0 && member->direct >= 0 && await_input(lagd->epoll_file, member->markers, tag) && await_input(lagd->epoll_file, member->direct, tag);
+    return member->markers >= 0 && member->direct >= 0 && await_input(lagd->epoll_file, member->markers, tag)
+        && await_input(lagd->epoll_file, member->direct, tag);
 }
 
 /* Opens the sockets of a member whose programs run; answers whether it did. Else, it is no member any more, and errno tells why. */
@@ -278,12 +279,12 @@ void watch_queues(struct lagd *lagd) {
 }
 
 /* By how many queues of a member its data goes. */
-unsigned member_queues(struct members_private *own, uint16_t port) {
+unsigned member_queues(const struct members_private *own, uint16_t port) {
     return own->members[port - 1].socket < 0 ? 0 : own->members[port - 1].guard.queues;
 }
 
 /* Whether the kernel may pass on what goes on a port. */
-bool has_fast_member(struct members_private *own, uint16_t port) {
+bool has_fast_member(const struct members_private *own, uint16_t port) {
     return own->members[port - 1].socket >= 0 && own->members[port - 1].guard.fast;
 }
 

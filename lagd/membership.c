@@ -41,7 +41,7 @@ static uint16_t number_of(struct lagd *lagd, const char *name) {
 }
 
 /* Whether the last daemon left a port whose peer takes it for one of the bundle. */
-static bool has_carried(struct inherited *inherited, const struct inherited_port *port) {
+static bool has_carried(const struct inherited *inherited, const struct inherited_port *port) {
     for (unsigned i = 0; i < inherited->link_count; i++)
         if (port->index != 0 && inherited->links[i].index == port->index) return inherited->links[i].carried;
     return false;

@@ -21,7 +21,7 @@ static bool move(struct lagd *lagd, uint16_t number, uint16_t port) {
 }
 
 /* The port behind this one. */
-static uint16_t next_port(struct carry *carry, uint16_t port) {
+static uint16_t next_port(const struct carry *carry, uint16_t port) {
     for (uint16_t i = 0; i < carry->port_count; i++)
         if (carry->ports[i] > port) return carry->ports[i];
     return carry->ports[0];
@@ -60,11 +60,12 @@ static bool level(struct lagd *lagd) {
 bool can_empty(struct lagd *lagd, uint16_t port) {
     unsigned others = 0;
     for (uint16_t i = 0; i < lagd->carry.port_count; i++) others += lagd->carry.ports[i] != port;
-    return others > 0 && peer_answering(lagd->probe) == ANSWERS && lagd->carry.active != 0 && lagd->links[port - 1].view.aggregator == lagd->carry.active;
+    return others > 0 && peer_answering(lagd->probe) == ANSWERS && lagd->carry.active != 0
+        && lagd->links[port - 1].view.aggregator == lagd->carry.active;
 }
 
 /* The port that carries fewest conversations of a list, of those that carry. */
-static uint16_t emptiest(struct carry *carry, const unsigned *loads) {
+static uint16_t emptiest(const struct carry *carry, const unsigned *loads) {
     uint16_t found = carry->ports[0];
     for (uint16_t i = 1; i < carry->port_count; i++)
         if (loads[carry->ports[i]] < loads[found]) found = carry->ports[i];

@@ -29,7 +29,7 @@ static bool give_no_carrier(struct lagd *lagd, bool on) {
     return true;
 }
 
-static bool leave_link(struct lagd *lagd, struct link *link) {
+static bool ignore_link(struct lagd *lagd, struct link *link) {
     (void)lagd;
     (void)link;
     return true;
@@ -40,19 +40,19 @@ static void let_link_go(struct lagd *lagd, struct link *link) {
     (void)link;
 }
 
-static void leave_address(struct lagd *lagd, struct link *link, const uint8_t *mac) {
+static void ignore_address(struct lagd *lagd, struct link *link, const uint8_t *mac) {
     (void)lagd;
     (void)link;
     (void)mac;
 }
 
-static void leave_mtu(struct lagd *lagd, struct link *link, uint32_t mtu) {
+static void ignore_mtu(struct lagd *lagd, struct link *link, uint32_t mtu) {
     (void)lagd;
     (void)link;
     (void)mtu;
 }
 
-static void leave_speed(struct lagd *lagd, const struct link *link, const char *interface) {
+static void ignore_speed(struct lagd *lagd, const struct link *link, const char *interface) {
     (void)lagd;
     (void)link;
     (void)interface;
@@ -92,7 +92,7 @@ static void show_nothing_of(struct lagd *lagd, const struct link *link, enum for
     (void)form;
 }
 
-static void leave_device(int index) {
+static void ignore_device(int index) {
     (void)index;
 }
 
@@ -107,7 +107,7 @@ static void note_nothing(struct lagd *lagd, unsigned packets, bool drained) {
     (void)drained;
 }
 
-static void leave_discipline(struct lagd *lagd, const char *discipline) {
+static void ignore_discipline(struct lagd *lagd, const char *discipline) {
     (void)lagd;
     (void)discipline;
 }
@@ -126,15 +126,15 @@ static void mark_nothing(struct lagd *lagd, uint16_t port, uint16_t number, stru
 
 static const struct carrying NO_DEVICE = {
     .open = do_nothing, .end = do_nothing, .lose_device = do_nothing, .keep_device = do_nothing_of, .has_made_device = is_never,
-    .give_carrier = give_no_carrier, .settle_mtu = do_nothing, .add = leave_link, .remove = let_link_go, .renew = leave_link,
-    .move = leave_address, .follow_mtu = leave_mtu, .follow_speed = leave_speed, .can_empty = cannot_empty, .settle = do_nothing,
+    .give_carrier = give_no_carrier, .settle_mtu = do_nothing, .add = ignore_link, .remove = let_link_go, .renew = ignore_link,
+    .move = ignore_address, .follow_mtu = ignore_mtu, .follow_speed = ignore_speed, .can_empty = cannot_empty, .settle = do_nothing,
     .tick = do_nothing, .keeps_aggregator = is_always, .frames_heard = hear_nothing, .tell_host = do_nothing, .resume = do_nothing_of,
     .go_on = do_nothing, .member_of = has_no_member, .end_resuming = do_nothing, .frames_waiting = has_none_waiting,
     .show = show_nothing, .show_member = show_nothing_of, .show_markers = do_nothing, .show_waiting = show_nothing,
 };
 
 static const struct carrying TAP_DEVICE = {
-    .open = open_tap_plane, .end = end_tap_plane, .lose_device = lose_tap, .keep_device = keep_tap, .has_made_device = tap_persists,
+    .open = open_tap_plane, .end = end_tap_plane, .lose_device = lose_device, .keep_device = keep_tap, .has_made_device = tap_persists,
     .give_carrier = give_tap_carrier, .settle_mtu = settle_tap_mtu, .add = open_member, .remove = close_member, .renew = renew_for_discipline,
     .move = move_member, .follow_mtu = follow_member_mtu, .follow_speed = follow_speed, .can_empty = can_empty, .settle = settle_frames,
     .tick = pass_tick_of_frames, .keeps_aggregator = hears_peer, .frames_heard = frames_handed_up, .tell_host = tell_speed_and_carrier,
@@ -144,9 +144,9 @@ static const struct carrying TAP_DEVICE = {
 };
 
 static const struct carrying TEAM_DEVICE = {
-    .open = open_team, .end = end_team_plane, .lose_device = lose_tap, .keep_device = do_nothing_of, .has_made_device = has_made_team,
-    .give_carrier = give_team_carrier, .settle_mtu = do_nothing, .add = open_team_port, .remove = close_team_port, .renew = leave_link,
-    .move = leave_address, .follow_mtu = leave_mtu, .follow_speed = follow_speed, .can_empty = cannot_empty, .settle = settle_team,
+    .open = open_team, .end = end_team_plane, .lose_device = lose_device, .keep_device = do_nothing_of, .has_made_device = has_made_team,
+    .give_carrier = give_team_carrier, .settle_mtu = do_nothing, .add = open_team_port, .remove = close_team_port, .renew = ignore_link,
+    .move = ignore_address, .follow_mtu = ignore_mtu, .follow_speed = follow_speed, .can_empty = cannot_empty, .settle = settle_team,
     .tick = pass_tick_of_team, .keeps_aggregator = hears_peer, .frames_heard = team_frames_received, .tell_host = do_nothing,
     .resume = resume_conversations, .go_on = choose_ports, .member_of = bucket_member_of, .end_resuming = release_former_members,
     .frames_waiting = has_none_waiting, .show = show_carry, .show_member = show_member, .show_markers = do_nothing,
@@ -154,21 +154,21 @@ static const struct carrying TEAM_DEVICE = {
 };
 
 static const struct passing BY_DAEMON = {
-    .start = do_nothing, .end = do_nothing, .set_up_device = leave_device, .run_programs = keep_from_stack, .count = do_nothing,
+    .start = do_nothing, .end = do_nothing, .set_up_device = ignore_device, .run_programs = keep_from_stack, .count = do_nothing,
     .withdraw = do_nothing, .withdraw_port = withdraw_nothing, .pass_on = do_nothing, .note_read = note_nothing,
-    .open_host = do_nothing_of, .follow_discipline = leave_discipline, .set_collecting = do_nothing, .look_for_losses = do_nothing,
+    .open_host = do_nothing_of, .follow_discipline = ignore_discipline, .set_collecting = do_nothing, .read_host = do_nothing,
     .tick = do_nothing, .member_of = has_no_member, .resume = do_nothing,
 };
 
 static const struct passing BY_KERNEL = {
     .start = start_fast, .end = end_fast, .set_up_device = give_no_queue, .run_programs = run_fast_programs, .count = count_fast_frames,
     .withdraw = withdraw, .withdraw_port = withdraw_port, .pass_on = pass_on, .note_read = note_read, .open_host = open_host,
-    .follow_discipline = follow_host_queue, .set_collecting = set_collecting, .look_for_losses = read_host, .tick = pass_fast_tick,
+    .follow_discipline = follow_host_queue, .set_collecting = set_collecting, .read_host = read_host, .tick = pass_fast_tick,
     .member_of = fast_member_of, .resume = resume_fast, .steers = true,
 };
 
 static const struct queueing ONE_QUEUE = {
-    .start = do_nothing, .fifos_of = has_one_queue, .set = join_queues, .set_again = look_at_discipline, .follow = leave_link,
+    .start = do_nothing, .fifos_of = has_one_queue, .set = join_queues, .set_again = look_at_discipline, .follow = ignore_link,
     .watch = do_nothing, .mark = mark_nothing, .send_marker = send_by_one_queue, .accept_response = accept_response, .answer = answer_at_once,
     .show = show_nothing_of, .text = "", .markers_at_once = 1,
 };

@@ -18,19 +18,19 @@ enum form { AS_TEXT, AS_JSON, AS_METRICS };
 
 /* The device, what is done with an interface that is a port, and where conversations go: by nothing, a TAP device or a team device. */
 struct carrying {
-    void (*open)(struct lagd *lagd);
+    void (*open)(struct lagd *lagd);                  /* makes the device, or takes that of the last daemon; a fault ends the program */
     void (*end)(struct lagd *lagd);                   /* nothing goes or comes from here on, and members are as they were */
     void (*lose_device)(struct lagd *lagd);           /* it was deleted, or moved to another namespace */
     void (*keep_device)(struct lagd *lagd, bool keeps); /* it outlives the daemon, or goes with it */
     bool (*has_made_device)(struct lagd *lagd);       /* whether the next daemon is to take it away at its end */
     bool (*give_carrier)(struct lagd *lagd, bool on); /* whether the kernel does so */
-    void (*settle_mtu)(struct lagd *lagd);
+    void (*settle_mtu)(struct lagd *lagd);            /* the device has the longest MTU that each member takes, or a lower one of an administrator */
     bool (*add)(struct lagd *lagd, struct link *link); /* whether an interface is taken up, and else errno tells why not */
-    void (*remove)(struct lagd *lagd, struct link *link);
+    void (*remove)(struct lagd *lagd, struct link *link); /* it is a member no more, and has what it had before */
     bool (*renew)(struct lagd *lagd, struct link *link); /* it has another queueing discipline: whether it is still taken up */
     void (*move)(struct lagd *lagd, struct link *link, const uint8_t *mac); /* it has another MAC address */
-    void (*follow_mtu)(struct lagd *lagd, struct link *link, uint32_t mtu);
-    void (*follow_speed)(struct lagd *lagd, const struct link *link, const char *interface);
+    void (*follow_mtu)(struct lagd *lagd, struct link *link, uint32_t mtu); /* it has this one; 0 of one that is a member no more */
+    void (*follow_speed)(struct lagd *lagd, const struct link *link, const char *interface); /* its link is up, and may have another speed */
     bool (*can_empty)(struct lagd *lagd, uint16_t port); /* whether its conversations can move behind markers */
     void (*settle)(struct lagd *lagd);                 /* calls may have changed something */
     void (*tick)(struct lagd *lagd);                   /* 100 ms passed */
@@ -40,22 +40,22 @@ struct carrying {
     void (*resume)(struct lagd *lagd, bool goes_on);   /* the ports were taken over, and data goes on where it was */
     void (*go_on)(struct lagd *lagd);                  /* in the aggregator of the last daemon */
     int (*member_of)(struct lagd *lagd, uint16_t number); /* the interface by which the kernel has a conversation go, or 0 */
-    void (*end_resuming)(struct lagd *lagd);
-    unsigned (*frames_waiting)(struct lagd *lagd);
-    void (*show)(struct lagd *lagd, enum form form);
+    void (*end_resuming)(struct lagd *lagd);           /* what were members of the last daemon, and are no more, have what they had before */
+    unsigned (*frames_waiting)(struct lagd *lagd);     /* in the daemon, as far as that is known */
+    void (*show)(struct lagd *lagd, enum form form);   /* the device and its counts */
     void (*show_member)(struct lagd *lagd, const struct link *link, enum form form);
     void (*show_markers)(struct lagd *lagd);           /* in a line of text */
-    void (*show_waiting)(struct lagd *lagd, enum form form);
+    void (*show_waiting)(struct lagd *lagd, enum form form); /* what waits to go, or to move */
     unsigned first_count, end_count, member_counts;    /* the counts that it has, and how many of a member */
     bool keeps_members; /* whether what the last daemon set of members may be of use */
 };
 
 /* Who passes frames on: the daemon alone, or the kernel, too (`fast`). */
 struct passing {
-    void (*start)(struct lagd *lagd);
-    void (*end)(struct lagd *lagd);
-    void (*set_up_device)(int index);
-    void (*run_programs)(struct lagd *lagd, const struct link *link, struct guard *guard);
+    void (*start)(struct lagd *lagd);                         /* loads what the kernel is to run; a fault ends the program */
+    void (*end)(struct lagd *lagd);                           /* the kernel passes nothing on any more */
+    void (*set_up_device)(int index);                         /* it is new */
+    void (*run_programs)(struct lagd *lagd, const struct link *link, struct guard *guard); /* at a member */
     void (*count)(struct lagd *lagd);                         /* what the kernel did since the last time */
     void (*withdraw)(struct lagd *lagd);                      /* what is not, or no longer, where the kernel passes it on */
     void (*withdraw_port)(struct lagd *lagd, uint16_t port);  /* its link goes down */
@@ -63,25 +63,25 @@ struct passing {
     void (*note_read)(struct lagd *lagd, unsigned packets, bool drained); /* of the device */
     void (*open_host)(struct lagd *lagd, bool open);          /* frames of the host are taken for a while */
     void (*follow_discipline)(struct lagd *lagd, const char *discipline); /* of the device */
-    void (*set_collecting)(struct lagd *lagd);
-    void (*look_for_losses)(struct lagd *lagd);
-    void (*tick)(struct lagd *lagd);
-    int (*member_of)(struct lagd *lagd, uint16_t number);
-    void (*resume)(struct lagd *lagd);
+    void (*set_collecting)(struct lagd *lagd);                /* frames go up from the ports that collect now, and from no other one */
+    void (*read_host)(struct lagd *lagd);                     /* takes what waits in the device, each 100 ms: what is not there was lost */
+    void (*tick)(struct lagd *lagd);                          /* 100 ms passed */
+    int (*member_of)(struct lagd *lagd, uint16_t number);     /* the interface by which the kernel has a conversation go, or 0 */
+    void (*resume)(struct lagd *lagd);                        /* what the kernel passed on for the last daemon stays, where its port does */
     bool steers; /* whether one processor has to take what a member of one queue receives */
 };
 
 /* By how many queues of a member its data goes: one, or all. */
 struct queueing {
-    void (*start)(struct lagd *lagd);
-    unsigned (*fifos_of)(int index);
+    void (*start)(struct lagd *lagd); /* a fault ends the program */
+    unsigned (*fifos_of)(int index); /* how many disciplines that keep the order a member gets */
     bool (*set)(struct lagd *lagd, struct link *link, struct guard *guard); /* false where that is looked at again once it has queues */
-    void (*set_again)(struct lagd *lagd, struct link *link, struct guard *guard);
+    void (*set_again)(struct lagd *lagd, struct link *link, struct guard *guard); /* after its discipline changed */
     bool (*follow)(struct lagd *lagd, struct link *link); /* a discipline changed: whether the member is still taken up */
-    void (*watch)(struct lagd *lagd);
-    void (*mark)(struct lagd *lagd, uint16_t port, uint16_t number, struct msghdr *message);
-    bool (*send_marker)(struct lagd *lagd, struct link *link, const uint8_t *marker, bool again);
-    void (*accept_response)(struct lagd *lagd, struct link *link, const struct arrival *arrival, uint32_t id);
+    void (*watch)(struct lagd *lagd); /* 100 ms passed: a member whose queues others changed is taken up anew */
+    void (*mark)(struct lagd *lagd, uint16_t port, uint16_t number, struct msghdr *message); /* which queue a frame of a conversation goes by */
+    bool (*send_marker)(struct lagd *lagd, struct link *link, const uint8_t *marker, bool again); /* false where not all of it went */
+    void (*accept_response)(struct lagd *lagd, struct link *link, const struct arrival *arrival, uint32_t id); /* to the marker of this identifier */
     bool (*answer)(struct lagd *lagd, struct link *link, const uint8_t *response); /* false where too many wait */
     void (*show)(struct lagd *lagd, const struct link *link, enum form form);
     const char *text;         /* behind the way, in the status */

@@ -25,7 +25,7 @@ struct probe_private *make_probe_private(void) {
     return made;
 }
 
-enum answering peer_answering(struct probe_private *own) {
+enum answering peer_answering(const struct probe_private *own) {
     return own->peer;
 }
 

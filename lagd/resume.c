@@ -20,7 +20,7 @@ struct resume_private *make_resume_private(void) {
 }
 
 /* What the last daemon left of a link. An interface that was made anew is another one. */
-static const struct inherited_link *inherited_of(struct inherited *inherited, const struct link *link) {
+static const struct inherited_link *inherited_of(const struct inherited *inherited, const struct link *link) {
     for (unsigned i = 0; i < inherited->link_count; i++)
         if (inherited->links[i].index == link->index && memcmp(inherited->links[i].mac, link->mac, sizeof link->mac) == 0)
             return &inherited->links[i];

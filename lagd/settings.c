@@ -225,7 +225,8 @@ static const struct bundle_key BUNDLE_KEYS[] = {
     {"plane", "tap or team", parse_plane, 'P', "tap|team",
         "what that device is: a TAP device, as if not given, or one of the kernel's team driver,\nby which the kernel carries"},
     {"members", "given or follow", parse_members, 'B', "given|follow",
-        "with --plane team, who says which interfaces are ports: given here, or follow: whoever puts\nthem into the device or takes them out, as the network manager does"},
+        "with --plane team, who says which interfaces are ports: given here, or follow: whoever puts\n"
+        "them into the device or takes them out, as the network manager does"},
     {"hash", "layer2, layer2+3, layer3+4, encap3+4 or vlan+srcmac", parse_hash, 'H', "layer2|layer2+3|layer3+4|encap3+4|vlan+srcmac",
         "what frames of one conversation have in common; layer2, if not given"},
     {"hash-seed", A_NUMBER, parse_hash_seed, 'S', "N", "another number spreads conversations in another way, but by layer2; 0 if not given"},

@@ -223,7 +223,7 @@ void note_channels(const struct link *link, struct guard *guard) {
 }
 
 /* Whether somebody else changed the queues of a member, or what chooses them. Each time another queue is looked at. */
-bool is_spread_anew(struct system_private *own, const struct link *link, const struct guard *guard) {
+bool is_spread_anew(const struct system_private *own, const struct link *link, const struct guard *guard) {
     char name[NAME_OCTETS], path[128], now[PROCESSORS_ROOM], mask[16];
     unsigned channels = channels_of(link->index);
     if (channels == 0) return false;

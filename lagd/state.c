@@ -99,7 +99,8 @@ static void write_state(struct lagd *lagd, FILE *file) {
     fprintf(file, "marker %" PRIu32 "\n", is_done(lagd, marker.status, "niw_next_marker") && marker.left ? marker.id : 0);
     fprintf(file, "bundle %u %u %lld\n", lagd->bundle.state, lagd->bundle.aggregator, (long long)lagd->bundle.changed_at);
     if (tap_index(lagd->tap) != 0)
-        fprintf(file, "tap %d %d %" PRIu32 " %u\n", tap_index(lagd->tap), lagd->plane.carrying->has_made_device(lagd), mtu_of_administrator(lagd->tap), peer_answering(lagd->probe));
+        fprintf(file, "tap %d %d %" PRIu32 " %u\n", tap_index(lagd->tap), lagd->plane.carrying->has_made_device(lagd),
+            mtu_of_administrator(lagd->tap), peer_answering(lagd->probe));
     write_ports(lagd, file);
     for (uint16_t i = 0; i < lagd->link_count; i++)
         if (lagd->links[i].socket >= 0) write_link(file, &lagd->links[i]);
@@ -326,12 +327,12 @@ void recall_state(struct lagd *lagd) {
 }
 
 /* Whether there was no daemon for a moment only: what waits in sockets and in the TAP device is still of use. */
-bool was_away_briefly(struct inherited *inherited) {
+bool was_away_briefly(const struct inherited *inherited) {
     uint64_t now = boottime();
     return inherited->written != 0 && inherited->written <= now && now - inherited->written < MOST_AWAY;
 }
 
 /* The identifier of the first marker: none that the last daemon sent, or 0 where that is not known. */
-uint32_t first_marker_left(struct inherited *inherited) {
+uint32_t first_marker_left(const struct inherited *inherited) {
     return inherited->marker == 0 || inherited->marker > UINT32_MAX / 2 ? 0 : inherited->marker + UNWRITTEN_MARKERS;
 }

@@ -56,7 +56,7 @@ static void close_caller(struct caller *caller) {
 }
 
 /* How many connections a user has, or how many of them watch. */
-static unsigned count_of(struct status_private *own, uid_t user, bool watching) {
+static unsigned count_of(const struct status_private *own, uid_t user, bool watching) {
     unsigned count = 0;
     for (unsigned i = 0; i < MOST_CALLERS; i++)
         count += own->callers[i].fd >= 0 && own->callers[i].user == user && (!watching || own->callers[i].watches);

@@ -17,12 +17,12 @@ struct system_private *make_system_private(void) {
 }
 
 /* How many ticks passed since the start. */
-uint64_t ticks_passed(struct system_private *own) {
+uint64_t ticks_passed(const struct system_private *own) {
     return own->ticks;
 }
 
 /* How many seconds passed since the start, also while the daemon was stopped. */
-uint64_t seconds_passed(struct system_private *own) {
+uint64_t seconds_passed(const struct system_private *own) {
     struct timespec now;
     clock_gettime(CLOCK_MONOTONIC, &now);
     return (uint64_t)(now.tv_sec - own->began.tv_sec);

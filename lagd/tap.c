@@ -101,7 +101,7 @@ void set_speed(struct lagd *lagd, uint32_t megabits) {
 }
 
 /* Whether the device has a carrier: an administrator may have taken it away. */
-bool has_carrier(struct tap_private *own) {
+bool has_carrier(const struct tap_private *own) {
     return own->carrier && own->carrier_told;
 }
 
@@ -127,7 +127,7 @@ void limit_mtu(struct lagd *lagd, uint32_t most) {
     settle_tap_mtu(lagd);
 }
 
-uint32_t longest_payload(struct tap_private *own) {
+uint32_t longest_payload(const struct tap_private *own) {
     return own->most_mtu;
 }
 
@@ -150,7 +150,7 @@ void pass_tap_tick(struct lagd *lagd) {
 }
 
 /* The index of the device. */
-int tap_index(struct tap_private *own) {
+int tap_index(const struct tap_private *own) {
     return own->number;
 }
 
@@ -194,7 +194,7 @@ static bool is_here(int fd, struct ifreq *device) {
 }
 
 /* The index of the device of this name, or 0. */
-static int index_of(struct tap_private *own, const char *name) {
+static int index_of(const struct tap_private *own, const char *name) {
     struct ifreq found = request_of(name);
     return ioctl(own->asker, SIOCGIFINDEX, &found) == 0 ? found.ifr_ifindex : 0;
 }
@@ -227,7 +227,7 @@ static void set_up(struct lagd *lagd, const uint8_t *mac) {
 }
 
 /* What waits in the device is lost. */
-static void lose_waiting(struct tap_private *own) {
+static void lose_waiting(const struct tap_private *own) {
     uint8_t scrap[ETH_HLEN];
     for (unsigned frames = 0; frames < 2 * HOST_QUEUE && read(own->tap, scrap, sizeof scrap) > 0; frames++) continue;
 }
@@ -322,6 +322,6 @@ bool tap_persists(struct lagd *lagd) {
 }
 
 /* A lower MTU than the members take, which an administrator set, or 0. */
-uint32_t mtu_of_administrator(struct tap_private *own) {
+uint32_t mtu_of_administrator(const struct tap_private *own) {
     return own->less_mtu;
 }

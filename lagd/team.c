@@ -34,7 +34,7 @@ struct team_private *make_team_private(void) {
     return made;
 }
 
-bool is_team_port(struct team_private *own, uint16_t port) {
+bool is_team_port(const struct team_private *own, uint16_t port) {
     return own->taken[port - 1];
 }
 
@@ -44,16 +44,12 @@ bool has_made_team(struct lagd *lagd) {
 }
 
 /* Whether this daemon made the device, so that nobody has put a port there yet. */
-bool is_team_new(struct team_private *own) {
+bool is_team_new(const struct team_private *own) {
     return own->is_new;
 }
 
-static void need(bool done, const char *what) {
-    if (!done) stop(REFUSED, what, strerror(errno));
-}
-
 /* Whether the driver takes the mode: at a device of its own, which stays. */
-bool has_team_mode(struct team_netlink_private *own) {
+bool has_team_mode(const struct team_netlink_private *own) {
     static const uint8_t mac[ETH_ALEN] = {2, 0, 0, 0, 0, 1};
     struct interface device;
     return make_team_device("team0", mac, ETH_DATA_LEN) && ask_interface(0, "team0", &device)
@@ -140,29 +136,6 @@ static void set_options(struct lagd *lagd, const char *mode_now) {
     need(set_team_hash(lagd->team_netlink, index, steps, make_team_hash(&lagd->settings, steps)), "team: bpf_hash_func");
     need(set_team_text(lagd->team_netlink, index, "lb_tx_method", "hash_to_port_mapping"), "team: lb_tx_method");
     need(set_team_number(lagd->team_netlink, index, "lb_stats_refresh_interval", COUNTED_EVERY), "team: lb_stats_refresh_interval");
-}
-
-/* Opens the device: it has no carrier, unless the data of the last daemon goes on. */
-void open_team(struct lagd *lagd) {
-    struct team_private *own = lagd->team;
-    const char *name = lagd->settings.carry;
-    const uint8_t *mac = lagd->settings.config.mac;
-    struct interface device;
-    struct team_now now;
-    need(find_team_driver(lagd->team_netlink), "plane=team: this kernel has no team driver");
-    if (call_at_exit(lagd, end_team) != 0) stop(REFUSED, "no memory", "for the team device");
-    own->opened = true;
-    if (find_device(lagd, name, &device)) {
-        adopt_device(lagd, &device, mac);
-    } else {
-        need(make_team_device(name, mac, least_mtu(&lagd->settings)) && ask_interface(0, name, &device), name);
-        lock_device(lagd, device.index); /* another one may have taken it at once */
-        own->made = own->is_new = true;
-        use_team_device(lagd, device.index);
-    }
-    need(read_team(lagd->team_netlink, tap_index(lagd->tap), &now), "team");
-    set_options(lagd, now.mode);
-    start_buckets(lagd);
 }
 
 /* Gives a port the address of the device: frames to that would be of another host for the network stack. The driver puts back what it had. Some
@@ -254,7 +227,7 @@ bool is_still_team_port(struct lagd *lagd, const struct link *link, int master) 
 }
 
 /* The ports that a device has of the last daemon are free. */
-static void free_inherited_ports(struct inherited *inherited, int index) {
+static void free_inherited_ports(const struct inherited *inherited, int index) {
     struct interface port;
     for (unsigned i = 0; i < inherited->link_count; i++)
         if (ask_interface(inherited->links[i].index, NULL, &port) && port.master == index && set_master(port.index, 0))
@@ -276,7 +249,7 @@ void leave_team(struct lagd *lagd, int index, bool with_device) {
 
 /* The program ends, and no other one goes on: its ports are free, also those that a start did not come to, and the device goes if a daemon made
  * it. */
-void end_team(struct lagd *lagd) {
+static void end_team(struct lagd *lagd) {
     struct team_private *own = lagd->team;
     if (!own->opened || lagd->has_left) return;
     for (uint16_t i = 0; i < lagd->link_count; i++) close_team_port(lagd, &lagd->links[i]);
@@ -284,6 +257,29 @@ void end_team(struct lagd *lagd) {
     if (own->made && tap_index(lagd->tap) != 0) (void)remove_device(tap_index(lagd->tap));
     if (own->lock >= 0) close_stored(lagd, "lock", own->locked, own->lock);
     own->opened = false;
+}
+
+/* Opens the device: it has no carrier, unless the data of the last daemon goes on. */
+void open_team(struct lagd *lagd) {
+    struct team_private *own = lagd->team;
+    const char *name = lagd->settings.carry;
+    const uint8_t *mac = lagd->settings.config.mac;
+    struct interface device;
+    struct team_now now;
+    need(find_team_driver(lagd->team_netlink), "plane=team: this kernel has no team driver");
+    if (call_at_exit(lagd, end_team) != 0) stop(REFUSED, "no memory", "for the team device");
+    own->opened = true;
+    if (find_device(lagd, name, &device)) {
+        adopt_device(lagd, &device, mac);
+    } else {
+        need(make_team_device(name, mac, least_mtu(&lagd->settings)) && ask_interface(0, name, &device), name);
+        lock_device(lagd, device.index); /* another one may have taken it at once */
+        own->made = own->is_new = true;
+        use_team_device(lagd, device.index);
+    }
+    need(read_team(lagd->team_netlink, tap_index(lagd->tap), &now), "team");
+    set_options(lagd, now.mode);
+    start_buckets(lagd);
 }
 
 /* Has the device a carrier, or none; answers whether the kernel does so. */

@@ -29,11 +29,11 @@ bool set_interface_up(int index, bool up);
 bool set_master(int index, int master);
 bool set_address(int index, const uint8_t *mac);
 bool set_device_carrier(int index, bool on);
-bool set_team_text(struct team_netlink_private *own, int index, const char *name, const char *text);
-bool set_team_number(struct team_netlink_private *own, int index, const char *name, uint32_t number);
-bool set_team_hash(struct team_netlink_private *own, int index, const struct sock_filter *steps, size_t count);
-bool set_port_enabled(struct team_netlink_private *own, int index, int port, bool enabled);
-bool set_bucket(struct team_netlink_private *own, int index, uint16_t bucket, int port);
+bool set_team_text(const struct team_netlink_private *own, int index, const char *name, const char *text);
+bool set_team_number(const struct team_netlink_private *own, int index, const char *name, uint32_t number);
+bool set_team_hash(const struct team_netlink_private *own, int index, const struct sock_filter *steps, size_t count);
+bool set_port_enabled(const struct team_netlink_private *own, int index, int port, bool enabled);
+bool set_bucket(const struct team_netlink_private *own, int index, uint16_t bucket, int port);
 bool read_team(struct team_netlink_private *own, int index, struct team_now *now);
 
 /* team_hash.c */
@@ -42,17 +42,16 @@ size_t make_team_hash(const struct settings *settings, struct sock_filter steps[
 
 /* team.c */
 bool has_made_team(struct lagd *lagd);
-bool is_team_new(struct team_private *own);
-bool has_team_mode(struct team_netlink_private *own);
+bool is_team_new(const struct team_private *own);
+bool has_team_mode(const struct team_netlink_private *own);
 void open_team(struct lagd *lagd);
 void end_team_plane(struct lagd *lagd);
 bool give_team_carrier(struct lagd *lagd, bool on);
 void settle_team(struct lagd *lagd);
 void pass_tick_of_team(struct lagd *lagd);
-void end_team(struct lagd *lagd);
 bool open_team_port(struct lagd *lagd, struct link *link);
 void close_team_port(struct lagd *lagd, struct link *link);
-bool is_team_port(struct team_private *own, uint16_t port);
+bool is_team_port(const struct team_private *own, uint16_t port);
 bool is_still_team_port(struct lagd *lagd, const struct link *link, int master);
 void give_team_addresses(struct lagd *lagd);
 void leave_team(struct lagd *lagd, int index, bool with_device);
@@ -61,7 +60,6 @@ void leave_team_port(struct lagd *lagd, int index);
 /* buckets.c */
 void start_buckets(struct lagd *lagd);
 void settle_buckets(struct lagd *lagd);
-void look_at_driver(struct lagd *lagd);
 void pass_bucket_tick(struct lagd *lagd);
 void forget_port(struct lagd *lagd, uint16_t port);
 int bucket_member_of(struct lagd *lagd, uint16_t number);

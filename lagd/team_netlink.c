@@ -97,7 +97,7 @@ bool set_device_carrier(int index, bool on) {
     return set_attribute(index, IFLA_CARRIER, &(uint8_t){on}, 1);
 }
 
-static union message message_of_team(struct team_netlink_private *own, uint8_t command, unsigned flags, int index) {
+static union message message_of_team(const struct team_netlink_private *own, uint8_t command, unsigned flags, int index) {
     struct genlmsghdr about = {.cmd = command, .version = TEAM_GENL_VERSION};
     union message message = message_of(own->family, flags, &about, sizeof about);
     mnl_attr_put_u32(&message.head, TEAM_ATTR_TEAM_IFINDEX, (uint32_t)index);
@@ -111,7 +111,8 @@ struct place {
 };
 
 /* Sets an option. The kernel tells who listens to changes; that nobody does is an error for it, though the option is set. */
-static bool set_option(struct team_netlink_private *own, int index, const char *name, struct place place, uint8_t type, const void *value, size_t length) {
+static bool set_option(const struct team_netlink_private *own, int index, const char *name, struct place place, uint8_t type, const void *value,
+    size_t length) {
     union message wanted = message_of_team(own, TEAM_CMD_OPTIONS_SET, NLM_F_ACK, index);
     struct nlattr *list = mnl_attr_nest_start(&wanted.head, TEAM_ATTR_LIST_OPTION);
     struct nlattr *item = mnl_attr_nest_start(&wanted.head, TEAM_ATTR_ITEM_OPTION);
@@ -125,26 +126,26 @@ static bool set_option(struct team_netlink_private *own, int index, const char *
     return ask_netlink(NETLINK_GENERIC, &wanted, NULL, NULL) || errno == ESRCH;
 }
 
-bool set_team_text(struct team_netlink_private *own, int index, const char *name, const char *text) {
+bool set_team_text(const struct team_netlink_private *own, int index, const char *name, const char *text) {
     return set_option(own, index, name, (struct place){0, -1}, TYPE_STRING, text, strlen(text) + 1);
 }
 
-bool set_team_number(struct team_netlink_private *own, int index, const char *name, uint32_t number) {
+bool set_team_number(const struct team_netlink_private *own, int index, const char *name, uint32_t number) {
     return set_option(own, index, name, (struct place){0, -1}, TYPE_U32, &number, sizeof number);
 }
 
 /* The program by which the driver finds the bucket of a frame. */
-bool set_team_hash(struct team_netlink_private *own, int index, const struct sock_filter *steps, size_t count) {
+bool set_team_hash(const struct team_netlink_private *own, int index, const struct sock_filter *steps, size_t count) {
     return set_option(own, index, "bpf_hash_func", (struct place){0, -1}, TYPE_BINARY, steps, count * sizeof *steps);
 }
 
 /* Whether a port passes data, in either direction. */
-bool set_port_enabled(struct team_netlink_private *own, int index, int port, bool enabled) {
+bool set_port_enabled(const struct team_netlink_private *own, int index, int port, bool enabled) {
     return set_option(own, index, "enabled", (struct place){port, -1}, TYPE_FLAG, enabled ? "" : NULL, 0);
 }
 
 /* The frames of a bucket go by a port from now on. */
-bool set_bucket(struct team_netlink_private *own, int index, uint16_t bucket, int port) {
+bool set_bucket(const struct team_netlink_private *own, int index, uint16_t bucket, int port) {
     uint32_t value = (uint32_t)port;
     return set_option(own, index, "lb_tx_hash_to_port_mapping", (struct place){0, bucket}, TYPE_U32, &value, sizeof value);
 }

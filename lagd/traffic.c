@@ -60,7 +60,7 @@ static bool set_fifo(int index, uint32_t megabits, unsigned flags, uint32_t pare
 
 /* Gives an interface one queue that keeps the order, in place of what the kernel gave it by itself: where an administrator set another
  * one, the kernel refuses. Answers whether it has one of the daemon now. */
-bool give_fifo(int index, uint32_t megabits) {
+static bool give_fifo(int index, uint32_t megabits) {
     return set_fifo(index, megabits, NLM_F_CREATE, TC_H_ROOT, FIFO);
 }
 

@@ -27,7 +27,6 @@
 
 VLOG_DEFINE_THIS_MODULE(lacp);
 
-#define ETHERNET 14        /* The octets before the payload of a frame. */
 #define RETRY_MSEC 1000    /* Until a system that was refused is tried again. */
 
 struct lacp {
@@ -39,7 +38,7 @@ struct lacp {
     uint16_t key;               /* That key. It stays if the first one leaves and the next one has none of its own. */
     struct lag_end end;
     uint16_t carries;           /* The aggregator that carries, or 0. */
-    bool stale;                 /* Whether the system has to be made anew, */
+    bool to_remake;             /* Whether the system has to be made anew, */
     long long int try_at;       /* and when, if it was refused; or 0. */
     struct ovs_refcount ref_cnt;
 };
@@ -248,7 +247,7 @@ remake(struct lacp *lacp)
 
     memcpy(config.mac, lacp->set.id.ea, sizeof config.mac);
     lacp->carries = 0;
-    lacp->stale = false;
+    lacp->to_remake = false;
     lacp->try_at = 0;
     struct niw_made made = lag_end_remake(&lacp->end, &config, ports, count, time_msec());
     if (made.status != NIW_OK) {
@@ -258,7 +257,7 @@ remake(struct lacp *lacp)
         HMAP_FOR_EACH (member, node, &lacp->members) {
             member->in = false;
         }
-        lacp->stale = true;
+        lacp->to_remake = true;
         lacp->try_at = time_msec() + RETRY_MSEC;
         wake();
         return;
@@ -279,7 +278,7 @@ remake(struct lacp *lacp)
 static void
 advance(struct lacp *lacp)
 {
-    if (lacp->stale && time_msec() >= lacp->try_at) {
+    if (lacp->to_remake && time_msec() >= lacp->try_at) {
         remake(lacp);
     }
     lag_end_advance(&lacp->end, time_msec());
@@ -294,7 +293,7 @@ set_carrier(struct member *member, bool up)
         if (!up) {
             member->heard.is = false;
         }
-        if (member->in && !member->lacp->stale) {
+        if (member->in && !member->lacp->to_remake) {
             lag_end_advance(&member->lacp->end, time_msec());
             niw_set_link(&member->lacp->end.system, member->port_id, up);
             look(member->lacp);
@@ -312,7 +311,7 @@ find_key(struct lacp *lacp)
     } else if (lacp->first && !lacp->key) {
         lacp->key = lacp->first->port_id;
     }
-    lacp->stale = lacp->stale || lacp->key != was;
+    lacp->to_remake = lacp->to_remake || lacp->key != was;
 }
 
 static void
@@ -330,7 +329,7 @@ destroy(struct member *member)
         }
         find_key(lacp);
     }
-    lacp->stale = true;
+    lacp->to_remake = true;
     free(member->name);
     free(member);
 }
@@ -390,7 +389,7 @@ lacp_configure(struct lacp *lacp, const struct lacp_settings *s)
         lacp->name = xstrdup(s->name);
     }
     if (!eth_addr_equals(lacp->set.id, s->id) || lacp->set.priority != s->priority) {
-        lacp->stale = true;
+        lacp->to_remake = true;
     }
     if (lacp->set.fallback_ab_cfg != s->fallback_ab_cfg) {
         wake();
@@ -398,7 +397,7 @@ lacp_configure(struct lacp *lacp, const struct lacp_settings *s)
     bool mode = lacp->set.active != s->active || lacp->set.fast != s->fast;
     lacp->set = *s;
     lacp->set.name = NULL;
-    if (mode && !lacp->stale) {
+    if (mode && !lacp->to_remake) {
         lag_end_advance(&lacp->end, time_msec());
         HMAP_FOR_EACH (member, node, &lacp->members) {
             if (member->in) {
@@ -509,7 +508,7 @@ lacp_member_register(struct lacp *lacp, void *aux, const struct lacp_member_sett
         if (!lacp->first) {
             lacp->first = member;
         }
-        lacp->stale = true;
+        lacp->to_remake = true;
     }
     if (!member->name || strcmp(s->name, member->name)) {
         free(member->name);
@@ -524,7 +523,7 @@ lacp_member_register(struct lacp *lacp, void *aux, const struct lacp_member_sett
         if (lacp->first == member && had_key && !s->key) {
             lacp->key = 0;
         }
-        lacp->stale = true;
+        lacp->to_remake = true;
     }
     find_key(lacp);
     unlock();
@@ -593,12 +592,12 @@ lacp_run(struct lacp *lacp, lacp_send_pdu *send_pdu)
     HMAP_FOR_EACH (member, node, &lacp->members) {
         for (unsigned int i = 0; i < member->n_responses; i++) {
             niw_count_sent(&member->counts, member->responses[i], NIW_FRAME);
-            send_pdu(member->aux, member->responses[i] + ETHERNET, NIW_PAYLOAD_LENGTH);
+            send_pdu(member->aux, member->responses[i] + ETH_HEADER_LEN, NIW_PAYLOAD_LENGTH);
         }
         member->n_responses = 0;
         while (member->in && niw_transmit(&lacp->end.system, member->port_id, frame, sizeof frame).is) {
             niw_count_sent(&member->counts, frame, NIW_FRAME);
-            send_pdu(member->aux, frame + ETHERNET, NIW_PAYLOAD_LENGTH);
+            send_pdu(member->aux, frame + ETH_HEADER_LEN, NIW_PAYLOAD_LENGTH);
             wake();
         }
     }
@@ -611,7 +610,7 @@ lacp_wait(struct lacp *lacp)
     struct member *member;
 
     lock();
-    if (lacp->stale) {
+    if (lacp->to_remake) {
         poll_timer_wait_until(lacp->try_at);
     } else if (lacp->end.system.live) {
         struct niw_wait wait = niw_ticks_until_due(&lacp->end.system);

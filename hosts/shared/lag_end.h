@@ -111,7 +111,9 @@ lag_end_free(struct lag_end *end)
 static inline const char *
 lag_why_text(uint32_t why)
 {
-    return why == NIW_STALE ? "its last LACPDU is too old" : why == NIW_NOT_DISTRIBUTING ? "its partner has to be told something new" : "its link is down, or no LACPDU came";
+    return why == NIW_STALE ? "its last LACPDU is too old"
+        : why == NIW_NOT_DISTRIBUTING ? "its partner has to be told something new"
+                                      : "its link is down, or no LACPDU came";
 }
 
 static inline int

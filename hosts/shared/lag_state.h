@@ -1,7 +1,7 @@
-/* What an end leaves in a file for the program that comes after it, which goes on from there: after a crash, or after an end that left the
- * ports in use.
+/* What one end of link aggregation (struct lag_end) leaves in a file for the program that comes after it, which goes on from there: after a
+ * crash, or after a stop that left the ports in use.
  *
- * Lines of words, the last of which is "end":
+ * Lines of words, the last of which is the word "end":
  *
  *     niwhopera-lacp VERSION
  *     clocks BOOT-ID MS-OF-THE-BOOT MS-OF-THE-WALL

@@ -57,7 +57,7 @@ static void read_ports_again(struct lacp *lacp)
 		if (prio < 0 || prio > USHRT_MAX || key < 0 || key > USHRT_MAX)
 			continue;
 		if (prio != port->cfg.prio || key != port->cfg.key)
-			lacp->due = true;
+			lacp->to_remake = true;
 		port->cfg.prio = (uint16_t) prio;
 		port->cfg.key = (uint16_t) key;
 	}

@@ -122,8 +122,8 @@ static void choose(struct lacp *lacp)
 	lacp->changed = false;
 	find_groups(lacp);
 	/* The group of before: that of its best port, or else of any port of it. */
-	if (lacp->lead && lacp->lead->selected)
-		now = lacp->lead->lead;
+	if (lacp->carries && lacp->carries->selected)
+		now = lacp->carries->lead;
 	teamd_for_each_tdport(tdport, lacp->ctx) {
 		struct lacp_port *port = port_of(lacp, tdport);
 
@@ -141,7 +141,7 @@ static void choose(struct lacp *lacp)
 				best = port;
 		}
 	}
-	lacp->lead = best;
+	lacp->carries = best;
 	teamd_for_each_tdport(tdport, lacp->ctx) {
 		struct lacp_port *port = port_of(lacp, tdport);
 

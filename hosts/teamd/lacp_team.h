@@ -24,14 +24,14 @@ struct lacp {
 	struct teamd_context *ctx;
 	struct teamd_balancer *tb;
 	struct lag_end end;	/* without a system while there is no port */
-	struct lacp_port *lead;	/* the best port of the group that carries, or NULL */
+	struct lacp_port *carries;	/* the best port of the group that carries, or NULL */
 	struct lag_state kept;	/* what the teamd before this one left */
 	int clock;		/* a timerfd */
 	int64_t try_at;		/* when a system that was refused is tried again, in ms */
 	int64_t config_at;	/* when the configuration of the ports was read */
 	int64_t silent_at;	/* when the links fall silent, of a device that is down; 0 of one that is up */
 	bool carrier_up;
-	bool due;		/* the system has to be made anew */
+	bool to_remake;		/* the system has to be made anew */
 	bool changed;		/* the group that carries has to be chosen again */
 	bool dirty;		/* the file is older than what it tells */
 	bool stays;		/* teamd ends, and leaves the ports in the device */

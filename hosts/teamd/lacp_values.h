@@ -63,7 +63,11 @@ static int get_actor_system(struct teamd_context *ctx, struct team_state_gsc *gs
 
 static int get_partner_system(struct teamd_context *ctx, struct team_state_gsc *gsc, void *priv)
 {
-	return get_address(gsc, port_of(priv, gsc->info.tdport)->view.partner_mac);
+	const struct lacp_port *port = port_of(priv, gsc->info.tdport);
+
+	if (!port)
+		return -ENOENT;
+	return get_address(gsc, port->view.partner_mac);
 }
 
 /* The group carries until something changes. */
@@ -78,12 +82,12 @@ static int set_agg_selected(struct teamd_context *ctx, struct team_state_gsc *gs
 	if (!port || !port->selected)
 		return -EINVAL;
 	choose(lacp);
-	lacp->lead = port->lead;
+	lacp->carries = port->lead;
 	teamd_for_each_tdport(tdport, ctx) {
 		struct lacp_port *it = port_of(lacp, tdport);
 
 		if (it)
-			it->chosen = it->selected && it->lead == lacp->lead;
+			it->chosen = it->selected && it->lead == lacp->carries;
 	}
 	lacp->dirty = true;
 	return 0;	/* the next tick enables its ports */

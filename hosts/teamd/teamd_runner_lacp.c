@@ -2,7 +2,7 @@
  *
  * One struct lacp is one end. Ports come and go: then lag_end_remake makes its system anew, of as many aggregators as ports. Marker PDUs
  * are answered. What each port last heard stands in a file, TEAMD_RUN_DIR DEVICE.lacp, so that a teamd that takes the device over (-o),
- * after a crash or after an end that left the ports in it, goes on where the one before it was, and its peers notice nothing. */
+ * after a crash or after a stop that left the ports in it, goes on where the one before it was, and its peers notice nothing. */
 #include <errno.h>
 #include <netinet/in.h>
 #include <sys/ioctl.h>
@@ -52,7 +52,24 @@ static int set_carrier(struct lacp *lacp, bool up)
 	return 0;
 }
 
-static int send_due(struct lacp *lacp);
+/* Whether no link of the device speaks: it is down, and its peers were told. */
+static bool is_silent(const struct lacp *lacp)
+{
+	return lacp->silent_at && lag_now() >= lacp->silent_at;
+}
+
+static void send_due(struct lacp *lacp)
+{
+	struct teamd_port *tdport;
+	uint8_t frame[NIW_FRAME];
+
+	teamd_for_each_tdport(tdport, lacp->ctx) {
+		struct lacp_port *port = port_of(lacp, tdport);
+
+		while (port && lacp->end.system.live && niw_transmit(&lacp->end.system, port->number, frame, sizeof(frame)).is)
+			teamd_send(port->sock, frame, sizeof(frame), 0);
+	}
+}
 
 static void take_view(struct lacp_port *port, const struct niw_view *view)
 {
@@ -133,9 +150,7 @@ static int look(struct lacp *lacp)
 	}
 	save(lacp);
 	err = set_carrier(lacp, carry >= lacp->cfg.min_ports);
-	if (err)
-		failed = err;
-	err = send_due(lacp);
+	send_due(lacp);
 	return err ? err : failed;
 }
 
@@ -196,11 +211,11 @@ static int remake(struct lacp *lacp, const struct lacp_port *but)
 {
 	struct lag_port ports[NIW_MOST_PORTS];
 	struct niw_config config = { .priority = lacp->cfg.sys_prio, .conversations = NIW_FEW_CONVERSATIONS };
-	bool silent = lacp->silent_at && lag_now() >= lacp->silent_at;
+	bool silent = is_silent(lacp);
 	size_t count = list_ports(lacp, but, ports);
 	struct niw_made made;
 
-	lacp->due = false;
+	lacp->to_remake = false;
 	lacp->changed = lacp->dirty = true;
 	memcpy(config.mac, lacp->ctx->hwaddr, ETH_ALEN);
 	for (size_t i = 0; i < count; i++)
@@ -219,7 +234,7 @@ static int remake(struct lacp *lacp, const struct lacp_port *but)
 	}
 	if (made.status != NIW_OK) {
 		teamd_log_err("No LACP: %s", niw_status_text(made.status));
-		lacp->due = true;
+		lacp->to_remake = true;
 		lacp->try_at = lag_now() + RETRY_MS;
 	}
 	return look(lacp);
@@ -230,23 +245,9 @@ static void advance(struct lacp *lacp)
 	lag_end_advance(&lacp->end, lag_now());
 }
 
-static int send_due(struct lacp *lacp)
-{
-	struct teamd_port *tdport;
-	uint8_t frame[NIW_FRAME];
-
-	teamd_for_each_tdport(tdport, lacp->ctx) {
-		struct lacp_port *port = port_of(lacp, tdport);
-
-		while (port && lacp->end.system.live && niw_transmit(&lacp->end.system, port->number, frame, sizeof(frame)).is)
-			teamd_send(port->sock, frame, sizeof(frame), 0);
-	}
-	return 0;
-}
-
 static void set_links(struct lacp *lacp)
 {
-	bool silent = lacp->silent_at && lag_now() >= lacp->silent_at;
+	bool silent = is_silent(lacp);
 	struct teamd_port *tdport;
 
 	teamd_for_each_tdport(tdport, lacp->ctx) {
@@ -271,7 +272,7 @@ static int tick(struct teamd_context *ctx, int events, void *priv)
 		return -errno;
 	advance(lacp);
 	read_ports_again(lacp);
-	if (lacp->due && lag_now() >= lacp->try_at)
+	if (lacp->to_remake && lag_now() >= lacp->try_at)
 		return remake(lacp, NULL);
 	if (lacp->silent_at)
 		set_links(lacp);
@@ -301,8 +302,9 @@ static int receive(struct teamd_context *ctx, int events, void *priv)
 		teamd_send(port->sock, response, got.number, 0);
 	if (got.what == NIW_RECEIVED_TOOK_LACPDU) {
 		lacp->dirty = true;
-		/* Without news the next tick sees to the rest. */
-		return lag_hear(&port->heard, frame, lag_now()) ? look(lacp) : send_due(lacp);
+		if (lag_hear(&port->heard, frame, lag_now()))
+			return look(lacp);
+		send_due(lacp); /* without news the next tick sees to the rest */
 	}
 	return 0;
 }
@@ -399,7 +401,7 @@ static int port_init(struct teamd_context *ctx, struct teamd_port *tdport, void 
 		goto callback_del;
 	teamd_loop_callback_enable(ctx, SOCKET_NAME, port);
 	/* The next tick takes the port in, and what else comes until then. */
-	port->lacp->due = true;
+	port->lacp->to_remake = true;
 	return 0;
 
 callback_del:
@@ -447,8 +449,8 @@ static void port_fini(struct teamd_context *ctx, struct teamd_port *tdport, void
 			while (niw_transmit(&lacp->end.system, port->number, frame, sizeof(frame)).is)
 				teamd_send(port->sock, frame, sizeof(frame), 0);
 	}
-	if (lacp->lead == port)
-		lacp->lead = NULL;
+	if (lacp->carries == port)
+		lacp->carries = NULL;
 	if (!lacp->stays)
 		remake(lacp, port);
 	teamd_loop_callback_del(ctx, SOCKET_NAME, port);
@@ -469,7 +471,7 @@ static int link_changed(struct lacp *lacp, struct lacp_port *port)
 		return 0;
 	port->carrier_changes = carrier_changes_of(port);
 	lacp->changed = lacp->dirty = true;
-	if (lacp->due || !lacp->end.system.live)
+	if (lacp->to_remake || !lacp->end.system.live)
 		return 0;
 	advance(lacp);
 	set_links(lacp);
@@ -484,7 +486,7 @@ static int watch_hwaddr(struct teamd_context *ctx, void *priv)
 	teamd_for_each_tdport(tdport, ctx)
 		if ((err = set_address(ctx, tdport)))
 			return err;
-	((struct lacp *) priv)->due = true;
+	((struct lacp *) priv)->to_remake = true;
 	return 0;
 }
 
@@ -506,7 +508,7 @@ static int watch_admin_state(struct teamd_context *ctx, void *priv)
 	else if (!lacp->silent_at)
 		lacp->silent_at = lag_now() + TELLING_MS;
 	advance(lacp);
-	if (lacp->due || !lacp->end.system.live)
+	if (lacp->to_remake || !lacp->end.system.live)
 		return 0;
 	set_links(lacp);
 	return look(lacp);

@@ -103,7 +103,7 @@ static bool refuses(void) {
     return refusals > 0 && refusals-- > 0;
 }
 
-bool set_port_enabled(struct team_netlink_private *own, int index, int port, bool wanted) {
+bool set_port_enabled(const struct team_netlink_private *own, int index, int port, bool wanted) {
     (void)own;
     uint16_t number = (uint16_t)(port - INDEX);
     if (index != DEVICE || !is_port[number] || refuses()) return false;
@@ -116,7 +116,7 @@ bool set_port_enabled(struct team_netlink_private *own, int index, int port, boo
     return true;
 }
 
-bool set_bucket(struct team_netlink_private *own, int index, uint16_t bucket, int port) {
+bool set_bucket(const struct team_netlink_private *own, int index, uint16_t bucket, int port) {
     uint16_t before = member_of[bucket] == 0 ? 0 : (uint16_t)(member_of[bucket] - INDEX);
     bool leaves = before != 0 && before != port - INDEX && distributes[before] && placed_in == aggregator;
     (void)own;
@@ -151,15 +151,15 @@ bool read_team(struct team_netlink_private *own, int index, struct team_now *now
 uint64_t milliseconds(void) {
     return lagd->carry.time;
 }
-uint64_t ticks_passed(struct system_private *own) {
+uint64_t ticks_passed(const struct system_private *own) {
     (void)own;
     return lagd->carry.time / TICK;
 }
-int tap_index(struct tap_private *own) {
+int tap_index(const struct tap_private *own) {
     (void)own;
     return DEVICE;
 }
-bool is_team_port(struct team_private *own, uint16_t port) {
+bool is_team_port(const struct team_private *own, uint16_t port) {
     (void)own;
     return is_port[port];
 }

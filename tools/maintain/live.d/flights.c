@@ -30,7 +30,7 @@ uint64_t milliseconds(void) {
     return now;
 }
 
-bool has_fast_member(struct members_private *own, uint16_t port) {
+bool has_fast_member(const struct members_private *own, uint16_t port) {
     (void)own;
     (void)port;
     return is_fast_member;

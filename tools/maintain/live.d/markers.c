@@ -34,7 +34,7 @@ uint64_t milliseconds(void) {
     return now;
 }
 
-uint64_t ticks_passed(struct system_private *own) {
+uint64_t ticks_passed(const struct system_private *own) {
     (void)own;
     return now / TICK;
 }

@@ -155,7 +155,7 @@ static void put_slow(struct end *end, uint16_t port, uint8_t *frame) {
 uint64_t milliseconds(void) {
     return now;
 }
-uint64_t ticks_passed(struct system_private *own) {
+uint64_t ticks_passed(const struct system_private *own) {
     (void)own;
     return now / TICK;
 }
@@ -293,7 +293,7 @@ bool has_right_length(const uint8_t *packet, size_t length, uint32_t mtu) {
     (void)packet;
     return length <= mtu + ETH_HLEN;
 }
-uint32_t longest_payload(struct tap_private *own) {
+uint32_t longest_payload(const struct tap_private *own) {
     (void)own;
     return ETH_DATA_LEN;
 }
@@ -347,7 +347,7 @@ void run_hook(struct lagd *lagd, const char *path, enum bundle_state before) {
     (void)before;
 }
 /* The device is up here, and no port comes or goes. */
-bool is_halted(struct halt_private *own) {
+bool is_halted(const struct halt_private *own) {
     (void)own;
     return false;
 }
@@ -370,7 +370,7 @@ _Noreturn void stop(int status, const char *what, const char *which) {
 static const struct carrying FRAMES = {.settle = settle_frames, .tick = pass_tick_of_frames, .keeps_aggregator = hears_peer,
     .frames_heard = frames_handed_up, .tell_host = tell_speed_and_carrier, .go_on = settle_carry};
 static const struct passing BY_DAEMON = {.count = nothing, .withdraw = nothing, .pass_on = nothing, .set_collecting = nothing,
-    .look_for_losses = nothing, .tick = nothing};
+    .read_host = nothing, .tick = nothing};
 static const struct queueing ONE_QUEUE = {.watch = nothing, .accept_response = accept_response, .answer = answer, .markers_at_once = 1};
 
 /* The link of a port is up or down for an end. */
