@@ -17,8 +17,8 @@ from typing import Callable, Iterator, Sequence
 
 from beside import print_rows, switch_ends
 from booted import BOOTS, Machine
-from bonds import (COMES_BACK, COMES_UP, DEVICE, DIRECT, FLIGHT, FLOWS, MIDDLE, RATE, End, Outcome, Programs, ask_gro, cables, check_none_lost, check_order, lay_direct,
-                   move_all, run_flows)
+from bonds import (COMES_BACK, COMES_UP, DEVICE, DIRECT, FLIGHT, FLOWS, LATE, MIDDLE, RATE, End, Outcome, Programs, ask_gro, cables, check_none_lost,
+                   check_order, late, lay_direct, move_all, run_flows)
 from checking import Failed, Skipped, check, found, within
 from daemon import ENDS, SYSTEM, Daemon, Part
 from openvswitch import OpenVSwitch
@@ -41,8 +41,6 @@ MOVES_AHEAD = 0.2
 IN_HAND = 4 * 64
 # Frames a second of which no more wait than the kernel keeps for a host, 4096, while systemd starts the daemon.
 SLOW_RATE = 4000
-# For how many seconds systemd and the daemons have to wait for a processor, all together, until frames that are lost meanwhile are no verdict.
-LATE = 1.0
 # Above the files that a program begins with.
 HIGH = 200
 # A manager of services that keeps nothing, and what a daemon has that carries no data.
@@ -194,6 +192,16 @@ def check_unseen(what: str, kept: Kept, peer: End, before: tuple[str, str], outc
     check(within(COMES_BACK, lambda: kept.links() == DIRECT), f"{what}: both links carry, and its carrier is on", *told)
 
 
+def check_lost(outcome: Outcome, most: int, what: str, kept: Kept) -> None:
+    """No more frames are lost than a daemon had in hand, also of those that the kernel did not take, nor for long. Where the device had no room for
+    all others, and the machine gave its processors so late that this alone can be why, a line says so, and nothing is counted."""
+    lost = outcome.sent - outcome.received
+    if most < lost <= most + outcome.no_room and outcome.waited >= LATE:
+        print(f"inconclusive: {what}: {lost} frames are lost, {outcome.no_room} found no room; {late(outcome)}", flush=True)
+        return
+    check(lost <= most and outcome.gap_ms < SHORT_GAP, f"{what}: {lost} frames are lost", outcome, kept.text())
+
+
 def places(kept: Kept) -> list[str]:
     """The conversations, and the interface of each, as the daemon last wrote it."""
     time.sleep(WRITTEN)
@@ -234,8 +242,7 @@ def another_hash(programs: Programs) -> None:
         tables = [name for name in kept.manager.files if name.startswith("map-")] if kept.manager else []
         check(len(tables) == TABLES, f"fast, another hash: {len(tables)} tables are kept", kept.text())
         outcome = flows_through(programs, partial(kept.again, signal.SIGUSR1))
-        lost = outcome.sent - outcome.received
-        check(lost == 0, f"fast, another hash: {lost} frames are lost by a handover", outcome, kept.text())
+        check_lost(outcome, 0, "fast, another hash, handed over", kept)
 
 
 def hand_over(programs: Programs, name: str, more: Sequence[str] = (), queues: int = 1) -> None:
@@ -248,8 +255,7 @@ def hand_over(programs: Programs, name: str, more: Sequence[str] = (), queues: i
                 outcome = flows_through(programs, partial(kept.again, *signals))
                 what, most = f"{name}, the end that {end} is {event}", IN_HAND if event == "killed" else 0
                 check_unseen(what, kept, peer, before, outcome)
-                lost = outcome.sent - outcome.received  # also those that the kernel did not take
-                check(lost <= most and outcome.gap_ms < SHORT_GAP, f"{what}: {lost} frames are lost", outcome, kept.text())
+                check_lost(outcome, most, what, kept)
 
 
 def handover_plain(programs: Programs) -> None:
