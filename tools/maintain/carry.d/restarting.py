@@ -39,7 +39,8 @@ KILLS = (3.0, 8.0, 13.0)
 MOVES_AHEAD = 0.2
 # What a daemon that is killed had in hand at most: what it had read and not sent.
 IN_HAND = 4 * 64
-# Frames a second of which no more wait than the kernel keeps for a host, 4096, while systemd starts the daemon.
+# How many frames wait for a daemon in the device, and frames a second of which no more come while systemd starts it.
+HOST_QUEUE = 4096
 SLOW_RATE = 4000
 # Above the files that a program begins with.
 HIGH = 200
@@ -417,6 +418,31 @@ def handover_elsewhere(programs: Programs) -> None:
             check(within(ENDS, pinged), f"{name}, another namespace: data comes and goes", kept.text(), peer.text(), kept.printed()[-2000:])
 
 
+def tells_of_device(path: str) -> bool:
+    """Whether a state is whole, and of the device that is there."""
+    if not os.path.exists(path):
+        return False
+    with open(path, encoding="utf-8") as it:
+        lines = it.read().splitlines()
+    return "end" in lines and any(line.startswith(f"tap {device_number()} ") for line in lines)
+
+
+def handover_anew(programs: Programs) -> None:
+    """A namespace that is made anew may have the number of one that is gone, and the device that is made there has its number: it is set up, too."""
+    for _ in range(2):
+        with cables(programs, ()):
+            own = f"{programs.folder}/run/{os.stat(f'/run/netns/{OURS}').st_ino}.a0.state"
+            for path in glob.glob(f"{programs.folder}/run/*.a0.state"):
+                os.rename(path, own)
+            ours = End(programs, OURS)
+            try:
+                check(within(ENDS, lambda: tells_of_device(own)), "the state tells of the device", ours.printed())
+                told = inside(OURS, "ip", "link", "show", DEVICE).stdout
+                check(SYSTEM in told and f"qlen {HOST_QUEUE}" in told, f"{DEVICE} has its address, and room for {HOST_QUEUE} frames", told, ours.printed())
+            finally:
+                ours.stop()
+
+
 def handover_old_kernel(programs: Programs) -> None:
     """A kernel that gives the device a carrier as it is opened: it has none while nothing flows."""
     with managed(replace(programs, daemon=programs.old_kernel), (), has_manager=False) as (kept, peer):
@@ -525,4 +551,4 @@ def print_restarts(programs: Programs) -> None:
 
 
 PARTS = {it.__name__: it for it in (handover_plain, handover_offload, handover_fast, handover_alone, handover_changes, handover_released, killed_in_moves,
-                                   handover_elsewhere, handover_old_kernel, handover_unit, handed_twice)}
+                                   handover_elsewhere, handover_anew, handover_old_kernel, handover_unit, handed_twice)}
