@@ -257,20 +257,23 @@ static bool open_inherited(struct lagd *lagd, const char *name, const uint8_t *m
 }
 
 /* Makes the device, without carrier, or takes one that is there and that nobody has, as that of the last daemon, which may have another name
- * now. One that was made is gone when the daemon ends, unless the next one goes on. */
+ * now. One that was made is gone when the daemon ends, unless the next one goes on; where its number is that of the last daemon's, the namespace
+ * was made anew, too. */
 static void make_tap(struct lagd *lagd, const char *name, const uint8_t *mac) {
     struct tap_private *own = lagd->tap;
     char room[IF_NAMESIZE];
+    int before;
     struct ifreq device = request_of(lagd->inherited.persists && if_indextoname((unsigned)lagd->inherited.tap, room) ? room : name);
     own->tap = open("/dev/net/tun", O_RDWR | O_NONBLOCK | O_CLOEXEC);
     if (own->tap < 0) stop(REFUSED, "no TAP device", strerror(errno));
+    before = index_of(lagd->tap, device.ifr_name);
     device.ifr_flags = IFF_TAP | IFF_NO_PI | IFF_VNET_HDR | NO_CARRIER;
     if (ioctl(own->tap, TUNSETIFF, &device) < 0) stop(REFUSED, name, strerror(errno));
     own->number = index_of(lagd->tap, device.ifr_name);
     if (own->number == 0) stop(REFUSED, name, strerror(errno));
     own->carrier = true; /* which older kernels set here */
     set_carrier(lagd, false);
-    if (lagd->inherited.tap == own->number)
+    if (before == own->number && lagd->inherited.tap == own->number)
         go_on_with_tap(lagd);
     else
         set_up(lagd, mac);

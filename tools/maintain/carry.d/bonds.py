@@ -42,8 +42,9 @@ RIGHTS = ("setpriv", "--bounding-set", "-all,+net_raw,+net_admin,+bpf", "--inh-c
 ANSWERS = 5
 # What a run of flows takes beyond the time in which frames are sent.
 AFTER = 2.0
-# For how many seconds a daemon holds a frame at most, while it waits for the answer of a marker.
-HOLDS = 1.0
+# For how many seconds daemons and cables have to wait for a processor, all together, until frames that this alone explains are no verdict: so long
+# a daemon holds a frame at most, while it waits for the answer of a marker, and the queue of a device is full before that.
+LATE = 1.0
 
 
 @dataclass
@@ -300,6 +301,8 @@ class Outcome:
     delay_ms: int = 0
     strange: int = 0
     lost_here: int = 0
+    # What the device that sends had no room for, while its daemon took nothing.
+    no_room: int = 0
     # For how many seconds daemons and cables waited for a processor, all together.
     waited: float = 0.0
 
@@ -325,7 +328,7 @@ def run_flows(programs: Programs, seconds: float, events: Sequence[Event] = (), 
     receiver = launch(THEIRS, "receive", devices[1], flows, seconds + AFTER)
     time.sleep(0.3)
     sender = launch(OURS, "send", devices[0], rate, flows, seconds, kind)
-    begin, before = time.monotonic(), waited()
+    begin, before, dropped = time.monotonic(), waited(), kernel_count(OURS, devices[0], "tx_dropped")
     try:
         for at, event in events:
             time.sleep(max(0.0, begin + at - time.monotonic()))
@@ -335,7 +338,8 @@ def run_flows(programs: Programs, seconds: float, events: Sequence[Event] = (), 
         for it in (sender, receiver):
             it.kill()
             it.wait()
-    return Outcome(**json.loads(told[0]), **json.loads(told[1]), waited=since(before))
+    no_room = max(0, kernel_count(OURS, devices[0], "tx_dropped") - dropped)
+    return Outcome(**json.loads(told[0]), **json.loads(told[1]), no_room=no_room, waited=since(before))
 
 
 def check_order(outcome: Outcome, what: str, *told: object) -> None:
@@ -346,13 +350,17 @@ def check_order(outcome: Outcome, what: str, *told: object) -> None:
 
 
 def check_none_lost(outcome: Outcome, ours: End, theirs: End, what: str = "none was lost") -> None:
-    """No frame was lost. Where all that were had waited too long for the answer of a marker, and the machine gave its processors so late
-    that this alone can be why, a line says so, and nothing is counted."""
-    held, lost = ours.carry()["held_too_long"], outcome.lost()
-    if 0 < lost == held and outcome.waited >= HOLDS:
-        print(f"inconclusive: {what}: {held:,} frames were held too long; daemons and cables waited {outcome.waited:.1f} s for a processor", flush=True)
+    """No frame was lost. Where all that were had waited too long for the answer of a marker, or their device had no room, and the machine gave
+    its processors so late that this alone can be why, a line says so, and nothing is counted."""
+    held, no_room = ours.carry()["held_too_long"], outcome.no_room
+    if 0 < outcome.lost() == held + no_room and outcome.waited >= LATE:
+        print(f"inconclusive: {what}: {held:,} frames were held too long, {no_room:,} found no room; {late(outcome)}", flush=True)
         return
-    check(lost == 0, what, outcome, ours.text(), theirs.text())
+    check(outcome.lost() == 0, what, outcome, ours.text(), theirs.text())
+
+
+def late(outcome: Outcome) -> str:
+    return f"daemons and cables waited {outcome.waited:.1f} s for a processor"
 
 
 def check_end(end: End, name: str) -> None:

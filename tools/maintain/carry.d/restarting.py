@@ -17,8 +17,8 @@ from typing import Callable, Iterator, Sequence
 
 from beside import print_rows, switch_ends
 from booted import BOOTS, Machine
-from bonds import (COMES_BACK, COMES_UP, DEVICE, DIRECT, FLIGHT, FLOWS, MIDDLE, RATE, End, Outcome, Programs, ask_gro, cables, check_none_lost, check_order, lay_direct,
-                   move_all, run_flows)
+from bonds import (COMES_BACK, COMES_UP, DEVICE, DIRECT, FLIGHT, FLOWS, LATE, MIDDLE, RATE, End, Outcome, Programs, ask_gro, cables, check_none_lost,
+                   check_order, late, lay_direct, move_all, run_flows)
 from checking import Failed, Skipped, check, found, within
 from daemon import ENDS, SYSTEM, Daemon, Part
 from openvswitch import OpenVSwitch
@@ -39,10 +39,9 @@ KILLS = (3.0, 8.0, 13.0)
 MOVES_AHEAD = 0.2
 # What a daemon that is killed had in hand at most: what it had read and not sent.
 IN_HAND = 4 * 64
-# Frames a second of which no more wait than the kernel keeps for a host, 4096, while systemd starts the daemon.
+# How many frames wait for a daemon in the device, and frames a second of which no more come while systemd starts it.
+HOST_QUEUE = 4096
 SLOW_RATE = 4000
-# For how many seconds systemd and the daemons have to wait for a processor, all together, until frames that are lost meanwhile are no verdict.
-LATE = 1.0
 # Above the files that a program begins with.
 HIGH = 200
 # A manager of services that keeps nothing, and what a daemon has that carries no data.
@@ -194,6 +193,16 @@ def check_unseen(what: str, kept: Kept, peer: End, before: tuple[str, str], outc
     check(within(COMES_BACK, lambda: kept.links() == DIRECT), f"{what}: both links carry, and its carrier is on", *told)
 
 
+def check_lost(outcome: Outcome, most: int, what: str, kept: Kept) -> None:
+    """No more frames are lost than a daemon had in hand, also of those that the kernel did not take, nor for long. Where the device had no room for
+    all others, and the machine gave its processors so late that this alone can be why, a line says so, and nothing is counted."""
+    lost = outcome.sent - outcome.received
+    if most < lost <= most + outcome.no_room and outcome.waited >= LATE:
+        print(f"inconclusive: {what}: {lost} frames are lost, {outcome.no_room} found no room; {late(outcome)}", flush=True)
+        return
+    check(lost <= most and outcome.gap_ms < SHORT_GAP, f"{what}: {lost} frames are lost", outcome, kept.text())
+
+
 def places(kept: Kept) -> list[str]:
     """The conversations, and the interface of each, as the daemon last wrote it."""
     time.sleep(WRITTEN)
@@ -234,8 +243,7 @@ def another_hash(programs: Programs) -> None:
         tables = [name for name in kept.manager.files if name.startswith("map-")] if kept.manager else []
         check(len(tables) == TABLES, f"fast, another hash: {len(tables)} tables are kept", kept.text())
         outcome = flows_through(programs, partial(kept.again, signal.SIGUSR1))
-        lost = outcome.sent - outcome.received
-        check(lost == 0, f"fast, another hash: {lost} frames are lost by a handover", outcome, kept.text())
+        check_lost(outcome, 0, "fast, another hash, handed over", kept)
 
 
 def hand_over(programs: Programs, name: str, more: Sequence[str] = (), queues: int = 1) -> None:
@@ -248,8 +256,7 @@ def hand_over(programs: Programs, name: str, more: Sequence[str] = (), queues: i
                 outcome = flows_through(programs, partial(kept.again, *signals))
                 what, most = f"{name}, the end that {end} is {event}", IN_HAND if event == "killed" else 0
                 check_unseen(what, kept, peer, before, outcome)
-                lost = outcome.sent - outcome.received  # also those that the kernel did not take
-                check(lost <= most and outcome.gap_ms < SHORT_GAP, f"{what}: {lost} frames are lost", outcome, kept.text())
+                check_lost(outcome, most, what, kept)
 
 
 def handover_plain(programs: Programs) -> None:
@@ -411,6 +418,31 @@ def handover_elsewhere(programs: Programs) -> None:
             check(within(ENDS, pinged), f"{name}, another namespace: data comes and goes", kept.text(), peer.text(), kept.printed()[-2000:])
 
 
+def tells_of_device(path: str) -> bool:
+    """Whether a state is whole, and of the device that is there."""
+    if not os.path.exists(path):
+        return False
+    with open(path, encoding="utf-8") as it:
+        lines = it.read().splitlines()
+    return "end" in lines and any(line.startswith(f"tap {device_number()} ") for line in lines)
+
+
+def handover_anew(programs: Programs) -> None:
+    """A namespace that is made anew may have the number of one that is gone, and the device that is made there has its number: it is set up, too."""
+    for _ in range(2):
+        with cables(programs, ()):
+            own = f"{programs.folder}/run/{os.stat(f'/run/netns/{OURS}').st_ino}.a0.state"
+            for path in glob.glob(f"{programs.folder}/run/*.a0.state"):
+                os.rename(path, own)
+            ours = End(programs, OURS)
+            try:
+                check(within(ENDS, lambda: tells_of_device(own)), "the state tells of the device", ours.printed())
+                told = inside(OURS, "ip", "link", "show", DEVICE).stdout
+                check(SYSTEM in told and f"qlen {HOST_QUEUE}" in told, f"{DEVICE} has its address, and room for {HOST_QUEUE} frames", told, ours.printed())
+            finally:
+                ours.stop()
+
+
 def handover_old_kernel(programs: Programs) -> None:
     """A kernel that gives the device a carrier as it is opened: it has none while nothing flows."""
     with managed(replace(programs, daemon=programs.old_kernel), (), has_manager=False) as (kept, peer):
@@ -519,4 +551,4 @@ def print_restarts(programs: Programs) -> None:
 
 
 PARTS = {it.__name__: it for it in (handover_plain, handover_offload, handover_fast, handover_alone, handover_changes, handover_released, killed_in_moves,
-                                   handover_elsewhere, handover_old_kernel, handover_unit, handed_twice)}
+                                   handover_elsewhere, handover_anew, handover_old_kernel, handover_unit, handed_twice)}
