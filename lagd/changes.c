@@ -144,6 +144,12 @@ static void follow(struct lagd *lagd, struct link *link, const struct interface 
     set_link(lagd, port, up);
 }
 
+/* The interface of a port is gone, or has another name now. Where the device alone said that it is a port, it is none any more. */
+static void lose_interface(struct lagd *lagd, struct link *link) {
+    link->outside = link->outside || link->followed;
+    if (link->socket >= 0) lose_link(lagd, link);
+}
+
 /* An interface is there. A port goes by its name, and the TAP device by its number. */
 static void follow_present(struct lagd *lagd, const struct interface *interface) {
     bool known = false;
@@ -156,15 +162,16 @@ static void follow_present(struct lagd *lagd, const struct interface *interface)
     for (uint16_t i = 0; i < lagd->link_count; i++) {
         struct link *link = &lagd->links[i];
         bool named = is_named(interface, link->name), same = link->socket >= 0 && link->index == interface->index;
-        if (link->socket >= 0 && (same != named || (same && !is_bound(link)))) lose_link(lagd, link);
+        named = named || (same && take_name(lagd, link, interface));
+        if (link->socket >= 0 && (same != named || (same && !is_bound(link)))) lose_interface(lagd, link);
         if (same && link->socket >= 0 && !is_still_team_port(lagd, link, interface->master)) {
             tell_taken_out(lagd, link);
             lose_link(lagd, link);
         }
         known = known || named;
-        if (!named || (link->socket < 0 && !take_up(lagd, link, interface))) continue;
+        if (!named) continue;
         link->present = true;
-        follow(lagd, link, interface);
+        if (link->socket >= 0 || take_up(lagd, link, interface)) follow(lagd, link, interface);
     }
     if (!known) follow_port(lagd, interface);
 }
@@ -174,7 +181,7 @@ static void follow_absent(struct lagd *lagd, const struct interface *interface) 
     for (uint16_t i = 0; i < lagd->link_count; i++) {
         struct link *link = &lagd->links[i];
         if (link->index != interface->index) continue;
-        if (link->socket >= 0) lose_link(lagd, link);
+        lose_interface(lagd, link);
         if (!interface->moved) forget_interface(lagd->folder, link);
     }
 }
@@ -201,7 +208,7 @@ static void end_answer(struct lagd *lagd, int error) {
     own->ask_again = own->ask_again || !whole;
     if (whole && !own->tap_named) lagd->plane.carrying->lose_device(lagd);
     for (uint16_t i = 0; whole && i < lagd->link_count; i++)
-        if (lagd->links[i].socket >= 0 && !lagd->links[i].present) lose_link(lagd, &lagd->links[i]);
+        if (!lagd->links[i].present) lose_interface(lagd, &lagd->links[i]);
 }
 
 /* Takes one message. A bridge tells of its ports in messages of its own family, which say nothing of their links. */

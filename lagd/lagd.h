@@ -380,6 +380,7 @@ bool may_put_in(struct lagd *lagd, const struct link *link);
 bool stays_outside(struct lagd *lagd, struct link *link, int master);
 void tell_taken_out(struct lagd *lagd, struct link *link);
 void follow_port(struct lagd *lagd, const struct interface *interface);
+bool take_name(struct lagd *lagd, const struct link *link, const struct interface *interface);
 void answer_order(struct lagd *lagd, char *order, char answer[static ORDER_ROOM]);
 
 /* halt.c */

@@ -281,16 +281,30 @@ void tell_taken_out(struct lagd *lagd, struct link *link) {
     if (apply_hold(lagd, port)) link->changed = true;
 }
 
-/* The kernel told of an interface that is no port. Where it is in a device whose ports others choose, it becomes one. */
+/* The kernel told of an interface that is no port. Where it is in a device whose ports others choose, it becomes one. That may be older than what was
+ * done since, as one that leaves is taken out: it is asked. */
 void follow_port(struct lagd *lagd, const struct interface *interface) {
     struct port_settings settings = unset_port();
+    struct interface now;
     uint16_t port = 1;
     if (!lagd->settings.follow || interface->master == 0 || interface->master != tap_index(lagd->tap) || interface->type != ARPHRD_ETHER) return;
+    if (!ask_interface(interface->index, NULL, &now) || now.master != interface->master) return;
     while (port <= lagd->slot_count && lagd->links[port - 1].used) port++;
     if (port > lagd->slot_count) return;
     memcpy(settings.name, interface->name, sizeof interface->name);
     join_port(lagd, port, &settings);
-    lagd->links[port - 1].followed = true;
+    lagd->links[port - 1].followed = lagd->links[port - 1].present = true;
+    lagd->links[port - 1].puts_in = false; /* others did, and may have taken it out since */
+}
+
+/* The interface of a port that the device alone has was given another name: it is the same port. Answers whether it is. */
+bool take_name(struct lagd *lagd, const struct link *link, const struct interface *interface) {
+    char *name = lagd->settings.ports[link->settings.number - 1].name;
+    if (!link->followed || link->leaving || interface->master != tap_index(lagd->tap) || link_of(lagd, interface->name)) return false;
+    (void)say(lagd, LOG_NOTICE | ABOUT_PORT, "port %u %s: its name is %s now", link->settings.number, name, interface->name);
+    memcpy(name, interface->name, sizeof interface->name);
+    tell_watchers_of(lagd, link);
+    return true;
 }
 
 /* What keeps an interface from being a port now, or NULL. */
