@@ -64,8 +64,8 @@ static uint16_t claim_number(struct lagd *lagd, bool *taken) {
     return number;
 }
 
-/* Numbers these ports. One that is there, or was in the last daemon, keeps its number, and a new one has the lowest that is free. Answers whether each
- * found one. */
+/* Numbers these ports. One that is there, or was in the last daemon, keeps its number, and a new one has the lowest that is free. Answers whether
+ * each found one. */
 static bool number_ports(struct lagd *lagd, const struct port_settings *given, uint16_t count, uint16_t *numbers, bool with_left) {
     bool taken[NIW_MOST_PORTS] = {false};
     mark_taken(lagd, taken, with_left);

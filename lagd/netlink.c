@@ -85,8 +85,8 @@ bool ask_netlink(int bus, const union message *question, message_reader read_one
     return fault == 0;
 }
 
-/* As ask_netlink, of a list of which the kernel may change something while it tells it: then it is asked again. `into` has `size` octets, which are as
- * they were for each answer. */
+/* As ask_netlink, of a list of which the kernel may change something while it tells it: then it is asked again. `into` has `size` octets, which are
+ * as they were for each answer. */
 bool ask_list(int bus, const union message *question, message_reader read_one, void *into, size_t size) {
     uint8_t before[MOST_LISTED];
     bool told = false;
