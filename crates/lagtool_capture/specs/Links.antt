@@ -1,8 +1,10 @@
 -- The links of a capture, and whether they carry data, by the last LACPDUs of their ends.
-use Rattle.std.specs.Prelude.{◌==◌, ◌&&◌, ◌||◌, ◌*◌, ◌-◌, ℕ, Bool, false, true, not, List, [], ◌∷◌, Option, Some, None, nat_lt, nat_le, if◌then◌else◌}
+use Rattle.std.specs.Prelude.{◌==◌, ◌&&◌, ◌||◌, ◌*◌, ◌-◌, ℕ, Bool, false, true, not, List, Option, Some, None, find, nat_lt, nat_le, option_map, if◌then◌else◌}
+use Rattle.std.specs.List.{fold}
 use Rattle.std.specs.Option.{option_or}
 use Rattle.findings.specs.declared.slow_frame.LinkEnd.{LinkEnd}
 use Rattle.findings.specs.Ends.{same_end}
+use Rattle.findings.specs.Holds.{and_if}
 use Rattle.lagtypes.specs.Same.{same_port, same_system}
 use Rattle.lagtypes.specs.States.{bits_of}
 use Rattle.lagtypes.specs.declared.identifiers.Key.{Key}
@@ -28,17 +30,14 @@ faces e x = not (same_end x.sender e.sender) && (is_named_by e x || is_named_by 
 
 -- the other end of its link: the first of these
 abbrev pub far_end : List LacpduSender → LacpduSender → Option LastSent
-far_end [] e = None
-far_end (x ∷ xs) e = if faces e x then Some (last_sent x) else far_end xs e
+far_end es e = option_map last_sent (find (faces e) es)
 
 abbrev pub is_sender : LinkEnd → Option LastSent → Bool
-is_sender s None = false
-is_sender s (Some x) = same_end x.sender s
+is_sender s = and_if (λ x. same_end x.sender s)
 
--- an end of these that stands before this one, among all ends, has it as its other end: their link is told there
+-- the first end of these that is this one, or has it among all ends as its other end, is another: their link is told there
 abbrev pub is_told : List LacpduSender → List LacpduSender → LinkEnd → Bool
-is_told all [] s = false
-is_told all (x ∷ xs) s = if same_end x.sender s then false else if is_sender s (far_end all x) then true else is_told all xs s
+is_told all es s = and_if (λ x. not (same_end x.sender s)) (find (λ x. same_end x.sender s || is_sender s (far_end all x)) es)
 
 -- ---- Whether an end carries ----
 
@@ -70,11 +69,10 @@ is_silent until s = is_past (awaited s) s.time until
 
 -- the time of the last LACPDU of these ends, beside this one
 abbrev pub until_from : Option ℕ → List LacpduSender → Option ℕ
-until_from time [] = time
-until_from time (x ∷ xs) = until_from (longer time x.latest) xs
+until_from = fold (λ time x. longer time x.latest)
 
 abbrev pub until_of : List LacpduSender → Option ℕ
-until_of es = until_from None es
+until_of = until_from None
 
 -- ---- Keys within two systems (6.3.6) ----
 
@@ -90,12 +88,10 @@ is_apart near far x = is_other_link near far x && ((x.last.actor.key.0 == near.k
 
 -- the key of the far system on the first such link
 abbrev pub key_apart : List LacpduSender → Info → Info → Option Key
-key_apart [] near far = None
-key_apart (x ∷ xs) near far = if is_apart near far x then Some x.last.partner.key else key_apart xs near far
+key_apart all near far = option_map (λ x. x.last.partner.key) (find (is_apart near far) all)
 
 abbrev pub apart_at : LastSent → Option Key → Option KeyApart
-apart_at s None = None
-apart_at s (Some there) = Some (record { end = s.sender; here = s.lacpdu.actor.key; there = there })
+apart_at s = option_map (λ there. record { end = s.sender; here = s.lacpdu.actor.key; there = there })
 
 -- an end of a link with another key than on another link, where the other system has one key on both
 abbrev pub keys_apart : List LacpduSender → LastSent → LastSent → Option KeyApart
@@ -171,21 +167,11 @@ link_of all until e = if is_told all all e.sender then None else Some (link_from
 abbrev pub carries : LinkState → Option Bool
 carries is.Carries = Some true
 carries (is.CarriesApart k) = Some true
-carries (is.OtherKey k) = Some false
-carries is.OneSystem = Some false
-carries is.BothPassive = Some false
-carries is.Quiet = Some false
-carries (is.Silent s) = Some false
-carries (is.HearsNobody s) = Some false
-carries (is.Individual s) = Some false
-carries (is.Unattached s) = Some false
-carries is.Waiting = Some false
 carries is.Alone = None
-carries is.Unanswered = Some false
+carries x = Some false
 
 abbrev pub is_true : Option Bool → Bool
-is_true (Some b) = b
-is_true None = false
+is_true = and_if (λ b. b)
 
 abbrev pub no_links : LinkCounts
 no_links = record { links = 0; carrying = 0 }
@@ -196,12 +182,10 @@ with_link None c = c
 with_link (Some l) c = record { links = one_more c.links; carrying = if is_true (carries l.state) then one_more c.carrying else c.carrying }
 
 abbrev pub far_sender : Option LastSent → Option LinkEnd
-far_sender None = None
-far_sender (Some x) = Some x.sender
+far_sender = option_map (λ x. x.sender)
 
 abbrev pub counted_from : LinkCounts → List LacpduSender → Option ℕ → List LacpduSender → LinkCounts
-counted_from c all until [] = c
-counted_from c all until (e ∷ es) = counted_from (with_link (link_of all until e) c) all until es
+counted_from c all until = fold (λ d e. with_link (link_of all until e) d) c
 
 -- how many links there are, and how many of them carry
 abbrev pub link_counts : List LacpduSender → LinkCounts
