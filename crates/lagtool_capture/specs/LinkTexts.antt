@@ -1,5 +1,5 @@
 -- What is said of links before all else.
-use Rattle.std.specs.Prelude.{◌++◌, ℕ, List, [], ◌∷◌, Option, Some, None, codes, decimal, flat_map}
+use Rattle.std.specs.Prelude.{◌++◌, ℕ, List, [], Option, Some, None, codes, decimal, flat_map}
 use Rattle.findings.specs.declared.slow_frame.LinkEnd.{LinkEnd}
 use Rattle.lagtypes.specs.Texts.{mac_text}
 use Rattle.lagtool_capture.specs.declared.ends.LacpduSender.{LacpduSender}
@@ -11,7 +11,7 @@ use Rattle.lagtool_capture.specs.declared.links.LinkState.{LinkState}
 use Rattle.lagtool_capture.specs.declared.links.LinkState.TheVariants as is
 use Rattle.lagtool_capture.specs.FindingTexts.{port_part}
 use Rattle.lagtool_capture.specs.LineTexts.{interface_part, since_text}
-use Rattle.lagtool_capture.specs.Links.{link_of, until_of}
+use Rattle.lagtool_capture.specs.Links.{link_of}
 
 -- MAC has key K here, and K on a link in use
 unfoldable pub key_part : KeyApart → List ℕ
