@@ -28,6 +28,7 @@ state_text first is.BothPassive = codes "does not carry: both ends are passive"
 state_text first is.Quiet = codes "does not carry: neither end sends any more"
 state_text first (is.Silent s) = codes "does not carry: " ++ (mac_text s.sender.source ++ (codes " sends nothing after " ++ since_text first s.time))
 state_text first (is.HearsNobody s) = codes "does not carry: " ++ (mac_text s.source ++ codes " hears nobody")
+state_text first (is.OtherPartner s) = codes "does not carry: " ++ (mac_text s.source ++ codes " has another partner")
 state_text first (is.Individual s) = codes "does not carry: " ++ (mac_text s.source ++ codes " is individual")
 state_text first (is.Unattached s) =
     codes "does not carry: " ++ (mac_text s.source ++ codes " has not attached it: it uses another aggregator, or has links enough")

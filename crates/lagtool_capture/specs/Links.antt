@@ -49,6 +49,10 @@ hears s = not (bits_of s.lacpdu.actor.state).defaulted && not (bits_of s.lacpdu.
 abbrev pub is_up : LastSent → Bool
 is_up s = hears s && ((bits_of s.lacpdu.actor.state).collecting && (bits_of s.lacpdu.actor.state).distributing)
 
+-- it has the other end as its partner (6.4.2.3): a system and its port
+abbrev pub has_as_partner : LastSent → LastSent → Bool
+has_as_partner s x = same_system s.lacpdu.partner.system x.lacpdu.actor.system && same_port s.lacpdu.partner.port x.lacpdu.actor.port
+
 -- so many nanoseconds
 unfoldable pub nanoseconds : ℕ → ℕ
 nanoseconds seconds = seconds * 1000000000
@@ -120,14 +124,21 @@ abbrev pub heard : Option KeyApart → LastSent → LastSent → LinkState
 heard None near far = waiting near far
 heard (Some k) near far = is.OtherKey k
 
+abbrev pub partnered : Option KeyApart → LastSent → LastSent → LinkState
+partnered k near far =
+    if not (has_as_partner near far) then is.OtherPartner near.sender
+    else if not (has_as_partner far near) then is.OtherPartner far.sender
+    else heard k near far
+
 abbrev pub idle : Option KeyApart → LastSent → LastSent → LinkState
 idle k near far =
     if not (hears near) then is.HearsNobody near.sender
     else if not (hears far) then is.HearsNobody far.sender
-    else heard k near far
+    else partnered k near far
 
 abbrev pub speaking : Option KeyApart → LastSent → LastSent → LinkState
-speaking k near far = if is_up near && is_up far then carrying k else idle k near far
+speaking k near far =
+    if (is_up near && is_up far) && (has_as_partner near far && has_as_partner far near) then carrying k else idle k near far
 
 abbrev pub is_passive : LastSent → Bool
 is_passive s = not (bits_of s.lacpdu.actor.state).activity

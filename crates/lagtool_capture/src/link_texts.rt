@@ -65,6 +65,11 @@ impl fmt::Display for StateText {
             LinkState::HearsNobody(end) => {
                 write!(f, "does not carry: {} hears nobody", MacText(&end.source))
             }
+            LinkState::OtherPartner(end) => write!(
+                f,
+                "does not carry: {} has another partner",
+                MacText(&end.source)
+            ),
             LinkState::Individual(end) => {
                 write!(f, "does not carry: {} is individual", MacText(&end.source))
             }

@@ -1,5 +1,5 @@
 ghost use Rattle.std.specs.Prelude.{◌≡◌};
-ghost use Rattle.lagtool_capture.specs.Links.{apart_at, awaited, carries, carrying, faces, far_end, far_sender, heard, hears, idle, is_apart, is_other_link, is_passive, is_past, is_sender, is_silent, is_told, is_true, is_up, key_apart, keys_apart, last_sent, link_counts, link_of, of_both, of_one, speaking, state_of, until_of, waiting, with_link};
+ghost use Rattle.lagtool_capture.specs.Links.{apart_at, awaited, carries, carrying, faces, far_end, far_sender, has_as_partner, heard, hears, idle, is_apart, is_other_link, is_passive, is_past, is_sender, is_silent, is_told, is_true, is_up, key_apart, keys_apart, last_sent, link_counts, link_of, of_both, of_one, partnered, speaking, state_of, until_of, waiting, with_link};
 
 use crate::ends::{LacpduSender, is_named_by, longer};
 use findings::LinkEnd;
@@ -36,7 +36,7 @@ pub struct KeyApart {
 /// Whether a link carries data, by the last LACPDUs of its ends, and why not.
 #[derive(Clone, Copy, Debug, PartialEq, Eq)]
 pub enum LinkState {
-    /// Both ends collect, distribute and hear each other.
+    /// Both ends collect and distribute, and each has the other as its partner.
     Carries,
     /// The same, and so does a link on which one end has another key.
     CarriesApart(KeyApart),
@@ -52,6 +52,8 @@ pub enum LinkState {
     Silent(LastSent),
     /// This end is Defaulted or Expired (6.4.12).
     HearsNobody(LinkEnd),
+    /// This end has another partner than the other end (6.4.2.3).
+    OtherPartner(LinkEnd),
     /// This end alone is Individual (6.3.5).
     Individual(LinkEnd),
     /// This end alone is not in Synchronization (6.4.15).
@@ -175,6 +177,14 @@ impl LastSent {
     {
         let state = self.lacpdu.actor.state;
         self.hears() && (state.is_collecting() && state.is_distributing())
+    }
+
+    /// Whether it has the other end as its partner.
+    fn has_as_partner(&self, other: &LastSent) -> bool
+        ensures { result ≡ has_as_partner self.now other.now }
+    {
+        let (partner, actor) = (self.lacpdu.partner, other.lacpdu.actor);
+        partner.system == actor.system && partner.port == actor.port
     }
 
     /// Whether it is passive.
@@ -354,6 +364,19 @@ impl LinkState {
         }
     }
 
+    /// The same, by who is their partner.
+    fn partnered(apart: Option<KeyApart>, near: &LastSent, far: &LastSent) -> LinkState
+        ensures { result ≡ partnered apart near.now far.now }
+    {
+        if !near.has_as_partner(far) {
+            LinkState::OtherPartner(near.sender)
+        } else if !far.has_as_partner(near) {
+            LinkState::OtherPartner(far.sender)
+        } else {
+            LinkState::heard(apart, near, far)
+        }
+    }
+
     /// Of a link that does not carry, though both ends send.
     fn idle(apart: Option<KeyApart>, near: &LastSent, far: &LastSent) -> LinkState
         ensures { result ≡ idle apart near.now far.now }
@@ -363,7 +386,7 @@ impl LinkState {
         } else if !far.hears() {
             LinkState::HearsNobody(far.sender)
         } else {
-            LinkState::heard(apart, near, far)
+            LinkState::partnered(apart, near, far)
         }
     }
 
@@ -371,7 +394,8 @@ impl LinkState {
     fn speaking(apart: Option<KeyApart>, near: &LastSent, far: &LastSent) -> LinkState
         ensures { result ≡ speaking apart near.now far.now }
     {
-        if near.is_up() && far.is_up() {
+        let are_partners = near.has_as_partner(far) && far.has_as_partner(near);
+        if (near.is_up() && far.is_up()) && are_partners {
             LinkState::carrying(apart)
         } else {
             LinkState::idle(apart, near, far)
@@ -433,7 +457,7 @@ impl LinkState {
     }
 }
 
-// promise: a link is said to carry only if the last LACPDUs of both ends say that they collect, distribute and hear their partner
+// promise: a link is said to carry only if the last LACPDUs of both ends say that they collect and distribute, hear their partner, and have each other as partner
 // contract: `link_of` (`link_of`, `of_both`)
 /// The link of an end among all ends of a capture whose last LACPDU has this time; None if it is told at an end before it.
 #[tactic(auto, unfolding(crate::specs::Links::link_of))]

@@ -235,6 +235,18 @@ fn a_state_says_why_a_link_does_not_carry(rt: HostRuntime) -> Result<(), Fail> {
     one_link(&rt, rt.alloc(), near(UP), looped, is)
 }
 
+// Three systems on a hub: each hears the last speaker (6.4.2.3, 6.4.9).
+#[test]
+fn a_link_does_not_carry_to_another_partner(rt: HostRuntime) -> Result<(), Fail> {
+    let (one, two, three) = (End(1, 1, 1, UP), End(2, 1, 1, UP), End(3, 1, 1, UP));
+    let all = [Sent(0, one, three), Sent(0, two, one)];
+    let lines = "\
+links 1 carrying 0
+link 02-00-00-00-00-01 port 1 - 02-00-00-00-00-02 port 1: does not carry: 02-00-00-00-00-01 has another partner
+";
+    begins(&rt, rt.alloc(), &all, lines)
+}
+
 #[test]
 fn one_end_alone_says_what_it_can(rt: HostRuntime) -> Result<(), Fail> {
     let alone = [Sent(0, End(1, 1, 1, UP), End(2, 1, 1, UP))];
