@@ -10,6 +10,7 @@ from report import Unread
 # Of each kind of record, the fields that are drawn.
 FIELDS = {
     "frame": ["packet", "seconds", "interface", "source", "kind"],
+    "link": [],
     "end": ["interface", "source", "port"],
     "finding": ["rule", "name", "end", "packet"],
     "counts": ["packets", "slow", "ends", "findings"],

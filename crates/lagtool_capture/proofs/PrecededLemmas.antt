@@ -4,6 +4,7 @@ use Rattle.lagtool_capture.proofs.Common.{◌++◌, ◌+◌, ◌∙◌, ◌∷�
 use Rattle.lagtool_capture.proofs.Common.{end_index, identity_of, number_of, ReportState, after, after_all, after_any, after_what, closing_records}
 use Rattle.lagtool_capture.proofs.Common.{closing_texts, counted, frame_line, is_new, lacpdu_line, legend_line, name_number, named, with_end}
 use Rattle.lagtool_capture.proofs.Common.{with_ends, with_line, frame_in, preceded}
+use Rattle.std.specs.Prelude.{not, ◌||◌}
 use Rattle.lagtool_capture.specs.Reporting.{after_frame}
 use Rattle.lagtool_capture.specs.Reporting.{after_lacpdu, after_named, observed}
 use Rattle.findings.specs.declared.slow_frame.What.TheVariants as held
@@ -21,13 +22,13 @@ line_preceded out time e t s =
 
 named_preceded : (out : List ℕ) (a : Identity) (s : ReportState) → named a (preceded out s) ≡ preceded out (named a s)
 named_preceded out a s =
-    ap (λ (w : List ℕ). record (named a s) { to_write = w }) (by (legend_line (length s.names + 1) a) (is_new (number_of s.names a) s.names) s.settings.json)
+    ap (λ (w : List ℕ). record (named a s) { to_write = w }) (by (legend_line (length s.names + 1) a) (is_new (number_of s.names a) s.names) (s.settings.json || not s.settings.frames))
   where
-    by : (line : List ℕ) (new json : Bool) → cond new (cond json (out ++ s.to_write) ((out ++ s.to_write) ++ line)) (out ++ s.to_write)
-        ≡ out ++ cond new (cond json s.to_write (s.to_write ++ line)) s.to_write
+    by : (line : List ℕ) (new unsaid : Bool) → cond new (cond unsaid (out ++ s.to_write) ((out ++ s.to_write) ++ line)) (out ++ s.to_write)
+        ≡ out ++ cond new (cond unsaid s.to_write (s.to_write ++ line)) s.to_write
     by line true true = refl
     by line true false = append_assoc out s.to_write line
-    by line false json = refl
+    by line false unsaid = refl
 
 after_named_preceded : (out : List ℕ) (actor partner time : Option ℕ) (e : SlowFrame) (v : Lacpdu) (s : ReportState)
     → after_named actor partner time e v (preceded out s) ≡ preceded out (after_named actor partner time e v s)

@@ -48,7 +48,7 @@ shorter (Some one) (Some other) = Some (if nat_lt other one then other else one)
 shorter (Some one) None = Some one
 shorter None other = other
 
--- the longer of two gaps, as far as they are known
+-- the longer of two gaps, or the later of two times, as far as they are known
 abbrev pub longer : Option ℕ → Option ℕ → Option ℕ
 longer (Some one) (Some other) = Some (if nat_lt one other then other else one)
 longer (Some one) None = Some one

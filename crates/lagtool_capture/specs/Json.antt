@@ -1,6 +1,6 @@
 -- The records of a capture as JSON (RFC 8259), each an object in a line of its own. The texts that stand in quotation marks
 -- have no quotation mark, no backslash and no control character.
-use Rattle.std.specs.Prelude.{◌++◌, ℕ, List, [], ◌∷◌, Option, Some, None, codes, decimal, flat_map}
+use Rattle.std.specs.Prelude.{◌++◌, ℕ, Bool, List, [], ◌∷◌, Option, Some, None, codes, decimal, flat_map, if◌then◌else◌}
 use Rattle.findings.specs.declared.finding.Finding.{Finding}
 use Rattle.findings.specs.declared.finding.Shown.{Shown}
 use Rattle.findings.specs.declared.slow_frame.LinkEnd.{LinkEnd}
@@ -15,11 +15,15 @@ use Rattle.lagtool_capture.specs.declared.ends.Phase.{Phase}
 use Rattle.findings.specs.declared.slow_frame.SlowFrame.{SlowFrame}
 use Rattle.lagtool_capture.specs.declared.line.WhatText.{WhatText}
 use Rattle.lagtool_capture.specs.declared.line.WhatText.TheVariants as what
+use Rattle.lagtool_capture.specs.declared.links.Link.{Link}
+use Rattle.lagtool_capture.specs.declared.links.LinkState.{LinkState}
 use Rattle.lagtool_capture.specs.declared.names.Identity.{Identity}
 use Rattle.lagtool_capture.specs.Ends.{named_by}
 use Rattle.lagtool_capture.specs.EndTexts.{tenths_text}
 use Rattle.lagtool_capture.specs.FindingTexts.{number_text}
 use Rattle.lagtool_capture.specs.Gaps.{median}
+use Rattle.lagtool_capture.specs.Links.{carries, far_sender, link_of}
+use Rattle.lagtool_capture.specs.LinkTexts.{state_text}
 use Rattle.lagtool_capture.specs.Names.{identity_of}
 use Rattle.lagtool_capture.specs.LineTexts.{marker_word, seconds_text, signed_seconds}
 
@@ -154,6 +158,38 @@ phases_part first e =
 unfoldable pub end_record : Option ℕ → List LacpduSender → LacpduSender → List ℕ
 end_record first all e =
     123 ∷ (sender_part e ++ 44 ∷ (parties_part all e ++ 44 ∷ (times_part first e ++ 44 ∷ (phases_part first e ++ codes "}\n"))))
+
+-- true, false, or null if it is not known
+abbrev pub known_value : Option Bool → List ℕ
+known_value (Some known) = if known then codes "true" else codes "false"
+known_value None = codes "null"
+
+-- what the record of a link says of its ends
+unfoldable pub link_ends_part : Link → List ℕ
+link_ends_part l =
+    members (member (codes "record") (quoted (codes "link")) ∷ member (codes "end") (link_end_value l.near.sender)
+    ∷ member (codes "partner") (partner_value (far_sender l.far)) ∷ [])
+
+-- whether it carries, and why not
+unfoldable pub link_state_part : Option ℕ → LinkState → List ℕ
+link_state_part first x =
+    members (member (codes "carries") (known_value (carries x)) ∷ member (codes "state") (quoted (state_text first x)) ∷ [])
+
+-- the record of a link
+unfoldable pub link_record : Option ℕ → Link → List ℕ
+link_record first l = 123 ∷ (link_ends_part l ++ 44 ∷ (link_state_part first l.state ++ codes "}\n"))
+
+abbrev pub link_records : Option ℕ → Option Link → List ℕ
+link_records first None = []
+link_records first (Some l) = link_record first l
+
+-- the record of the link of an end among all ends, unless it is told at an end before it
+unfoldable pub record_of_end : Option ℕ → List LacpduSender → Option ℕ → LacpduSender → List ℕ
+record_of_end first all until e = link_records first (link_of all until e)
+
+-- the records of the links of these ends among all ends
+abbrev pub links_records : Option ℕ → List LacpduSender → Option ℕ → List LacpduSender → List ℕ
+links_records first all until es = flat_map (record_of_end first all until) es
 
 -- the records of ends among all ends
 abbrev pub ends_records : Option ℕ → List LacpduSender → List LacpduSender → List ℕ

@@ -6,11 +6,13 @@ pub mod LacpduTexts
 pub mod LineTexts
 pub mod Gaps
 pub mod Ends
+pub mod Links
 pub mod Reporting
 pub mod Faults
 pub mod Taking
 pub mod EndTexts
 pub mod FindingTexts
+pub mod LinkTexts
 pub mod Json
 pub mod SlowFrames
 pub mod Noticing

@@ -1,5 +1,5 @@
 -- The ends of links by the identifiers that LACPDUs name them by (6.4.2.3), and their short names.
-use Rattle.std.specs.Prelude.{◌==◌, ◌&&◌, ◌+◌, ◌++◌, ℕ, Bool, List, [], ◌∷◌, Option, Some, None, codes, decimal, if◌then◌else◌}
+use Rattle.std.specs.Prelude.{◌==◌, ◌&&◌, ◌+◌, ◌++◌, ℕ, Bool, List, [], ◌∷◌, Option, Some, None, codes, decimal, flat_map, if◌then◌else◌}
 use Rattle.lagtypes.specs.Same.{same_port, same_system}
 use Rattle.lagtypes.specs.Texts.{port_text, system_text}
 use Rattle.slowpdu.specs.declared.pdu.Info.{Info}
@@ -30,3 +30,11 @@ number_of names a = number_from 0 names a
 abbrev pub name_text : Option ℕ → Identity → List ℕ
 name_text (Some n) a = codes "P" ++ decimal n
 name_text None a = identity_text a
+
+-- the line of the legend for an end among those that have short names
+unfoldable pub named_line : List Identity → Identity → List ℕ
+named_line names a = name_text (number_of names a) a ++ (codes " = " ++ (identity_text a ++ codes "\n"))
+
+-- their lines
+abbrev pub names_text : List Identity → List Identity → List ℕ
+names_text names xs = flat_map (named_line names) xs

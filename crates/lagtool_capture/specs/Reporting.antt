@@ -1,5 +1,5 @@
 -- What was read of a capture so far, and what a packet more adds to it.
-use Rattle.std.specs.Prelude.{◌+◌, ◌++◌, ℕ, Bool, false, List, [], ◌∷◌, Option, Some, None, codes, decimal, length}
+use Rattle.std.specs.Prelude.{◌+◌, ◌++◌, ◌||◌, ℕ, Bool, false, not, List, [], ◌∷◌, Option, Some, None, codes, decimal, length}
 use Rattle.std.specs.Prelude.{nat_lt, if◌then◌else◌}
 use Rattle.captures.specs.declared.packet.Packet.{Packet}
 use Rattle.captures.specs.Whole.{Captured}
@@ -20,10 +20,12 @@ use Rattle.lagtool_capture.specs.EndTexts.{counts_text, ends_text}
 use Rattle.lagtool_capture.specs.Ends.{end_index, ends_after, is_beyond, last_of}
 use Rattle.lagtool_capture.specs.SlowFrames.{frame_in}
 use Rattle.lagtool_capture.specs.FindingTexts.{findings_text}
-use Rattle.lagtool_capture.specs.Json.{counts_record, ends_records, findings_records, frame_record}
+use Rattle.lagtool_capture.specs.Json.{counts_record, ends_records, findings_records, frame_record, links_records}
 use Rattle.lagtool_capture.specs.LacpduTexts.{shown_of}
 use Rattle.lagtool_capture.specs.LineTexts.{line_text}
-use Rattle.lagtool_capture.specs.Names.{identity_of, identity_text, number_of}
+use Rattle.lagtool_capture.specs.Links.{link_counts, until_of}
+use Rattle.lagtool_capture.specs.LinkTexts.{link_counts_text, links_text}
+use Rattle.lagtool_capture.specs.Names.{identity_of, identity_text, names_text, number_of}
 
 -- How many packets there were; the time of the first that has one; how many packets are frames of the slow protocols; how
 -- many LACPDUs are of no end that is told of; the ends with short names; the ends that sent LACPDUs; how many findings
@@ -70,9 +72,10 @@ most_names = 64
 abbrev pub legend_line : ℕ → Identity → List ℕ
 legend_line n a = codes "P" ++ (decimal n ++ (codes " = " ++ (identity_text a ++ codes "\n")))
 
--- a text with the line of the legend for an end with this number; records have no legend
-abbrev pub legend_added : Bool → ℕ → Identity → List ℕ → List ℕ
-legend_added json n a text = if json then text else text ++ legend_line n a
+-- a text with the line of the legend for an end with this number; records have no legend, and where frames have no lines it
+-- stands behind the links
+abbrev pub legend_added : Settings → ℕ → Identity → List ℕ → List ℕ
+legend_added o n a text = if o.json || not o.frames then text else text ++ legend_line n a
 
 -- an end gets a short name: it has none, and there is one left
 abbrev pub is_new : Option ℕ → List Identity → Bool
@@ -83,7 +86,7 @@ is_new None names = nat_lt (length names) most_names
 abbrev pub named : Identity → ReportState → ReportState
 named a s = record s {
   names = if is_new (number_of s.names a) s.names then s.names ++ a ∷ [] else s.names;
-  to_write = if is_new (number_of s.names a) s.names then legend_added s.settings.json (length s.names + 1) a s.to_write else s.to_write;
+  to_write = if is_new (number_of s.names a) s.names then legend_added s.settings (length s.names + 1) a s.to_write else s.to_write;
 }
 
 -- the number of an end's short name once it is named
@@ -164,15 +167,25 @@ abbrev pub after_all : List (Option Captured) → ReportState → ReportState
 after_all [] s = s
 after_all (x ∷ xs) s = after_all xs (after x s)
 
--- a line for each end that sent LACPDUs, a line for each finding, and the counts: as texts
+-- a line for each end and for each finding, and the counts
+abbrev pub ends_findings_counts : List Finding → ReportState → List ℕ
+ends_findings_counts fs s =
+    ends_text s.first s.names s.ends s.ends ++ (findings_text s.first fs ++ counts_text s.number s.slow (length s.ends) (length fs) s.beyond)
+
+-- the legend, where frames have no lines
+abbrev pub legend_behind : ReportState → List ℕ
+legend_behind s = if s.settings.frames then [] else names_text s.names s.names
+
+-- how many links carry, a line for each link, for each end that sent LACPDUs and for each finding, and the counts: as texts
 abbrev pub closing_texts : List Finding → ReportState → List ℕ
 closing_texts fs s =
-    ends_text s.first s.names s.ends s.ends ++ (findings_text s.first fs ++ counts_text s.number s.slow (length s.ends) (length fs) s.beyond)
+    link_counts_text (link_counts s.ends) ++ (links_text s.first s.ends (until_of s.ends) s.ends ++ (legend_behind s ++ ends_findings_counts fs s))
 
 -- the same as records
 abbrev pub closing_records : List Finding → ReportState → List ℕ
 closing_records fs s =
-    ends_records s.first s.ends s.ends ++ (findings_records s.first fs ++ counts_record s.number s.slow (length s.ends) (length fs) s.beyond)
+    links_records s.first s.ends (until_of s.ends) s.ends
+    ++ (ends_records s.first s.ends s.ends ++ (findings_records s.first fs ++ counts_record s.number s.slow (length s.ends) (length fs) s.beyond))
 
 -- after the last packet: the lines of the ends, of the findings, and of the counts
 abbrev pub with_ends : List Finding → ReportState → ReportState

@@ -1,6 +1,8 @@
 ghost use Rattle.std.specs.Prelude.{◌≡◌, ◌++◌, [], length, OnErr, OnOk, IfOk};
 ghost use Rattle.lagtool_capture.specs.Counting.{one_more};
-ghost use Rattle.lagtool_capture.specs.Reporting.{closing_records, closing_texts, legend_added, after_frame, after_lacpdu, after_named, counted, last_shown, name_number, named, nothing_seen, with_end, with_ends, with_line};
+ghost use Rattle.lagtool_capture.specs.Reporting.{closing_records, closing_texts, ends_findings_counts, legend_added, legend_behind, after_frame, after_lacpdu, after_named, counted, last_shown, name_number, named, nothing_seen, with_end, with_ends, with_line};
+ghost use Rattle.lagtool_capture.specs.Links.{link_counts, until_of};
+ghost use Rattle.lagtool_capture.specs.LinkTexts.{link_counts_text, links_text};
 ghost use Rattle.lagstreams.specs.Sinks.{WritesPart, WritesWhole};
 
 use crate::end_texts::{CountsText, EndsText};
@@ -9,9 +11,12 @@ use crate::fault::ReadFault;
 use crate::finding_texts::FindingsText;
 use crate::json::FrameRecord;
 use crate::json_ends::{CountsRecord, EndsRecords, FindingsRecords};
+use crate::json_links::LinksRecords;
 use crate::lacpdu_texts::{LacpduLine, ShownFields};
 use crate::line::{HeadText, SinceText, WhatText};
-use crate::names::{Identity, MOST_NAMES, number_of};
+use crate::link_texts::{LinkCountsText, LinksText};
+use crate::links::{link_counts, until_of};
+use crate::names::{Identity, MOST_NAMES, NamesText, number_of};
 use crate::settings::Settings;
 use crate::summary::CaptureSummary;
 use findings::{Finding, LinkEnd, MOST_ENDS, SlowFrame, What};
@@ -87,11 +92,12 @@ impl CaptureReport {
         self.number
     }
 
-    /// Adds the line of the legend for an end with this number; records have no legend.
+    /// Adds the line of the legend for an end with this number; records have no legend, and where frames have no lines it stands
+    /// behind the links.
     fn put_legend(&mut self, number: usize, identity: Identity) -> Result<(), AllocError>
-        ensures { OnOk result (self.new ≡ record self.old { to_write = legend_added self.old.settings.json number identity self.old.to_write }) }
+        ensures { OnOk result (self.new ≡ record self.old { to_write = legend_added self.old.settings number identity self.old.to_write }) }
     {
-        if self.settings.json {
+        if self.settings.json || !self.settings.frames {
             Ok(())
         } else {
             write!(self.text, "P{number} = {identity}\n")
@@ -241,12 +247,18 @@ impl CaptureReport {
         }
     }
 
-    /// Adds a record for each end that sent LACPDUs, one for each of these findings, and the counts.
+    /// Adds a record for each link and for each end that sent LACPDUs, one for each of these findings, and the counts.
     fn put_records(&mut self, findings: &[Finding]) -> Result<(), AllocError>
         ensures { OnOk result (self.new ≡ record self.old { to_write = self.old.to_write ++ closing_records findings.now self.old }) }
     {
         let first = self.first;
         let counts = CountsRecord(self.counts(findings));
+        let links = LinksRecords {
+            first,
+            until: until_of(&self.ends),
+            ends: &self.ends,
+        };
+        write!(self.text, "{links}")?;
         let ends = EndsRecords {
             first,
             ends: &self.ends,
@@ -257,9 +269,36 @@ impl CaptureReport {
         write!(self.text, "{counts}")
     }
 
+    /// Adds how many links carry, and a line for each link.
+    fn put_links(&mut self) -> Result<(), AllocError>
+        ensures { OnOk result (self.new ≡ record self.old {
+          to_write = self.old.to_write
+              ++ (link_counts_text (link_counts self.old.ends) ++ links_text self.old.first self.old.ends (until_of self.old.ends) self.old.ends);
+        }) }
+    {
+        let counts = LinkCountsText(link_counts(&self.ends));
+        let links = LinksText {
+            first: self.first,
+            until: until_of(&self.ends),
+            ends: &self.ends,
+        };
+        write!(self.text, "{counts}{links}")
+    }
+
+    /// Adds the legend, where frames have no lines.
+    fn put_names(&mut self) -> Result<(), AllocError>
+        ensures { OnOk result (self.new ≡ record self.old { to_write = self.old.to_write ++ legend_behind self.old }) }
+    {
+        if self.settings.frames {
+            return Ok(());
+        }
+        let names = NamesText { names: &self.names };
+        write!(self.text, "{names}")
+    }
+
     /// Adds a line for each end that sent LACPDUs, one for each of these findings, and the counts.
-    fn put_texts(&mut self, findings: &[Finding]) -> Result<(), AllocError>
-        ensures { OnOk result (self.new ≡ record self.old { to_write = self.old.to_write ++ closing_texts findings.now self.old }) }
+    fn put_ends(&mut self, findings: &[Finding]) -> Result<(), AllocError>
+        ensures { OnOk result (self.new ≡ record self.old { to_write = self.old.to_write ++ ends_findings_counts findings.now self.old }) }
     {
         let first = self.first;
         let counts = self.counts(findings);
@@ -274,7 +313,17 @@ impl CaptureReport {
         write!(self.text, "{counts}")
     }
 
-    /// Adds what is said behind the last packet: of each end that sent LACPDUs, of each of these findings, and the counts.
+    /// Adds how many links carry, a line for each link, each end and each of these findings, and the counts.
+    fn put_texts(&mut self, findings: &[Finding]) -> Result<(), AllocError>
+        ensures { OnOk result (self.new ≡ record self.old { to_write = self.old.to_write ++ closing_texts findings.now self.old }) }
+    {
+        self.put_links()?;
+        self.put_names()?;
+        self.put_ends(findings)
+    }
+
+    /// Adds what is said behind the last packet: of each link, of each end that sent LACPDUs, of each of these findings, and the
+    /// counts.
     /// `AllocError` if memory is refused.
     pub fn finish(&mut self, findings: &[Finding]) -> Result<(), AllocError>
         ensures { OnOk result (self.new ≡ with_ends findings.now self.old) }

@@ -58,8 +58,8 @@ fn shorter(one: Option<u64>, other: Option<u64>) -> Option<u64>
     }
 }
 
-/// The longer of two gaps, as far as they are known.
-fn longer(one: Option<u64>, other: Option<u64>) -> Option<u64>
+/// The longer of two gaps, or the later of two times, as far as they are known.
+pub(crate) fn longer(one: Option<u64>, other: Option<u64>) -> Option<u64>
     ensures { result ≡ longer one other }
 {
     match (one, other) {
@@ -111,7 +111,7 @@ pub(crate) fn end_index(ends: &[LacpduSender], sender: &LinkEnd) -> Option<usize
 
 /// Whether the other end names this one: on the same interface, its last Partner is this end's last Actor, a system and
 /// its port.
-fn is_named_by(end: &LacpduSender, other: &LacpduSender) -> bool
+pub(crate) fn is_named_by(end: &LacpduSender, other: &LacpduSender) -> bool
     ensures { result ≡ is_named_by end.now other.now }
 {
     other.sender.interface == end.sender.interface

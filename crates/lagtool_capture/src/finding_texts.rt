@@ -9,7 +9,7 @@ use std::fmt;
 
 /// The port of an end, if its frames name one.
 #[derive(Clone, Copy)]
-struct PortPart(Option<u16>);
+pub(crate) struct PortPart(pub Option<u16>);
 
 impl fmt::Display for PortPart {
     ghost output = { λ t. Some (port_part t.0) };

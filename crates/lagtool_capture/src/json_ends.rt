@@ -198,7 +198,7 @@ impl fmt::Display for EndsRecords<'_> {
 
 /// An end of a link.
 #[derive(Clone, Copy)]
-struct LinkEndValue(LinkEnd);
+pub(crate) struct LinkEndValue(pub LinkEnd);
 
 impl fmt::Display for LinkEndValue {
     ghost output = { λ t. Some (link_end_value t.0) };
@@ -218,7 +218,7 @@ impl fmt::Display for LinkEndValue {
 
 /// The end that answers; null if there is none.
 #[derive(Clone, Copy)]
-struct PartnerValue(Option<LinkEnd>);
+pub(crate) struct PartnerValue(pub Option<LinkEnd>);
 
 impl fmt::Display for PartnerValue {
     ghost output = { λ t. Some (partner_value t.0) };

@@ -1,5 +1,5 @@
-//! What a capture of LACPDUs and Marker PDUs says: a line for each frame of the slow protocols, then the ends of links that
-//! sent them, what is found of those, and the counts. A capture of any length is read in pieces, in memory that does not
+//! What a capture of LACPDUs and Marker PDUs says: a line for each frame of the slow protocols, then whether each link carries,
+//! the ends of links, what is found of those, and the counts. A capture of any length is read in pieces, in memory that does not
 //! grow with it.
 //!
 //! In comments, numbers such as 6.4.2.3 are sections of IEEE 802.1AX-2014, and "profile" is docs/PROFILE.md.
@@ -15,8 +15,11 @@ mod header;
 mod job;
 mod json;
 mod json_ends;
+mod json_links;
 mod lacpdu_texts;
 mod line;
+mod link_texts;
+mod links;
 mod names;
 mod noticing;
 mod reading;

@@ -1,5 +1,5 @@
 ghost use Rattle.std.specs.Prelude.{◌≡◌, ◌≤◌, length, Some, IfSome};
-ghost use Rattle.lagtool_capture.specs.Names.{identity_of, identity_text, name_text, number_of, same_identity};
+ghost use Rattle.lagtool_capture.specs.Names.{identity_of, identity_text, name_text, named_line, names_text, number_of, same_identity};
 
 use lagtypes::{Key, PortId, SystemId};
 use slowpdu::Info;
@@ -76,5 +76,46 @@ impl fmt::Display for NameText {
             Some(number) => write!(f, "P{number}"),
             None => write!(f, "{}", self.identity),
         }
+    }
+}
+
+/// The line of the legend for an end among those that have short names.
+#[derive(Clone, Copy)]
+struct NamedLine<'a> {
+    names: &'a [Identity],
+    identity: Identity,
+}
+
+impl fmt::Display for NamedLine<'_> {
+    ghost output = { λ t. Some (named_line t.names.now t.identity) };
+
+    #[tactic(auto, unfolding(crate::specs::Names::named_line))]
+    fn fmt<W: fmt::Write>(&self, f: &mut fmt::Formatter<W>) -> fmt::Result {
+        let identity = self.identity;
+        let number = number_of(self.names, &identity);
+        let name = NameText { number, identity };
+        write!(f, "{name} = {identity}\n")
+    }
+}
+
+/// The lines of the legend.
+#[derive(Clone, Copy)]
+pub(crate) struct NamesText<'a> {
+    pub names: &'a [Identity],
+}
+
+impl fmt::Display for NamesText<'_> {
+    ghost output = { λ t. Some (names_text t.names.now t.names.now) };
+
+    fn fmt<W: fmt::Write>(&self, f: &mut fmt::Formatter<W>) -> fmt::Result {
+        let names = self.names;
+        for name in names {
+            let line = NamedLine {
+                names,
+                identity: *name,
+            };
+            write!(f, "{line}")?;
+        }
+        Ok(())
     }
 }

@@ -13,3 +13,5 @@ mod of_ends;
 mod of_explained;
 #[cfg(test)]
 mod of_found;
+#[cfg(test)]
+mod of_links;

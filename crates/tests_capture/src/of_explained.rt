@@ -109,6 +109,8 @@ P3 = 32768/02-00-00-00-00-02 key 7 port 255/2
 6 3.250000 02-00-00-00-00-02 lacpdu same
 7 4.000001 02-00-00-00-00-01 marker port 1 system 02-00-00-00-00-01 id 9
 8 -0.000001 02-00-00-00-00-02 refused fewer than 110 octets: 46
+links 1 carrying 1
+link 02-00-00-00-00-01 port 1 - 02-00-00-00-00-02 port 2: carries, both ways
 end 02-00-00-00-00-01 port 1 is P1 names P3 named by 02-00-00-00-00-02 port 2 lacpdus 2 first 0.000000 last 1.005000 gaps 1.005000 to 1.005000 median 1.0 synchronized 0.000000 collecting 1.005000 distributing 1.005000
 end 02-00-00-00-00-02 port 2 is P3 names P1 named by 02-00-00-00-00-01 port 1 lacpdus 3 first 1.000000 last 3.250000 gaps 1.000000 to 1.250000 median 1.0 synchronized 2.250000 collecting 2.250000 distributing 2.250000
 finding 27 end 02-00-00-00-00-01 port 1 packet 3 at 1.005000: a wait of less than 2 seconds before synchronization (6.4.15). None is needed if both ends distribute: an end that waits lets links that come up together attach together.
@@ -126,6 +128,7 @@ const RECORDS: &str = "\
 {\"record\":\"frame\",\"packet\":6,\"seconds\":3.250000,\"interface\":0,\"source\":\"02-00-00-00-00-02\",\"destination\":\"01-80-c2-00-00-02\",\"tags\":0,\"kind\":\"lacpdu\",\"actor\":{\"system\":\"32768/02-00-00-00-00-02\",\"key\":7,\"port\":\"255/2\",\"state\":61},\"partner\":{\"system\":\"32768/02-00-00-00-00-01\",\"key\":1,\"port\":\"255/1\",\"state\":61},\"max_delay\":0}
 {\"record\":\"frame\",\"packet\":7,\"seconds\":4.000001,\"interface\":0,\"source\":\"02-00-00-00-00-01\",\"destination\":\"01-80-c2-00-00-02\",\"tags\":0,\"kind\":\"marker\",\"port\":1,\"system\":\"02-00-00-00-00-01\",\"id\":9}
 {\"record\":\"frame\",\"packet\":8,\"seconds\":-0.000001,\"interface\":0,\"source\":\"02-00-00-00-00-02\",\"destination\":\"01-80-c2-00-00-02\",\"tags\":0,\"kind\":\"refused\",\"fault\":\"fewer than 110 octets: 46\"}
+{\"record\":\"link\",\"end\":{\"interface\":0,\"source\":\"02-00-00-00-00-01\",\"port\":1},\"partner\":{\"interface\":0,\"source\":\"02-00-00-00-00-02\",\"port\":2},\"carries\":true,\"state\":\"carries, both ways\"}
 {\"record\":\"end\",\"interface\":0,\"source\":\"02-00-00-00-00-01\",\"port\":1,\"lacpdus\":2,\"identity\":{\"system\":\"32768/02-00-00-00-00-01\",\"key\":1,\"port\":\"255/1\"},\"names\":{\"system\":\"32768/02-00-00-00-00-02\",\"key\":7,\"port\":\"255/2\"},\"named_by\":{\"interface\":0,\"source\":\"02-00-00-00-00-02\",\"port\":2},\"first\":0.000000,\"last\":1.005000,\"shortest\":1.005000,\"longest\":1.005000,\"median\":1.0,\"synchronized\":{\"began\":0.000000,\"ended\":null},\"collecting\":{\"began\":1.005000,\"ended\":null},\"distributing\":{\"began\":1.005000,\"ended\":null}}
 {\"record\":\"end\",\"interface\":0,\"source\":\"02-00-00-00-00-02\",\"port\":2,\"lacpdus\":3,\"identity\":{\"system\":\"32768/02-00-00-00-00-02\",\"key\":7,\"port\":\"255/2\"},\"names\":{\"system\":\"32768/02-00-00-00-00-01\",\"key\":1,\"port\":\"255/1\"},\"named_by\":{\"interface\":0,\"source\":\"02-00-00-00-00-01\",\"port\":1},\"first\":1.000000,\"last\":3.250000,\"shortest\":1.000000,\"longest\":1.250000,\"median\":1.0,\"synchronized\":{\"began\":2.250000,\"ended\":null},\"collecting\":{\"began\":2.250000,\"ended\":null},\"distributing\":{\"began\":2.250000,\"ended\":null}}
 {\"record\":\"finding\",\"rule\":27,\"name\":\"a wait of less than 2 seconds before synchronization\",\"clause\":\"6.4.15\",\"advice\":\"None is needed if both ends distribute: an end that waits lets links that come up together attach together.\",\"end\":{\"interface\":0,\"source\":\"02-00-00-00-00-01\",\"port\":1},\"partner\":{\"interface\":0,\"source\":\"02-00-00-00-00-02\",\"port\":2},\"packet\":3,\"seconds\":1.005000}
@@ -186,7 +189,11 @@ fn a_record_without_a_packet_has_a_number(rt: HostRuntime) -> Result<(), Fail> {
     for size in [1, 7, 4096] {
         let outcome = explained(rt.alloc(), CHANGES, &BLOCKS, size);
         let text = str::from_utf8(&outcome.text).unwrap_or("");
-        assert_eq!(rt; text, "packets 5 slow 0 ends 0 findings 0\n", "{size}");
+        assert_eq!(rt;
+            text,
+            "links 0 carrying 0\npackets 5 slow 0 ends 0 findings 0\n",
+            "{size}"
+        );
     }
     Ok(())
 }
@@ -240,7 +247,18 @@ fn every_field_or_no_frame_is_shown(rt: HostRuntime) -> Result<(), Fail> {
     let outcome = explained(alloc, none, &octets, 4096);
     let text = str::from_utf8(&outcome.text).unwrap_or("");
     assert!(rt; !text.contains("lacpdu actor"), "{text}");
-    assert!(rt; text.contains("P3 = "), "{text}");
+    // The links come first, then the legend.
+    let first = match COMING_UP.split_once("links 1") {
+        Some((_, behind)) => behind.split_once("end ").map_or("", |(links, _)| links),
+        None => "",
+    };
+    let legend = "\
+P1 = 32768/02-00-00-00-00-01 key 1 port 255/1
+P2 = 0/00-00-00-00-00-00 key 0 port 0/0
+P3 = 32768/02-00-00-00-00-02 key 7 port 255/2
+end 02-00-00-00-00-01 port 1 is P1";
+    let begins = format!(in alloc; "links 1{first}{legend}")?;
+    assert!(rt; text.starts_with(begins.as_str()), "{text}");
     assert!(rt;
         text.contains("packets 8 slow 7 ends 2 findings 3\n"),
         "{text}"

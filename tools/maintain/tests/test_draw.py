@@ -34,6 +34,7 @@ LACPDUS = [
     frame(2, TWO, kind="lacpdu", actor=party(TWO, 1), partner=party(ONE, 1)),
 ]
 FINDING = {"record": "finding", "rule": 13, "name": "synchronization lost", "end": {"interface": 0, "source": TWO, "port": 1}, "packet": 2}
+LINK = {"record": "link", "end": {}, "partner": None, "carries": None, "state": "not seen"}
 COUNTS = {"record": "counts", "packets": 9, "slow": 3, "ends": 2, "findings": 1}
 
 
@@ -106,7 +107,7 @@ def test_the_ticks_of_each_system_are_its_time() -> None:
 
 
 def test_a_link_has_an_arrow_for_each_frame_and_a_line_for_each_finding() -> None:
-    picture = link_drawn(*LACPDUS, frame(3, ONE, kind="marker", port=1, id=9), frame(4, OTHER, kind="refused", fault="short"), FINDING, COUNTS)
+    picture = link_drawn(*LACPDUS, frame(3, ONE, kind="marker", port=1, id=9), frame(4, OTHER, kind="refused", fault="short"), LINK, FINDING, COUNTS)
     assert f'<path d="M0 70 L400 82" stroke="{draw.BLUE}" marker-end="url(#tip)"/>' in picture
     assert f'<path d="M400 94 L0 106" stroke="{draw.BLUE}" marker-end="url(#tip)"/>' in picture
     assert f'fill="{draw.RED}">finding 13: synchronization lost<' in picture

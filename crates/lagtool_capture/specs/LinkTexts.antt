@@ -1,0 +1,67 @@
+-- What is said of links before all else.
+use Rattle.std.specs.Prelude.{◌++◌, ℕ, List, [], Option, Some, None, codes, decimal, flat_map}
+use Rattle.findings.specs.declared.slow_frame.LinkEnd.{LinkEnd}
+use Rattle.lagtypes.specs.Texts.{mac_text}
+use Rattle.lagtool_capture.specs.declared.ends.LacpduSender.{LacpduSender}
+use Rattle.lagtool_capture.specs.declared.links.KeyApart.{KeyApart}
+use Rattle.lagtool_capture.specs.declared.links.LastSent.{LastSent}
+use Rattle.lagtool_capture.specs.declared.links.Link.{Link}
+use Rattle.lagtool_capture.specs.declared.links.LinkCounts.{LinkCounts}
+use Rattle.lagtool_capture.specs.declared.links.LinkState.{LinkState}
+use Rattle.lagtool_capture.specs.declared.links.LinkState.TheVariants as is
+use Rattle.lagtool_capture.specs.FindingTexts.{port_part}
+use Rattle.lagtool_capture.specs.LineTexts.{interface_part, since_text}
+use Rattle.lagtool_capture.specs.Links.{link_of}
+
+-- MAC has key K here, and K on a link in use
+unfoldable pub key_part : KeyApart → List ℕ
+key_part k =
+    mac_text k.end.source ++ (codes " has key " ++ (decimal k.here.0 ++ (codes " here, and " ++ (decimal k.there.0 ++ codes " on a link in use"))))
+
+-- whether a link carries, and why not, with times from the first of the capture
+abbrev pub state_text : Option ℕ → LinkState → List ℕ
+state_text first is.Carries = codes "carries, both ways"
+state_text first (is.CarriesApart k) = codes "carries, both ways, apart: " ++ key_part k
+state_text first (is.OtherKey k) = codes "does not carry: " ++ key_part k
+state_text first is.OneSystem = codes "does not carry: both ends have one system, a loop or a copied identifier"
+state_text first is.BothPassive = codes "does not carry: both ends are passive"
+state_text first is.Quiet = codes "does not carry: neither end sends any more"
+state_text first (is.Silent s) = codes "does not carry: " ++ (mac_text s.sender.source ++ (codes " sends nothing after " ++ since_text first s.time))
+state_text first (is.HearsNobody s) = codes "does not carry: " ++ (mac_text s.source ++ codes " hears nobody")
+state_text first (is.OtherPartner s) = codes "does not carry: " ++ (mac_text s.source ++ codes " has another partner")
+state_text first (is.Individual s) = codes "does not carry: " ++ (mac_text s.source ++ codes " is individual")
+state_text first (is.Unattached s) =
+    codes "does not carry: " ++ (mac_text s.source ++ codes " has not attached it: it uses another aggregator, or has links enough")
+state_text first is.Waiting = codes "does not carry: its ends do not collect and distribute"
+state_text first is.Alone = codes "not seen: its other end is not in the capture"
+state_text first is.Unanswered = codes "does not carry: nobody answers"
+
+-- an end of a link: its source address and its port
+unfoldable pub place_text : LinkEnd → List ℕ
+place_text e = mac_text e.source ++ port_part e.port
+
+abbrev pub far_part : Option LastSent → List ℕ
+far_part None = []
+far_part (Some x) = codes " - " ++ place_text x.sender
+
+-- the line of a link
+unfoldable pub link_line : Option ℕ → Link → List ℕ
+link_line first l =
+    codes "link " ++ (place_text l.near.sender ++ (far_part l.far ++ (interface_part l.near.sender.interface
+    ++ (codes ": " ++ (state_text first l.state ++ codes "\n")))))
+
+abbrev pub link_part : Option ℕ → Option Link → List ℕ
+link_part first None = []
+link_part first (Some l) = link_line first l
+
+-- the line of the link of an end among all ends, unless it is told at an end before it
+unfoldable pub line_of_end : Option ℕ → List LacpduSender → Option ℕ → LacpduSender → List ℕ
+line_of_end first all until e = link_part first (link_of all until e)
+
+-- the lines of the links of these ends among all ends
+abbrev pub links_text : Option ℕ → List LacpduSender → Option ℕ → List LacpduSender → List ℕ
+links_text first all until es = flat_map (line_of_end first all until) es
+
+-- how many links there are, and how many of them carry
+unfoldable pub link_counts_text : LinkCounts → List ℕ
+link_counts_text c = codes "links " ++ (decimal c.links ++ (codes " carrying " ++ (decimal c.carrying ++ codes "\n")))

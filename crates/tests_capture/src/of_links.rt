@@ -1,0 +1,264 @@
+use bitflags::Flags;
+use captures::{LinkType, Order, Unit, put_file_header, put_packet};
+use lagstreams::{Sink, Source};
+use lagtool_capture::{Settings, report_capture};
+use lagtypes::{Key, PortId, State, SystemId};
+use slowpdu::{Info, Lacpdu, frame};
+use std::alloc::{AllocError, Global};
+use std::process::Abort;
+use std::test::Fail;
+
+/// Active, with short timeouts, aggregatable; then synchronized; then collecting and distributing.
+const FAST: u8 = 0x07;
+
+const ATTACHED: u8 = 0x0f;
+
+const UP: u8 = 0x3f;
+
+/// One end of a link: its system, key, port and state.
+#[derive(Clone, Copy)]
+struct End(u8, u16, u16, u8);
+
+/// An LACPDU of one end to another, at this second.
+#[derive(Clone, Copy)]
+struct Sent(u32, End, End);
+
+fn info(end: End) -> Info {
+    let End(system, key, port, state) = end;
+    Info {
+        system: SystemId {
+            priority: 32768,
+            mac: [0x02, 0, 0, 0, 0, system],
+        },
+        key: Key(key),
+        port: PortId {
+            priority: 128,
+            number: port,
+        },
+        state: State::from_bits_retain(state),
+    }
+}
+
+/// What is said of these LACPDUs, without a line for each.
+fn said(alloc: Global, all: &[Sent]) -> Result<Vec<u8>, AllocError> {
+    let mut file = Vec::new(alloc);
+    put_file_header(&mut file, Order::Big, Unit::Micro, LinkType::Ethernet)?;
+    for Sent(second, actor, partner) in all {
+        let lacpdu = Lacpdu {
+            actor: info(*actor),
+            partner: info(*partner),
+            max_delay: 0,
+        };
+        let octets = frame(lacpdu.actor.system.mac, &lacpdu.encode());
+        put_packet(&mut file, Order::Big, 100 + *second, 0, 124, &octets)?;
+    }
+    let settings = Settings {
+        all: false,
+        frames: false,
+        json: false,
+    };
+    let mut source = Source::new(file.as_slice());
+    let mut sink = Sink::new(Vec::new(alloc));
+    let _answer = report_capture(alloc, settings, &mut source, &mut sink);
+    Ok(sink.into_inner())
+}
+
+/// That it begins with these lines, and the legend follows.
+fn begins(rt: &impl Abort, alloc: Global, all: &[Sent], lines: &str) -> Result<(), Fail> {
+    let octets = said(alloc, all)?;
+    let text = str::from_utf8(&octets).unwrap_or("");
+    let behind = text.strip_prefix(lines).unwrap_or("");
+    assert!(rt; behind.starts_with("P1 = "), "{text}");
+    Ok(())
+}
+
+/// That one link, both ends of which send at second 0, is said to be so.
+fn one_link(rt: &impl Abort, alloc: Global, one: End, other: End, is: &str) -> Result<(), Fail> {
+    let octets = said(alloc, &[Sent(0, one, other), Sent(0, other, one)])?;
+    let text = str::from_utf8(&octets).unwrap_or("");
+    let line = text.lines().nth(1).unwrap_or("");
+    assert_eq!(rt; line.split_once(": ").map_or("", |(_, state)| state), is);
+    Ok(())
+}
+
+#[test]
+fn links_that_carry_are_counted(rt: HostRuntime) -> Result<(), Fail> {
+    let all = [
+        Sent(0, End(1, 15, 1, UP), End(2, 143, 7, UP)),
+        Sent(0, End(1, 15, 2, UP), End(2, 143, 8, UP)),
+        Sent(1, End(2, 143, 7, UP), End(1, 15, 1, UP)),
+        Sent(1, End(2, 143, 8, UP), End(1, 15, 2, UP)),
+    ];
+    let lines = "\
+links 2 carrying 2
+link 02-00-00-00-00-01 port 1 - 02-00-00-00-00-02 port 7: carries, both ways
+link 02-00-00-00-00-01 port 2 - 02-00-00-00-00-02 port 8: carries, both ways
+";
+    begins(&rt, rt.alloc(), &all, lines)
+}
+
+// As of two channel groups at a switch: bonding beside ports with keys 143 and 79 (6.3.6).
+#[test]
+fn a_key_of_its_own_is_told_beside_that_of_a_link_in_use(rt: HostRuntime) -> Result<(), Fail> {
+    let all = [
+        Sent(0, End(1, 15, 1, FAST), End(2, 79, 7, ATTACHED)),
+        Sent(0, End(1, 15, 2, UP), End(2, 143, 8, UP)),
+        Sent(1, End(2, 79, 7, ATTACHED), End(1, 15, 1, FAST)),
+        Sent(1, End(2, 143, 8, UP), End(1, 15, 2, UP)),
+    ];
+    let lines = "\
+links 2 carrying 1
+link 02-00-00-00-00-01 port 1 - 02-00-00-00-00-02 port 7: does not carry: 02-00-00-00-00-02 has key 79 here, and 143 on a link in use
+link 02-00-00-00-00-01 port 2 - 02-00-00-00-00-02 port 8: carries, both ways
+";
+    begins(&rt, rt.alloc(), &all, lines)
+}
+
+#[test]
+fn links_in_use_with_two_keys_carry_apart(rt: HostRuntime) -> Result<(), Fail> {
+    let all = [
+        Sent(0, End(1, 1, 1, UP), End(2, 9, 7, UP)),
+        Sent(0, End(1, 2, 2, UP), End(2, 9, 8, UP)),
+        Sent(1, End(2, 9, 7, UP), End(1, 1, 1, UP)),
+        Sent(1, End(2, 9, 8, UP), End(1, 2, 2, UP)),
+    ];
+    let lines = "\
+links 2 carrying 2
+link 02-00-00-00-00-01 port 1 - 02-00-00-00-00-02 port 7: carries, both ways, apart: 02-00-00-00-00-01 has key 1 here, and 2 on a link in use
+link 02-00-00-00-00-01 port 2 - 02-00-00-00-00-02 port 8: carries, both ways, apart: 02-00-00-00-00-01 has key 2 here, and 1 on a link in use
+";
+    begins(&rt, rt.alloc(), &all, lines)
+}
+
+#[test]
+fn two_bundles_between_two_systems_are_no_keys_apart(rt: HostRuntime) -> Result<(), Fail> {
+    let all = [
+        Sent(0, End(1, 1, 1, UP), End(2, 8, 7, UP)),
+        Sent(0, End(1, 2, 2, UP), End(2, 9, 8, UP)),
+        Sent(1, End(2, 8, 7, UP), End(1, 1, 1, UP)),
+        Sent(1, End(2, 9, 8, UP), End(1, 2, 2, UP)),
+    ];
+    let lines = "\
+links 2 carrying 2
+link 02-00-00-00-00-01 port 1 - 02-00-00-00-00-02 port 7: carries, both ways
+link 02-00-00-00-00-01 port 2 - 02-00-00-00-00-02 port 8: carries, both ways
+";
+    begins(&rt, rt.alloc(), &all, lines)
+}
+
+// 6.4.4: whoever asks for short timeouts waits 3 seconds, else 90.
+#[test]
+fn an_end_that_sends_nothing_more_is_told(rt: HostRuntime) -> Result<(), Fail> {
+    let told = |second| {
+        [
+            Sent(0, End(1, 1, 1, UP), End(2, 1, 1, UP)),
+            Sent(second, End(2, 1, 1, UP), End(1, 1, 1, UP)),
+        ]
+    };
+    let up = "\
+links 1 carrying 1
+link 02-00-00-00-00-01 port 1 - 02-00-00-00-00-02 port 1: carries, both ways
+";
+    let dead = "\
+links 1 carrying 0
+link 02-00-00-00-00-01 port 1 - 02-00-00-00-00-02 port 1: does not carry: 02-00-00-00-00-01 sends nothing after 0.000000
+";
+    begins(&rt, rt.alloc(), &told(3), up)?;
+    begins(&rt, rt.alloc(), &told(4), dead)?;
+    let slow = |second| {
+        [
+            Sent(0, End(1, 1, 1, UP), End(2, 1, 1, 0x3d)),
+            Sent(second, End(2, 1, 1, 0x3d), End(1, 1, 1, UP)),
+        ]
+    };
+    begins(&rt, rt.alloc(), &slow(90), up)?;
+    begins(&rt, rt.alloc(), &slow(91), dead)
+}
+
+#[test]
+fn a_link_on_which_nobody_sends_is_quiet(rt: HostRuntime) -> Result<(), Fail> {
+    let all = [
+        Sent(0, End(1, 1, 1, UP), End(2, 1, 1, UP)),
+        Sent(0, End(2, 1, 1, UP), End(1, 1, 1, UP)),
+        Sent(9, End(1, 1, 2, UP), End(2, 1, 2, UP)),
+        Sent(9, End(2, 1, 2, UP), End(1, 1, 2, UP)),
+    ];
+    let lines = "\
+links 2 carrying 1
+link 02-00-00-00-00-01 port 1 - 02-00-00-00-00-02 port 1: does not carry: neither end sends any more
+link 02-00-00-00-00-01 port 2 - 02-00-00-00-00-02 port 2: carries, both ways
+";
+    begins(&rt, rt.alloc(), &all, lines)
+}
+
+#[test]
+fn a_state_says_why_a_link_does_not_carry(rt: HostRuntime) -> Result<(), Fail> {
+    let (near, far) = (|state| End(1, 1, 1, state), |state| End(2, 1, 1, state));
+    let none = "does not carry: ";
+    let rows = [
+        (UP, UP, "carries, both ways"),
+        // not Active at either end
+        (0x3e, 0x3e, "does not carry: both ends are passive"),
+        (0x3e, UP, "carries, both ways"),
+        // Defaulted, Expired
+        (0x47, UP, "does not carry: 02-00-00-00-00-01 hears nobody"),
+        (UP, 0xbf, "does not carry: 02-00-00-00-00-02 hears nobody"),
+        // not Aggregation at one end
+        (
+            0x03,
+            FAST,
+            "does not carry: 02-00-00-00-00-01 is individual",
+        ),
+        (
+            ATTACHED,
+            FAST,
+            "does not carry: 02-00-00-00-00-02 has not attached it: it uses another aggregator, or has links enough",
+        ),
+        // Collecting at one end
+        (
+            ATTACHED,
+            0x1f,
+            "does not carry: its ends do not collect and distribute",
+        ),
+        (
+            FAST,
+            FAST,
+            "does not carry: its ends do not collect and distribute",
+        ),
+    ];
+    for (one, other, is) in rows {
+        assert!(rt; is.starts_with("carries") || is.starts_with(none), "{is}");
+        one_link(&rt, rt.alloc(), near(one), far(other), is)?;
+    }
+    let looped = End(1, 1, 2, UP);
+    let is = "does not carry: both ends have one system, a loop or a copied identifier";
+    one_link(&rt, rt.alloc(), near(UP), looped, is)
+}
+
+// Three systems on a hub: each hears the last speaker (6.4.2.3, 6.4.9).
+#[test]
+fn a_link_does_not_carry_to_another_partner(rt: HostRuntime) -> Result<(), Fail> {
+    let (one, two, three) = (End(1, 1, 1, UP), End(2, 1, 1, UP), End(3, 1, 1, UP));
+    let all = [Sent(0, one, three), Sent(0, two, one)];
+    let lines = "\
+links 1 carrying 0
+link 02-00-00-00-00-01 port 1 - 02-00-00-00-00-02 port 1: does not carry: 02-00-00-00-00-01 has another partner
+";
+    begins(&rt, rt.alloc(), &all, lines)
+}
+
+#[test]
+fn one_end_alone_says_what_it_can(rt: HostRuntime) -> Result<(), Fail> {
+    let alone = [Sent(0, End(1, 1, 1, UP), End(2, 1, 1, UP))];
+    let lines = "\
+links 1 carrying 0
+link 02-00-00-00-00-01 port 1: not seen: its other end is not in the capture
+";
+    begins(&rt, rt.alloc(), &alone, lines)?;
+    let unheard = [Sent(0, End(1, 1, 1, 0x47), End(0, 0, 0, 0))];
+    let lines = "\
+links 1 carrying 0
+link 02-00-00-00-00-01 port 1: does not carry: nobody answers
+";
+    begins(&rt, rt.alloc(), &unheard, lines)
+}
