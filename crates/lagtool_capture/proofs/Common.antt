@@ -8,7 +8,7 @@ pub use Rattle.std.proofs.lemmas.List.{drop-append-le, drop-drop, flat_map_more,
 pub use Rattle.std.specs.Fmt.{HasWritten, IsPlainFormatter}
 pub use Rattle.std.specs.Io.KnownBytes.{Consumes, IsAtEnd}
 pub use Rattle.std.specs.List.{cons_option}
-pub use Rattle.std.specs.Prelude.{flat_map, unwrap_or, ⊤}
+pub use Rattle.std.specs.Prelude.{flat_map, not, unwrap_or, ⊤, ◌||◌}
 pub use Rattle.slowpdu.specs.declared.pdu.Lacpdu.{Lacpdu}
 pub use Rattle.captures.specs.declared.fault.Fault.{Fault}
 pub use Rattle.captures.specs.declared.packet.Packet.{Packet}
@@ -30,8 +30,9 @@ pub use Rattle.lagtool_capture.specs.CaptureReadings.{refused_if_any, skipped, s
 pub use Rattle.lagtool_capture.specs.Counting.{one_more, sum_of}
 pub use Rattle.lagtool_capture.specs.Ends.{Sent, end_index, end_index_from, gap_between, gaps_between, latest_time, named_by}
 pub use Rattle.lagtool_capture.specs.Gaps.{IsMedianOf, count_up_to, gaps_of, median, tenths_of, tenths_up_to}
-pub use Rattle.lagtool_capture.specs.Json.{ends_records, findings_records}
-pub use Rattle.lagtool_capture.specs.Names.{identity_of, number_from, number_of}
+pub use Rattle.lagtool_capture.specs.Json.{ends_records, findings_records, links_records}
+pub use Rattle.lagtool_capture.specs.Links.{counted_from, far_end, is_told, key_apart, link_counts, until_from, until_of}
+pub use Rattle.lagtool_capture.specs.Names.{identity_of, names_text, number_from, number_of}
 pub use Rattle.lagtool_capture.specs.Noticing.{Agrees, Follows, IsKnown, Log, finding_by, findings_by, findings_in, if_timed, logged, logged_all}
 pub use Rattle.lagtool_capture.specs.Noticing.{logged_next, nothing_logged}
 pub use Rattle.lagtool_capture.specs.Reporting.{ReportState, after, after_all, after_any, after_indexed, after_what, closing_records, closing_texts}

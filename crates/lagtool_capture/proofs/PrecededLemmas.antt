@@ -1,10 +1,9 @@
 -- What is said does not depend on what is not written yet: a text in front of that stays in front.
 use Rattle.lagtool_capture.proofs.Common.{Bool, List, None, Option, Some, [], ap, append-nil, append_assoc, cond, false, length, refl, sym, true, ℕ}
-use Rattle.lagtool_capture.proofs.Common.{◌++◌, ◌+◌, ◌∙◌, ◌∷◌, ◌≡◌, Lacpdu, Packet, Captured, Finding, SlowFrame, What, end_of, Identity, one_more}
-use Rattle.lagtool_capture.proofs.Common.{end_index, identity_of, number_of, ReportState, after, after_all, after_any, after_what, closing_records}
-use Rattle.lagtool_capture.proofs.Common.{closing_texts, counted, frame_line, is_new, lacpdu_line, legend_line, name_number, named, with_end}
-use Rattle.lagtool_capture.proofs.Common.{with_ends, with_line, frame_in, preceded}
-use Rattle.std.specs.Prelude.{not, ◌||◌}
+use Rattle.lagtool_capture.proofs.Common.{◌++◌, ◌+◌, ◌∙◌, ◌∷◌, ◌≡◌, not, ◌||◌, Lacpdu, Packet, Captured, Finding, SlowFrame, What, end_of, Identity}
+use Rattle.lagtool_capture.proofs.Common.{one_more, end_index, identity_of, number_of, ReportState, after, after_all, after_any, after_what}
+use Rattle.lagtool_capture.proofs.Common.{closing_records, closing_texts, counted, frame_line, is_new, lacpdu_line, legend_line, name_number, named}
+use Rattle.lagtool_capture.proofs.Common.{with_end, with_ends, with_line, frame_in, preceded}
 use Rattle.lagtool_capture.specs.Reporting.{after_frame}
 use Rattle.lagtool_capture.specs.Reporting.{after_lacpdu, after_named, observed}
 use Rattle.findings.specs.declared.slow_frame.What.TheVariants as held

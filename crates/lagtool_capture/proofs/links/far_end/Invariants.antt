@@ -1,5 +1,4 @@
-use Rattle.lagtool_capture.proofs.Common.{drop, ◌≡◌}
-use Rattle.lagtool_capture.specs.Links.{far_end}
+use Rattle.lagtool_capture.proofs.Common.{drop, ◌≡◌, far_end}
 use Rattle.lagtool_capture.proofs.links.far_end.Given as goal
 
 abbrev pub invariant-loop-other : goal.invariant-loop-other

@@ -1,5 +1,4 @@
-use Rattle.lagtool_capture.proofs.Common.{drop, ◌≡◌}
-use Rattle.lagtool_capture.specs.Links.{is_told}
+use Rattle.lagtool_capture.proofs.Common.{drop, ◌≡◌, is_told}
 use Rattle.lagtool_capture.proofs.links.is_told.Given as goal
 
 abbrev pub invariant-loop-other : goal.invariant-loop-other

@@ -1,5 +1,4 @@
-use Rattle.lagtool_capture.proofs.Common.{drop, ◌≡◌}
-use Rattle.lagtool_capture.specs.Links.{key_apart}
+use Rattle.lagtool_capture.proofs.Common.{drop, ◌≡◌, key_apart}
 use Rattle.lagtool_capture.proofs.links.key_apart.Given as goal
 
 abbrev pub invariant-loop-other : goal.invariant-loop-other

@@ -1,5 +1,4 @@
-use Rattle.lagtool_capture.proofs.Common.{drop, ◌≡◌}
-use Rattle.lagtool_capture.specs.Links.{counted_from, link_counts}
+use Rattle.lagtool_capture.proofs.Common.{drop, ◌≡◌, counted_from, link_counts}
 use Rattle.lagtool_capture.proofs.links.link_counts.Given as goal
 
 abbrev pub invariant-loop-end : goal.invariant-loop-end

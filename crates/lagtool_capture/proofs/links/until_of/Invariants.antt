@@ -1,5 +1,4 @@
-use Rattle.lagtool_capture.proofs.Common.{drop, ◌≡◌}
-use Rattle.lagtool_capture.specs.Links.{until_from, until_of}
+use Rattle.lagtool_capture.proofs.Common.{drop, ◌≡◌, until_from, until_of}
 use Rattle.lagtool_capture.proofs.links.until_of.Given as goal
 
 abbrev pub invariant-loop-end : goal.invariant-loop-end

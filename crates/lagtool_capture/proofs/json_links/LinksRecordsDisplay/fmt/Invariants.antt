@@ -1,5 +1,4 @@
-use Rattle.lagtool_capture.proofs.Common.{take, HasWritten, IsPlainFormatter}
-use Rattle.lagtool_capture.specs.Json.{links_records}
+use Rattle.lagtool_capture.proofs.Common.{take, HasWritten, IsPlainFormatter, links_records}
 use Rattle.lagtool_capture.proofs.json_links.LinksRecordsDisplay.fmt.Given as goal
 
 abbrev pub invariant-loop-end : goal.invariant-loop-end

@@ -1,5 +1,4 @@
-use Rattle.lagtool_capture.proofs.Common.{take, HasWritten, IsPlainFormatter}
-use Rattle.lagtool_capture.specs.Names.{names_text}
+use Rattle.lagtool_capture.proofs.Common.{take, HasWritten, IsPlainFormatter, names_text}
 use Rattle.lagtool_capture.proofs.names.NamesTextDisplay.fmt.Given as goal
 
 abbrev pub invariant-loop-name : goal.invariant-loop-name
