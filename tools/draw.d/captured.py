@@ -8,7 +8,7 @@ from typing import Literal, NamedTuple, TypedDict, Union
 from report import Unread
 
 # Of each kind of record, the fields that are drawn.
-FIELDS = {
+FIELDS: dict[str, list[str]] = {
     "frame": ["packet", "seconds", "interface", "source", "kind"],
     "link": [],
     "end": ["interface", "source", "port"],

@@ -57,7 +57,7 @@ def test_standard_input_vectors_and_refusals() -> None:
     assert answer("capture", "/none") == (2, "", "lagtool: cannot read /none\n")
     assert answer("--explain", "replay", "-", given=b"a = 1")[2].startswith("lagtool: script: extra key\nlagtool: standard input: unknown key")
     status, printed, said = answer("capture", os.path.abspath(__file__))
-    assert (status, printed) == (2, "packets 0 slow 0 ends 0 findings 0\n") and "octet 0: neither pcap nor pcapng" in said
+    assert (status, printed) == (2, "links 0 carrying 0\npackets 0 slow 0 ends 0 findings 0\n") and "octet 0: neither pcap nor pcapng" in said
     assert answer("check", path)[0] == answer("capture")[0] == 2
 
 

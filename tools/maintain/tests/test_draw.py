@@ -34,7 +34,7 @@ LACPDUS = [
     frame(2, TWO, kind="lacpdu", actor=party(TWO, 1), partner=party(ONE, 1)),
 ]
 FINDING = {"record": "finding", "rule": 13, "name": "synchronization lost", "end": {"interface": 0, "source": TWO, "port": 1}, "packet": 2}
-LINK = {"record": "link", "end": {}, "partner": None, "carries": None, "state": "not seen"}
+LINK: dict[str, object] = {"record": "link", "end": {}, "partner": None, "carries": None, "state": "not seen"}
 COUNTS = {"record": "counts", "packets": 9, "slow": 3, "ends": 2, "findings": 1}
 
 
