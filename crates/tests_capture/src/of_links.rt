@@ -50,7 +50,14 @@ fn said(alloc: Global, all: &[Sent]) -> Result<Vec<u8>, AllocError> {
             max_delay: 0,
         };
         let octets = frame(lacpdu.actor.system.mac, &lacpdu.encode());
-        put_packet(&mut file, Order::Big, second.wrapping_add(100), 0, 124, &octets)?;
+        put_packet(
+            &mut file,
+            Order::Big,
+            second.wrapping_add(100),
+            0,
+            124,
+            &octets,
+        )?;
     }
     let settings = Settings {
         all: false,
