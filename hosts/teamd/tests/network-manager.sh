@@ -1,7 +1,7 @@
 # NetworkManager with a team connection over this teamd: it and D-Bus run in an overlay of the guest's root, whose /run is this one.
-R=/tmp/root; mkdir /tmp/upper /tmp/work $R
+OVERLAY=$(mktemp -d); R=$OVERLAY/root; mkdir $OVERLAY/upper $OVERLAY/work $R
 /mnt/modprobe -d /mnt/modules overlay
-mount -t overlay overlay -o lowerdir=/mnt/network-manager:/,upperdir=/tmp/upper,workdir=/tmp/work $R || echo "FAILED: an overlay is mounted"
+mount -t overlay overlay -o lowerdir=/mnt/network-manager:/,upperdir=$OVERLAY/upper,workdir=$OVERLAY/work $R || echo "FAILED: an overlay is mounted"
 for it in run proc dev; do mount --bind /$it $R/$it; done
 # Where it cannot write to /sys it does not wait for udev.
 mount -t sysfs -o ro sys $R/sys
