@@ -10,7 +10,7 @@ from enum import IntEnum, IntFlag
 from typing import Any, Callable, Final
 
 VERSION: Final = 12
-VERSION_TEXT: Final = "0.2.0"
+VERSION_TEXT: Final = "0.3.0"
 FRAME: Final = 124
 PAYLOAD_LENGTH: Final = 110
 SHORTEST_FRAME: Final = 14

@@ -51,7 +51,7 @@ struct niw_queue {
 /* The version of this header: it goes up by one with each change of the interface. */
 #define NIW_VERSION 12
 /* The version of the release that the header is of. */
-#define NIW_VERSION_TEXT "0.2.0"
+#define NIW_VERSION_TEXT "0.3.0"
 /* The octets of a frame that the library answers. */
 #define NIW_FRAME 124
 /* The octets of a payload: what follows the 14 octets of addresses and EtherType. */

@@ -37,7 +37,7 @@ use Rattle.lagfleet.specs.BesideAnyPeer.{Acts, EachCallBesideAnyPeer, HoldsBesid
 use Rattle.lagfleet.specs.BesideAnyPeer.{StageRun, StageSteps, takes_all, Makes_call, Starts_again, Forces_conversation, Offers_conversation}
 use Rattle.lagfleet.specs.BesideAnyPeer.{Leaves_conversation, Probes_port, Rests_conversation, Forces_port, Changes_setting, Gives_way, Befalls}
 use Rattle.lagfleet.specs.BesideAnyPeer.{EachForceBesideAnyPeer, EachHappeningBesideAnyPeer, EachHostCallBesideAnyPeer, EachRestartBesideAnyPeer}
-use Rattle.lagfleet.specs.BesideAnyPeer.{EachSettingBesideAnyPeer, IsHostEvent, IsSceneSuccessor, LeadsTo, MayGiveWayToItself, scene_after_force}
+use Rattle.lagfleet.specs.BesideAnyPeer.{EachSettingBesideAnyPeer, IsHostEvent, LeadsTo, MayGiveWayToItself, scene_after_force}
 use Rattle.lagfleet.proofs.Doings.{does_lawfully, held_freed, refused_same}
 
 -- ---- what stays true of the system and its scene
@@ -337,15 +337,15 @@ waits_not_on p q n e = cc
 pub gives_way_beside : (gives : ℕ → ℕ → ℕ → Type 0) → MayGiveWayToItself gives
 gives_way_beside gives ends events start end one first e z on =
     let i = stood gives ends events start end one first e z in
-    let own : IsSceneSuccessor (model_setup start.system) end.scene end.scene.view = record {
+    let own : IsSuccessor (model_setup start.system) end.scene.view end.scene.taken end.scene.view = record {
       members = i.kept.members;
       heard = i.kept.heard;
       on = on;
       waits = λ g k p n h. waits_not_on p p n (sym h ∙ on g k p (ap conversation_port h));
       next = omega arith;
     } in (
-      subst (λ (u : SystemSetup). IsSceneSuccessor u end.scene (model_view end.system)) (sym i.setup)
-          (subst (λ (v : View). IsSceneSuccessor (model_setup start.system) end.scene v) i.view own),
+      subst (λ (u : SystemSetup). IsSuccessor u end.scene.view end.scene.taken (model_view end.system)) (sym i.setup)
+          (subst (λ (v : View). IsSuccessor (model_setup start.system) end.scene.view end.scene.taken v) i.view own),
       refl,
       ap (λ (v : View). record end.scene { view = v }) i.view,
     )

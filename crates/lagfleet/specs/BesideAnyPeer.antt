@@ -1,11 +1,10 @@
 -- One system of lagsystem on its cables, and whatever is at their other ends: what each contract promises of its calls, octets received.
 use Rattle.std.specs.Prelude.{◌≡◌, ◌≢◌, ◌≤◌, ℕ, Bool, true, Option, Some, List, [], ◌∷◌, Result, Ok, Err}
 use Rattle.lagtypes.specs.declared.identifiers.AggId.{AggId}
-use Rattle.lagmodel.specs.View.{Flushing, ModelCall, On, PortFacts, SystemSetup, View, conversation_port}
+use Rattle.lagmodel.specs.View.{ModelCall, On, SystemSetup, View, conversation_port}
 use Rattle.lagmodel.specs.Move.{Act, Move}
-use Rattle.lagmodel.specs.Law.{Members}
 use Rattle.lagmodel.specs.World.{at_two}
-use Rattle.lagmodel.specs.Succession.{HasHeard}
+use Rattle.lagmodel.specs.Succession.{IsSuccessor}
 use Rattle.lagmodel.specs.AnyPeer.{Calls, Comes, Fits, Forces, Happening}
 use Rattle.lagmodel.specs.AnyPeer.{Restarts, Scene, first_scene, scene_after_acts}
 use Rattle.lagsystem.specs.declared.drive.HostCall.{HostCall}
@@ -63,14 +62,6 @@ IsOutside Restarts = ⊥
 IsOutside (Forces g k) = ⊥
 IsOutside e = Unit {0}
 
--- the system with this view may take the place of the one of the scene, as `IsSuccessor` of lagmodel says it
-pub record IsSceneSuccessor (u : SystemSetup) (w : Scene) (after : View) : Type 0 where
-  pub members : Members u after.port
-  pub heard : (p : ℕ) (a : PortFacts) → after.port p ≡ Some a → HasHeard a (w.taken p)
-  pub on : (g k p : ℕ) → conversation_port (w.view.flows.state g k) ≡ Some p → after.flows.state g k ≡ On p
-  pub waits : (g k p n : ℕ) → after.flows.state g k ≡ Flushing p n → ⊥
-  pub next : w.view.flows.next ≤ after.flows.next
-
 -- a cable that takes all that is sent on it
 abbrev pub takes_all : Act → Bool
 takes_all a = true
@@ -111,7 +102,7 @@ StageSteps gives ends (Forces_port port (Err fault)) old new =
 StageSteps gives ends (Changes_setting setting answer) old new =
     Acts gives ends (Doing.Sets setting answer) ModelCall.Tick 0 takes_all old old.scene new
 StageSteps gives ends Gives_way old new =
-    IsSceneSuccessor (model_setup old.system) old.scene (model_view new.system)
+    IsSuccessor (model_setup old.system) old.scene.view old.scene.taken (model_view new.system)
     × (model_setup new.system ≡ model_setup old.system)
     × (new.scene ≡ record old.scene { view = model_view new.system })
 StageSteps gives ends (Befalls e) old new =

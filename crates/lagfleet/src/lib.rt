@@ -64,7 +64,7 @@ ghost use Rattle.lagfleet.specs.BesideAnyPeer.{EachRestartBesideAnyPeer, EachSet
 //    `each_force`, `each_host_call`, `each_setting`, `each_happening`, `takeovers`)
 // premises: a Marker Response on a cable answers the marker that came there first; no port has two cables; cables and peers keep the order
 //    of frames, and repeat none; a link is said to be down only while its cable is cut; what comes in a call stands first on its cable
-//    (`Fits`); a restart loses what is on the cables; a takeover as above (`IsSceneSuccessor`)
+//    (`Fits`); a restart loses what is on the cables; a takeover is by a system that may follow (`IsSuccessor` of lagmodel)
 /// One system beside peers of any kind and number, however they are wired, as `order_with_any_peer` of `lagmodel` has it of definitions:
 /// after every list of calls, octets received, with those of hosts, settings and takeovers. One premise: on a cable a Marker Response
 /// answers the marker that has come there first (6.2.4, 6.4.9, 6.4.14, 6.5.4; profile).

@@ -1,17 +1,15 @@
 -- Order, whatever is at the other ends.
 use Rattle.lagmodel.proofs.Common.{Bool, List, None, Option, Some, [], ap, eqb, eqb-true, false, inl, inr, refl, subst, sym, true, ℕ, ◌++◌, ◌∙◌, ◌∷◌}
-use Rattle.lagmodel.proofs.Common.{◌≡◌, cases_Bool, true≢false, none-some, option_to_list, Answers, Calls, Comes, ComesAll, Cuts, EachCallIsOne}
-use Rattle.lagmodel.proofs.Common.{Forces, Gone, HandsUp, Happening, HoldsWithAnyPeer, IsNoResponse, Joins, Moves, OrderHolds, OvertakesBack}
-use Rattle.lagmodel.proofs.Common.{OvertakesOut, Restarts, Says, Scene, SerialsCountFromZero, Takes, TookInSync, first_scene, only, scene_after}
+use Rattle.lagmodel.proofs.Common.{◌≡◌, cases_Bool, none-some, option_to_list, Answers, Calls, Comes, ComesAll, Cuts, EachCallIsOne, Forces, Gone}
+use Rattle.lagmodel.proofs.Common.{HandsUp, Happening, HoldsWithAnyPeer, IsNoResponse, Joins, Moves, OrderHolds, OvertakesBack, OvertakesOut}
+use Rattle.lagmodel.proofs.Common.{Restarts, Says, Scene, SerialsCountFromZero, Takes, TookInSync, first_scene, only, scene_after, scene_after_act}
 use Rattle.lagmodel.proofs.Common.{scene_after_acts, Members, OnePartner, Act, AllAllowed, Move, act, acts, view_after, view_after_all, IsSystemSetup}
-use Rattle.lagmodel.proofs.Common.{Lacp, Marker, ModelCall, Response, SystemSetup, View, Control, Data, Message, One, on_cable_after, sent_after}
-use Rattle.lagmodel.proofs.Common.{taken_after}
+use Rattle.lagmodel.proofs.Common.{Lacp, Marker, ModelCall, Response, SystemSetup, View, Control, Data, Message, One}
 use Rattle.lagmodel.proofs.Overtaken.{lanes_out_overtaken, lanes_back_overtaken}
 use Rattle.lagmodel.proofs.Base.{cond_false}
 use Rattle.lagmodel.proofs.Lines.{answers, ResponseBelow}
 use Rattle.lagmodel.proofs.Orderly.{handed_front}
 use Rattle.lagmodel.proofs.Lanes.{Lanes}
-use Rattle.lagmodel.proofs.Laws.{crossed}
 use Rattle.lagmodel.proofs.Ports.{members_first, one_partner}
 use Rattle.lagmodel.proofs.Stamps.{AllHeard, heard_first, heard_own}
 use Rattle.lagmodel.proofs.Worlds.{members_own}
@@ -126,10 +124,7 @@ took_from_any_peer u ends es w f one z p a h d n =
       r.1,
       r.2,
       y.0,
-      λ g. elim y.1 [
-        | inl e ↦ crossed r.0.pdu.actor r.0.pdu.partner a.party a.partner (sym r.2) e
-        | inr n ↦ absurd (true≢false (sym g ∙ n))
-      ],
+      y.1,
     )
 
 -- ---- each lawful call is a happening that leaves what its visible acts leave
@@ -138,11 +133,8 @@ took_from_any_peer u ends es w f one z p a h d n =
 view_over : (ends : ℕ → Option ℕ) (stamp : ℕ) (accepts : Act → Bool) (seen : List Act) (v on_the_way : View) (w : Scene)
     → scene_after_acts ends stamp accepts seen v (record w { view = on_the_way }) ≡ scene_after_acts ends stamp accepts seen v w
 view_over ends stamp accepts [] v on_the_way w = refl
-view_over ends stamp accepts (a ∷ more) v on_the_way w = view_over ends stamp accepts more v on_the_way (record w {
-  out = on_cable_after One ends w.whole (λ p. 0) w.sent (accepts a) (Some a) w.out;
-  sent = sent_after (Some a) w.sent;
-  taken = taken_after stamp (Some a) w.taken;
-})
+view_over ends stamp accepts (a ∷ more) v on_the_way w =
+    view_over ends stamp accepts more v on_the_way (scene_after_act ends stamp (accepts a) (Some a) w)
 
 -- whether the cable accepts what a move sends, if it sends anything
 abbrev pub accepted : (Act → Bool) → Option Act → Bool
@@ -152,21 +144,13 @@ accepted accepts (Some a) = accepts a
 module _ (u : SystemSetup) (ends : ℕ → Option ℕ) (call : ModelCall) (stamp : ℕ) (accepts : Act → Bool) where
   -- the scene after a move that ended in the view v and showed this
   abbrev shown : Option Act → View → Scene → Scene
-  shown o v w = record w {
-    view = v;
-    out = on_cable_after One ends w.whole (λ p. 0) w.sent (accepted accepts o) o w.out;
-    sent = sent_after o w.sent;
-    taken = taken_after stamp o w.taken;
-  }
+  shown o v w = record (scene_after_act ends stamp (accepted accepts o) o w) { view = v }
 
   one_shown : (o : Option Act) (seen : List Act) (v on_the_way : View) (w : Scene)
       → scene_after_acts ends stamp accepts seen v (shown o on_the_way w) ≡ scene_after_acts ends stamp accepts (option_to_list o ++ seen) v w
   one_shown None seen v on_the_way w = view_over ends stamp accepts seen v on_the_way w
-  one_shown (Some a) seen v on_the_way w = view_over ends stamp accepts seen v on_the_way (record w {
-    out = on_cable_after One ends w.whole (λ p. 0) w.sent (accepts a) (Some a) w.out;
-    sent = sent_after (Some a) w.sent;
-    taken = taken_after stamp (Some a) w.taken;
-  })
+  one_shown (Some a) seen v on_the_way w =
+      view_over ends stamp accepts seen v on_the_way (scene_after_act ends stamp (accepts a) (Some a) w)
 
   all_moves : (ms : List Move) (w : Scene) → AllAllowed u call w.view ms → (moves : List (Move × Bool))
       × Moves u ends call stamp moves w (scene_after_acts ends stamp accepts (acts u ms w.view) (view_after_all u ms w.view) w)

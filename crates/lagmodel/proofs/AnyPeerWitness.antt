@@ -1,8 +1,10 @@
 -- A run in which a port comes to distribute, and a frame arrives at a peer of any kind.
-use Rattle.lagmodel.proofs.Common.{Bool, List, None, Option, Some, [], ap, cond, eqb, eqb-true, false, inl, inr, refl, subst, sym, true, ℕ, ◌++◌, ◌∙◌}
-use Rattle.lagmodel.proofs.Common.{◌∷◌, ◌≡◌, none-some, ArrivesAtAnyPeer, Calls, Fits, Gone, HandsUp, Says, Scene, first_scene, scene_after}
-use Rattle.lagmodel.proofs.Common.{with_back, Distribute, Flow, Join, Move, Port, Send, Take, port_after, ControlMessage, Force, Lacp, Offer}
-use Rattle.lagmodel.proofs.Common.{PortFacts, Receive, Set_link, SystemSetup, first_port, first_view, Control, Message, One, at_cable, at_two}
+use Rattle.lagmodel.proofs.Common.{Bool, List, None, Option, Some, [], ap, arith, cond, eqb, eqb-true, false, inl, inr, refl, subst, sym, true, ℕ}
+use Rattle.lagmodel.proofs.Common.{◌++◌, ◌<◌, ◌∙◌, ◌∷◌, ◌≡◌, none-some, ◌^◌, Answers, ArrivesAtAnyPeer, Calls, Comes, ComesAll, Fits, Gone, HandsUp}
+use Rattle.lagmodel.proofs.Common.{Happening, Says, Scene, Takes, first_scene, scene_after, with_back, Answered, Become, Distribute, Flow, Join, Mark}
+use Rattle.lagmodel.proofs.Common.{Move, Port, Send, Take, Want, port_after, ControlMessage, Force, Lacp, Marker, ModelCall, Offer, PortFacts}
+use Rattle.lagmodel.proofs.Common.{Receive, Response, Set_link, SystemSetup, Transmit, first_port, first_view, is_restart, Control, Data, Message}
+use Rattle.lagmodel.proofs.Common.{One, at_cable, at_two}
 use Rattle.lagmodel.proofs.Base.{chosen}
 use Rattle.lagmodel.proofs.Witness.{fixed₀, ne₁, outside_first, outside_kept, party_of, pdu₃, setup_of}
 
@@ -37,8 +39,46 @@ s₃ = record s₂ { back = at_cable s₂.back 1 [] }
 abbrev s₄ : Scene
 s₄ = scene_after u₀ ends₀ 0 (Flow (Send 1 48 1), true) s₃
 
+-- conversation 48 is to leave the port, so a marker goes out behind its frame
+abbrev marks₀ : List (Move × Bool)
+marks₀ = (Flow (Become 1 48 (Want 1)), true) ∷ (Flow (Mark 1), true) ∷ []
+
+-- the response came, and the conversation sends again
+abbrev again₀ : List (Move × Bool)
+again₀ = (Flow (Become 1 48 (Answered 1 1)), true) ∷ (Flow (Send 1 48 1), true) ∷ []
+
+abbrev marker₀ : Message
+marker₀ = Control (Marker [] 1 1) 0
+
+abbrev response₀ : ControlMessage
+response₀ = Response [] 1 1
+
 abbrev s₅ : Scene
-s₅ = record s₄ { out = at_cable s₄.out 1 []; collected = at_two s₄.collected 1 48 (s₄.collected 1 48 ++ 0 ∷ []) }
+s₅ = scene_after u₀ ends₀ 0 (Flow (Mark 1), true) (scene_after u₀ ends₀ 0 (Flow (Become 1 48 (Want 1)), true) s₄)
+
+abbrev handed : Scene → ℕ → List Message → Scene
+handed s n ms = record s { out = at_cable s.out 1 ms; collected = at_two s.collected 1 48 (s.collected 1 48 ++ n ∷ []) }
+
+abbrev s₆ : Scene
+s₆ = handed s₅ 0 (marker₀ ∷ [])
+
+abbrev s₇ : Scene
+s₇ = with_back s₆ 1 true (Control response₀ 0)
+
+abbrev s₈ : Scene
+s₈ = scene_after u₀ ends₀ 0 (Flow (Send 1 48 1), true) (scene_after u₀ ends₀ 0 (Flow (Become 1 48 (Answered 1 1)), true) s₇)
+
+abbrev s₉ : Scene
+s₉ = record s₈ { back = at_cable s₈.back 1 [] }
+
+abbrev frame₁ : Message
+frame₁ = Data One 1 48 1
+
+abbrev s₁₀ : Scene
+s₁₀ = record s₉ { out = at_cable s₉.out 1 (frame₁ ∷ []) }
+
+abbrev s₁₁ : Scene
+s₁₁ = handed s₁₀ 1 []
 
 -- port 1 at the end
 abbrev a₀ : PortFacts
@@ -53,78 +93,112 @@ no_link p q a up e = cc
 no_force : (p g k : ℕ) (a : Option ControlMessage) → Receive p a ≡ Force g k → ⊥
 no_force p g k a e = cc
 
-offer_receive : (p : ℕ) (a : Option ControlMessage) → Offer ≡ Receive p a → ⊥
-offer_receive p a e = cc
+-- the call brings nothing
+abbrev BringsNothing : ModelCall → Type 0
+BringsNothing call = ((p : ℕ) (a : Option ControlMessage) → call ≡ Receive p a → ⊥) × ((p : ℕ) (up : Bool) → call ≡ Set_link p up → ⊥)
+    × ((g k : ℕ) → call ≡ Force g k → ⊥)
 
-offer_link : (p : ℕ) (up : Bool) → Offer ≡ Set_link p up → ⊥
-offer_link p up e = cc
+offer_brings_nothing : BringsNothing Offer
+offer_brings_nothing = (λ p a e. cc, λ p up e. cc, λ g k e. cc)
 
-offer_force : (g k : ℕ) → Offer ≡ Force g k → ⊥
-offer_force g k e = cc
+transmit_brings_nothing : BringsNothing Transmit
+transmit_brings_nothing = (λ p a e. cc, λ p up e. cc, λ g k e. cc)
 
-fits₁ : Fits (Receive 1 (Some (Lacp pdu₃))) 0 ends₀ s₁
-fits₁ = record {
-  running = refl;
-  came = λ p pdu e c h.
-      let same = (parts 1 p (Lacp pdu₃) pdu e).1 in (
-        [],
-        subst (λ d. s₁.back d ≡ Control pdu 0 ∷ []) (sym (there c p h))
-            (ap (λ (y : ControlMessage). Control y 0 ∷ []) same),
-      );
-  downed = λ p e. absurd (no_link 1 p (Some (Lacp pdu₃)) false e);
-  forcing = λ g k e. absurd (no_force 1 g k (Some (Lacp pdu₃)) e);
+fits_nothing : (call : ModelCall) (s : Scene) → is_restart call ≡ false → BringsNothing call → Fits call 0 ends₀ s
+fits_nothing call s r n = record {
+  running = r;
+  came = λ p pdu e. absurd (n.0 p (Some pdu) e);
+  downed = λ p e. absurd (n.1 p false e);
+  forcing = λ g k e. absurd (n.2 g k e);
 }
 
-fits₃ : Fits Offer 0 ends₀ s₃
-fits₃ = record {
+-- what came is all that is on its way to port 1
+fits_received : (a : ControlMessage) (s : Scene) → s.back 1 ≡ Control a 0 ∷ [] → Fits (Receive 1 (Some a)) 0 ends₀ s
+fits_received a s b = record {
   running = refl;
-  came = λ p pdu e. absurd (offer_receive p (Some pdu) e);
-  downed = λ p e. absurd (offer_link p false e);
-  forcing = λ g k e. absurd (offer_force g k e);
+  came = λ p pdu e c h. (
+    [],
+    subst (λ d. s.back d ≡ Control pdu 0 ∷ []) (sym (there c p h))
+        (b ∙ ap (λ (y : ControlMessage). Control y 0 ∷ []) (parts 1 p a pdu e).1),
+  );
+  downed = λ p e. absurd (no_link 1 p (Some a) false e);
+  forcing = λ g k e. absurd (no_force 1 g k (Some a) e);
 }
+
+abbrev before₀ : List Happening
+before₀ = Says 1 true m₀ ∷ Calls (Receive 1 (Some (Lacp pdu₃))) 0 joins₀ ∷ Gone 1 m₀ [] ∷ Calls Offer 0 sends₀ ∷ Calls Transmit 0 marks₀
+    ∷ HandsUp 1 1 48 0 (marker₀ ∷ []) ∷ []
+
+abbrev after₀ : List Happening
+after₀ = Calls (Receive 1 (Some response₀)) 0 again₀ ∷ Gone 1 (Control response₀ 0) [] ∷ Takes 1 marker₀ (frame₁ ∷ []) ∷ HandsUp 1 1 48 1 []
+    ∷ []
+
+below : 1 < 2 ^ 32
+below = omega arith
+
+-- it joins and distributes
+joins_come : Comes u₀ ends₀ (Calls (Receive 1 (Some (Lacp pdu₃))) 0 joins₀) s₁ s₂
+joins_come = (
+  fits_received (Lacp pdu₃) s₁ refl,
+  (
+    (refl, inr refl, λ h. (refl, inl refl)),
+    (
+      (
+        refl,
+        ne₁,
+        refl,
+        inl (outside_kept (first_view u₀).port (first_port (party_of 1)) (port_after (Take pdu₃ true)) refl
+            (λ h. none-some 1 h) (outside_first 1)),
+      ),
+      ((refl, refl), refl),
+    ),
+  ),
+)
+
+-- from there on
+goes_on : ComesAll u₀ ends₀ (Gone 1 m₀ [] ∷ Calls Offer 0 sends₀ ∷ Calls Transmit 0 marks₀ ∷ HandsUp 1 1 48 0 (marker₀ ∷ [])
+    ∷ Answers 1 true [] 1 1 0 [] ∷ after₀) s₂ s₁₁
+goes_on = (
+  s₃,
+  (refl, refl),
+  (
+    s₄,
+    (fits_nothing Offer s₃ refl offer_brings_nothing, ((refl, inl (refl, (refl, refl))), refl)),
+    (
+      s₅,
+      (fits_nothing Transmit s₄ refl transmit_brings_nothing, (refl, ((refl, below), refl))),
+      (
+        s₆,
+        (refl, refl),
+        (
+          s₇,
+          (refl, refl),
+          (
+            s₈,
+            (fits_received response₀ s₇ refl, ((refl, refl), ((refl, inl (refl, (refl, refl))), refl))),
+            (s₉, (refl, refl), (s₁₀, (refl, refl), (s₁₁, (refl, refl), refl))),
+          ),
+        ),
+      ),
+    ),
+  ),
+)
 
 pub arrives_at_any_peer : ArrivesAtAnyPeer
 arrives_at_any_peer = (
   u₀,
   ends₀,
-  Says 1 true m₀ ∷ Calls (Receive 1 (Some (Lacp pdu₃))) 0 joins₀ ∷ Gone 1 m₀ [] ∷ Calls Offer 0 sends₀ ∷ HandsUp 1 1 48 0 [] ∷ [],
-  s₅,
+  before₀ ++ Answers 1 true [] 1 1 0 [] ∷ after₀,
+  before₀,
+  after₀,
+  s₁₁,
   a₀,
   record { pdu = pdu₃; stamp = 0 },
+  1,
   fixed₀.setup One,
   λ c d p h i. there c p h ∙ sym (there d p i),
-  (
-    s₁,
-    (tt, refl),
-    (
-      s₂,
-      (
-        fits₁,
-        (
-          (refl, inr refl, λ h. (refl, inl refl)),
-          (
-            (
-              refl,
-              ne₁,
-              refl,
-              inl (outside_kept (first_view u₀).port (first_port (party_of 1)) (port_after (Take pdu₃ true)) refl
-                  (λ h. none-some 1 h) (outside_first 1)),
-            ),
-            ((refl, refl), refl),
-          ),
-        ),
-      ),
-      (
-        s₃,
-        (refl, refl),
-        (
-          s₄,
-          (fits₃, ((refl, inl (refl, (refl, refl))), refl)),
-          (s₅, (refl, refl), refl),
-        ),
-      ),
-    ),
-  ),
+  (s₁, (tt, refl), (s₂, joins_come, goes_on)),
+  refl,
   refl,
   refl,
   refl,

@@ -4,12 +4,13 @@ pub use Rattle.std.proofs.Common.{eqb-true, false, get_or, inl, inr, is_some, le
 pub use Rattle.std.proofs.Common.{subst, suc, sym, true, zero, ℕ, ◌&&◌, ◌++◌, ◌+◌, ◌<◌, ◌∙◌, ◌∷◌, ◌≡◌, ◌≢◌, ◌≤◌, ◌⊎◌}
 pub use Rattle.std.proofs.lemmas.Bool.{and_from, and_parts, cases_Bool, cases_eq, cases_lt, eqb-false, false≢true, true≢false}
 pub use Rattle.std.proofs.lemmas.Option.{none-some, same_Some}
-pub use Rattle.std.specs.Prelude.{Contains, option_to_list}
+pub use Rattle.std.specs.Prelude.{Contains, option_to_list, ◌^◌}
 pub use Rattle.lagtypes.specs.declared.party.Party.{Party}
 pub use Rattle.lagtypes.specs.Group.{Pair, SamePair, end_of, individual, pair_of}
 pub use Rattle.lagmodel.specs.AnyPeer.{Answers, ArrivesAtAnyPeer, Calls, Comes, ComesAll, Cuts, EachCallIsOne, Fits, Forces, Gone, HandsUp, Happening}
 pub use Rattle.lagmodel.specs.AnyPeer.{HoldsWithAnyPeer, IsNoResponse, Joins, Moves, OrderHolds, OvertakesBack, OvertakesOut, Restarts, Says, Scene}
-pub use Rattle.lagmodel.specs.AnyPeer.{SerialsCountFromZero, Takes, TookInSync, first_scene, only, scene_after, scene_after_acts, with_back}
+pub use Rattle.lagmodel.specs.AnyPeer.{SerialsCountFromZero, Takes, TookInSync, first_scene, only, scene_after, scene_after_act, scene_after_acts}
+pub use Rattle.lagmodel.specs.AnyPeer.{with_back}
 pub use Rattle.lagmodel.specs.Bridge.{AreNumbered, BecomeByMoves, find_number, ports_of, world_after_call}
 pub use Rattle.lagmodel.specs.Law.{BelowNext, CollectedThenInFlight, CountsFromZero, EndsAgree, FlushedByMarker, InOrder, IsSubsequence}
 pub use Rattle.lagmodel.specs.Law.{LastLacpduSaysInSync, LawfulRun, Members, OnItsCable, OnePartner, SomethingArrives, UpToDateLacpdusNameSender}

@@ -1,10 +1,9 @@
 -- One system on its cables, and whatever is at their other ends: other systems of any kind. What they send is free, but that a Marker
 -- Response on a cable answers the marker that has come there first (6.5.4; profile).
-use Rattle.std.specs.Prelude.{◌≡◌, ◌<◌, ℕ, Bool, true, false, cond, eqb, Option, Some, None, List, [], ◌∷◌, ◌++◌, length, slice_index}
-use Rattle.lagtypes.specs.Group.{SamePair, pair_of}
+use Rattle.std.specs.Prelude.{◌≡◌, ◌<◌, ◌⊎◌, ℕ, Bool, true, false, cond, eqb, Option, Some, None, List, [], ◌∷◌, ◌++◌, length, slice_index}
 use Rattle.lagmodel.specs.View.{PortFacts, View, SystemSetup, IsSystemSetup, first_view, ControlMessage, Marker, Response, Lacp, ModelCall}
 use Rattle.lagmodel.specs.View.{Receive, Set_link, Force, is_restart}
-use Rattle.lagmodel.specs.Move.{Act, LawfulMoves, Move, MoveAllowed, view_after, act, pair_at}
+use Rattle.lagmodel.specs.Move.{Act, LawfulMoves, Move, MoveAllowed, view_after, act}
 use Rattle.lagmodel.specs.World.{One, Message, Control, Data, at_two, at_cable, put_on_cable, on_cable_after, sent_after}
 use Rattle.lagmodel.specs.World.{TakenLacpdu, taken_after}
 use Rattle.lagmodel.specs.Law.{IsSubsequence}
@@ -42,14 +41,18 @@ pub record Fits (call : ModelCall) (stamp : ℕ) (ends : ℕ → Option ℕ) (w 
   pub downed : (p : ℕ) → call ≡ Set_link p false → (c : ℕ) → ends c ≡ Some p → w.whole c ≡ false
   pub forcing : (g k : ℕ) → call ≡ Force g k → w.forced g k ≡ true
 
+-- After a visible act of the system, but for its view. `accepted`: whether the cable accepts what it sends. `stamp`: the stamp of what came
+-- in this call.
+abbrev pub scene_after_act : (ℕ → Option ℕ) → ℕ → Bool → Option Act → Scene → Scene
+scene_after_act ends stamp accepted seen w = record w {
+  out = on_cable_after One ends w.whole (λ p. 0) w.sent accepted seen w.out;
+  sent = sent_after seen w.sent;
+  taken = taken_after stamp seen w.taken;
+}
+
 -- after one move of the system, and whether a cable accepts what it sends
 abbrev pub scene_after : SystemSetup → (ℕ → Option ℕ) → ℕ → Move × Bool → Scene → Scene
-scene_after u ends stamp m w = record w {
-  view = view_after u m.0 w.view;
-  out = on_cable_after One ends w.whole (λ p. 0) w.sent m.1 (act u m.0 w.view) w.out;
-  sent = sent_after (act u m.0 w.view) w.sent;
-  taken = taken_after stamp (act u m.0 w.view) w.taken;
-}
+scene_after u ends stamp m w = record (scene_after_act ends stamp m.1 (act u m.0 w.view) w) { view = view_after u m.0 w.view }
 
 abbrev pub Moves : SystemSetup → (ℕ → Option ℕ) → ModelCall → ℕ → List (Move × Bool) → Scene → Scene → Type 0
 Moves u ends call stamp [] old new = new ≡ old
@@ -115,29 +118,26 @@ abbrev pub OrderHolds : Scene → Type 0
 OrderHolds w = (g k : ℕ) → w.forced g k ≡ false → IsSubsequence (w.collected g k) (w.sent g k)
 
 -- A distributing port whose partner is not defaulted took an LACPDU, and the last one said IN_SYNC; its Actor is the recorded partner, and
--- if that is aggregatable, its Actor and Partner are the two ends of the port's present group.
+-- its Partner is the port, unless that Actor is not aggregatable (6.4.9, 6.4.14.1).
 abbrev pub TookInSync : Scene → Type 0
 TookInSync w = (p : ℕ) (a : PortFacts) → w.view.port p ≡ Some a → a.distributes ≡ true → a.defaulted ≡ false
     → (m : TakenLacpdu) × (w.taken p ≡ Some m) × (a.partner ≡ m.pdu.actor) × (m.pdu.synchronized ≡ true)
-    × (m.pdu.actor.aggregatable ≡ true → SamePair (pair_of m.pdu.actor m.pdu.partner) (pair_at a))
+    × ((m.pdu.partner ≡ a.party) ⊎ (m.pdu.actor.aggregatable ≡ false))
 
 -- There is such a run in which a port comes to distribute, not on defaults, with the Actor of the LACPDU that it took last as its partner;
--- and a frame arrives of conversation 48, which was never forced.
+-- and two frames arrive of conversation 48, which was never forced: a marker went out behind the first, and was answered.
 abbrev pub ArrivesAtAnyPeer : Type 0
-ArrivesAtAnyPeer = (u : SystemSetup) × (ends : ℕ → Option ℕ) × (es : List Happening) × (w : Scene) × (a : PortFacts) × (m : TakenLacpdu)
-    × IsSystemSetup u × ((c d p : ℕ) → ends c ≡ Some p → ends d ≡ Some p → c ≡ d) × ComesAll u ends es (first_scene u) w
+ArrivesAtAnyPeer = (u : SystemSetup) × (ends : ℕ → Option ℕ) × (es before after : List Happening) × (w : Scene) × (a : PortFacts) × (m : TakenLacpdu)
+    × (n : ℕ) × IsSystemSetup u × ((c d p : ℕ) → ends c ≡ Some p → ends d ≡ Some p → c ≡ d) × ComesAll u ends es (first_scene u) w
     × (ends 1 ≡ Some 1) × (w.view.port 1 ≡ Some a) × (a.distributes ≡ true) × (a.defaulted ≡ false) × (w.taken 1 ≡ Some m)
-    × (a.partner ≡ m.pdu.actor) × (w.forced 1 48 ≡ false) × (w.sent 1 48 ≡ 0 ∷ []) × (w.collected 1 48 ≡ 0 ∷ [])
+    × (a.partner ≡ m.pdu.actor) × (w.forced 1 48 ≡ false) × (w.sent 1 48 ≡ 0 ∷ 1 ∷ []) × (w.collected 1 48 ≡ 0 ∷ 1 ∷ [])
+    × (es ≡ before ++ Answers 1 true u.system.mac 1 n 0 [] ∷ after)
 
--- The scene after these visible acts of a call that ended in the view v. `accepts`: whether the cables accept what an act sends. `stamp`:
--- the stamp of what came in this call.
+-- The scene after these visible acts of a call that ended in the view v. `accepts`: whether the cables accept what an act sends.
 abbrev pub scene_after_acts : (ℕ → Option ℕ) → ℕ → (Act → Bool) → List Act → View → Scene → Scene
 scene_after_acts ends stamp accepts [] v w = record w { view = v }
-scene_after_acts ends stamp accepts (a ∷ more) v w = scene_after_acts ends stamp accepts more v (record w {
-  out = on_cable_after One ends w.whole (λ p. 0) w.sent (accepts a) (Some a) w.out;
-  sent = sent_after (Some a) w.sent;
-  taken = taken_after stamp (Some a) w.taken;
-})
+scene_after_acts ends stamp accepts (a ∷ more) v w =
+    scene_after_acts ends stamp accepts more v (scene_after_act ends stamp (accepts a) (Some a) w)
 
 -- Each lawful call is one of these, whatever cables accept, and leaves the scene that its visible acts leave, frames on the cables with
 -- them: so each call of every system whose calls are lawful moves.

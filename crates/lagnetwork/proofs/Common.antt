@@ -29,7 +29,8 @@ pub use Rattle.lagmodel.proofs.Stamps.{stamps_emptied, stamps_first, stamps_own,
 pub use Rattle.lagnetwork.specs.Network.{AllNetworkMoves, CountsNetworkChanges, DeliversFirstAt, IsNetworkSetup, IsNetworkSuccessor, Network}
 pub use Rattle.lagnetwork.specs.Network.{NetworkCall, NetworkEvent, NetworkHappens, NetworkRun, NetworkSetup, Place, RepeatsFirstAt, also_forced}
 pub use Rattle.lagnetwork.specs.Network.{at_place, at_system, ends_at, first_network, freed_view, handed_up_from, is_at, is_end, is_place}
-pub use Rattle.lagnetwork.specs.Network.{network_after, network_after_acts, network_after_all, put_on_line, towards_after, without_first}
+pub use Rattle.lagnetwork.specs.Network.{network_after, network_after_act, network_after_acts, network_after_all, put_on_line, towards_after}
+pub use Rattle.lagnetwork.specs.Network.{without_first}
 pub use Rattle.lagnetwork.specs.NetworkLaw.{AllBelowNext, AllCountFromZero, CablesAgree, CollectedThenFlying, EachOnePartner, EachTookInSync}
 pub use Rattle.lagnetwork.specs.NetworkLaw.{FlushedBehindMarker, FlyOnItsCable, IsUpToDate, MaySucceedItself, NamesFarEnd, NetworkInOrder}
 pub use Rattle.lagnetwork.specs.NetworkLaw.{NotWithItself, OneAggregatorReachesTwo, OneDevice, scene_of}

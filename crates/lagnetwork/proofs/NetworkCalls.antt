@@ -1,8 +1,8 @@
 -- A call of one system, by lawful moves with visible acts, is a call of the network.
 use Rattle.lagnetwork.proofs.Common.{Bool, List, None, Option, Some, [], ap, cond, eqb, false, refl, subst, sym, true, ℕ, ◌++◌, ◌∙◌, ◌∷◌, ◌≡◌}
 use Rattle.lagnetwork.proofs.Common.{option_to_list, Act, AllAllowed, LawfulMoves, Move, act, acts, view_after, view_after_all, ModelCall, View}
-use Rattle.lagnetwork.proofs.Common.{sent_after, taken_after, AllNetworkMoves, CountsNetworkChanges, Network, NetworkCall, NetworkSetup, at_system}
-use Rattle.lagnetwork.proofs.Common.{network_after_acts, network_after_all, towards_after}
+use Rattle.lagnetwork.proofs.Common.{AllNetworkMoves, CountsNetworkChanges, Network, NetworkCall, NetworkSetup, at_system, network_after_act}
+use Rattle.lagnetwork.proofs.Common.{network_after_acts, network_after_all}
 use Rattle.lagmodel.proofs.AnyPeer.{accepted}
 use Rattle.lagnetwork.proofs.Networks.{there, elsewhere, is_or_not}
 
@@ -18,28 +18,16 @@ twice f s x y t = go (eqb t s)
     go false = refl
 
 module _ (x : NetworkSetup) (s : ℕ) (call : ModelCall) (stamp : ℕ) (accepts : Act → Bool) where
-  -- the network after an act, and after a move that ended in the view v and showed this
-  abbrev with_act : Act → Network → Network
-  with_act a w = record w {
-    towards = towards_after x s w.whole (w.count s) (w.sent s) (accepts a) (Some a) w.towards;
-    sent = at_system w.sent s (sent_after (Some a) (w.sent s));
-    taken = at_system w.taken s (taken_after stamp (Some a) (w.taken s));
-  }
-
+  -- the network after a move that ended in the view v and showed this
   abbrev shown : Option Act → View → Network → Network
-  shown o v w = record w {
-    view = at_system w.view s v;
-    towards = towards_after x s w.whole (w.count s) (w.sent s) (accepted accepts o) o w.towards;
-    sent = at_system w.sent s (sent_after o (w.sent s));
-    taken = at_system w.taken s (taken_after stamp o (w.taken s));
-  }
+  shown o v w = record (network_after_act x s stamp (accepted accepts o) o w) { view = at_system w.view s v }
 
   -- the view on the way does not matter
   view_over : (seen : List Act) (v on_the_way : View) (w : Network)
       → network_after_acts x s stamp accepts seen v (record w { view = at_system w.view s on_the_way })
       ≡ network_after_acts x s stamp accepts seen v w
   view_over [] v on_the_way w = λ i. record w { view = λ t. twice w.view s on_the_way v t i }
-  view_over (a ∷ more) v on_the_way w = view_over more v on_the_way (with_act a w)
+  view_over (a ∷ more) v on_the_way w = view_over more v on_the_way (network_after_act x s stamp (accepts a) (Some a) w)
 
   one_shown : (o : Option Act) (seen : List Act) (v on_the_way : View) (w : Network)
       → network_after_acts x s stamp accepts seen v (shown o on_the_way w)
@@ -49,7 +37,7 @@ module _ (x : NetworkSetup) (s : ℕ) (call : ModelCall) (stamp : ℕ) (accepts 
     sent = λ t. sym (itself w.sent s t) i;
     taken = λ t. sym (itself w.taken s t) i;
   }) ∙ view_over seen v on_the_way w
-  one_shown (Some a) seen v on_the_way w = view_over seen v on_the_way (with_act a w)
+  one_shown (Some a) seen v on_the_way w = view_over seen v on_the_way (network_after_act x s stamp (accepts a) (Some a) w)
 
   all_moves : (ms : List Move) (w : Network) → AllAllowed (x.setup s) call (w.view s) ms → (moves : List (Move × Bool))
       × AllNetworkMoves x s call stamp moves w

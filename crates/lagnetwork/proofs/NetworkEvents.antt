@@ -459,10 +459,10 @@ succeeded_kept x s after w y i = record {
 
     here : With after s
     here = record {
-      members = y.members;
+      members = y.follows.members;
       apart = y.apart;
-      heard = y.heard;
-      lanes = lanes_succeeded (i.each s).lanes after.flows y.on y.waits y.next;
+      heard = y.follows.heard;
+      lanes = lanes_succeeded (i.each s).lanes after.flows y.follows.on y.follows.waits y.follows.next;
       stamps = λ t. subst (λ (party : ℕ → Option Party). Stamps (ends_of x s) (theirs_of x s t) party (w.count s) (out_of x w.towards s)
           (w.taken t)) (λ j p. sym (y.parties p) j) ((i.each s).stamps t);
       names = (i.each s).names;

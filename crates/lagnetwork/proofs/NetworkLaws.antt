@@ -1,11 +1,11 @@
 -- What follows in a network in which the facts hold.
-use Rattle.lagnetwork.proofs.Common.{Some, [], ap, arith, eq-eqb, inl, inr, option_map, refl, subst, sym, true, ℕ, ◌++◌, ◌∙◌, ◌≡◌, true≢false}
-use Rattle.lagnetwork.proofs.Common.{same_Some, Party, IsSubsequence, Members, serials, Flushing, Marker, On, PortFacts, Response, SystemSetup, View}
-use Rattle.lagnetwork.proofs.Common.{conversation_port, Control, One, TakenLacpdu, party_at, same_value, Every, MarkerBelow, NoneBehind}
-use Rattle.lagnetwork.proofs.Common.{ResponseBelow, answers, behind_split, every_contains, handed_front, one_partner, AllHeard, FreshPdu, Stamps}
-use Rattle.lagnetwork.proofs.Common.{IsNetworkSetup, Network, NetworkSetup, Place, AllBelowNext, CablesAgree, CollectedThenFlying, EachOnePartner}
-use Rattle.lagnetwork.proofs.Common.{EachTookInSync, FlushedBehindMarker, FlyOnItsCable, IsUpToDate, MaySucceedItself, NamesFarEnd, NetworkInOrder}
-use Rattle.lagnetwork.proofs.Common.{NotWithItself, OneDevice, scene_of}
+use Rattle.lagnetwork.proofs.Common.{Some, [], ap, arith, eq-eqb, inl, inr, option_map, refl, subst, sym, true, ℕ, ◌++◌, ◌∙◌, ◌≡◌, same_Some, Party}
+use Rattle.lagnetwork.proofs.Common.{IsSubsequence, Members, serials, Flushing, Marker, On, PortFacts, Response, SystemSetup, View, conversation_port}
+use Rattle.lagnetwork.proofs.Common.{Control, One, TakenLacpdu, party_at, same_value, Every, MarkerBelow, NoneBehind, ResponseBelow, answers}
+use Rattle.lagnetwork.proofs.Common.{behind_split, every_contains, handed_front, one_partner, AllHeard, FreshPdu, Stamps, IsNetworkSetup, Network}
+use Rattle.lagnetwork.proofs.Common.{NetworkSetup, Place, AllBelowNext, CablesAgree, CollectedThenFlying, EachOnePartner, EachTookInSync}
+use Rattle.lagnetwork.proofs.Common.{FlushedBehindMarker, FlyOnItsCable, IsUpToDate, MaySucceedItself, NamesFarEnd, NetworkInOrder, NotWithItself}
+use Rattle.lagnetwork.proofs.Common.{OneDevice, scene_of}
 use Rattle.lagnetwork.proofs.NetworkLines.{at_far, ends-some, ends_of, theirs_of, out_of, some-port_in}
 use Rattle.lagmodel.proofs.Laws.{crossed}
 use Rattle.lagmodel.specs.AnyPeer.{Scene, TookInSync}
@@ -100,13 +100,15 @@ waits_not_on p q n e = cc
 
 pub may_succeed_itself : (x : NetworkSetup) (w : Network) → AllFine x w → MaySucceedItself x w
 may_succeed_itself x w i s on = record {
-  members = (i.each s).members;
-  apart = (i.each s).apart;
+  follows = record {
+    members = (i.each s).members;
+    heard = (i.each s).heard;
+    on = on;
+    waits = λ g k p n e. waits_not_on p p n (sym e ∙ on g k p (ap conversation_port e));
+    next = omega arith;
+  };
   parties = λ p. refl;
-  heard = (i.each s).heard;
-  on = on;
-  waits = λ g k p n e. waits_not_on p p n (sym e ∙ on g k p (ap conversation_port e));
-  next = omega arith;
+  apart = (i.each s).apart;
 }
 
 -- what a system took last, by what holds of its ports
@@ -118,10 +120,7 @@ took_in_sync u w members heard p a h d n =
       r.1,
       r.2,
       y.0,
-      λ g. elim y.1 [
-        | inl x ↦ crossed r.0.pdu.actor r.0.pdu.partner a.party a.partner (sym r.2) x
-        | inr x ↦ absurd (true≢false (sym g ∙ x))
-      ],
+      y.1,
     )
 
 pub each_took_in_sync : (x : NetworkSetup) (w : Network) → AllFine x w → EachTookInSync x w

@@ -1,12 +1,10 @@
 -- Any number of systems, cabled in any way, and what can happen to them (profile; links are point-to-point). Systems have
 -- numbers; a network of n systems is one in which the others have no cable and no event.
 use Rattle.std.specs.Prelude.{◌≡◌, ◌≢◌, ℕ, suc, Bool, true, false, ◌&&◌, cond, eqb, ◌⊎◌, Option, Some, None, IsSome, List, [], ◌∷◌, ◌++◌, length, drop}
-use Rattle.std.specs.Prelude.{◌≤◌}
 use Rattle.lagmodel.specs.View.{PartyChange, PortFacts, View, SystemSetup, IsSystemSetup, first_view, ControlMessage, ModelCall}
-use Rattle.lagmodel.specs.View.{Free, Flushing, On, conversation_port}
-use Rattle.lagmodel.specs.Law.{Members}
+use Rattle.lagmodel.specs.View.{Free}
 use Rattle.lagmodel.specs.Overtaking.{Overtakes}
-use Rattle.lagmodel.specs.Succession.{HasHeard}
+use Rattle.lagmodel.specs.Succession.{IsSuccessor, KeepsParties}
 use Rattle.lagmodel.specs.Move.{Act, Sends, Sends_frame, Took, Move, MoveAllowed, view_after, act}
 use Rattle.lagmodel.specs.World.{One, Message, Control, Data, party_at, stamp_of, at_two, TakenLacpdu, sent_after, taken_after}
 
@@ -95,13 +93,19 @@ towards_after x s whole count sent accepted (Some (Sends_frame p g k)) towards =
     put_on_line x whole accepted s p (Data One g k (length (sent g k))) towards
 towards_after x s whole count sent accepted (Some (Took p pdu)) towards = towards
 
+-- The network after a visible act of system s, but for its view. `accepted`: whether the cable accepts what it sends. `stamp`: the stamp
+-- of what came in this call.
+abbrev pub network_after_act : NetworkSetup → ℕ → ℕ → Bool → Option Act → Network → Network
+network_after_act x s stamp accepted seen w = record w {
+  towards = towards_after x s w.whole (w.count s) (w.sent s) accepted seen w.towards;
+  sent = at_system w.sent s (sent_after seen (w.sent s));
+  taken = at_system w.taken s (taken_after stamp seen (w.taken s));
+}
+
 -- the network after one move of system s
 abbrev pub network_after : NetworkSetup → ℕ → ℕ → Move × Bool → Network → Network
-network_after x s stamp m w = record w {
+network_after x s stamp m w = record (network_after_act x s stamp m.1 (act (x.setup s) m.0 (w.view s)) w) {
   view = at_system w.view s (view_after (x.setup s) m.0 (w.view s));
-  towards = towards_after x s w.whole (w.count s) (w.sent s) m.1 (act (x.setup s) m.0 (w.view s)) w.towards;
-  sent = at_system w.sent s (sent_after (act (x.setup s) m.0 (w.view s)) (w.sent s));
-  taken = at_system w.taken s (taken_after stamp (act (x.setup s) m.0 (w.view s)) (w.taken s));
 }
 
 -- moves of system s one after another are allowed; each says whether the cable accepts what it sends
@@ -189,18 +193,12 @@ freed_view test v = record v { flows = record (v.flows) { state = λ g k. cond (
 abbrev pub also_forced : (ℕ → ℕ → Bool) → (ℕ → ℕ → Bool) → ℕ → ℕ → Bool
 also_forced test forced g k = cond (test g k) true (forced g k)
 
--- The system with this view may take the place of system s. What holds of the ports of any system holds of it (`one_system` of
--- lagmodel), and none that is in an aggregator has its own system as its partner. Its ports have the own parameters that they had, and
--- those that are not on defaults heard what the ports before them heard last. Each conversation that had a port is on it, none waits for
--- a response, and no identifier of a marker comes again.
+-- The system with this view may take the place of system s, as in lagmodel; its ports have the own parameters that they had, and none that
+-- is in an aggregator has its own system as its partner.
 pub record IsNetworkSuccessor (x : NetworkSetup) (w : Network) (s : ℕ) (after : View) : Type 0 where
-  pub members : Members (x.setup s) after.port
+  pub follows : IsSuccessor (x.setup s) (w.view s) (w.taken s) after
+  pub parties : KeepsParties (w.view s) after
   pub apart : (p : ℕ) (a : PortFacts) → after.port p ≡ Some a → IsSome a.aggregator → a.partner.system ≢ a.party.system
-  pub parties : (p : ℕ) → party_at after p ≡ party_at (w.view s) p
-  pub heard : (p : ℕ) (a : PortFacts) → after.port p ≡ Some a → HasHeard a (w.taken s p)
-  pub on : (g k p : ℕ) → conversation_port ((w.view s).flows.state g k) ≡ Some p → after.flows.state g k ≡ On p
-  pub waits : (g k p n : ℕ) → after.flows.state g k ≡ Flushing p n → ⊥
-  pub next : (w.view s).flows.next ≤ after.flows.next
 
 -- From old, the event may lead to new.
 abbrev pub NetworkHappens : NetworkSetup → NetworkEvent → Network → Network → Type 0
@@ -249,11 +247,8 @@ NetworkRun x [] old new = new ≡ old
 NetworkRun x (e ∷ es) old new = (mid : Network) × NetworkHappens x e old mid × NetworkRun x es mid new
 
 -- The network after these visible acts of a call of system s that ended in the view v. `accepts`: whether the cable accepts what an act
--- sends. `stamp`: the stamp of what came in this call.
+-- sends.
 abbrev pub network_after_acts : NetworkSetup → ℕ → ℕ → (Act → Bool) → List Act → View → Network → Network
 network_after_acts x s stamp accepts [] v w = record w { view = at_system w.view s v }
-network_after_acts x s stamp accepts (a ∷ more) v w = network_after_acts x s stamp accepts more v (record w {
-  towards = towards_after x s w.whole (w.count s) (w.sent s) (accepts a) (Some a) w.towards;
-  sent = at_system w.sent s (sent_after (Some a) (w.sent s));
-  taken = at_system w.taken s (taken_after stamp (Some a) (w.taken s));
-})
+network_after_acts x s stamp accepts (a ∷ more) v w =
+    network_after_acts x s stamp accepts more v (network_after_act x s stamp (accepts a) (Some a) w)

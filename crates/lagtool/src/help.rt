@@ -1,7 +1,7 @@
 //! The texts of the program's help.
 
 /// The program's version.
-pub const VERSION: &str = "0.2.0";
+pub const VERSION: &str = "0.3.0";
 
 /// What the program does.
 pub const ABOUT: &str = "Reads and answers LACPDUs and Marker PDUs (IEEE 802.1AX)";

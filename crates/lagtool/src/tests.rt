@@ -234,7 +234,7 @@ fn help_says_what_words_mean(rt: HostRuntime) -> Result<(), Fail> {
             ],
         ),
         (&["lagtool", "vectors", "--help"], &["V1 to V10"]),
-        (&["lagtool", "--version"], &["lagtool 0.2.0"]),
+        (&["lagtool", "--version"], &["lagtool 0.3.0"]),
     ];
     for (words, parts) in rows {
         let text = help_of(alloc, words)?;
