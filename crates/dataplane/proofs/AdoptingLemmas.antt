@@ -1,19 +1,15 @@
 -- Adopting: a free conversation comes onto its port by calls that a system has.
 use Rattle.dataplane.proofs.Common.{ap, arith, eq-eqb, eqb-true, inl, inr, refl, subst, sym, ◌∙◌, cases_Bool, nat_tests, MatchOption, is_none, ltb}
-use Rattle.dataplane.proofs.Common.{AggId, BelowNext, FlushedByMarker, OnItsCable, serials, LawfulMoves, Sends_frame, ModelCall, View}
-use Rattle.dataplane.proofs.Common.{conversation_port, One, Side, Two, World, WorldSetup, end_at, peer, Assignment, Wanted, Assigns, PicksPort}
-use Rattle.dataplane.proofs.Common.{is_among, preferred_among, SetsAssignment, Table, assignment_of, next_identifier, SystemFault, OffersConversation}
-use Rattle.dataplane.proofs.Common.{OffersIf, TakesPort, frame_of_conversation, Offer, JoinedByLawfulMoves, model_setup, model_view, model_view_at}
-use Rattle.dataplane.proofs.Common.{GivesAssignment, GivesOrRefuses, MayBeOffered, has_aggregator, in_system, system_force_result, system_move_result}
-use Rattle.dataplane.proofs.Common.{conversation_count, distributing, number_of_conversation, CallPromise, SystemState, machines_of, port_index}
-use Rattle.dataplane.proofs.Common.{system_port_at, with_table, framed}
-use Rattle.std.specs.Prelude.{Bool, true, false, ◌&&◌, ◌≡◌, ◌<◌, ◌≤◌, ◌^◌, ◌⊎◌, ℕ, cond, eqb, if◌then◌else◌, is_some}
-use Rattle.std.specs.Prelude.{nat_lt, List, [], ◌∷◌, Option, Some, None, Result, Ok, Err, option_map}
-use Rattle.distributor.specs.declared.assignment.Assignment.TheVariants.{Free, On}
-use Rattle.distributor.specs.declared.fault.DistFault.{DistFault}
-use Rattle.distributor.specs.Moves.{model_conversation, model_distributor}
+use Rattle.dataplane.proofs.Common.{AggId, LawfulMoves, Sends_frame, ModelCall, Assignment, Free, On, Wanted, DistFault, Assigns, PicksPort, is_among}
+use Rattle.dataplane.proofs.Common.{preferred_among, SetsAssignment, Table, assignment_of, next_identifier, model_conversation, model_distributor}
+use Rattle.dataplane.proofs.Common.{SystemFault, OffersConversation, OffersIf, TakesPort, frame_of_conversation, Offer, JoinedByLawfulMoves}
+use Rattle.dataplane.proofs.Common.{model_setup, model_view, model_view_at, GivesAssignment, GivesOrRefuses, MayBeOffered, has_aggregator, in_system}
+use Rattle.dataplane.proofs.Common.{system_force_result, system_move_result, conversation_count, distributing, number_of_conversation, CallPromise}
+use Rattle.dataplane.proofs.Common.{SystemState, machines_of, port_index, system_port_at, with_table, framed, IsFreeIn, IsPlaced, adopt_result}
+use Rattle.dataplane.proofs.Common.{adopted}
+use Rattle.std.specs.Prelude.{Bool, true, false, ◌&&◌, ◌≡◌, ◌^◌, ℕ, cond, eqb, if◌then◌else◌, is_some, nat_lt, List, []}
+use Rattle.std.specs.Prelude.{◌∷◌, Option, Some, None, Result, Ok, Err, option_map}
 use Rattle.lagsystem.specs.declared.drive.Reply.TheVariants as reply
-use Rattle.dataplane.specs.Adopting.{IsFreeIn, IsPlaced, RestsOn, TakesOver, adopt_result, adopted, with_view}
 
 -- what there has to be for a free conversation to come onto the port
 pub record Fits (s : SystemState) (agg : AggId) (conv port : ℕ) : Type 0 where
@@ -66,7 +62,7 @@ still_fits s t agg conv port c a h f = subst (λ x. Fits x agg conv port) (sym h
   left = ap (λ n. is_none (cond (ltb n (2 ^ 32)) (Some n) None)) h.0.next ∙ f.left;
 })
 
-now_in : (s t : SystemState) (agg : AggId) (conv : ℕ) (a : Assignment) → GivesAssignment agg conv a s t
+pub now_in : (s t : SystemState) (agg : AggId) (conv : ℕ) (a : Assignment) → GivesAssignment agg conv a s t
     → assignment_of t.table agg.0 conv ≡ a
 now_in s t agg conv a h = h.0.states agg.0 conv
     ∙ ap (λ b. cond (b && eqb conv conv) a (assignment_of s.table agg.0 conv)) (eq-eqb agg.0 agg.0 refl)
@@ -293,51 +289,3 @@ placed_behind gives later agg conv port p q s t u v w moved forced o m h l each 
     placed later agg conv port s v w freed.1 (same_flows s.table v.table agg.0 conv o.0.0 (Some port) freed.0 o.0.1) b.2
     (both s v w agg conv (Free (Some port)) (On port) freed given)
     (subst (λ n. OffersEach later agg conv v (Ok n) w) there each)
-
--- What order rests on, with the new system in place of the old one: of the other system nothing changes.
-on_new : (x : WorldSetup) (w : World) (s : Side) (after : View) → TakesOver (w.view s) after → OnItsCable x w → (g k c : ℕ)
-    → w.forced s g k ≡ false
-    → ((serials s g k (w.on_cable (peer s) c) ≡ []) ⊎ ((p : ℕ) × (end_at x.cables s c ≡ Some p)
-    × (conversation_port (after.flows.state g k) ≡ Some p)))
-    × (serials s g k (w.on_cable s c) ≡ [])
-on_new x w s after t on g k c free =
-    let z = on s g k c free in (
-      elim z.0 [ inl e ↦ inl e | inr q ↦ inr (q.0, q.1, ap conversation_port (t.on g k q.0 q.2)) ],
-      z.1,
-    )
-
-on_cable_of : (x : WorldSetup) (w : World) (s : Side) (after : View) → TakesOver (w.view s) after → OnItsCable x w
-    → OnItsCable x (with_view w s after)
-on_cable_of x w One after t on One g k c free = on_new x w One after t on g k c free
-on_cable_of x w One after t on Two g k c free = on Two g k c free
-on_cable_of x w Two after t on One g k c free = on One g k c free
-on_cable_of x w Two after t on Two g k c free = on_new x w Two after t on g k c free
-
-flushed_of : (x : WorldSetup) (w : World) (s : Side) (after : View) → TakesOver (w.view s) after → FlushedByMarker x w
-    → FlushedByMarker x (with_view w s after)
-flushed_of x w One after t f One g k p n c free e = absurd (t.waits g k p n e)
-flushed_of x w One after t f Two g k p n c free e = f Two g k p n c free e
-flushed_of x w Two after t f One g k p n c free e = f One g k p n c free e
-flushed_of x w Two after t f Two g k p n c free e = absurd (t.waits g k p n e)
-
-later : (n m k : ℕ) → m ≤ k → n < m → n < k
-later n m k h l = omega (arith, h, l)
-
-below_of : (w : World) (s : Side) (after : View) → TakesOver (w.view s) after → BelowNext w → BelowNext (with_view w s after)
-below_of w One after t b One c p n stamp mac =
-    let z = b One c p n stamp mac in
-    (λ m. later n (w.view One).flows.next after.flows.next t.next (z.0 m), λ m. later n (w.view One).flows.next after.flows.next t.next (z.1 m))
-below_of w One after t b Two c p n stamp mac = b Two c p n stamp mac
-below_of w Two after t b One c p n stamp mac = b One c p n stamp mac
-below_of w Two after t b Two c p n stamp mac =
-    let z = b Two c p n stamp mac in
-    (λ m. later n (w.view Two).flows.next after.flows.next t.next (z.0 m), λ m. later n (w.view Two).flows.next after.flows.next t.next (z.1 m))
-
-pub taken_over : (x : WorldSetup) (w : World) (s : Side) (after : View) → TakesOver (w.view s) after → RestsOn x w
-    → RestsOn x (with_view w s after)
-taken_over x w s after t r = record {
-  on_its_cable = on_cable_of x w s after t r.on_its_cable;
-  flushed_by_marker = flushed_of x w s after t r.flushed_by_marker;
-  below_next = below_of w s after t r.below_next;
-  collected_then_in_flight = r.collected_then_in_flight;
-}

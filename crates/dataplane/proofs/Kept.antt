@@ -2,14 +2,14 @@
 use Rattle.dataplane.proofs.Common.{Bool, Err, IfOk, List, None, Ok, Option, Result, Some, [], ap, arith, eqb, eqb-true, false, if◌then◌else◌, inl}
 use Rattle.dataplane.proofs.Common.{inr, length, nat_le, nat_lt, refl, slice_get, subst, suc, sym, true, zero, ℕ, ◌-◌, ◌<◌, ◌^◌, ◌∷◌, ◌≡◌, ◌≢◌, ◌⊎◌}
 use Rattle.dataplane.proofs.Common.{and_parts, cases_Bool, eqb-false, nat_tests, none-some, AggId, Key, OnItsCable, Act, LawfulMoves, Sends_frame}
-use Rattle.dataplane.proofs.Common.{Conversation, Flushing, Free, ModelCall, On, SystemSetup, View, Side, World, WorldSetup, Assignment, Reply}
-use Rattle.dataplane.proofs.Common.{SystemFault, OffersConversation, OffersIf, frame_of_conversation, Call, Configure, Force, Move_conversation}
-use Rattle.dataplane.proofs.Common.{Offer, Receive, Set_link, Tick, Transmit, IsFirst, EffectsSeenAs, JoinedByLawfulMoves, model_setup, model_view}
-use Rattle.dataplane.proofs.Common.{GivesOrRefuses, MayBeOffered, MayBeOfferedTo, has_aggregator, is_frame_length, longest_frame, aggregator_numbered}
+use Rattle.dataplane.proofs.Common.{Conversation, Flushing, ModelCall, SystemSetup, View, Side, World, WorldSetup, Assignment, Reply, SystemFault}
+use Rattle.dataplane.proofs.Common.{OffersConversation, OffersIf, frame_of_conversation, Call, Configure, Force, Move_conversation, Offer, Receive}
+use Rattle.dataplane.proofs.Common.{Set_link, Tick, Transmit, IsFirst, EffectsSeenAs, JoinedByLawfulMoves, model_setup, model_view, GivesOrRefuses}
+use Rattle.dataplane.proofs.Common.{MayBeOffered, MayBeOfferedTo, has_aggregator, is_frame_length, longest_frame, aggregator_numbered}
 use Rattle.dataplane.proofs.Common.{conversation_count, conversation_in, number_of_conversation, CallPromise, SystemState, framed, IsAggregator}
 use Rattle.dataplane.proofs.Common.{IsElsewhere, IsHeldElsewhere, IsInOneAggregator, IsNoOffer, IsNumberElsewhere, FreeElsewhere}
 use Rattle.dataplane.proofs.Common.{NoneOnItsWayElsewhere, SendsNoFrame}
-use Rattle.lagmodel.specs.View.{Wanted}
+use Rattle.lagmodel.specs.View.{Free, On, Wanted}
 use Rattle.lagsystem.specs.Calls.{Restart}
 use Rattle.lagsystem.specs.declared.drive.Reply.TheVariants as reply
 use Rattle.lagsystem.specs.declared.received.Received.TheVariants.{Disabled, Dropped, Ignored, TookLacpdu, Respond, Released, Up}

@@ -22,4 +22,5 @@ pub mod Staying
 pub mod Sums
 pub mod WarmPorts
 pub mod WarmRuns
+pub mod WarmSuccessors
 pub mod WarmTables

@@ -1,6 +1,7 @@
 -- Whether a conversation is On, Wanted or Flushing in another aggregator, as far as it was searched.
-use Rattle.dataplane.proofs.Common.{arith, eqb, eqb-true, inl, inr, subst, ℕ, ◌+◌, ◌∙◌, ◌≡◌, ◌≢◌, ◌≤◌, cases_Bool, eqb-false, AggId, Free, model_view}
+use Rattle.dataplane.proofs.Common.{arith, eqb, eqb-true, inl, inr, subst, ℕ, ◌+◌, ◌∙◌, ◌≡◌, ◌≢◌, ◌≤◌, cases_Bool, eqb-false, AggId, model_view}
 use Rattle.dataplane.proofs.Common.{SystemState, IsElsewhere}
+use Rattle.lagmodel.specs.View.{Free}
 
 -- it is in none of the aggregators up to number n
 abbrev pub NoneUpTo : SystemState → AggId → ℕ → ℕ → Type 0

@@ -2,10 +2,11 @@
 use Rattle.dataplane.proofs.Common.{List, None, Option, Some, [], ap, eqb, eqb-true, false, inl, inr, refl, subst, sym, true, ℕ, ◌++◌, ◌∙◌, ◌∷◌, ◌≡◌}
 use Rattle.dataplane.proofs.Common.{◌≢◌, ◌⊎◌, cases_Bool, eqb-false, none-some, option_to_list, OnItsCable, Act, AllAllowed, ConversationMove}
 use Rattle.dataplane.proofs.Common.{ConversationMoveAllowed, DistributorMove, Flow, LawfulMoves, Port, Restart, Sends, Sends_frame, Took, act_of_port}
-use Rattle.dataplane.proofs.Common.{acts, conversation_after, flushed, view_after, view_after_all, Conversation, DistributorFacts, Flushing, Free}
-use Rattle.dataplane.proofs.Common.{ModelCall, On, SystemSetup, View, at_conversation, conversation_port, first_view, Side, World, WorldSetup}
+use Rattle.dataplane.proofs.Common.{acts, conversation_after, flushed, view_after, view_after_all, Conversation, DistributorFacts, Flushing}
+use Rattle.dataplane.proofs.Common.{ModelCall, SystemSetup, View, at_conversation, conversation_port, first_view, Side, World, WorldSetup}
 use Rattle.dataplane.proofs.Common.{FreeElsewhere, InOneAggregator, NoneOnItsWayElsewhere, SendsNoFrame}
 use Rattle.lagmodel.specs.Move.{Move}
+use Rattle.lagmodel.specs.View.{Free, On}
 use Rattle.lagmodel.proofs.Lanes.{conversation_cases}
 
 -- no frame of conversation j of aggregator h is sent

@@ -1,9 +1,8 @@
 -- The saved ports one after another, and whether one is back.
 use Rattle.dataplane.proofs.Common.{List, None, Some, [], ap, arith, drop, false, get_or, if◌then◌else◌, length, refl, subst, suc, sym, take, true}
 use Rattle.dataplane.proofs.Common.{zero, ℕ, ◌+◌, ◌<◌, ◌∙◌, ◌∷◌, ◌≡◌, ◌≤◌, drop_all, drop_more, take_all, take_more, same_Some, AllByRecursion}
-use Rattle.dataplane.proofs.Common.{ReadsPdu, all-append, Machines, PortConfig, SystemState, machines_of, SavedPort, IsBack, IsFirstWithout}
+use Rattle.dataplane.proofs.Common.{SystemId, ReadsPdu, all-append, Machines, PortConfig, SystemState, machines_of, SavedPort, IsBack, IsFirstWithout}
 use Rattle.dataplane.proofs.Common.{first_touched, is_as_saved, is_left_at}
-use Rattle.lagtypes.specs.declared.identifiers.SystemId.{SystemId}
 use Rattle.slowpdu.specs.declared.pdu.Lacpdu.{Lacpdu}
 use Rattle.slowpdu.specs.declared.pdu.Pdu.TheVariants as pdu
 

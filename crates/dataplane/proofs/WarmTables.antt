@@ -1,18 +1,15 @@
 -- A warm start leaves every conversation free, and the next marker.
 use Rattle.dataplane.proofs.Common.{Bool, Err, IfOk, List, None, Ok, Result, [], ap, false, get_or, if◌then◌else◌, length, map, refl, subst, suc, sym}
-use Rattle.dataplane.proofs.Common.{take, true, zero, ℕ, ◌+◌, ◌-◌, ◌∙◌, ◌∷◌, ◌≡◌, AllByRecursion, flat_map, IfErr, Key, all-append, after_down}
-use Rattle.dataplane.proofs.Common.{after_release, after_tick, Table, assignment_of, PortConfig, Reply, Call, ChangesParty, Configure}
+use Rattle.dataplane.proofs.Common.{take, true, zero, ℕ, ◌+◌, ◌-◌, ◌∙◌, ◌∷◌, ◌≡◌, AllByRecursion, flat_map, IfErr, Key, all-append, Free, after_down}
+use Rattle.dataplane.proofs.Common.{after_release, after_tick, Table, assignment_of, Config, PortConfig, Reply, Call, ChangesParty, Configure}
 use Rattle.dataplane.proofs.Common.{OnlyPortChangesBy, ProcessesLacpdu, Receive, Set_link, SetsLink, ThenSettles, Tick, Ticks, Drives, IsConfigured}
-use Rattle.dataplane.proofs.Common.{IsFirst, aggregator_numbered, distributing, SystemState, port_index, SavedPort, Before, Leading, AreFresh}
-use Rattle.dataplane.proofs.Common.{IsNotWarmed, IsResumed, IsUnused, IsWarmed, MayRefuse, Runs, calls_of, call_if, duration, filled, filled_by}
-use Rattle.dataplane.proofs.Common.{fills, heard, heard_of, individual_frame, is_due, is_saved, link_up, occupied, other_starting, others_starting}
-use Rattle.dataplane.proofs.Common.{passing, starting_again, warm_calls}
-use Rattle.lagsystem.specs.declared.config.Config.{Config}
+use Rattle.dataplane.proofs.Common.{IsFirst, aggregator_numbered, distributing, SystemState, port_index, ports_table, settling_parts, SavedPort}
+use Rattle.dataplane.proofs.Common.{Before, Leading, AreFresh, IsNotWarmed, IsResumed, IsUnused, IsWarmed, MayRefuse, Runs, calls_of, call_if}
+use Rattle.dataplane.proofs.Common.{duration, filled, filled_by, fills, heard, heard_of, individual_frame, is_due, is_saved, link_up, occupied}
+use Rattle.dataplane.proofs.Common.{other_starting, others_starting, passing, starting_again, warm_calls}
 use Rattle.dataplane.specs.declared.resuming.ResumeFault.{ResumeFault}
 use Rattle.dataplane.specs.declared.warming.Moment.{Moment}
 use Rattle.distributor.proofs.TableLemmas.{first_free}
-use Rattle.distributor.specs.declared.assignment.Assignment.TheVariants.{Free}
-use Rattle.lagsystem.proofs.Keeps.{ports_table, settling_parts}
 use Rattle.lagsystem.proofs.Preserves.{Preserves, Step-preserves}
 use Rattle.lagsystem.specs.Settling.{Settling, held_unless_on}
 

@@ -1,22 +1,29 @@
 -- What it is to adopt a conversation: its first port is the one on which a data plane has it (profile).
-use Rattle.std.specs.Prelude.{◌≡◌, ◌≢◌, ◌≤◌, ℕ, eqb, if◌then◌else◌, is_none, is_some, List, [], ◌∷◌, Option, Some, Result, Ok, Err}
+use Rattle.std.specs.Prelude.{◌≡◌, ◌≤◌, ℕ, eqb, if◌then◌else◌, is_none, is_some, List, [], ◌∷◌, Option, Some, Result, Ok, Err, drop, Contains}
+use Rattle.std.specs.List.{AllByRecursion}
 use Rattle.lagtypes.specs.declared.identifiers.AggId.{AggId}
+use Rattle.slowpdu.specs.declared.pdu.Lacpdu.{Lacpdu}
+use Rattle.slowpdu.specs.declared.pdu.Pdu.TheVariants as pdu
+use Rattle.slowpdu.specs.Pdus.{ReadsPdu}
 use Rattle.distributor.specs.declared.assignment.Assignment.{Assignment}
 use Rattle.distributor.specs.declared.assignment.Assignment.TheVariants.{Free, On, Wanted, Flushing}
 use Rattle.distributor.specs.declared.fault.DistFault.{DistFault}
 use Rattle.distributor.specs.declared.fault.DistFault.TheVariants.{Held, MarkersSpent, NotDistributing}
 use Rattle.distributor.specs.Calls.{is_among}
 use Rattle.distributor.specs.Conversations.{assignment_of, next_identifier}
-use Rattle.lagmodel.specs.Law.{BelowNext, CollectedThenInFlight, FlushedByMarker, OnItsCable}
 use Rattle.lagmodel.specs.Move.{Sends_frame}
-use Rattle.lagmodel.specs.View.{Conversation, ModelCall, View, conversation_port}
-use Rattle.lagmodel.specs.World.{Side, World, WorldSetup, at_side}
+use Rattle.lagmodel.specs.View.{ModelCall, SystemSetup, View, conversation_port}
+use Rattle.lagmodel.specs.World.{TakenLacpdu}
+use Rattle.lagsystem.specs.declared.config.Config.{Config}
 use Rattle.lagsystem.specs.declared.fault.SystemFault.{SystemFault}
 use Rattle.lagsystem.specs.declared.fault.SystemFault.TheVariants as fault
-use Rattle.lagsystem.specs.Offers.{GivesAssignment, has_aggregator, in_system, or_not_assigned}
+use Rattle.lagsystem.specs.ModelView.{lacp_message}
+use Rattle.lagsystem.specs.Offers.{GivesAssignment, GivesOrRefuses, has_aggregator, in_system, or_not_assigned}
 use Rattle.lagsystem.specs.Promises.{TablePromise}
 use Rattle.lagsystem.specs.Readers.{distributing}
 use Rattle.lagsystem.specs.State.{SystemState, machines_of}
+use Rattle.dataplane.specs.declared.resuming.SavedPort.{SavedPort}
+use Rattle.dataplane.specs.Resuming.{IsResumed}
 
 -- The state of a conversation after a port adopted it, or the first reason to refuse; `next` is the next marker's identifier, and
 -- `ports` those that distribute. One that is on another port, or held, is not adopted.
@@ -47,20 +54,38 @@ pub record IsPlaced (agg : AggId) (conv port : ℕ) (old new : SystemState) : Ty
   pub gives : GivesAssignment agg conv (On port) old new
   pub promise : TablePromise ModelCall.Offer (Sends_frame port agg.0 conv ∷ []) old new
 
--- the world, but with this view of the system s: its successor took over, and the cables are as they were
-abbrev pub with_view : World → Side → View → World
-with_view w s v = record w { view = at_side w.view s v }
+-- a conversation, and the port on which a data plane has it
+pub record Adoption : Type 0 where
+  pub agg : AggId
+  pub conv : ℕ
+  pub port : ℕ
 
--- A system takes over from the one before it: each conversation that had a port is on that port, none waits for a response, and no
--- identifier of a marker is used again.
-pub record TakesOver (before after : View) : Type 0 where
-  pub on : (g k p : ℕ) → conversation_port (before.flows.state g k) ≡ Some p → after.flows.state g k ≡ Conversation.On p
-  pub waits : (g k p n : ℕ) → after.flows.state g k ≢ Conversation.Flushing p n
-  pub next : before.flows.next ≤ after.flows.next
+-- `adopt` was called for each of these, one after another, and refused none
+abbrev pub Adopts : SystemState → List Adoption → SystemState → Type 0
+Adopts old [] new = new ≡ old
+Adopts old (a ∷ more) new = (mid : SystemState)
+    × GivesOrRefuses a.agg a.conv (adopt_result old a.agg a.conv a.port) old (Ok tt) mid × Adopts mid more new
 
--- what the order of frames rests on, in the law of two systems
-pub record RestsOn (x : WorldSetup) (w : World) : Type 0 where
-  pub on_its_cable : OnItsCable x w
-  pub flushed_by_marker : FlushedByMarker x w
-  pub below_next : BelowNext w
-  pub collected_then_in_flight : CollectedThenInFlight w
+-- the LACPDU in the saved frame is the one that its port took last
+abbrev pub WasTakenLast : (ℕ → Option TakenLacpdu) → SavedPort → Type 0
+WasTakenLast taken saved = (heard : Lacpdu) → ReadsPdu (drop 14 saved.frame) (pdu.Lacpdu heard)
+    → (m : TakenLacpdu) × (taken saved.port ≡ Some m) × (m.pdu ≡ lacp_message heard)
+
+-- A warm start after a system with the view `before`, whose ports took these LACPDUs last: they were saved, and `resume` made a system of
+-- them; its first marker is the next one of the system before, or a higher one; and each conversation that had a port was adopted on
+-- that port.
+pub record IsWarmStart (gives : ℕ → ℕ → ℕ → Type 0) (before : View) (taken : ℕ → Option TakenLacpdu) (new : SystemState) : Type 0 where
+  pub config : Config
+  pub saved : List SavedPort
+  pub resumed : SystemState
+  pub adoptions : List Adoption
+  pub resumes : IsResumed gives config saved resumed
+  pub adopts : Adopts resumed adoptions new
+  pub last : AllByRecursion (WasTakenLast taken) saved
+  pub marker : before.flows.next ≤ config.first_marker
+  pub each : (g k p : ℕ) → conversation_port (before.flows.state g k) ≡ Some p
+      → Contains adoptions (record { agg = record { 0 = g }; conv = k; port = p })
+
+-- the configuration with another first marker
+abbrev pub with_first_marker : ℕ → SystemSetup → SystemSetup
+with_first_marker n u = record u { first_marker = n }

@@ -112,17 +112,38 @@ pub fn adopt<F: Fn(u16, usize) -> usize + Drop>(
     }
 }
 
-ghost use Rattle.lagmodel.specs.View.{View};
-ghost use Rattle.lagmodel.specs.World.{Side, World, WorldSetup};
-ghost use Rattle.dataplane.specs.Adopting.{RestsOn, TakesOver, with_view};
+ghost use Rattle.std.specs.Prelude.{◌≢◌, ℕ, IsSome, List, Option, Some};
+ghost use Rattle.lagmodel.specs.Succession.{IsSuccessor, KeepsParties};
+ghost use Rattle.lagmodel.specs.View.{PortFacts, View};
+ghost use Rattle.lagmodel.specs.World.{TakenLacpdu, party_at};
+ghost use Rattle.lagsystem.specs.declared.config.Config.{Config};
+ghost use Rattle.lagsystem.specs.ModelView.{model_setup, model_view};
+ghost use Rattle.lagsystem.specs.State.{SystemState};
+ghost use Rattle.dataplane.specs.declared.resuming.SavedPort.{SavedPort};
+ghost use Rattle.dataplane.specs.Adopting.{Adoption, Adopts, IsWarmStart, with_first_marker};
+ghost use Rattle.dataplane.specs.Resuming.{IsResumed};
 
-// promise: what order rests on (`OnItsCable`, `FlushedByMarker`, `BelowNext`, `CollectedThenInFlight`) holds of the new system, with the frames
-//    of the old one on the cables, if each conversation that had a port is on it, and no marker's identifier comes again
-// contract: `taking_over_keeps_the_order` (`TakesOver`, `RestsOn`)
-/// What the order of frames rests on stays where a system takes over from the one before it: each conversation that had a port is
-/// adopted on that port, and the first marker is the next one of the system before or a higher one. The frames of that system are
-/// still on the cables (6.2.4, 6.5; profile).
-pub fn taking_over_keeps_the_order()
-    ensures { (x : WorldSetup) (w : World) (s : Side) (after : View) → TakesOver (w.view s) after → RestsOn x w
-        → RestsOn x (with_view w s after) }
+// promise: **a warm start may follow**: a system that `resume` made of the LACPDUs that ports took last, with each conversation that had a
+//    port adopted there, goes on where the one before it was: it is a takeover of `headline_through_succession` (`IsSuccessor`) and of
+//    lagnetwork (`IsNetworkSuccessor`), so order, agreement and one partner stay. Whatever `resume` and `adopt` accept follows some system
+// contract: `a_warm_start_may_follow` (`follows`: `IsWarmStart`; `parties`, `apart`, `possible`)
+// not said: that a host saved the last LACPDUs, and adopted each conversation that had a port. A takeover of lagfleet keeps the first marker
+/// A system may take the place of the one before it if `resume` was given LACPDUs that the ports took last, and as first marker the next
+/// one of that system or a higher one; and if each conversation that had a port was adopted there. It may do so whatever the first marker
+/// of the system before was (`follows`). Its ports have the own parameters that they had, if these are the configured ones (`parties`); and
+/// none that is in an aggregator has its own system as its partner (`apart`). Whatever was resumed and adopted may take the place of a
+/// system that looked like it (`possible`; 6.2.4, 6.3.6, 6.4.9; profile).
+pub fn a_warm_start_may_follow<F: Fn(u16, usize) -> usize>()
+    ensures follows { (algorithm : F) (before : View) (taken : ℕ → Option TakenLacpdu) (new : SystemState) (marker : ℕ)
+        → IsWarmStart (F.post algorithm) before taken new
+        → IsSuccessor (with_first_marker marker (model_setup new)) before taken (model_view new) }
+    ensures parties { (algorithm : F) (before : View) (taken : ℕ → Option TakenLacpdu) (new : SystemState)
+        → IsWarmStart (F.post algorithm) before taken new → ((p : ℕ) → party_at before p ≡ (model_setup new).party p)
+        → KeepsParties before (model_view new) }
+    ensures apart { (algorithm : F) (before : View) (taken : ℕ → Option TakenLacpdu) (new : SystemState) (p : ℕ) (a : PortFacts)
+        → IsWarmStart (F.post algorithm) before taken new → (model_view new).port p ≡ Some a → IsSome a.aggregator
+        → a.partner.system ≢ a.party.system }
+    ensures possible { (algorithm : F) (config : Config) (saved : List SavedPort) (resumed new : SystemState) (adoptions : List Adoption)
+        → IsResumed (F.post algorithm) config saved resumed → Adopts resumed adoptions new
+        → (taken : ℕ → Option TakenLacpdu) × IsWarmStart (F.post algorithm) (model_view new) taken new }
 {}

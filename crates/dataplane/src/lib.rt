@@ -21,7 +21,7 @@ pub use active::{
     offer_conversation_in_active_aggregator, offer_in_active_aggregator,
     the_active_aggregator_stays,
 };
-pub use adopting::{adopt, taking_over_keeps_the_order};
+pub use adopting::{a_warm_start_may_follow, adopt};
 pub use answering::{Answering, MarkerNote};
 pub use balance::{Carried, Move, every_run_of_moves, next_move};
 pub use churn::{Churn, ChurnMachine, ChurnState, every_history_of_ticks};
