@@ -32,6 +32,7 @@ pub use Rattle.lagnetwork.specs.Network.{RepeatsFirstAt, Unmoved, also_forced, a
 pub use Rattle.lagnetwork.specs.Network.{handed_up_from, is_at, is_end, is_place, moved_again, moved_of, network_after, network_after_act}
 pub use Rattle.lagnetwork.specs.Network.{network_after_acts, network_after_all, put_on_line, recabled, recabled_all, source_after, towards_after}
 pub use Rattle.lagnetwork.specs.Network.{with_cable_moved, without_first}
-pub use Rattle.lagnetwork.specs.NetworkLaw.{AllBelowNext, AllCountFromZero, CablesAgree, CollectedThenFlying, EachOnePartner, EachTookInSync}
-pub use Rattle.lagnetwork.specs.NetworkLaw.{EndsMeetAfterMove, FlushedBehindMarker, FlyOnItsCable, GoesByItsCable, IsUpToDate, MaySucceedItself}
-pub use Rattle.lagnetwork.specs.NetworkLaw.{NamesFarEnd, NetworkInOrder, NotWithItself, OneAggregatorReachesTwo, OneDevice, TookFromFarEnd, scene_of}
+pub use Rattle.lagnetwork.specs.NetworkLaw.{AllBelowNext, AllCountFromZero, CablesAgree, CablesStay, CollectedThenFlying, EachOnePartner}
+pub use Rattle.lagnetwork.specs.NetworkLaw.{EachTookInSync, EndsMeetAfterMove, FlushedBehindMarker, FlyOnItsCable, GoesByItsCable, IsUpToDate}
+pub use Rattle.lagnetwork.specs.NetworkLaw.{MaySucceedItself, NamesFarEnd, NetworkInOrder, NotWithItself, OneAggregatorReachesTwo, OneDevice}
+pub use Rattle.lagnetwork.specs.NetworkLaw.{TookFromFarEnd, scene_of}

@@ -7,7 +7,7 @@ use Rattle.lagnetwork.proofs.Common.{first_view, Control, Data, Message, TakenLa
 use Rattle.lagnetwork.proofs.Common.{changed_port, AllNetworkMoves, DeliversFirstAt, IsNetworkSetup, Moved, Moved_down, Moved_up, Network}
 use Rattle.lagnetwork.proofs.Common.{NetworkCall, NetworkEvent, NetworkHappens, NetworkRun, NetworkSetup, Place, RepeatsFirstAt, Unmoved, at_system}
 use Rattle.lagnetwork.proofs.Common.{first_network, freed_view, handed_up_from, is_end, moved_again, moved_of, network_after, network_after_all}
-use Rattle.lagnetwork.proofs.Common.{recabled, recabled_all, source_after, with_cable_moved, without_first}
+use Rattle.lagnetwork.proofs.Common.{recabled, recabled_all, source_after, with_cable_moved, without_first, CablesStay}
 use Rattle.lagnetwork.proofs.NetworkCalls.{itself}
 use Rattle.lagnetwork.proofs.NetworkEvents.{setup_kept}
 use Rattle.lagnetwork.proofs.NetworkMoves.{plug_away, pull_away}
@@ -278,3 +278,90 @@ sourced x f es w z = sourced_run x f es (first_network x) w (λ s. record {
   start = λ p m e h. absurd (none-some m h);
   down = λ p a e h y d. absurd (unmoved-down e);
 }) z
+
+-- ---- where no cable is moved
+
+abbrev pub AllUnmoved : Network → Type 0
+AllUnmoved w = (s p : ℕ) → w.moved s p ≡ Unmoved
+
+unmoved_call : (x : NetworkSetup) (s : ℕ) (call : ModelCall) (stamp : ℕ) (old mid new : Network) → AllUnmoved mid
+    → NetworkCall x s call stamp old mid new → AllUnmoved new
+unmoved_call x s call stamp old mid new h z = subst AllUnmoved (sym z.2.2) (still z.0 mid h)
+  where
+    still : (ms : List (Move × Bool)) (w : Network) → AllUnmoved w → AllUnmoved (network_after_all x s stamp ms w)
+    still [] w h = h
+    still (m ∷ ms) w h = still ms (network_after x s stamp m w) h
+
+unmoved_up : (t : ℕ) (o : Option Place) (up : Option ℕ) (g k n : ℕ) (w : Network) → AllUnmoved w
+    → AllUnmoved (handed_up_from t o up g k n w)
+unmoved_up t None up g k n w h = h
+unmoved_up t (Some a) None g k n w h = h
+unmoved_up t (Some a) (Some y) g k n w h = h
+
+unmoved_comes : (x : NetworkSetup) (s p : ℕ) (line : List Message) (old new : Network) → AllUnmoved old
+    → DeliversFirstAt x s p line old new → AllUnmoved new
+unmoved_comes x s p [] old new h z = subst AllUnmoved (sym z) h
+unmoved_comes x s p (Control pdu stamp ∷ ms) old new h z = subst AllUnmoved (sym z.2)
+    (unmoved_call x s (ModelCall.Receive p (Some pdu)) stamp old old z.0 h z.1)
+unmoved_comes x s p (Data origin g k n ∷ ms) old new h z = subst AllUnmoved (sym z.3)
+    (unmoved_up s (x.far s p) z.0 g k n (without_first s p z.1) (unmoved_call x s (ModelCall.Receive p None) 0 old old z.1 h z.2))
+
+unmoved_again : (x : NetworkSetup) (s p : ℕ) (line : List Message) (old new : Network) → AllUnmoved old
+    → RepeatsFirstAt x s p line old new → AllUnmoved new
+unmoved_again x s p [] old new h z = subst AllUnmoved (sym z) h
+unmoved_again x s p (Data origin g k n ∷ ms) old new h z = subst AllUnmoved (sym z) h
+unmoved_again x s p (Control pdu stamp ∷ ms) old new h z = unmoved_call x s (ModelCall.Receive p (Some pdu)) stamp old old new h z
+
+unmoved_next : (w : Network) (s : ℕ) (after : View) → AllUnmoved w
+    → AllUnmoved (record w { view = at_system w.view s after; moved = at_system w.moved s (λ p. moved_again (w.moved s p) (after.port p)) })
+unmoved_next w s after h t p = is_or_not (at_system w.moved s (λ p. moved_again (w.moved s p) (after.port p)) t p ≡ Unmoved) t s
+    (λ e. ap (λ t. at_system w.moved s (λ p. moved_again (w.moved s p) (after.port p)) t p) e
+    ∙ ap (λ (m : ℕ → Moved). m p) (there w.moved s (λ p. moved_again (w.moved s p) (after.port p)))
+    ∙ ap (λ (m : Moved). moved_again m (after.port p)) (h s p))
+    (λ ne. ap (λ (m : ℕ → Moved). m p) (elsewhere w.moved s (λ p. moved_again (w.moved s p) (after.port p)) t ne) ∙ h t p)
+
+unmoved_happens : (x : NetworkSetup) (e : NetworkEvent) (old new : Network) → CablesStay (e ∷ []) → AllUnmoved old
+    → NetworkHappens x e old new → (recabled x e ≡ x) × AllUnmoved new
+unmoved_happens x (NetworkEvent.Tick s n) old new c h z = (refl, unmoved_call x s ModelCall.Tick 0 old old new h z)
+unmoved_happens x (NetworkEvent.Emit s p) old new c h z = (refl, unmoved_call x s ModelCall.Transmit 0 old old new h z)
+unmoved_happens x (NetworkEvent.Deliver s p) old new c h z = (refl, unmoved_comes x s p (old.towards s p) old new h z)
+unmoved_happens x (NetworkEvent.Lose s p) old new c h z = (refl, subst AllUnmoved (sym z) h)
+unmoved_happens x (NetworkEvent.Repeat s p) old new c h z = (refl, unmoved_again x s p (old.towards s p) old new h z)
+unmoved_happens x (NetworkEvent.Cut s p) old new c h z = (refl, subst AllUnmoved (sym z) h)
+unmoved_happens x (NetworkEvent.Join s p) old new c h z = (refl, subst AllUnmoved (sym z) h)
+unmoved_happens x (NetworkEvent.Sense s p) old new c h z =
+    (refl, unmoved_call x s (ModelCall.Set_link p (old.whole s p)) 0 old old new h z)
+unmoved_happens x (NetworkEvent.Restart s) old new c h z = (refl, subst AllUnmoved (sym z.2) h)
+unmoved_happens x (NetworkEvent.Configure s p change) old new c h z = (refl, unmoved_call x s ModelCall.Configure 0 old old new h z)
+unmoved_happens x (NetworkEvent.Offer s g frame) old new c h z = (refl, unmoved_call x s ModelCall.Offer 0 old old new h z)
+unmoved_happens x (NetworkEvent.Move_conversation s g k p) old new c h z =
+    (refl, unmoved_call x s ModelCall.Move_conversation 0 old old new h z)
+unmoved_happens x (NetworkEvent.Force s g k) old new c h z = elim z [
+  | inl e ↦ (refl, subst AllUnmoved (sym e) h)
+  | inr y ↦ (refl, unmoved_call x s (ModelCall.Force g k) 0 old _ new h y)
+]
+unmoved_happens x (NetworkEvent.Frees s test) old new c h z = (refl, subst AllUnmoved (sym z) h)
+unmoved_happens x (NetworkEvent.Overtake s p line) old new c h z = (refl, subst AllUnmoved (sym z.1) h)
+unmoved_happens x (NetworkEvent.Succeed s after) old new c h z = (refl, subst AllUnmoved (sym z.1) (unmoved_next old s after h))
+unmoved_happens x (NetworkEvent.Hear s p pdu stamp) old new c h z =
+    (refl, unmoved_call x s (ModelCall.Receive p pdu) stamp old old new h z.1)
+unmoved_happens x (NetworkEvent.Pull s p) old new c h z = absurd c
+unmoved_happens x (NetworkEvent.Plug s p t q) old new c h z = absurd c
+
+stay_parts : (e : NetworkEvent) (es : List NetworkEvent) → CablesStay (e ∷ es) → CablesStay (e ∷ []) × CablesStay es
+stay_parts (NetworkEvent.Pull s p) es c = absurd c
+stay_parts (NetworkEvent.Plug s p t q) es c = absurd c
+stay_parts e es c = (tt, c)
+
+unmoved_run : (x : NetworkSetup) (es : List NetworkEvent) (old new : Network) → CablesStay es → AllUnmoved old → NetworkRun x es old new
+    → (recabled_all x es ≡ x) × AllUnmoved new
+unmoved_run x [] old new c h z = (refl, subst AllUnmoved (sym z) h)
+unmoved_run x (e ∷ es) old new c h z =
+    let both = stay_parts e es c in
+    let a = unmoved_happens x e old z.0 both.0 h z.1 in
+    let b = unmoved_run (recabled x e) es z.0 new both.1 a.1 z.2 in
+    (b.0 ∙ a.0, b.1)
+
+pub unmoved : (x : NetworkSetup) (es : List NetworkEvent) (w : Network) → CablesStay es → NetworkRun x es (first_network x) w
+    → (recabled_all x es ≡ x) × AllUnmoved w
+unmoved x es w c z = unmoved_run x es (first_network x) w c (λ s p. refl) z

@@ -24,8 +24,7 @@ pub record IsNetworkSetup (x : NetworkSetup) : Type 0 where
   pub setup : (s : ℕ) → IsSystemSetup (x.setup s)
   pub cables : (s p t q : ℕ) → x.far s p ≡ Some (record { system = t; port = q }) → x.far t q ≡ Some (record { system = s; port = p })
 
--- Whether the cable of a port was ever moved, and how the port was when it last was: down, so out of sync or on defaults, as a port is
--- that saw its link go down; or up.
+-- Whether the cable of a port was ever moved, and how the port was when it last was: down, that is, out of sync or on defaults; or up.
 pub data Moved : Type 0 where
   Unmoved : Moved
   Moved_down : Moved

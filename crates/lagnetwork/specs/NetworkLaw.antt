@@ -9,7 +9,7 @@ use Rattle.lagmodel.specs.Law.{IsSubsequence, OnePartner, serials}
 use Rattle.lagnetwork.specs.Network.{Network, NetworkSetup, IsNetworkSetup, NetworkEvent, NetworkRun, first_network}
 use Rattle.lagmodel.specs.AnyPeer.{Scene, TookInSync}
 use Rattle.lagnetwork.specs.Network.{Place, IsNetworkSuccessor, NetworkCall, CountsNetworkChanges, network_after_acts}
-use Rattle.lagnetwork.specs.Network.{Moved, Unmoved, Moved_down, Moved_up, recabled_all}
+use Rattle.lagnetwork.specs.Network.{Moved, Unmoved, Moved_down, Moved_up, Pull, Plug, recabled_all}
 
 -- Ports of each system that distribute in one aggregator have one partner system and key.
 abbrev pub EachOnePartner : Network → Type 0
@@ -24,8 +24,8 @@ pub record IsUpToDate (w : Network) (s p t q : ℕ) (a : PortFacts) : Type 0 whe
   pub taken : (m : TakenLacpdu) × (w.taken s p ≡ Some m) × (m.stamp ≡ w.count t q)
   pub source : w.source s p ≡ Some (record { system = t; port = q })
 
--- The two ends of a cable, which took their last LACPDUs from each other (`TookFromFarEnd`), have the same group, if both distribute,
--- neither changed since it sent the LACPDU that its peer took last, and neither has a defaulted partner.
+-- Two ports that took their last LACPDUs from each other, as the two ends of a cable do (`TookFromFarEnd`), have the same group, if both
+-- distribute, neither changed since it sent the LACPDU that its peer took last, and neither has a defaulted partner.
 abbrev pub CablesAgree : Network → Type 0
 CablesAgree w =
     (s p t q : ℕ) (a b : PortFacts) → IsUpToDate w s p t q a → IsUpToDate w t q s p b → SamePair (pair_at a) (pair_at b)
@@ -141,6 +141,21 @@ MaySucceedItself x w =
 abbrev pub IsNetworkInvariant : (NetworkSetup → Network → Type 0) → Type 0
 IsNetworkInvariant P = (x : NetworkSetup) (events : List NetworkEvent) (w : Network) → IsNetworkSetup x
     → NetworkRun x events (first_network x) w → P (recabled_all x events) w
+
+-- no cable is moved
+abbrev pub CablesStay : List NetworkEvent → Type 0
+CablesStay [] = Unit {0}
+CablesStay (Pull s p ∷ es) = ⊥
+CablesStay (Plug s p t q ∷ es) = ⊥
+CablesStay (e ∷ es) = CablesStay es
+
+-- Where no cable is moved, every port that is not on defaults took its last LACPDU from the port at the other end of its cable: so what is
+-- said above of ports that took theirs from one another is said of the ends of each cable.
+abbrev pub TookFromFixedEnd : Type 0
+TookFromFixedEnd = (x : NetworkSetup) (events : List NetworkEvent) (w : Network) → IsNetworkSetup x → CablesStay events
+    → NetworkRun x events (first_network x) w
+    → (recabled_all x events ≡ x)
+    × ((s p : ℕ) (a : PortFacts) → (w.view s).port p ≡ Some a → a.defaulted ≡ false → w.source s p ≡ x.far s p)
 
 -- What the contract of each call of a system promises, lawful moves with these visible acts, is a call of the network, whatever cables
 -- accept; and it leaves what the acts leave, frames on the cables with them.

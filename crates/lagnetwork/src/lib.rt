@@ -5,18 +5,18 @@
 //! In comments, numbers such as 6.2.4 are sections of IEEE 802.1AX-2014, and "profile" is docs/PROFILE.md.
 #![tactic(auto)]
 
-ghost use Rattle.lagnetwork.specs.NetworkLaw.{IsNetworkInvariant, EachOnePartner, CablesAgree, NetworkInOrder, NamesFarEnd, TookFromFarEnd, OneDevice};
+ghost use Rattle.lagnetwork.specs.NetworkLaw.{IsNetworkInvariant, EachOnePartner, CablesAgree, NetworkInOrder, NamesFarEnd, TookFromFarEnd, TookFromFixedEnd, OneDevice};
 ghost use Rattle.lagnetwork.specs.NetworkLaw.{EachTookInSync, MaySucceedItself, EachCollectorInOrder, NotWithItself, FlyOnItsCable, FlushedBehindMarker, AllBelowNext, CollectedThenFlying, AllCountFromZero};
 
 // promise: one partner, agreement and order hold after each event of any number of systems, cabled in any way, whose cables may be moved,
-//    and whose other ports hear anything; order of what all collectors together got of a conversation, and of what each got
+//    and whose other ports hear anything: agreement of two ports that took their last LACPDUs from each other; order of what all collectors
+//    together got of a conversation, and of what each got
 // contract: `network` (`one_partner`, `agree`, `in_order`, `each_in_order`)
-// premises: of agreement: each of the two ports took its last LACPDU from the other
 // not said: progress
 // promise: a port that is not on defaults took its last LACPDU from the port at the other end of its cable, if this was never moved; or if
-//    the port was down (out of sync, or on defaults) when it was last moved, as one is that saw its link go down, and distributes. The
-//    ends of a moved cable may come up with each other
-// contract: `network` (`took_from_far_end`), `ends_meet_after_move`
+//    the port was down (out of sync, or on defaults) when it was last moved, and distributes. The ends of a moved cable may come up with
+//    each other
+// contract: `network` (`took_from_far_end`, `took_from_fixed_end`), `ends_meet_after_move`
 // promise: a port that is not on defaults names the system and port that its last LACPDU came from
 // contract: `network` (`names_far_end`)
 // promise: a distributing port that is not on defaults took last an LACPDU that said IN_SYNC, whose Actor it names; if that is aggregatable,
@@ -36,10 +36,10 @@ ghost use Rattle.lagnetwork.specs.NetworkLaw.{EachTookInSync, MaySucceedItself, 
 /// schedule: ports of a system that distribute in one aggregator name one partner system and key; two distributing ports that took their
 /// last LACPDU from each other, as the ends of a cable do, name the same group, unless one of them changed since it sent that, or runs on
 /// defaults; what all systems together collect of a conversation that was never forced is, in the order of time, a subsequence of what was
-/// sent; what a port that is not on defaults names is the system and port that its last LACPDU came from; that is the port at the other end
-/// of its cable, unless the cable was moved and the port did not see it; and ports that distribute in one aggregator, not on defaults, took
-/// their last LACPDUs from one system, if no other claims its identifier (6.2.4, 6.3.6, 6.4.14, 6.5). The other clauses are the invariants
-/// on which the order rests.
+/// sent; what a port that is not on defaults names is the system and port that its last LACPDU came from; this is the port at the other
+/// end of its cable, if that was never moved, or was moved while the port was down, and the port distributes; and ports that distribute in
+/// one aggregator, not on defaults, took their last LACPDUs from one system, if no other claims its identifier (6.2.4, 6.3.6, 6.4.14, 6.5).
+/// The other clauses are the invariants on which the order rests.
 pub fn network()
     ensures one_partner { IsNetworkInvariant (λ x w. EachOnePartner w) }
     ensures agree { IsNetworkInvariant (λ x w. CablesAgree w) }
@@ -47,6 +47,7 @@ pub fn network()
     ensures each_in_order { IsNetworkInvariant (λ x w. EachCollectorInOrder w) }
     ensures names_far_end { IsNetworkInvariant (λ x w. NamesFarEnd x w) }
     ensures took_from_far_end { IsNetworkInvariant (λ x w. TookFromFarEnd x w) }
+    ensures took_from_fixed_end { TookFromFixedEnd }
     ensures one_device { IsNetworkInvariant (λ x w. OneDevice x w) }
     ensures not_with_itself { IsNetworkInvariant (λ x w. NotWithItself x w) }
     ensures took_synchronized { IsNetworkInvariant (λ x w. EachTookInSync x w) }
