@@ -1,12 +1,12 @@
 -- What is done to a system is lawful moves with at most one visible act.
 use Rattle.lagfleet.proofs.Common.{Bool, Err, List, None, Ok, Option, Result, Some, [], ap, arith, cond, false, inl, inr, length, nat_le, nat_lt}
-use Rattle.lagfleet.proofs.Common.{refl, subst, suc, sym, true, ℕ, ◌&&◌, ◌<◌, ◌∙◌, ◌∷◌, ◌≡◌, ◌≢◌, ◌≤◌, ◌⊎◌, and_parts, cases_Bool, true≢false, AggId}
-use Rattle.lagfleet.proofs.Common.{Act, LawfulMoves, Sends, Sends_frame, Took, ControlMessage, Free, ModelCall, SystemSetup, View, freed_view}
-use Rattle.lagfleet.proofs.Common.{SystemFault, Call, HasConversations, FrameSeenAs, control_message, lacp_message, marker_message, model_setup}
-use Rattle.lagfleet.proofs.Common.{model_view, GivesOrRefuses, MayBeOffered, has_aggregator, CallPromise, SystemState, Does, Doing, Forces, IsTold}
-use Rattle.lagfleet.proofs.Common.{Leaves, Makes, Offers, Probes, Rests, Sets, offered, ShowsOneAct, is_held}
+use Rattle.lagfleet.proofs.Common.{refl, subst, suc, sym, true, ℕ, ◌&&◌, ◌<◌, ◌∙◌, ◌∷◌, ◌≡◌, ◌≢◌, ◌≤◌, ◌⊎◌, and_parts, cases_Bool, true≢false}
+use Rattle.lagfleet.proofs.Common.{none-some, same_Some, AggId, Act, LawfulMoves, Sends, Sends_frame, Took, ControlMessage, Free, ModelCall}
+use Rattle.lagfleet.proofs.Common.{SystemSetup, View, cond_false, cond_true, freed_view, SystemFault, Call, HasConversations, FrameSeenAs}
+use Rattle.lagfleet.proofs.Common.{control_message, lacp_message, marker_message, model_setup, model_view, GivesOrRefuses, MayBeOffered}
+use Rattle.lagfleet.proofs.Common.{has_aggregator, CallPromise, SystemState, Does, Doing, Forces, IsTold, Leaves, Makes, Offers, Probes, Rests, Sets}
+use Rattle.lagfleet.proofs.Common.{offered, ShowsOneAct, is_held}
 use Rattle.std.proofs.lemmas.Bool.Decides.{nat_tests}
-use Rattle.std.proofs.lemmas.Option.{none-some, same_Some}
 use Rattle.std.specs.Prelude.{drop}
 use Rattle.lagtypes.specs.declared.party.Party.{Party}
 use Rattle.lagtypes.specs.Same.{same_party}
@@ -18,7 +18,6 @@ use Rattle.distributor.specs.Chains.{is_held_on}
 use Rattle.distributor.specs.Conversations.{IsConversation, assignment_of}
 use Rattle.distributor.specs.Moves.{model_conversation}
 use Rattle.lagmodel.proofs.Brings.{moves_bring}
-use Rattle.lagmodel.proofs.Base.{cond_true, cond_false}
 use Rattle.lagsystem.specs.declared.drive.Reply.TheVariants as reply
 use Rattle.lagsystem.specs.declared.received.Received.TheVariants.{TookLacpdu, Respond}
 use Rattle.lagsystem.specs.Assigning.{OffersConversation, OffersIf, frame_of_conversation}

@@ -1,22 +1,20 @@
 -- Each event of a fleet is an event of its network.
-use Rattle.lagmodel.specs.Succession.{IsSuccessor}
-use Rattle.lagnetwork.specs.Network.{source_after}
 use Rattle.lagfleet.proofs.Common.{Bool, Err, List, None, Ok, Option, Some, [], ap, cond, inr, refl, subst, sym, true, ℕ, ◌++◌, ◌∙◌, ◌∷◌, ◌≡◌, AggId}
-use Rattle.lagfleet.proofs.Common.{Members, Act, LawfulMoves, ModelCall, SystemSetup, View, first_view, Control, Data, Message, at_two, sent_after}
-use Rattle.lagfleet.proofs.Common.{taken_after, Configure, CountsNetworkChanges, Cut, Deliver, DeliversFirstAt, Emit, Frees, Hear, IsNetworkSetup}
-use Rattle.lagfleet.proofs.Common.{Join, Lose, Move_conversation, Network, NetworkCall, NetworkEvent, NetworkHappens, NetworkRun, NetworkSetup, Offer}
-use Rattle.lagfleet.proofs.Common.{Overtake, Place, Plug, Pull, Repeat, RepeatsFirstAt, Restart, Sense, Succeed, Tick, also_forced, at_system}
-use Rattle.lagfleet.proofs.Common.{ends_at, first_network, freed_view, handed_up_from, network_after_acts, recabled, recabled_all, towards_after}
-use Rattle.lagfleet.proofs.Common.{without_first, IsNetworkInvariant, calls_from, recabled_joined, runs_joined, elsewhere, is_or_not, there, HostCall}
-use Rattle.lagfleet.proofs.Common.{HostReply, Reply, Call, model_setup, model_view, SystemState, configured_setup, first_shows, Doing, Forces, Leaves}
-use Rattle.lagfleet.proofs.Common.{Makes, Offers, Probes, Rests, Sets, Answers, Asks_call, Befalls, Changes_setting, Fleet, FleetAlgorithms}
-use Rattle.lagfleet.proofs.Common.{FleetAsks, FleetCalls, FleetEvent, FleetForces, FleetReceives, FleetRepeats, FleetRun, FleetSteps, ForcesHeld}
-use Rattle.lagfleet.proofs.Common.{Gives_way, Hears_again, IsCabled, IsFirstFleet, IsFleetInvariant, IsOnCables, Makes_call, Restarts, fleet_setup}
-use Rattle.lagfleet.proofs.Common.{handed_up_in, is_held, recabled_by, recabled_by_all}
+use Rattle.lagfleet.proofs.Common.{Act, LawfulMoves, IsSuccessor, ModelCall, SystemSetup, View, first_view, Control, Data, Message, at_two}
+use Rattle.lagfleet.proofs.Common.{sent_after, taken_after, Configure, CountsNetworkChanges, Cut, Deliver, DeliversFirstAt, Emit, Frees, Hear}
+use Rattle.lagfleet.proofs.Common.{IsNetworkSetup, Join, Lose, Move_conversation, Network, NetworkCall, NetworkEvent, NetworkHappens, NetworkRun}
+use Rattle.lagfleet.proofs.Common.{NetworkSetup, Offer, Overtake, Place, Plug, Pull, Repeat, RepeatsFirstAt, Restart, Sense, Succeed, Tick}
+use Rattle.lagfleet.proofs.Common.{also_forced, at_system, ends_at, first_network, freed_view, handed_up_from, network_after_acts, recabled}
+use Rattle.lagfleet.proofs.Common.{recabled_all, source_after, towards_after, without_first, IsNetworkInvariant, calls_from, recabled_joined}
+use Rattle.lagfleet.proofs.Common.{runs_joined, elsewhere, is_or_not, there, HostCall, HostReply, Reply, Call, model_setup, model_view, SystemState}
+use Rattle.lagfleet.proofs.Common.{configured_setup, first_shows, Doing, Forces, Leaves, Makes, Offers, Probes, Rests, Sets, Answers, Asks_call}
+use Rattle.lagfleet.proofs.Common.{Befalls, Changes_setting, Fleet, FleetAlgorithms, FleetAsks, FleetCalls, FleetEvent, FleetForces, FleetReceives}
+use Rattle.lagfleet.proofs.Common.{FleetRepeats, FleetRun, FleetSteps, ForcesHeld, Gives_way, Hears_again, IsCabled, IsFirstFleet, IsFleetInvariant}
+use Rattle.lagfleet.proofs.Common.{IsOnCables, Makes_call, Restarts, fleet_setup, handed_up_in, is_held, recabled_by, recabled_by_all}
+use Rattle.lagnetwork.specs.Network.{Force}
 use Rattle.lagsystem.specs.declared.drive.HostCall.TheVariants as host
 use Rattle.lagsystem.specs.declared.drive.HostReply.TheVariants as told
 use Rattle.lagsystem.specs.declared.drive.Reply.TheVariants as reply
-use Rattle.lagnetwork.specs.Network.{Force}
 use Rattle.lagfleet.proofs.Doings.{does_lawfully, held_freed}
 
 -- what stays true of a fleet: its systems keep their configurations, and the network shows them

@@ -1,11 +1,11 @@
 -- One system beside any peer: what it does moves the scene as the law has it.
-use Rattle.lagmodel.specs.Succession.{IsSuccessor}
 use Rattle.lagfleet.proofs.Common.{Bool, Err, List, Ok, Option, Result, Some, [], ap, arith, false, inl, inr, refl, subst, sym, true, ℕ, ◌∙◌, ◌∷◌}
-use Rattle.lagfleet.proofs.Common.{◌≡◌, true≢false, AggId, Members, OnePartner, Act, LawfulMoves, ControlMessage, Flushing, Force, IsSystemSetup}
-use Rattle.lagfleet.proofs.Common.{ModelCall, On, Receive, Set_link, SystemSetup, View, conversation_port, first_view, is_restart, One, at_two}
-use Rattle.lagfleet.proofs.Common.{on_cable_after, sent_after, taken_after, also_forced, freed_view, took_in_sync, HostCall, HostReply, SystemFault}
-use Rattle.lagfleet.proofs.Common.{Call, HostPromise, system_rest_result, model_setup, model_view, system_force_result, CallPromise, SystemState}
+use Rattle.lagfleet.proofs.Common.{◌≡◌, true≢false, AggId, Act, LawfulMoves, IsSuccessor, ControlMessage, Flushing, Force, IsSystemSetup, ModelCall}
+use Rattle.lagfleet.proofs.Common.{On, Receive, Set_link, SystemSetup, View, conversation_port, first_view, is_restart, One, at_two, on_cable_after}
+use Rattle.lagfleet.proofs.Common.{sent_after, taken_after, also_forced, freed_view, took_in_sync, HostCall, HostReply, SystemFault, Call}
+use Rattle.lagfleet.proofs.Common.{HostPromise, system_rest_result, model_setup, model_view, system_force_result, CallPromise, SystemState}
 use Rattle.lagfleet.proofs.Common.{configured_setup, first_shows, Does, Doing, offered, IsOther, is_held}
+use Rattle.lagmodel.specs.Law.{Members, OnePartner}
 use Rattle.lagmodel.specs.AnyPeer.{Answers, Calls, Comes, Cuts, Fits, Forces, Gone, HandsUp, Happening, Joins, OvertakesBack, OvertakesOut, Restarts}
 use Rattle.lagmodel.specs.AnyPeer.{Says, Scene, Takes, OrderHolds, SerialsCountFromZero, TookInSync, first_scene, scene_after_acts}
 use Rattle.lagmodel.proofs.AnyPeer.{Kept, comes_kept, counted_comes, each_call_is_one, first_kept, none_counted, unsent}

@@ -7,9 +7,9 @@ ghost use Rattle.lagnetwork.specs.NetworkLaw.{AllCountFromZero, EachTookInSync, 
 ghost use Rattle.std.specs.Prelude.{ℕ};
 ghost use Rattle.lagfleet.specs.Fleet.{IsFleetInvariant};
 
-// promise: **any number of `System`s**: the first six rows of lagnetwork hold after any calls, those of hosts, settings and takeovers
-//    among them, octets received, whatever the algorithms return; cables may be moved at any time, LACPDUs may overtake data,
-//    and no frame comes twice
+// promise: **any number of `System`s**: the first five rows of lagnetwork, and that of `took_from_far_end`, hold after any calls, those of
+//    hosts, settings and takeovers among them, octets received, whatever the algorithms return; cables may be moved at any time, LACPDUs
+//    may overtake data, and no frame comes twice
 // contract: `fleet` (`one_partner`, `agree`, `in_order`, `each_in_order`, `counts_from_zero`, `took_from_far_end`, `names_far_end`,
 //    `took_synchronized`, `one_device`, `not_with_itself`)
 // premises: those of the law of two systems; no slow protocols frame is offered by number; a system that takes over has the configuration
@@ -49,6 +49,15 @@ pub fn each_call_is_an_event<F: Fn(u16, usize) -> usize>()
     ensures calls { (algorithms : ℕ → F) → EachCallIsAnEvent (λ s. F.post (algorithms s)) }
     ensures host_calls { (algorithms : ℕ → F) → EachHostCallIsAnEvent (λ s. F.post (algorithms s)) }
     ensures settings { (algorithms : ℕ → F) → EachSettingIsAnEvent (λ s. F.post (algorithms s)) }
+{}
+
+ghost use Rattle.lagfleet.specs.Falling.{EachFallIsSeen};
+
+// promise: a port whose link was up is down, as `took_from_far_end` asks of a port whose cable is moved, once its link is said to be down
+// contract: `each_fall_is_seen`
+/// A port whose link was up is down to the law once its link is said to be down: its partner is out of sync (6.4.12).
+pub fn each_fall_is_seen<F: Fn(u16, usize) -> usize>()
+    ensures { (algorithm : F) → EachFallIsSeen (F.post algorithm) }
 {}
 
 ghost use Rattle.lagmodel.specs.AnyPeer.{OrderHolds, SerialsCountFromZero, TookInSync};
