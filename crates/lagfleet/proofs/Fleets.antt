@@ -1,17 +1,31 @@
 -- Each event of a fleet is an event of its network.
-use Rattle.lagfleet.proofs.Common.{Bool, Err, List, None, Ok, Option, Some, [], ap, cond, inr, refl, subst, sym, true, ℕ, ◌++◌, ◌∙◌, ◌∷◌, ◌≡◌, AggId}
-use Rattle.lagfleet.proofs.Common.{Act, LawfulMoves, IsSuccessor, ModelCall, SystemSetup, View, first_view, Control, Data, Message, at_two}
-use Rattle.lagfleet.proofs.Common.{sent_after, taken_after, Configure, CountsNetworkChanges, Cut, Deliver, DeliversFirstAt, Emit, Frees, Hear}
-use Rattle.lagfleet.proofs.Common.{IsNetworkSetup, Join, Lose, Move_conversation, Network, NetworkCall, NetworkEvent, NetworkHappens, NetworkRun}
-use Rattle.lagfleet.proofs.Common.{NetworkSetup, Offer, Overtake, Place, Plug, Pull, Repeat, RepeatsFirstAt, Restart, Sense, Succeed, Tick}
-use Rattle.lagfleet.proofs.Common.{also_forced, at_system, ends_at, first_network, freed_view, handed_up_from, network_after_acts, recabled}
-use Rattle.lagfleet.proofs.Common.{recabled_all, source_after, towards_after, without_first, IsNetworkInvariant, calls_from, recabled_joined}
-use Rattle.lagfleet.proofs.Common.{runs_joined, elsewhere, is_or_not, there, HostCall, HostReply, Reply, Call, model_setup, model_view, SystemState}
-use Rattle.lagfleet.proofs.Common.{configured_setup, first_shows, Doing, Forces, Leaves, Makes, Offers, Probes, Rests, Sets, Answers, Asks_call}
-use Rattle.lagfleet.proofs.Common.{Befalls, Changes_setting, Fleet, FleetAlgorithms, FleetAsks, FleetCalls, FleetEvent, FleetForces, FleetReceives}
-use Rattle.lagfleet.proofs.Common.{FleetRepeats, FleetRun, FleetSteps, ForcesHeld, Gives_way, Hears_again, IsCabled, IsFirstFleet, IsFleetInvariant}
-use Rattle.lagfleet.proofs.Common.{IsOnCables, Makes_call, Restarts, fleet_setup, handed_up_in, is_held, recabled_by, recabled_by_all}
-use Rattle.lagnetwork.specs.Network.{Force}
+use Rattle.lagnetwork.specs.NetworkLaw.{CablesStay, TookFromFixedEnd, IsNetworkInvariant}
+use Rattle.lagfleet.specs.Fleet.{FleetCablesStay, FleetTookFromFixedEnd, StaysBy, Answers, Asks_call, Befalls, Changes_setting, Fleet}
+use Rattle.lagfleet.specs.Fleet.{FleetAlgorithms, FleetAsks, FleetCalls, FleetEvent, FleetForces, FleetReceives, FleetRepeats, FleetRun, FleetSteps}
+use Rattle.lagfleet.specs.Fleet.{ForcesHeld, Gives_way, Hears_again, IsCabled, IsFirstFleet, IsFleetInvariant, IsOnCables, Makes_call, Restarts}
+use Rattle.lagfleet.specs.Fleet.{fleet_setup, handed_up_in, is_held, recabled_by, recabled_by_all}
+use Rattle.std.proofs.Common.{Bool, Err, List, None, Ok, Option, Some, [], ap, cond, inr, refl, subst, sym, true, ℕ, ◌++◌, ◌∙◌, ◌∷◌, ◌≡◌}
+use Rattle.lagtypes.specs.declared.identifiers.AggId.{AggId}
+use Rattle.lagmodel.specs.Move.{Act, LawfulMoves}
+use Rattle.lagmodel.specs.Succession.{IsSuccessor}
+use Rattle.lagmodel.specs.View.{ModelCall, SystemSetup, View, first_view}
+use Rattle.lagmodel.specs.World.{Control, Data, Message, at_two, sent_after, taken_after}
+use Rattle.lagnetwork.specs.Network.{Configure, CountsNetworkChanges, Cut, Deliver, DeliversFirstAt, Emit, Frees, Hear, IsNetworkSetup, Join, Lose}
+use Rattle.lagnetwork.specs.Network.{Move_conversation, Network, NetworkCall, NetworkEvent, NetworkHappens, NetworkRun, NetworkSetup, Offer, Overtake}
+use Rattle.lagnetwork.specs.Network.{Place, Plug, Pull, Repeat, RepeatsFirstAt, Restart, Sense, Succeed, Tick, also_forced, at_system, ends_at}
+use Rattle.lagnetwork.specs.Network.{first_network, freed_view, handed_up_from, network_after_acts, recabled, recabled_all, source_after}
+use Rattle.lagnetwork.specs.Network.{towards_after, without_first, Force}
+use Rattle.lagnetwork.proofs.NetworkCalls.{calls_from}
+use Rattle.lagnetwork.proofs.NetworkEvents.{recabled_joined, runs_joined}
+use Rattle.lagnetwork.proofs.Networks.{elsewhere, is_or_not, there}
+use Rattle.lagsystem.specs.declared.drive.HostCall.{HostCall}
+use Rattle.lagsystem.specs.declared.drive.HostReply.{HostReply}
+use Rattle.lagsystem.specs.declared.drive.Reply.{Reply}
+use Rattle.lagsystem.specs.Calls.{Call}
+use Rattle.lagsystem.specs.ModelView.{model_setup, model_view}
+use Rattle.lagsystem.specs.State.{SystemState}
+use Rattle.lagsystem.proofs.FirstView.{configured_setup, first_shows}
+use Rattle.lagfleet.specs.Doing.{Doing, Forces, Leaves, Makes, Offers, Probes, Rests, Sets}
 use Rattle.lagsystem.specs.declared.drive.HostCall.TheVariants as host
 use Rattle.lagsystem.specs.declared.drive.HostReply.TheVariants as told
 use Rattle.lagsystem.specs.declared.drive.Reply.TheVariants as reply
@@ -90,21 +104,21 @@ module _ (gives : FleetAlgorithms) (far : ℕ → ℕ → Option Place) (start :
   alike : (old new : Fleet) → new ≡ old → Shown start old.systems old.net → Shown start new.systems new.net
   alike old new e = subst (λ (f : Fleet). Shown start f.systems f.net) (sym e)
 
-  -- an event of a fleet, after which these are the cables, is one of its network, or none
-  abbrev PlaysTo : NetworkSetup → Fleet → Fleet → Type 0
-  PlaysTo y old new = (es : List NetworkEvent) × NetworkRun (fleet_setup far start) es old.net new.net
-      × (recabled_all (fleet_setup far start) es ≡ y) × Shown start new.systems new.net
+  -- an event of a fleet, after which these are the cables, is one of its network, or none; and moves none if this holds
+  abbrev PlaysTo : Type 0 → NetworkSetup → Fleet → Fleet → Type 0
+  PlaysTo stays y old new = (es : List NetworkEvent) × NetworkRun (fleet_setup far start) es old.net new.net
+      × (recabled_all (fleet_setup far start) es ≡ y) × Shown start new.systems new.net × (stays → CablesStay es)
 
   abbrev IsPlayed : Fleet → Fleet → Type 0
-  IsPlayed old new = PlaysTo (fleet_setup far start) old new
+  IsPlayed old new = PlaysTo (Unit {0}) (fleet_setup far start) old new
 
   one : (e : NetworkEvent) (old new : Fleet)
       → NetworkHappens (fleet_setup far start) e old.net new.net × Shown start new.systems new.net
-      → PlaysTo (recabled (fleet_setup far start) e) old new
-  one e old new h = (e ∷ [], (new.net, h.0, refl), refl, h.1)
+      → PlaysTo (CablesStay (e ∷ [])) (recabled (fleet_setup far start) e) old new
+  one e old new h = (e ∷ [], (new.net, h.0, refl), refl, h.1, λ c. c)
 
   nothing : (old new : Fleet) → Shown start old.systems old.net → new ≡ old → IsPlayed old new
-  nothing old new i e = ([], ap (λ (f : Fleet). f.net) e, refl, alike old new e i)
+  nothing old new i e = ([], ap (λ (f : Fleet). f.net) e, refl, alike old new e i, λ c. c)
 
   received : (s p : ℕ) (octets : List ℕ) (answer : Reply) (accepts : Act → Bool) (o : Option Place) (line : List Message) (old new : Fleet)
       → far s p ≡ o → old.net.towards s p ≡ line → Shown start old.systems old.net
@@ -254,7 +268,7 @@ module _ (gives : FleetAlgorithms) (far : ℕ → ℕ → Option Place) (start :
   cables_alike e old new systems h z = absurd h
 
   steps : (e : FleetEvent) (old new : Fleet) → Shown start old.systems old.net → FleetSteps gives far e old new
-      → PlaysTo (recabled_by (fleet_setup far start) e) old new
+      → PlaysTo (StaysBy e) (recabled_by (fleet_setup far start) e) old new
   steps (Makes_call s call answer accepts) old new i z = calls s call answer accepts old new i z
   steps (Asks_call s call answer accepts) old new i z = asks s call answer accepts old new i z
   steps (Changes_setting s setting answer) old new i z = one (Tick s 0) old new
@@ -286,9 +300,15 @@ still_setup x (Befalls (Plug s p t q)) = refl
 still_setup x (Befalls e) = refl
 still_setup x e = refl
 
+stay_joined : (es fs : List NetworkEvent) → CablesStay es → CablesStay fs → CablesStay (es ++ fs)
+stay_joined [] fs c d = d
+stay_joined (Pull s p ∷ es) fs c d = absurd c
+stay_joined (Plug s p t q ∷ es) fs c d = absurd c
+stay_joined (e ∷ es) fs c d = stay_joined es fs c d
+
 runs : (gives : FleetAlgorithms) (far : ℕ → ℕ → Option Place) (start : ℕ → SystemState) (es : List FleetEvent) (old new : Fleet)
     → Shown start old.systems old.net → FleetRun gives (fleet_setup far start) es old new
-    → PlaysTo gives far start (recabled_by_all (fleet_setup far start) es) old new
+    → PlaysTo gives far start (FleetCablesStay es) (recabled_by_all (fleet_setup far start) es) old new
 runs gives far start [] old new i z = nothing gives far start old new i z
 runs gives far start (e ∷ es) old new i z =
     let x : NetworkSetup = fleet_setup far start in
@@ -301,6 +321,7 @@ runs gives far start (e ∷ es) old new i z =
           (subst (λ y. NetworkRun y b.0 z.0.net new.net) (sym (a.2 ∙ same)) b.1),
       recabled_joined x a.0 b.0 ∙ ap (λ y. recabled_all y b.0) (a.2 ∙ same) ∙ b.2 ∙ ap (λ y. recabled_by_all y es) (sym same),
       b.3,
+      λ c. stay_joined a.0 b.0 (a.4 c.0) (b.4 c.1),
     )
 
 -- from the start
@@ -309,6 +330,7 @@ fleet_runs : (gives : FleetAlgorithms) (far : ℕ → ℕ → Option Place) (es 
     → (events : List NetworkEvent)
     × NetworkRun (fleet_setup far start.systems) events (first_network (fleet_setup far start.systems)) end.net
     × (recabled_all (fleet_setup far start.systems) events ≡ recabled_by_all (fleet_setup far start.systems) es)
+    × (FleetCablesStay es → CablesStay events)
     × ((s : ℕ) → end.net.view s ≡ model_view (end.systems s))
 fleet_runs gives far es start end f z =
     let i : Shown start.systems start.systems start.net = record {
@@ -316,7 +338,7 @@ fleet_runs gives far es start end f z =
       view = λ t. ap (λ (w : Network). w.view t) f.1 ∙ sym (first_shows (start.systems t) (f.0 t));
     } in
     let r = runs gives far start.systems es start end i z in
-    (r.0, subst (λ (w : Network). NetworkRun (fleet_setup far start.systems) r.0 w end.net) f.1 r.1, r.2, r.3.view)
+    (r.0, subst (λ (w : Network). NetworkRun (fleet_setup far start.systems) r.0 w end.net) f.1 r.1, r.2, r.4, r.3.view)
 
 fleet_setup_is : (far : ℕ → ℕ → Option Place) (systems : ℕ → SystemState) → IsCabled far → IsNetworkSetup (fleet_setup far systems)
 fleet_setup_is far systems h = record { setup = λ s. configured_setup (systems s); cables = h }
@@ -325,4 +347,11 @@ fleet_setup_is far systems h = record { setup = λ s. configured_setup (systems 
 pub holds_of_fleet : (gives : FleetAlgorithms) (P : NetworkSetup → Network → Type 0) → IsNetworkInvariant P → IsFleetInvariant gives P
 holds_of_fleet gives P h far events start end cabled first z =
     let r = fleet_runs gives far events start end first z in
-    (subst (λ x. P x end.net) r.2 (h (fleet_setup far start.systems) r.0 end.net (fleet_setup_is far start.systems cabled) r.1), r.3)
+    (subst (λ x. P x end.net) r.2 (h (fleet_setup far start.systems) r.0 end.net (fleet_setup_is far start.systems cabled) r.1), r.4)
+
+-- and what holds where no cable is moved
+pub fixed_of_fleet : (gives : FleetAlgorithms) → TookFromFixedEnd → FleetTookFromFixedEnd gives
+fixed_of_fleet gives h far events start end cabled first stays z s p a e d =
+    let r = fleet_runs gives far events start end first z in
+    (h (fleet_setup far start.systems) r.0 end.net (fleet_setup_is far start.systems cabled) (r.3 stays) r.1).1 s p a
+    (ap (λ (v : View). v.port p) (r.4 s) ∙ e) d

@@ -1,9 +1,9 @@
 -- Any number of systems of lagsystem, cabled in any way: what each contract promises of its calls, and frames on cables.
-use Rattle.std.specs.Prelude.{◌≡◌, ℕ, Bool, ◌&&◌, true, cond, nat_lt, Option, Some, None, option_to_list, List, [], ◌∷◌, Result, Ok, Err}
+use Rattle.std.specs.Prelude.{◌≡◌, ℕ, Bool, ◌&&◌, true, false, cond, nat_lt, Option, Some, None, option_to_list, List, [], ◌∷◌, Result, Ok, Err}
 use Rattle.lagtypes.specs.declared.identifiers.AggId.{AggId}
 use Rattle.distributor.specs.Chains.{is_held_on}
 use Rattle.distributor.specs.Conversations.{assignment_of}
-use Rattle.lagmodel.specs.View.{ControlMessage, ModelCall}
+use Rattle.lagmodel.specs.View.{ControlMessage, ModelCall, PortFacts}
 use Rattle.lagmodel.specs.Move.{Act}
 use Rattle.lagmodel.specs.World.{Message, Control, Data, at_two}
 use Rattle.lagsystem.specs.declared.drive.HostCall.{HostCall}
@@ -26,6 +26,7 @@ use Rattle.lagsystem.specs.State.{SystemState}
 use Rattle.lagnetwork.specs.Network.{Place, NetworkSetup, Network, NetworkEvent, NetworkHappens, CountsNetworkChanges}
 use Rattle.lagnetwork.specs.Network.{network_after_acts, at_system, ends_at, without_first, handed_up_from, first_network, also_forced}
 use Rattle.lagnetwork.specs.Network.{Lose, Cut, Join, Overtake, Succeed, Pull, Plug, recabled}
+use Rattle.lagnetwork.specs.NetworkLaw.{CablesStay}
 use Rattle.lagfleet.specs.Doing.{Doing, Does, IsRefused, Makes, Forces, Offers, Leaves, Probes, Rests, Sets}
 
 -- the systems, and the records of their network, in which a message stands for the frame that carries it
@@ -219,6 +220,21 @@ abbrev pub IsFleetInvariant : FleetAlgorithms → (NetworkSetup → Network → 
 IsFleetInvariant gives P = (far : ℕ → ℕ → Option Place) (events : List FleetEvent) (start end : Fleet)
     → IsCabled far → IsFirstFleet far start → FleetRun gives (fleet_setup far start.systems) events start end
     → P (recabled_by_all (fleet_setup far start.systems) events) end.net × ((s : ℕ) → end.net.view s ≡ model_view (end.systems s))
+
+-- no cable is moved
+abbrev pub StaysBy : FleetEvent → Type 0
+StaysBy (Befalls e) = CablesStay (e ∷ [])
+StaysBy e = Unit {0}
+
+abbrev pub FleetCablesStay : List FleetEvent → Type 0
+FleetCablesStay [] = Unit {0}
+FleetCablesStay (e ∷ es) = StaysBy e × FleetCablesStay es
+
+-- where no cable is moved, every port that is not on defaults took its last LACPDU from the port at the other end of its cable
+abbrev pub FleetTookFromFixedEnd : FleetAlgorithms → Type 0
+FleetTookFromFixedEnd gives = (far : ℕ → ℕ → Option Place) (events : List FleetEvent) (start end : Fleet) → IsCabled far
+    → IsFirstFleet far start → FleetCablesStay events → FleetRun gives (fleet_setup far start.systems) events start end
+    → (s p : ℕ) (a : PortFacts) → (model_view (end.systems s)).port p ≡ Some a → a.defaulted ≡ false → end.net.source s p ≡ far s p
 
 -- what a reply shows of a call is one act, or none
 abbrev pub ShowsOneAct : Type 0

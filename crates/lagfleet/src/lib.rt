@@ -5,13 +5,13 @@
 
 ghost use Rattle.lagnetwork.specs.NetworkLaw.{AllCountFromZero, EachTookInSync, EachOnePartner, CablesAgree, NetworkInOrder, EachCollectorInOrder, NamesFarEnd, TookFromFarEnd, OneDevice, NotWithItself};
 ghost use Rattle.std.specs.Prelude.{ℕ};
-ghost use Rattle.lagfleet.specs.Fleet.{IsFleetInvariant};
+ghost use Rattle.lagfleet.specs.Fleet.{FleetTookFromFixedEnd, IsFleetInvariant};
 
 // promise: **any number of `System`s**: the first five rows of lagnetwork, and that of `took_from_far_end`, hold after any calls, those of
 //    hosts, settings and takeovers among them, octets received, whatever the algorithms return; cables may be moved at any time, LACPDUs
 //    may overtake data, and no frame comes twice
-// contract: `fleet` (`one_partner`, `agree`, `in_order`, `each_in_order`, `counts_from_zero`, `took_from_far_end`, `names_far_end`,
-//    `took_synchronized`, `one_device`, `not_with_itself`)
+// contract: `fleet` (`one_partner`, `agree`, `in_order`, `each_in_order`, `counts_from_zero`, `took_from_far_end`, `took_from_fixed_end`,
+//    `names_far_end`, `took_synchronized`, `one_device`, `not_with_itself`)
 // premises: those of the law of two systems; no slow protocols frame is offered by number; a system that takes over has the configuration
 //    and meets `IsNetworkSuccessor`
 /// After every list of calls of any number of systems, each with an algorithm of its own, whatever the algorithms return: those of
@@ -25,6 +25,7 @@ pub fn fleet<F: Fn(u16, usize) -> usize>()
     ensures counts_from_zero { (algorithms : ℕ → F) → IsFleetInvariant (λ s. F.post (algorithms s)) (λ x w. AllCountFromZero w) }
     ensures names_far_end { (algorithms : ℕ → F) → IsFleetInvariant (λ s. F.post (algorithms s)) (λ x w. NamesFarEnd x w) }
     ensures took_from_far_end { (algorithms : ℕ → F) → IsFleetInvariant (λ s. F.post (algorithms s)) (λ x w. TookFromFarEnd x w) }
+    ensures took_from_fixed_end { (algorithms : ℕ → F) → FleetTookFromFixedEnd (λ s. F.post (algorithms s)) }
     ensures took_synchronized { (algorithms : ℕ → F) → IsFleetInvariant (λ s. F.post (algorithms s)) (λ x w. EachTookInSync x w) }
     ensures one_device { (algorithms : ℕ → F) → IsFleetInvariant (λ s. F.post (algorithms s)) (λ x w. OneDevice x w) }
     ensures not_with_itself { (algorithms : ℕ → F) → IsFleetInvariant (λ s. F.post (algorithms s)) (λ x w. NotWithItself x w) }

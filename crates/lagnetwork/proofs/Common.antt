@@ -35,4 +35,4 @@ pub use Rattle.lagnetwork.specs.Network.{with_cable_moved, without_first}
 pub use Rattle.lagnetwork.specs.NetworkLaw.{AllBelowNext, AllCountFromZero, CablesAgree, CablesStay, CollectedThenFlying, EachOnePartner}
 pub use Rattle.lagnetwork.specs.NetworkLaw.{EachTookInSync, EndsMeetAfterMove, FlushedBehindMarker, FlyOnItsCable, GoesByItsCable, IsUpToDate}
 pub use Rattle.lagnetwork.specs.NetworkLaw.{MaySucceedItself, NamesFarEnd, NetworkInOrder, NotWithItself, OneAggregatorReachesTwo, OneDevice}
-pub use Rattle.lagnetwork.specs.NetworkLaw.{TookFromFarEnd, scene_of}
+pub use Rattle.lagnetwork.specs.NetworkLaw.{TookFromFarEnd, TookFromFixedEnd, scene_of}

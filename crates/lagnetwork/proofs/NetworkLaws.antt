@@ -3,10 +3,11 @@ use Rattle.lagnetwork.proofs.Common.{Some, [], ap, arith, eq-eqb, inl, inr, opti
 use Rattle.lagnetwork.proofs.Common.{IsSubsequence, Members, serials, Flushing, Marker, On, PortFacts, Response, SystemSetup, View, conversation_port}
 use Rattle.lagnetwork.proofs.Common.{Control, One, TakenLacpdu, party_at, same_value, Every, MarkerBelow, NoneBehind, ResponseBelow, answers}
 use Rattle.lagnetwork.proofs.Common.{behind_split, every_contains, handed_front, one_partner, AllHeard, FreshPdu, Moved, Moved_down, Moved_up}
-use Rattle.lagnetwork.proofs.Common.{Network, NetworkSetup, Place, Unmoved, AllBelowNext, CablesAgree, CollectedThenFlying, EachOnePartner}
-use Rattle.lagnetwork.proofs.Common.{EachTookInSync, FlushedBehindMarker, FlyOnItsCable, GoesByItsCable, IsUpToDate, MaySucceedItself, NamesFarEnd}
-use Rattle.lagnetwork.proofs.Common.{NetworkInOrder, NotWithItself, OneDevice, TookFromFarEnd, scene_of}
-use Rattle.lagnetwork.proofs.NetworkSources.{Sourced}
+use Rattle.lagnetwork.proofs.Common.{Network, NetworkSetup, Place, Unmoved, recabled_all, AllBelowNext, CablesAgree, CollectedThenFlying}
+use Rattle.lagnetwork.proofs.Common.{EachOnePartner, EachTookInSync, FlushedBehindMarker, FlyOnItsCable, GoesByItsCable, IsUpToDate, MaySucceedItself}
+use Rattle.lagnetwork.proofs.Common.{NamesFarEnd, NetworkInOrder, NotWithItself, OneDevice, TookFromFarEnd, TookFromFixedEnd, scene_of}
+use Rattle.lagnetwork.proofs.NetworkSources.{sourced, unmoved, Sourced}
+use Rattle.lagnetwork.proofs.NetworkEvents.{all_fine}
 use Rattle.lagnetwork.proofs.NetworkLines.{at_far, ends-some, ends_of, out_of}
 use Rattle.lagmodel.proofs.Laws.{crossed}
 use Rattle.lagmodel.specs.AnyPeer.{Scene, TookInSync}
@@ -130,3 +131,12 @@ took_in_sync u w members heard p a h d n =
 
 pub each_took_in_sync : (x : NetworkSetup) (w : Network) → AllFine x w → EachTookInSync x w
 each_took_in_sync x w i s = took_in_sync (x.setup s) (scene_of x w s) (i.each s).members (i.each s).heard
+
+pub took_from_fixed_end : TookFromFixedEnd
+took_from_fixed_end x events w f stays r =
+    let u = unmoved x events w stays r in
+    let took = took_from_far_end (recabled_all x events) w (all_fine x events w f r).1 (sourced x f events w r) in (
+      u.0,
+      λ s p a h d. took s p a h d (subst (λ (m : Moved). GoesByItsCable m a) (sym (u.1 s p)) tt)
+          ∙ ap (λ (x : NetworkSetup). x.far s p) u.0,
+    )

@@ -1,10 +1,13 @@
-use Rattle.lagfleet.proofs.Common.{recabled_all, AllCountFromZero, CablesAgree, EachCollectorInOrder, EachOnePartner, EachTookInSync, NamesFarEnd}
-use Rattle.lagfleet.proofs.Common.{NetworkInOrder, NotWithItself, OneDevice, TookFromFarEnd, all_fine, cables_agree, each_took_in_sync, in_order_each}
-use Rattle.lagfleet.proofs.Common.{names_far_end, not_with_itself, one_device, one_partner_each, took_from_far_end}
+use Rattle.lagnetwork.specs.Network.{recabled_all}
+use Rattle.lagnetwork.specs.NetworkLaw.{AllCountFromZero, CablesAgree, EachCollectorInOrder, EachOnePartner, EachTookInSync, NamesFarEnd}
+use Rattle.lagnetwork.specs.NetworkLaw.{NetworkInOrder, NotWithItself, OneDevice, TookFromFarEnd}
+use Rattle.lagnetwork.proofs.NetworkLaws.{took_from_fixed_end, cables_agree, each_took_in_sync, in_order_each, names_far_end, not_with_itself}
+use Rattle.lagnetwork.proofs.NetworkLaws.{one_device, one_partner_each, took_from_far_end}
+use Rattle.lagfleet.proofs.Fleets.{fixed_of_fleet, holds_of_fleet}
+use Rattle.lagnetwork.proofs.NetworkEvents.{all_fine}
 use Rattle.lagnetwork.proofs.NetworkSources.{sourced}
 use Rattle.lagnetwork.proofs.NetworkArriving.{each_part, parts}
 use Rattle.lagnetwork.proofs.NetworkCounting.{counts_from_zero}
-use Rattle.lagfleet.proofs.Fleets.{holds_of_fleet}
 use Rattle.lagfleet.proofs.fleet.Goals as goal
 
 pub returns-clause-one_partner : goal.returns-clause-one_partner
@@ -48,3 +51,6 @@ returns-clause-not_with_itself g c = λ algorithms. holds_of_fleet (λ s a b k. 
 pub returns-clause-took_from_far_end : goal.returns-clause-took_from_far_end
 returns-clause-took_from_far_end g c = λ algorithms. holds_of_fleet (λ s a b k. g.F.Fn.post (algorithms s) (a, (b, tt)) k) (λ x w. TookFromFarEnd x w)
     (λ x events w f r. took_from_far_end (recabled_all x events) w (all_fine x events w f r).1 (sourced x f events w r))
+
+pub returns-clause-took_from_fixed_end : goal.returns-clause-took_from_fixed_end
+returns-clause-took_from_fixed_end g c = λ algorithms. fixed_of_fleet (λ s a b k. g.F.Fn.post (algorithms s) (a, (b, tt)) k) took_from_fixed_end

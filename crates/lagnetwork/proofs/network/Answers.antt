@@ -1,8 +1,8 @@
-use Rattle.lagnetwork.proofs.Common.{ap, subst, sym, ◌∙◌, Moved, NetworkSetup, recabled_all, GoesByItsCable}
-use Rattle.lagnetwork.proofs.NetworkSources.{unmoved, sourced}
-use Rattle.lagnetwork.proofs.NetworkLaws.{took_from_far_end, one_partner_each, cables_agree, in_order_each, names_far_end, one_device}
-use Rattle.lagnetwork.proofs.NetworkLaws.{not_with_itself, fly_on_its_cable, flushed_behind_marker, all_below_next, collected_then_flying}
+use Rattle.lagnetwork.proofs.Common.{recabled_all}
+use Rattle.lagnetwork.proofs.NetworkLaws.{took_from_fixed_end, took_from_far_end, one_partner_each, cables_agree, in_order_each, names_far_end}
+use Rattle.lagnetwork.proofs.NetworkLaws.{one_device, not_with_itself, fly_on_its_cable, flushed_behind_marker, all_below_next, collected_then_flying}
 use Rattle.lagnetwork.proofs.NetworkLaws.{each_took_in_sync, may_succeed_itself}
+use Rattle.lagnetwork.proofs.NetworkSources.{sourced}
 use Rattle.lagnetwork.proofs.NetworkEvents.{all_fine}
 use Rattle.lagnetwork.proofs.NetworkCounting.{counts_from_zero}
 use Rattle.lagnetwork.proofs.NetworkArriving.{each_part, parts}
@@ -57,10 +57,4 @@ returns-clause-took_from_far_end c = λ x events w f r.
     took_from_far_end (recabled_all x events) w (all_fine x events w f r).1 (sourced x f events w r)
 
 pub returns-clause-took_from_fixed_end : goal.returns-clause-took_from_fixed_end
-returns-clause-took_from_fixed_end c = λ x events w f stays r.
-    let u = unmoved x events w stays r in
-    let took = took_from_far_end (recabled_all x events) w (all_fine x events w f r).1 (sourced x f events w r) in (
-      u.0,
-      λ s p a h d. took s p a h d (subst (λ (m : Moved). GoesByItsCable m a) (sym (u.1 s p)) tt)
-          ∙ ap (λ (x : NetworkSetup). x.far s p) u.0,
-    )
+returns-clause-took_from_fixed_end c = took_from_fixed_end
