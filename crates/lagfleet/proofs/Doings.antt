@@ -1,11 +1,24 @@
 -- What is done to a system is lawful moves with at most one visible act.
-use Rattle.std.proofs.Common.{Bool, Err, List, None, Ok, Option, Result, Some, [], ap, arith, cond, false, inl, inr, nat_le, nat_lt, refl, subst, suc}
-use Rattle.std.proofs.Common.{sym, true, length, ℕ, ◌&&◌, ◌<◌, ◌∙◌, ◌∷◌, ◌≡◌, ◌≢◌, ◌≤◌, ◌⊎◌}
+use Rattle.std.proofs.Common.{Bool, Err, List, None, Ok, Option, Result, Some, [], ap, arith, cond, false, inl, inr, length, nat_le, nat_lt, refl}
+use Rattle.std.proofs.Common.{subst, suc, sym, true, ℕ, ◌&&◌, ◌<◌, ◌∙◌, ◌∷◌, ◌≡◌, ◌≢◌, ◌≤◌, ◌⊎◌}
 use Rattle.std.proofs.lemmas.Bool.{and_parts, cases_Bool, true≢false}
-use Rattle.std.proofs.lemmas.Bool.Decides.{nat_tests}
 use Rattle.std.proofs.lemmas.Option.{none-some, same_Some}
-use Rattle.std.specs.Prelude.{drop}
 use Rattle.lagtypes.specs.declared.identifiers.AggId.{AggId}
+use Rattle.lagmodel.specs.Move.{Act, LawfulMoves, Sends, Sends_frame, Took}
+use Rattle.lagmodel.specs.View.{ControlMessage, Free, ModelCall, SystemSetup, View}
+use Rattle.lagmodel.proofs.Base.{cond_false, cond_true}
+use Rattle.lagnetwork.specs.Network.{freed_view}
+use Rattle.lagsystem.specs.declared.fault.SystemFault.{SystemFault}
+use Rattle.lagsystem.specs.Calls.{Call}
+use Rattle.lagsystem.specs.HostCalls.{HasConversations}
+use Rattle.lagsystem.specs.ModelView.{FrameSeenAs, control_message, lacp_message, marker_message, model_setup, model_view}
+use Rattle.lagsystem.specs.Offers.{GivesOrRefuses, MayBeOffered, has_aggregator}
+use Rattle.lagsystem.specs.Sound.{CallPromise}
+use Rattle.lagsystem.specs.State.{SystemState}
+use Rattle.lagfleet.specs.Doing.{Does, Doing, Forces, IsTold, Leaves, Makes, Offers, Probes, Rests, Sets, offered}
+use Rattle.lagfleet.specs.Fleet.{ShowsOneAct, is_held}
+use Rattle.std.proofs.lemmas.Bool.Decides.{nat_tests}
+use Rattle.std.specs.Prelude.{drop}
 use Rattle.lagtypes.specs.declared.party.Party.{Party}
 use Rattle.lagtypes.specs.Same.{same_party}
 use Rattle.lagtypes.proofs.SameLemmas.{exact_party, party_itself}
@@ -15,26 +28,13 @@ use Rattle.distributor.specs.declared.assignment.Assignment.TheVariants as state
 use Rattle.distributor.specs.Chains.{is_held_on}
 use Rattle.distributor.specs.Conversations.{IsConversation, assignment_of}
 use Rattle.distributor.specs.Moves.{model_conversation}
-use Rattle.lagmodel.specs.View.{ControlMessage, Free, ModelCall, SystemSetup, View}
-use Rattle.lagmodel.specs.Move.{Act, LawfulMoves, Sends, Sends_frame, Took}
 use Rattle.lagmodel.proofs.Brings.{moves_bring}
-use Rattle.lagmodel.proofs.Base.{cond_true, cond_false}
 use Rattle.lagsystem.specs.declared.drive.Reply.TheVariants as reply
-use Rattle.lagsystem.specs.declared.fault.SystemFault.{SystemFault}
 use Rattle.lagsystem.specs.declared.received.Received.TheVariants.{TookLacpdu, Respond}
 use Rattle.lagsystem.specs.Assigning.{OffersConversation, OffersIf, frame_of_conversation}
-use Rattle.lagsystem.specs.Calls.{Call}
 use Rattle.lagsystem.specs.Forcing.{FreesHeld, after_forcing}
-use Rattle.lagsystem.specs.HostCalls.{HasConversations}
-use Rattle.lagsystem.specs.ModelView.{FrameSeenAs, control_message, lacp_message, marker_message, model_setup, model_view}
-use Rattle.lagsystem.specs.Offers.{GivesOrRefuses, MayBeOffered, has_aggregator}
 use Rattle.lagsystem.specs.Readers.{aggregator_numbered, conversation_count, number_of_conversation}
-use Rattle.lagsystem.specs.Sound.{CallPromise}
-use Rattle.lagsystem.specs.State.{SystemState}
 use Rattle.lagsystem.proofs.AssigningLemmas.{framed}
-use Rattle.lagnetwork.specs.Network.{freed_view}
-use Rattle.lagfleet.specs.Doing.{Doing, Does, Forces, IsTold, Leaves, Makes, Offers, Probes, Rests, Sets, offered}
-use Rattle.lagfleet.specs.Fleet.{ShowsOneAct, is_held}
 
 -- ---- lawful moves
 

@@ -1,14 +1,15 @@
 -- Each call that a contract allows is an event of a fleet.
 use Rattle.std.proofs.Common.{Bool, Err, List, None, Ok, Option, Some, [], ap, cond, inl, refl, subst, sym, true, ℕ, ◌∙◌, ◌∷◌, ◌≡◌}
-use Rattle.lagmodel.specs.View.{ControlMessage, ModelCall}
 use Rattle.lagmodel.specs.Move.{Act}
-use Rattle.lagmodel.specs.World.{Message, Control, Data, at_two, party_at}
+use Rattle.lagmodel.specs.View.{ControlMessage, ModelCall}
+use Rattle.lagmodel.specs.World.{Control, Data, Message, at_two, party_at}
+use Rattle.lagnetwork.specs.Network.{CountsNetworkChanges, Network, Place, also_forced, at_system, ends_at, handed_up_from, network_after_acts}
+use Rattle.lagnetwork.specs.Network.{without_first}
+use Rattle.lagnetwork.proofs.NetworkCalls.{itself}
+use Rattle.lagnetwork.proofs.Networks.{there}
 use Rattle.lagsystem.specs.declared.drive.HostCall.{HostCall}
-use Rattle.lagsystem.specs.declared.drive.HostCall.TheVariants as host
 use Rattle.lagsystem.specs.declared.drive.HostReply.{HostReply}
-use Rattle.lagsystem.specs.declared.drive.HostReply.TheVariants as told
 use Rattle.lagsystem.specs.declared.drive.Reply.{Reply}
-use Rattle.lagsystem.specs.declared.drive.Reply.TheVariants as reply
 use Rattle.lagsystem.specs.Calls.{Call}
 use Rattle.lagsystem.specs.HostCalls.{HostPromise}
 use Rattle.lagsystem.specs.Leaving.{system_rest_result}
@@ -16,13 +17,12 @@ use Rattle.lagsystem.specs.ModelView.{FrameSeenAs, model_view}
 use Rattle.lagsystem.specs.Offers.{system_force_result}
 use Rattle.lagsystem.specs.Sound.{CallPromise}
 use Rattle.lagsystem.specs.State.{SystemState}
-use Rattle.lagnetwork.specs.Network.{Place, Network, CountsNetworkChanges, network_after_acts, at_system, ends_at, without_first, also_forced}
-use Rattle.lagnetwork.specs.Network.{handed_up_from}
-use Rattle.lagnetwork.proofs.Networks.{there}
-use Rattle.lagnetwork.proofs.NetworkCalls.{itself}
-use Rattle.lagfleet.specs.Doing.{Doing, Does, Forces, IsTold, Leaves, Makes, Offers, Probes, Rests, Sets, offered}
-use Rattle.lagfleet.specs.Fleet.{Answers, CarriesFirst, EachCallIsAnEvent, EachHostCallIsAnEvent, EachSettingIsAnEvent, Fleet, FleetAlgorithms}
-use Rattle.lagfleet.specs.Fleet.{FleetReceives, GoesOn, IsOther, IsTrueOf, fleet_setup, handed_up_in, is_held, Makes_call, Asks_call}
+use Rattle.lagfleet.specs.Doing.{Does, Doing, Forces, IsTold, Leaves, Makes, Offers, Probes, Rests, Sets, offered}
+use Rattle.lagfleet.specs.Fleet.{Answers, Asks_call, CarriesFirst, EachCallIsAnEvent, EachHostCallIsAnEvent, EachSettingIsAnEvent, Fleet}
+use Rattle.lagfleet.specs.Fleet.{FleetAlgorithms, FleetReceives, GoesOn, IsOther, IsTrueOf, Makes_call, fleet_setup, handed_up_in, is_held}
+use Rattle.lagsystem.specs.declared.drive.HostCall.TheVariants as host
+use Rattle.lagsystem.specs.declared.drive.HostReply.TheVariants as told
+use Rattle.lagsystem.specs.declared.drive.Reply.TheVariants as reply
 use Rattle.lagfleet.proofs.Doings.{recount, recounted, refused_same, told_received}
 
 abbrev counted : Network → Network → ℕ → ℕ → ℕ

@@ -1,32 +1,34 @@
 -- Each event of a fleet is an event of its network.
+use Rattle.lagnetwork.specs.NetworkLaw.{CablesStay, TookFromFixedEnd, IsNetworkInvariant}
+use Rattle.lagfleet.specs.Fleet.{FleetCablesStay, FleetTookFromFixedEnd, StaysBy, Answers, Asks_call, Befalls, Changes_setting, Fleet}
+use Rattle.lagfleet.specs.Fleet.{FleetAlgorithms, FleetAsks, FleetCalls, FleetEvent, FleetForces, FleetReceives, FleetRepeats, FleetRun, FleetSteps}
+use Rattle.lagfleet.specs.Fleet.{ForcesHeld, Gives_way, Hears_again, IsCabled, IsFirstFleet, IsFleetInvariant, IsOnCables, Makes_call, Restarts}
+use Rattle.lagfleet.specs.Fleet.{fleet_setup, handed_up_in, is_held, recabled_by, recabled_by_all}
 use Rattle.std.proofs.Common.{Bool, Err, List, None, Ok, Option, Some, [], ap, cond, inr, refl, subst, sym, true, ℕ, ◌++◌, ◌∙◌, ◌∷◌, ◌≡◌}
 use Rattle.lagtypes.specs.declared.identifiers.AggId.{AggId}
-use Rattle.lagmodel.specs.View.{ModelCall, SystemSetup, View, first_view}
 use Rattle.lagmodel.specs.Move.{Act, LawfulMoves}
-use Rattle.lagmodel.specs.Law.{Members}
-use Rattle.lagmodel.specs.World.{Message, Control, Data, at_two, sent_after, taken_after}
+use Rattle.lagmodel.specs.Succession.{IsSuccessor}
+use Rattle.lagmodel.specs.View.{ModelCall, SystemSetup, View, first_view}
+use Rattle.lagmodel.specs.World.{Control, Data, Message, at_two, sent_after, taken_after}
+use Rattle.lagnetwork.specs.Network.{Configure, CountsNetworkChanges, Cut, Deliver, DeliversFirstAt, Emit, Frees, Hear, IsNetworkSetup, Join, Lose}
+use Rattle.lagnetwork.specs.Network.{Move_conversation, Network, NetworkCall, NetworkEvent, NetworkHappens, NetworkRun, NetworkSetup, Offer, Overtake}
+use Rattle.lagnetwork.specs.Network.{Place, Plug, Pull, Repeat, RepeatsFirstAt, Restart, Sense, Succeed, Tick, also_forced, at_system, ends_at}
+use Rattle.lagnetwork.specs.Network.{first_network, freed_view, handed_up_from, network_after_acts, recabled, recabled_all, source_after}
+use Rattle.lagnetwork.specs.Network.{towards_after, without_first, Force}
+use Rattle.lagnetwork.proofs.NetworkCalls.{calls_from}
+use Rattle.lagnetwork.proofs.NetworkEvents.{recabled_joined, runs_joined}
+use Rattle.lagnetwork.proofs.Networks.{elsewhere, is_or_not, there}
 use Rattle.lagsystem.specs.declared.drive.HostCall.{HostCall}
-use Rattle.lagsystem.specs.declared.drive.HostCall.TheVariants as host
 use Rattle.lagsystem.specs.declared.drive.HostReply.{HostReply}
-use Rattle.lagsystem.specs.declared.drive.HostReply.TheVariants as told
 use Rattle.lagsystem.specs.declared.drive.Reply.{Reply}
-use Rattle.lagsystem.specs.declared.drive.Reply.TheVariants as reply
 use Rattle.lagsystem.specs.Calls.{Call}
 use Rattle.lagsystem.specs.ModelView.{model_setup, model_view}
 use Rattle.lagsystem.specs.State.{SystemState}
-use Rattle.lagsystem.proofs.FirstView.{first_shows, configured_setup}
-use Rattle.lagnetwork.specs.Network.{Place, NetworkSetup, IsNetworkSetup, Network, NetworkEvent, NetworkHappens, NetworkRun, NetworkCall, at_system}
-use Rattle.lagnetwork.specs.Network.{first_network, DeliversFirstAt, RepeatsFirstAt, ends_at, CountsNetworkChanges, also_forced, freed_view}
-use Rattle.lagnetwork.specs.Network.{handed_up_from, network_after_acts, towards_after, without_first, Tick, Emit, Deliver, Lose, Repeat, Cut, Join}
-use Rattle.lagnetwork.specs.Network.{Sense, Restart, Configure, Offer, Move_conversation, Force, Hear, Frees, Overtake, Succeed}
-use Rattle.lagnetwork.specs.NetworkLaw.{IsNetworkInvariant}
-use Rattle.lagnetwork.proofs.Networks.{there, elsewhere, is_or_not}
-use Rattle.lagnetwork.proofs.NetworkCalls.{calls_from}
-use Rattle.lagnetwork.proofs.NetworkEvents.{runs_joined}
+use Rattle.lagsystem.proofs.FirstView.{configured_setup, first_shows}
 use Rattle.lagfleet.specs.Doing.{Doing, Forces, Leaves, Makes, Offers, Probes, Rests, Sets}
-use Rattle.lagfleet.specs.Fleet.{Answers, Fleet, FleetAlgorithms, FleetAsks, FleetCalls, FleetForces, FleetReceives, FleetRepeats, FleetRun}
-use Rattle.lagfleet.specs.Fleet.{FleetEvent, FleetSteps, ForcesHeld, IsCabled, IsFirstFleet, IsFleetInvariant, IsOnCables, Restarts, fleet_setup}
-use Rattle.lagfleet.specs.Fleet.{handed_up_in, is_held, Makes_call, Asks_call, Changes_setting, Hears_again, Gives_way, Befalls}
+use Rattle.lagsystem.specs.declared.drive.HostCall.TheVariants as host
+use Rattle.lagsystem.specs.declared.drive.HostReply.TheVariants as told
+use Rattle.lagsystem.specs.declared.drive.Reply.TheVariants as reply
 use Rattle.lagfleet.proofs.Doings.{does_lawfully, held_freed}
 
 -- what stays true of a fleet: its systems keep their configurations, and the network shows them
@@ -42,6 +44,7 @@ acts_view x s stamp accepts (a ∷ more) v w = acts_view x s stamp accepts more 
   towards = towards_after x s w.whole (w.count s) (w.sent s) (accepts a) (Some a) w.towards;
   sent = at_system w.sent s (sent_after (Some a) (w.sent s));
   taken = at_system w.taken s (taken_after stamp (Some a) (w.taken s));
+  source = at_system w.source s (source_after (x.far s) (Some a) (w.source s));
 })
 
 -- one system answers, and the others stay
@@ -101,16 +104,21 @@ module _ (gives : FleetAlgorithms) (far : ℕ → ℕ → Option Place) (start :
   alike : (old new : Fleet) → new ≡ old → Shown start old.systems old.net → Shown start new.systems new.net
   alike old new e = subst (λ (f : Fleet). Shown start f.systems f.net) (sym e)
 
-  -- an event of a fleet is one of its network, or none
+  -- an event of a fleet, after which these are the cables, is one of its network, or none; and moves none if this holds
+  abbrev PlaysTo : Type 0 → NetworkSetup → Fleet → Fleet → Type 0
+  PlaysTo stays y old new = (es : List NetworkEvent) × NetworkRun (fleet_setup far start) es old.net new.net
+      × (recabled_all (fleet_setup far start) es ≡ y) × Shown start new.systems new.net × (stays → CablesStay es)
+
   abbrev IsPlayed : Fleet → Fleet → Type 0
-  IsPlayed old new = (es : List NetworkEvent) × NetworkRun (fleet_setup far start) es old.net new.net × Shown start new.systems new.net
+  IsPlayed old new = PlaysTo (Unit {0}) (fleet_setup far start) old new
 
   one : (e : NetworkEvent) (old new : Fleet)
-      → NetworkHappens (fleet_setup far start) e old.net new.net × Shown start new.systems new.net → IsPlayed old new
-  one e old new h = (e ∷ [], (new.net, h.0, refl), h.1)
+      → NetworkHappens (fleet_setup far start) e old.net new.net × Shown start new.systems new.net
+      → PlaysTo (CablesStay (e ∷ [])) (recabled (fleet_setup far start) e) old new
+  one e old new h = (e ∷ [], (new.net, h.0, refl), refl, h.1, λ c. c)
 
   nothing : (old new : Fleet) → Shown start old.systems old.net → new ≡ old → IsPlayed old new
-  nothing old new i e = ([], ap (λ (f : Fleet). f.net) e, alike old new e i)
+  nothing old new i e = ([], ap (λ (f : Fleet). f.net) e, refl, alike old new e i, λ c. c)
 
   received : (s p : ℕ) (octets : List ℕ) (answer : Reply) (accepts : Act → Bool) (o : Option Place) (line : List Message) (old new : Fleet)
       → far s p ≡ o → old.net.towards s p ≡ line → Shown start old.systems old.net
@@ -244,6 +252,8 @@ module _ (gives : FleetAlgorithms) (far : ℕ → ℕ → Option Place) (start :
   cables_view (Cut s p) old new h z = ap (λ (w : Network). w.view) z
   cables_view (Join s p) old new h z = ap (λ (w : Network). w.view) z
   cables_view (Overtake s p line) old new h z = ap (λ (w : Network). w.view) z.1
+  cables_view (Pull s p) old new h z = ap (λ (w : Network). w.view) z
+  cables_view (Plug s p t q) old new h z = ap (λ (w : Network). w.view) z.2
   cables_view e old new h z = absurd h
 
   -- the law of cables knows no configuration
@@ -253,9 +263,12 @@ module _ (gives : FleetAlgorithms) (far : ℕ → ℕ → Option Place) (start :
   cables_alike (Cut s p) old new systems h z = z
   cables_alike (Join s p) old new systems h z = z
   cables_alike (Overtake s p line) old new systems h z = z
+  cables_alike (Pull s p) old new systems h z = z
+  cables_alike (Plug s p t q) old new systems h z = z
   cables_alike e old new systems h z = absurd h
 
-  steps : (e : FleetEvent) (old new : Fleet) → Shown start old.systems old.net → FleetSteps gives far e old new → IsPlayed old new
+  steps : (e : FleetEvent) (old new : Fleet) → Shown start old.systems old.net → FleetSteps gives far e old new
+      → PlaysTo (StaysBy e) (recabled_by (fleet_setup far start) e) old new
   steps (Makes_call s call answer accepts) old new i z = calls s call answer accepts old new i z
   steps (Asks_call s call answer accepts) old new i z = asks s call answer accepts old new i z
   steps (Changes_setting s setting answer) old new i z = one (Tick s 0) old new
@@ -267,13 +280,10 @@ module _ (gives : FleetAlgorithms) (far : ℕ → ℕ → Option Place) (start :
       one (Succeed s (model_view (new.systems s))) old new (
         (
           record {
-            members = subst (λ (u : SystemSetup). Members u ((model_view (new.systems s)).port)) (i.setup s) y.members;
-            apart = y.apart;
+            follows = subst (λ (u : SystemSetup). IsSuccessor u (old.net.view s) (old.net.taken s) (model_view (new.systems s))) (i.setup s)
+                y.follows;
             parties = y.parties;
-            heard = y.heard;
-            on = y.on;
-            waits = y.waits;
-            next = y.next;
+            apart = y.apart;
           },
           z.2.1,
         ),
@@ -283,18 +293,44 @@ module _ (gives : FleetAlgorithms) (far : ℕ → ℕ → Option Place) (start :
       let happens = cables_alike e old.net new.net old.systems z.0 z.2 in
       one e old new (happens, still old new i z.1 (cables_view e old.net new.net z.0 happens))
 
-  runs : (es : List FleetEvent) (old new : Fleet) → Shown start old.systems old.net → FleetRun gives far es old new → IsPlayed old new
-  runs [] old new i z = nothing old new i z
-  runs (e ∷ es) old new i z =
-      let a = steps e old z.0 i z.1 in
-      let b = runs es z.0 new a.2 z.2 in
-      (a.0 ++ b.0, runs_joined (fleet_setup far start) a.0 b.0 old.net z.0.net new.net a.1 b.1, b.2)
+-- events change the cables alone
+still_setup : (x : NetworkSetup) (e : FleetEvent) → recabled_by x e ≡ record { setup = x.setup; far = (recabled_by x e).far }
+still_setup x (Befalls (Pull s p)) = refl
+still_setup x (Befalls (Plug s p t q)) = refl
+still_setup x (Befalls e) = refl
+still_setup x e = refl
+
+stay_joined : (es fs : List NetworkEvent) → CablesStay es → CablesStay fs → CablesStay (es ++ fs)
+stay_joined [] fs c d = d
+stay_joined (Pull s p ∷ es) fs c d = absurd c
+stay_joined (Plug s p t q ∷ es) fs c d = absurd c
+stay_joined (e ∷ es) fs c d = stay_joined es fs c d
+
+runs : (gives : FleetAlgorithms) (far : ℕ → ℕ → Option Place) (start : ℕ → SystemState) (es : List FleetEvent) (old new : Fleet)
+    → Shown start old.systems old.net → FleetRun gives (fleet_setup far start) es old new
+    → PlaysTo gives far start (FleetCablesStay es) (recabled_by_all (fleet_setup far start) es) old new
+runs gives far start [] old new i z = nothing gives far start old new i z
+runs gives far start (e ∷ es) old new i z =
+    let x : NetworkSetup = fleet_setup far start in
+    let y : NetworkSetup = recabled_by x e in
+    let same : y ≡ fleet_setup y.far start = still_setup x e in
+    let a = steps gives far start e old z.0 i z.1 in
+    let b = runs gives y.far start es z.0 new a.3 (subst (λ y. FleetRun gives y es z.0 new) same z.2) in (
+      a.0 ++ b.0,
+      runs_joined x a.0 b.0 old.net z.0.net new.net a.1
+          (subst (λ y. NetworkRun y b.0 z.0.net new.net) (sym (a.2 ∙ same)) b.1),
+      recabled_joined x a.0 b.0 ∙ ap (λ y. recabled_all y b.0) (a.2 ∙ same) ∙ b.2 ∙ ap (λ y. recabled_by_all y es) (sym same),
+      b.3,
+      λ c. stay_joined a.0 b.0 (a.4 c.0) (b.4 c.1),
+    )
 
 -- from the start
 fleet_runs : (gives : FleetAlgorithms) (far : ℕ → ℕ → Option Place) (es : List FleetEvent) (start end : Fleet)
-    → IsFirstFleet far start → FleetRun gives far es start end
+    → IsFirstFleet far start → FleetRun gives (fleet_setup far start.systems) es start end
     → (events : List NetworkEvent)
     × NetworkRun (fleet_setup far start.systems) events (first_network (fleet_setup far start.systems)) end.net
+    × (recabled_all (fleet_setup far start.systems) events ≡ recabled_by_all (fleet_setup far start.systems) es)
+    × (FleetCablesStay es → CablesStay events)
     × ((s : ℕ) → end.net.view s ≡ model_view (end.systems s))
 fleet_runs gives far es start end f z =
     let i : Shown start.systems start.systems start.net = record {
@@ -302,7 +338,7 @@ fleet_runs gives far es start end f z =
       view = λ t. ap (λ (w : Network). w.view t) f.1 ∙ sym (first_shows (start.systems t) (f.0 t));
     } in
     let r = runs gives far start.systems es start end i z in
-    (r.0, subst (λ (w : Network). NetworkRun (fleet_setup far start.systems) r.0 w end.net) f.1 r.1, r.2.view)
+    (r.0, subst (λ (w : Network). NetworkRun (fleet_setup far start.systems) r.0 w end.net) f.1 r.1, r.2, r.4, r.3.view)
 
 fleet_setup_is : (far : ℕ → ℕ → Option Place) (systems : ℕ → SystemState) → IsCabled far → IsNetworkSetup (fleet_setup far systems)
 fleet_setup_is far systems h = record { setup = λ s. configured_setup (systems s); cables = h }
@@ -311,4 +347,11 @@ fleet_setup_is far systems h = record { setup = λ s. configured_setup (systems 
 pub holds_of_fleet : (gives : FleetAlgorithms) (P : NetworkSetup → Network → Type 0) → IsNetworkInvariant P → IsFleetInvariant gives P
 holds_of_fleet gives P h far events start end cabled first z =
     let r = fleet_runs gives far events start end first z in
-    (h (fleet_setup far start.systems) r.0 end.net (fleet_setup_is far start.systems cabled) r.1, r.2)
+    (subst (λ x. P x end.net) r.2 (h (fleet_setup far start.systems) r.0 end.net (fleet_setup_is far start.systems cabled) r.1), r.4)
+
+-- and what holds where no cable is moved
+pub fixed_of_fleet : (gives : FleetAlgorithms) → TookFromFixedEnd → FleetTookFromFixedEnd gives
+fixed_of_fleet gives h far events start end cabled first stays z s p a e d =
+    let r = fleet_runs gives far events start end first z in
+    (h (fleet_setup far start.systems) r.0 end.net (fleet_setup_is far start.systems cabled) (r.3 stays) r.1).1 s p a
+    (ap (λ (v : View). v.port p) (r.4 s) ∙ e) d

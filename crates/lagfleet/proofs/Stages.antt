@@ -2,26 +2,17 @@
 use Rattle.std.proofs.Common.{Bool, Err, List, Ok, Option, Result, Some, [], ap, arith, false, inl, inr, refl, subst, sym, true, ℕ, ◌∙◌, ◌∷◌, ◌≡◌}
 use Rattle.std.proofs.lemmas.Bool.{true≢false}
 use Rattle.lagtypes.specs.declared.identifiers.AggId.{AggId}
-use Rattle.lagmodel.specs.View.{ControlMessage, Flushing, ModelCall, On, SystemSetup, IsSystemSetup, View, conversation_port, first_view, is_restart}
-use Rattle.lagmodel.specs.View.{Force, Receive, Set_link}
 use Rattle.lagmodel.specs.Move.{Act, LawfulMoves}
-use Rattle.lagmodel.specs.Law.{Members, OnePartner}
+use Rattle.lagmodel.specs.Succession.{IsSuccessor}
+use Rattle.lagmodel.specs.View.{ControlMessage, Flushing, Force, IsSystemSetup, ModelCall, On, Receive, Set_link, SystemSetup, View}
+use Rattle.lagmodel.specs.View.{conversation_port, first_view, is_restart}
 use Rattle.lagmodel.specs.World.{One, at_two, on_cable_after, sent_after, taken_after}
-use Rattle.lagmodel.specs.AnyPeer.{Answers, Calls, Comes, Cuts, Fits, Forces, Gone, HandsUp, Happening, Joins, OvertakesBack, OvertakesOut, Restarts}
-use Rattle.lagmodel.specs.AnyPeer.{Says, Scene, Takes, OrderHolds, SerialsCountFromZero, TookInSync, first_scene, scene_after_acts}
-use Rattle.lagmodel.proofs.AnyPeer.{Kept, comes_kept, counted_comes, each_call_is_one, first_kept, none_counted, unsent}
+use Rattle.lagnetwork.specs.Network.{also_forced, freed_view}
 use Rattle.lagnetwork.proofs.NetworkLaws.{took_in_sync}
-use Rattle.lagmodel.proofs.Lanes.{two_cases}
-use Rattle.lagmodel.proofs.Orderly.{handed_front}
-use Rattle.lagmodel.proofs.Ports.{one_partner}
 use Rattle.lagsystem.specs.declared.drive.HostCall.{HostCall}
-use Rattle.lagsystem.specs.declared.drive.HostCall.TheVariants as host
 use Rattle.lagsystem.specs.declared.drive.HostReply.{HostReply}
-use Rattle.lagsystem.specs.declared.drive.HostReply.TheVariants as told
-use Rattle.lagsystem.specs.declared.drive.Reply.TheVariants as reply
 use Rattle.lagsystem.specs.declared.fault.SystemFault.{SystemFault}
 use Rattle.lagsystem.specs.Calls.{Call}
-use Rattle.lagsystem.specs.First.{IsFirst}
 use Rattle.lagsystem.specs.HostCalls.{HostPromise}
 use Rattle.lagsystem.specs.Leaving.{system_rest_result}
 use Rattle.lagsystem.specs.ModelView.{model_setup, model_view}
@@ -29,10 +20,20 @@ use Rattle.lagsystem.specs.Offers.{system_force_result}
 use Rattle.lagsystem.specs.Sound.{CallPromise}
 use Rattle.lagsystem.specs.State.{SystemState}
 use Rattle.lagsystem.proofs.FirstView.{configured_setup, first_shows}
-use Rattle.lagnetwork.specs.Network.{also_forced, freed_view}
-use Rattle.lagnetwork.proofs.NetworkLines.{lanes_freed, lanes_succeeded}
-use Rattle.lagfleet.specs.Doing.{Doing, Does, offered}
+use Rattle.lagfleet.specs.Doing.{Does, Doing, offered}
 use Rattle.lagfleet.specs.Fleet.{IsOther, is_held}
+use Rattle.lagmodel.specs.Law.{Members, OnePartner}
+use Rattle.lagmodel.specs.AnyPeer.{Answers, Calls, Comes, Cuts, Fits, Forces, Gone, HandsUp, Happening, Joins, OvertakesBack, OvertakesOut, Restarts}
+use Rattle.lagmodel.specs.AnyPeer.{Says, Scene, Takes, OrderHolds, SerialsCountFromZero, TookInSync, first_scene, scene_after_acts}
+use Rattle.lagmodel.proofs.AnyPeer.{Kept, comes_kept, counted_comes, each_call_is_one, first_kept, none_counted, unsent}
+use Rattle.lagmodel.proofs.Lanes.{two_cases}
+use Rattle.lagmodel.proofs.Orderly.{handed_front}
+use Rattle.lagmodel.proofs.Ports.{one_partner}
+use Rattle.lagsystem.specs.declared.drive.HostCall.TheVariants as host
+use Rattle.lagsystem.specs.declared.drive.HostReply.TheVariants as told
+use Rattle.lagsystem.specs.declared.drive.Reply.TheVariants as reply
+use Rattle.lagsystem.specs.First.{IsFirst}
+use Rattle.lagnetwork.proofs.NetworkLines.{lanes_freed, lanes_succeeded}
 use Rattle.lagfleet.specs.BesideAnyPeer.{Acts, EachCallBesideAnyPeer, HoldsBesideAnyPeer, IsOutside, Stage, StageEvent, StageForces, StageForcesHeld}
 use Rattle.lagfleet.specs.BesideAnyPeer.{StageRun, StageSteps, takes_all, Makes_call, Starts_again, Forces_conversation, Offers_conversation}
 use Rattle.lagfleet.specs.BesideAnyPeer.{Leaves_conversation, Probes_port, Rests_conversation, Forces_port, Changes_setting, Gives_way, Befalls}

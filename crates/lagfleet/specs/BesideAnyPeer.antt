@@ -1,7 +1,7 @@
 -- One system of lagsystem on its cables, and whatever is at their other ends: what each contract promises of its calls, octets received.
-use Rattle.std.specs.Prelude.{◌≡◌, ◌≢◌, ◌≤◌, ℕ, Bool, true, Option, Some, List, [], ◌∷◌, Result, Ok, Err}
+use Rattle.std.specs.Prelude.{◌≡◌, ◌≢◌, ℕ, Bool, true, Option, Some, List, [], ◌∷◌, Result, Ok, Err}
 use Rattle.lagtypes.specs.declared.identifiers.AggId.{AggId}
-use Rattle.lagmodel.specs.View.{ModelCall, On, SystemSetup, View, conversation_port}
+use Rattle.lagmodel.specs.View.{ModelCall, On, conversation_port}
 use Rattle.lagmodel.specs.Move.{Act, Move}
 use Rattle.lagmodel.specs.World.{at_two}
 use Rattle.lagmodel.specs.Succession.{IsSuccessor}

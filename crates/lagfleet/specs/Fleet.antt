@@ -1,9 +1,9 @@
 -- Any number of systems of lagsystem, cabled in any way: what each contract promises of its calls, and frames on cables.
-use Rattle.std.specs.Prelude.{◌≡◌, ℕ, Bool, ◌&&◌, true, cond, nat_lt, Option, Some, None, option_to_list, List, [], ◌∷◌, Result, Ok, Err}
+use Rattle.std.specs.Prelude.{◌≡◌, ℕ, Bool, ◌&&◌, true, false, cond, nat_lt, Option, Some, None, option_to_list, List, [], ◌∷◌, Result, Ok, Err}
 use Rattle.lagtypes.specs.declared.identifiers.AggId.{AggId}
 use Rattle.distributor.specs.Chains.{is_held_on}
 use Rattle.distributor.specs.Conversations.{assignment_of}
-use Rattle.lagmodel.specs.View.{ControlMessage, ModelCall}
+use Rattle.lagmodel.specs.View.{ControlMessage, ModelCall, PortFacts}
 use Rattle.lagmodel.specs.Move.{Act}
 use Rattle.lagmodel.specs.World.{Message, Control, Data, at_two}
 use Rattle.lagsystem.specs.declared.drive.HostCall.{HostCall}
@@ -25,7 +25,8 @@ use Rattle.lagsystem.specs.Sound.{CallPromise}
 use Rattle.lagsystem.specs.State.{SystemState}
 use Rattle.lagnetwork.specs.Network.{Place, NetworkSetup, Network, NetworkEvent, NetworkHappens, CountsNetworkChanges}
 use Rattle.lagnetwork.specs.Network.{network_after_acts, at_system, ends_at, without_first, handed_up_from, first_network, also_forced}
-use Rattle.lagnetwork.specs.Network.{Lose, Cut, Join, Overtake, Succeed}
+use Rattle.lagnetwork.specs.Network.{Lose, Cut, Join, Overtake, Succeed, Pull, Plug, recabled}
+use Rattle.lagnetwork.specs.NetworkLaw.{CablesStay}
 use Rattle.lagfleet.specs.Doing.{Doing, Does, IsRefused, Makes, Forces, Offers, Leaves, Probes, Rests, Sets}
 
 -- the systems, and the records of their network, in which a message stands for the frame that carries it
@@ -33,7 +34,7 @@ pub record Fleet : Type 0 where
   pub systems : ℕ → SystemState
   pub net : Network
 
--- the network of these systems, on these cables
+-- the network of these systems, on these cables: far has the port at the other end of the cable of each port
 abbrev pub fleet_setup : (ℕ → ℕ → Option Place) → (ℕ → SystemState) → NetworkSetup
 fleet_setup far systems = record { setup = λ s. model_setup (systems s); far = far }
 
@@ -171,6 +172,8 @@ IsOnCables (Lose s p) = Unit {0}
 IsOnCables (Cut s p) = Unit {0}
 IsOnCables (Join s p) = Unit {0}
 IsOnCables (Overtake s p line) = Unit {0}
+IsOnCables (Pull s p) = Unit {0}
+IsOnCables (Plug s p t q) = Unit {0}
 IsOnCables e = ⊥
 
 -- From old, the event may lead to new.
@@ -189,10 +192,19 @@ FleetSteps gives far (Gives_way s) old new =
 FleetSteps gives far (Befalls e) old new =
     IsOnCables e × (new.systems ≡ old.systems) × NetworkHappens (fleet_setup far old.systems) e old.net new.net
 
--- events one after another
-abbrev pub FleetRun : FleetAlgorithms → (ℕ → ℕ → Option Place) → List FleetEvent → Fleet → Fleet → Type 0
-FleetRun gives far [] old new = new ≡ old
-FleetRun gives far (e ∷ es) old new = (mid : Fleet) × FleetSteps gives far e old mid × FleetRun gives far es mid new
+-- the cables after an event
+abbrev pub recabled_by : NetworkSetup → FleetEvent → NetworkSetup
+recabled_by x (Befalls e) = recabled x e
+recabled_by x e = x
+
+abbrev pub recabled_by_all : NetworkSetup → List FleetEvent → NetworkSetup
+recabled_by_all x [] = x
+recabled_by_all x (e ∷ es) = recabled_by_all (recabled_by x e) es
+
+-- events one after another, from these cables
+abbrev pub FleetRun : FleetAlgorithms → NetworkSetup → List FleetEvent → Fleet → Fleet → Type 0
+FleetRun gives x [] old new = new ≡ old
+FleetRun gives x (e ∷ es) old new = (mid : Fleet) × FleetSteps gives x.far e old mid × FleetRun gives (recabled_by x e) es mid new
 
 -- all systems are in their first states, and nothing has happened
 abbrev pub IsFirstFleet : (ℕ → ℕ → Option Place) → Fleet → Type 0
@@ -202,12 +214,27 @@ IsFirstFleet far f = ((s : ℕ) → IsFirst (f.systems s)) × (f.net ≡ first_n
 abbrev pub IsCabled : (ℕ → ℕ → Option Place) → Type 0
 IsCabled far = (s p t q : ℕ) → far s p ≡ Some (record { system = t; port = q }) → far t q ≡ Some (record { system = s; port = p })
 
--- The statement holds of the network after each event of each schedule, from the start of any systems on any cables, and the
--- views in it are those of the systems.
+-- The statement holds of the network after each event of each schedule, on the cables as they are then, from the start of any systems on any
+-- cables; and the views in it are those of the systems.
 abbrev pub IsFleetInvariant : FleetAlgorithms → (NetworkSetup → Network → Type 0) → Type 0
 IsFleetInvariant gives P = (far : ℕ → ℕ → Option Place) (events : List FleetEvent) (start end : Fleet)
-    → IsCabled far → IsFirstFleet far start → FleetRun gives far events start end
-    → P (fleet_setup far start.systems) end.net × ((s : ℕ) → end.net.view s ≡ model_view (end.systems s))
+    → IsCabled far → IsFirstFleet far start → FleetRun gives (fleet_setup far start.systems) events start end
+    → P (recabled_by_all (fleet_setup far start.systems) events) end.net × ((s : ℕ) → end.net.view s ≡ model_view (end.systems s))
+
+-- no cable is moved
+abbrev pub StaysBy : FleetEvent → Type 0
+StaysBy (Befalls e) = CablesStay (e ∷ [])
+StaysBy e = Unit {0}
+
+abbrev pub FleetCablesStay : List FleetEvent → Type 0
+FleetCablesStay [] = Unit {0}
+FleetCablesStay (e ∷ es) = StaysBy e × FleetCablesStay es
+
+-- where no cable is moved, every port that is not on defaults took its last LACPDU from the port at the other end of its cable
+abbrev pub FleetTookFromFixedEnd : FleetAlgorithms → Type 0
+FleetTookFromFixedEnd gives = (far : ℕ → ℕ → Option Place) (events : List FleetEvent) (start end : Fleet) → IsCabled far
+    → IsFirstFleet far start → FleetCablesStay events → FleetRun gives (fleet_setup far start.systems) events start end
+    → (s p : ℕ) (a : PortFacts) → (model_view (end.systems s)).port p ≡ Some a → a.defaulted ≡ false → end.net.source s p ≡ far s p
 
 -- what a reply shows of a call is one act, or none
 abbrev pub ShowsOneAct : Type 0

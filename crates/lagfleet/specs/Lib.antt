@@ -1,3 +1,4 @@
 pub mod Doing
 pub mod Fleet
 pub mod BesideAnyPeer
+pub mod Falling

@@ -1,29 +1,31 @@
-//! The headline for any number of `System`s, cabled in any way, whose other ports may receive any octets: what `lagnetwork` proves
+//! The headline for any number of `System`s, cabled in any way, whose cables may be moved, and whose other ports may receive any octets: what `lagnetwork` proves
 //! of definitions, of the calls that the contracts of `lagsystem` describe; and the same of one `System` beside peers of any kind. The
 //! functions do nothing when they run: the contract of each is a proved theorem.
 #![tactic(auto)]
 
-ghost use Rattle.lagnetwork.specs.NetworkLaw.{AllCountFromZero, EachTookInSync, EachOnePartner, CablesAgree, NetworkInOrder, EachCollectorInOrder, NamesFarEnd, OneDevice, NotWithItself};
+ghost use Rattle.lagnetwork.specs.NetworkLaw.{AllCountFromZero, EachTookInSync, EachOnePartner, CablesAgree, NetworkInOrder, EachCollectorInOrder, NamesFarEnd, TookFromFarEnd, OneDevice, NotWithItself};
 ghost use Rattle.std.specs.Prelude.{ℕ};
-ghost use Rattle.lagfleet.specs.Fleet.{IsFleetInvariant};
+ghost use Rattle.lagfleet.specs.Fleet.{FleetTookFromFixedEnd, IsFleetInvariant};
 
-// promise: **any number of `System`s**: the first five rows of lagnetwork hold after any calls, those of hosts, settings and takeovers
-//    among them, octets received, whatever the algorithms return; LACPDUs may overtake data,
-//    and no frame comes twice
-// contract: `fleet` (`one_partner`, `agree`, `in_order`, `each_in_order`, `counts_from_zero`, `names_far_end`, `took_synchronized`, `one_device`,
-//    `not_with_itself`)
+// promise: **any number of `System`s**: the first five rows of lagnetwork, and that of `took_from_far_end`, hold after any calls, those of
+//    hosts, settings and takeovers among them, octets received, whatever the algorithms return; cables may be moved at any time, LACPDUs
+//    may overtake data, and no frame comes twice
+// contract: `fleet` (`one_partner`, `agree`, `in_order`, `each_in_order`, `counts_from_zero`, `took_from_far_end`, `took_from_fixed_end`,
+//    `names_far_end`, `took_synchronized`, `one_device`, `not_with_itself`)
 // premises: those of the law of two systems; no slow protocols frame is offered by number; a system that takes over has the configuration
 //    and meets `IsNetworkSuccessor`
 /// After every list of calls of any number of systems, each with an algorithm of its own, whatever the algorithms return: those of
-/// `HostCall`, settings, and takeovers by a system that goes on where another was, as after a warm start. LACPDUs may overtake data
-/// (6.2.4, 6.3.6, 6.4.14, 6.5; profile).
+/// `HostCall`, settings, and takeovers by a system that goes on where another was, as after a warm start. LACPDUs may overtake data, and
+/// cables may be taken out and put in elsewhere at any time (6.2.4, 6.3.6, 6.4.14, 6.5; profile).
 pub fn fleet<F: Fn(u16, usize) -> usize>()
     ensures one_partner { (algorithms : ℕ → F) → IsFleetInvariant (λ s. F.post (algorithms s)) (λ x w. EachOnePartner w) }
-    ensures agree { (algorithms : ℕ → F) → IsFleetInvariant (λ s. F.post (algorithms s)) (λ x w. CablesAgree x w) }
+    ensures agree { (algorithms : ℕ → F) → IsFleetInvariant (λ s. F.post (algorithms s)) (λ x w. CablesAgree w) }
     ensures in_order { (algorithms : ℕ → F) → IsFleetInvariant (λ s. F.post (algorithms s)) (λ x w. NetworkInOrder w) }
     ensures each_in_order { (algorithms : ℕ → F) → IsFleetInvariant (λ s. F.post (algorithms s)) (λ x w. EachCollectorInOrder w) }
     ensures counts_from_zero { (algorithms : ℕ → F) → IsFleetInvariant (λ s. F.post (algorithms s)) (λ x w. AllCountFromZero w) }
     ensures names_far_end { (algorithms : ℕ → F) → IsFleetInvariant (λ s. F.post (algorithms s)) (λ x w. NamesFarEnd x w) }
+    ensures took_from_far_end { (algorithms : ℕ → F) → IsFleetInvariant (λ s. F.post (algorithms s)) (λ x w. TookFromFarEnd x w) }
+    ensures took_from_fixed_end { (algorithms : ℕ → F) → FleetTookFromFixedEnd (λ s. F.post (algorithms s)) }
     ensures took_synchronized { (algorithms : ℕ → F) → IsFleetInvariant (λ s. F.post (algorithms s)) (λ x w. EachTookInSync x w) }
     ensures one_device { (algorithms : ℕ → F) → IsFleetInvariant (λ s. F.post (algorithms s)) (λ x w. OneDevice x w) }
     ensures not_with_itself { (algorithms : ℕ → F) → IsFleetInvariant (λ s. F.post (algorithms s)) (λ x w. NotWithItself x w) }
@@ -48,6 +50,15 @@ pub fn each_call_is_an_event<F: Fn(u16, usize) -> usize>()
     ensures calls { (algorithms : ℕ → F) → EachCallIsAnEvent (λ s. F.post (algorithms s)) }
     ensures host_calls { (algorithms : ℕ → F) → EachHostCallIsAnEvent (λ s. F.post (algorithms s)) }
     ensures settings { (algorithms : ℕ → F) → EachSettingIsAnEvent (λ s. F.post (algorithms s)) }
+{}
+
+ghost use Rattle.lagfleet.specs.Falling.{EachFallIsSeen};
+
+// promise: a port whose link was up is down, as `took_from_far_end` asks of a port whose cable is moved, once its link is said to be down
+// contract: `each_fall_is_seen`
+/// A port whose link was up is down to the law once its link is said to be down: its partner is out of sync (6.4.12).
+pub fn each_fall_is_seen<F: Fn(u16, usize) -> usize>()
+    ensures { (algorithm : F) → EachFallIsSeen (F.post algorithm) }
 {}
 
 ghost use Rattle.lagmodel.specs.AnyPeer.{OrderHolds, SerialsCountFromZero, TookInSync};

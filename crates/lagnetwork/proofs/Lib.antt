@@ -1,7 +1,9 @@
 mod Common
 pub mod NetworkLines
 pub mod Networks
+pub mod NetworkMoves
 pub mod NetworkEvents
+pub mod NetworkSources
 pub mod NetworkLaws
 pub mod NetworkWitness
 pub mod NetworkCounting

@@ -3,7 +3,7 @@ use Rattle.lagnetwork.proofs.Common.{Bool, List, None, Option, Some, [], ap, eqb
 use Rattle.lagnetwork.proofs.Common.{and_parts, cases_Bool, eqb-false, IsSubsequence, Move, ModelCall, Control, Data, Message, at_two, cond_false}
 use Rattle.lagnetwork.proofs.Common.{cond_true, two_cases, DeliversFirstAt, Network, NetworkCall, NetworkEvent, NetworkHappens, NetworkRun}
 use Rattle.lagnetwork.proofs.Common.{NetworkSetup, Place, RepeatsFirstAt, at_place, at_system, first_network, handed_up_from, network_after}
-use Rattle.lagnetwork.proofs.Common.{network_after_all, without_first}
+use Rattle.lagnetwork.proofs.Common.{network_after_all, recabled, without_first}
 use Rattle.lagmodel.proofs.Subsequence.{both_grow, grows}
 
 -- subsequences
@@ -126,10 +126,12 @@ happens x (NetworkEvent.Frees s test) old new h z = subst Parts (sym z) h
 happens x (NetworkEvent.Overtake s p line) old new h z = subst Parts (sym z.1) h
 happens x (NetworkEvent.Succeed s after) old new h z = subst Parts (sym z.1) h
 happens x (NetworkEvent.Hear s p pdu stamp) old new h z = called x s (ModelCall.Receive p pdu) stamp old old new h z.1
+happens x (NetworkEvent.Pull s p) old new h z = subst Parts (sym z) h
+happens x (NetworkEvent.Plug s p t q) old new h z = subst Parts (sym z.2) h
 
 runs : (x : NetworkSetup) (es : List NetworkEvent) (old new : Network) → Parts old → NetworkRun x es old new → Parts new
 runs x [] old new h z = subst Parts (sym z) h
-runs x (e ∷ es) old new h z = runs x es z.0 new (happens x e old z.0 h z.1) z.2
+runs x (e ∷ es) old new h z = runs (recabled x e) es z.0 new (happens x e old z.0 h z.1) z.2
 
 pub each_part : (x : NetworkSetup) (es : List NetworkEvent) (w : Network) → NetworkRun x es (first_network x) w → Parts w
 each_part x es w z = runs x es (first_network x) w (λ t h s g k. tt) z

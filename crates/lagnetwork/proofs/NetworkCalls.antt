@@ -36,6 +36,7 @@ module _ (x : NetworkSetup) (s : ℕ) (call : ModelCall) (stamp : ℕ) (accepts 
     view = at_system w.view s on_the_way;
     sent = λ t. sym (itself w.sent s t) i;
     taken = λ t. sym (itself w.taken s t) i;
+    source = λ t. sym (itself w.source s t) i;
   }) ∙ view_over seen v on_the_way w
   one_shown (Some a) seen v on_the_way w = view_over seen v on_the_way (network_after_act x s stamp (accepts a) (Some a) w)
 

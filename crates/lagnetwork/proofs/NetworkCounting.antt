@@ -2,8 +2,8 @@
 use Rattle.lagnetwork.proofs.Common.{Bool, List, None, Option, Some, [], arith, get_or, inl, inr, length, length-append, subst, sym, ℕ, ◌++◌, ◌<◌}
 use Rattle.lagnetwork.proofs.Common.{◌∙◌, ◌∷◌, ◌≡◌, cases_lt, Act, Move, Sends, Sends_frame, Took, act, ModelCall, Control, Data, Message, sent_after}
 use Rattle.lagnetwork.proofs.Common.{two_cases, DeliversFirstAt, Network, NetworkCall, NetworkEvent, NetworkHappens, NetworkRun, NetworkSetup, Place}
-use Rattle.lagnetwork.proofs.Common.{RepeatsFirstAt, at_system, first_network, handed_up_from, network_after, network_after_all, without_first}
-use Rattle.lagnetwork.proofs.Common.{AllCountFromZero}
+use Rattle.lagnetwork.proofs.Common.{RepeatsFirstAt, at_system, first_network, handed_up_from, network_after, network_after_all, recabled}
+use Rattle.lagnetwork.proofs.Common.{without_first, AllCountFromZero}
 use Rattle.std.proofs.lemmas.List.{get_or_append_left, get_or_push}
 use Rattle.lagnetwork.proofs.Networks.{there, elsewhere, is_or_not}
 
@@ -86,11 +86,13 @@ counted_happens x (NetworkEvent.Frees s test) old new h z = subst AllCountFromZe
 counted_happens x (NetworkEvent.Overtake s p line) old new h z = subst AllCountFromZero (sym z.1) h
 counted_happens x (NetworkEvent.Succeed s after) old new h z = subst AllCountFromZero (sym z.1) h
 counted_happens x (NetworkEvent.Hear s p pdu stamp) old new h z = counted_call x s (ModelCall.Receive p pdu) stamp old old new h z.1
+counted_happens x (NetworkEvent.Pull s p) old new h z = subst AllCountFromZero (sym z) h
+counted_happens x (NetworkEvent.Plug s p t q) old new h z = subst AllCountFromZero (sym z.2) h
 
 counted_run : (x : NetworkSetup) (es : List NetworkEvent) (old new : Network) → AllCountFromZero old → NetworkRun x es old new
     → AllCountFromZero new
 counted_run x [] old new h z = subst AllCountFromZero (sym z) h
-counted_run x (e ∷ es) old new h z = counted_run x es z.0 new (counted_happens x e old z.0 h z.1) z.2
+counted_run x (e ∷ es) old new h z = counted_run (recabled x e) es z.0 new (counted_happens x e old z.0 h z.1) z.2
 
 none_sent : (i : ℕ) → i < 0 → ⊥
 none_sent i lt = omega arith

@@ -1,18 +1,19 @@
 -- Every event of a network preserves the facts, and so does every run.
 use Rattle.lagnetwork.proofs.Common.{Bool, List, None, Option, Some, [], ap, cond, eq-eqb, eqb, eqb-true, false, inl, inr, refl, subst, sym, true, ℕ}
-use Rattle.lagnetwork.proofs.Common.{◌&&◌, ◌++◌, ◌∙◌, ◌∷◌, ◌≡◌, ◌⊎◌, and_from, and_parts, cases_Bool, false≢true, true≢false, none-some, drop, Party}
+use Rattle.lagnetwork.proofs.Common.{◌&&◌, ◌++◌, ◌∙◌, ◌∷◌, ◌≡◌, and_from, and_parts, cases_Bool, false≢true, true≢false, none-some, drop, Party}
 use Rattle.lagnetwork.proofs.Common.{Configure, ControlMessage, Force, ModelCall, Move_conversation, Offer, Receive, Set_link, Tick, Transmit, View}
 use Rattle.lagnetwork.proofs.Common.{first_view, is_restart, Control, Data, Message, One, Side, at_cable, at_two, party_at, cond_false, cond_true}
 use Rattle.lagnetwork.proofs.Common.{cable_cases, lanes_first, lanes_handed, lanes_restarted, two_cases, Every, IsFrom, members_first, Stamps}
 use Rattle.lagnetwork.proofs.Common.{heard_first, stamps_emptied, stamps_first, CountsNetworkChanges, DeliversFirstAt, IsNetworkSetup}
 use Rattle.lagnetwork.proofs.Common.{IsNetworkSuccessor, Network, NetworkCall, NetworkEvent, NetworkHappens, NetworkRun, NetworkSetup, Place}
 use Rattle.lagnetwork.proofs.Common.{RepeatsFirstAt, also_forced, at_place, at_system, ends_at, first_network, freed_view, handed_up_from, is_at}
-use Rattle.lagnetwork.proofs.Common.{is_end, is_place, without_first}
-use Rattle.lagmodel.specs.View.{Restart}
-use Rattle.lagnetwork.proofs.Networks.{freed_part, apart_first, Fine, FineIn, AllFine, Calling, call_kept, begins_call, fine_along, less_part}
+use Rattle.lagnetwork.proofs.Common.{is_end, moved_again, recabled, recabled_all, without_first}
+use Rattle.lagnetwork.proofs.NetworkMoves.{end_alike, plug_setup, plugged_kept, pull_setup, pulled_kept}
+use Rattle.lagnetwork.proofs.Networks.{Last, freed_part, apart_first, Fine, FineIn, AllFine, Calling, call_kept, begins_call, fine_along, less_part}
 use Rattle.lagnetwork.proofs.Networks.{counted_part, forced_part, there, elsewhere, is_or_not}
-use Rattle.lagnetwork.proofs.NetworkLines.{lanes_succeeded, ends_of, theirs_of, at_far, out_of, SeenAlike, BeginsWith, Amid, IsLess, lanes_less}
-use Rattle.lagnetwork.proofs.NetworkLines.{ends_once, same_near, is_place-some, some-is_place, same_bool}
+use Rattle.lagmodel.specs.View.{Restart}
+use Rattle.lagnetwork.proofs.NetworkLines.{lanes_succeeded, ends_of, at_far, out_of, SeenAlike, BeginsWith, Amid, IsLess, lanes_less, ends_once}
+use Rattle.lagnetwork.proofs.NetworkLines.{same_near}
 use Rattle.lagmodel.proofs.Events.{quiet}
 
 quiet_not : (call other : ModelCall) → quiet call ≡ true → quiet other ≡ false → call ≡ other → ⊥
@@ -131,28 +132,6 @@ line_kept x w s p line h i =
 popped_kept : (x : NetworkSetup) (w : Network) (s p : ℕ) → AllFine x w → AllFine x (without_first s p w)
 popped_kept x w s p i = line_kept x w s p (drop 1 (w.towards s p)) (first_less (w.towards s p)) i
 
--- the ends of a cable
-end_other : (x : NetworkSetup) → IsNetworkSetup x → (s p t q r c : ℕ) → x.far t q ≡ Some (record { system = r; port = c })
-    → is_end x s p t q ≡ true → is_end x s p r c ≡ true
-end_other x f s p t q r c h e = elim (cases_Bool (eqb t s && eqb q p)) [
-  | inl here ↦ (let b = and_parts (eqb t s) (eqb q p) here in
-      any (eqb r s && eqb c p) (is_place (x.far s p) r c) (inr (some-is_place (x.far s p) r c
-      (subst (λ t. x.far t p ≡ Some (record { system = r; port = c })) (eqb-true t s b.0)
-      (subst (λ q. x.far t q ≡ Some (record { system = r; port = c })) (eqb-true q p b.1) h)))))
-  | inr off ↦ (let y : is_place (x.far s p) t q ≡ true = sym (cond_false (eqb t s && eqb q p) true (is_place (x.far s p) t q) off) ∙ e in
-      let both = same_near x f r c s p (record { system = t; port = q }) (f.cables t q r c h) (is_place-some (x.far s p) t q y) in
-      any (eqb r s && eqb c p) (is_place (x.far s p) r c) (inl (and_from (eqb r s) (eqb c p) (eq-eqb r s both.0) (eq-eqb c p both.1))))
-]
-  where
-    any : (a b : Bool) → (a ≡ true) ⊎ (b ≡ true) → cond a true b ≡ true
-    any true b h = refl
-    any false b h = elim h [ inl e ↦ absurd (false≢true e) | inr e ↦ e ]
-
-end_alike : (x : NetworkSetup) → IsNetworkSetup x → (s p t q r c : ℕ) → x.far t q ≡ Some (record { system = r; port = c })
-    → is_end x s p t q ≡ is_end x s p r c
-end_alike x f s p t q r c h = same_bool (is_end x s p t q) (is_end x s p r c) (end_other x f s p t q r c h)
-    (end_other x f s p r c t q (f.cables t q r c h))
-
 blank_less : (b : Bool) (l : List Message) → IsLess (cond b [] l) l
 blank_less true l = inr (inl refl)
 blank_less false l = inl refl
@@ -239,26 +218,26 @@ restarted_kept x f w s count i h = record {
     back_none q = sym (cond_true (ends_at x s s q) [] (w.towards s q) (cond_true (eqb s s) true (is_at s (x.far s q)) (eq-eqb s s refl)))
 
     at_start : Fine x s (first_view (x.setup s)) (party_at (w.view s)) (w.count s) (λ c. []) (λ c. []) (w.whole s) (w.sent s)
-        (w.collected s) (w.forced s) (w.taken s) w.taken
+        (w.collected s) (w.forced s) (w.taken s) w.taken w.source
     at_start = record {
       members = members_first (x.setup s) (f.setup s);
       lanes = lanes_restarted ((i.each s).lanes) (x.setup s).first_marker;
       heard = heard_first (x.setup s) (w.taken s);
-      stamps = λ t. stamps_emptied ((i.each s).stamps t);
+      stamps = stamps_emptied (i.each s).stamps;
       names = λ c. tt;
       apart = apart_first (x.setup s);
-      named = (i.each s).named;
+      last = (i.each s).last;
     }
 
     before : (r : ℕ) → Fine x r (at_system w.view s (first_view (x.setup s)) r) (party_at (w.view r)) (w.count r) (out_of x towards' r)
-        (towards' r) (w.whole r) (w.sent r) (w.collected r) (w.forced r) (w.taken r) w.taken
+        (towards' r) (w.whole r) (w.sent r) (w.collected r) (w.forced r) (w.taken r) w.taken w.source
     before r = is_or_not (Fine x r (at_system w.view s (first_view (x.setup s)) r) (party_at (w.view r)) (w.count r) (out_of x towards' r)
-        (towards' r) (w.whole r) (w.sent r) (w.collected r) (w.forced r) (w.taken r) w.taken) r s
+        (towards' r) (w.whole r) (w.sent r) (w.collected r) (w.forced r) (w.taken r) w.taken w.source) r s
         (λ e. subst (λ r. Fine x r (at_system w.view s (first_view (x.setup s)) r) (party_at (w.view r)) (w.count r) (out_of x towards' r)
-        (towards' r) (w.whole r) (w.sent r) (w.collected r) (w.forced r) (w.taken r) w.taken) (sym e)
-        (fine_along x s (party_at (w.view s)) (w.count s) (w.whole s) (w.collected s) (w.forced s) _ _ _ _ _ _ _ _ _ _ w.taken
+        (towards' r) (w.whole r) (w.sent r) (w.collected r) (w.forced r) (w.taken r) w.taken w.source) (sym e)
+        (fine_along x s (party_at (w.view s)) (w.count s) (w.whole s) (w.collected s) (w.forced s) _ _ _ _ _ _ _ _ _ _ w.taken w.source
         (sym (there w.view s (first_view (x.setup s)))) (λ j c. out_none c j) (λ j q. back_none q j) refl refl at_start))
-        (λ ne. fine_along x r (party_at (w.view r)) (w.count r) (w.whole r) (w.collected r) (w.forced r) _ _ _ _ _ _ _ _ _ _ w.taken
+        (λ ne. fine_along x r (party_at (w.view r)) (w.count r) (w.whole r) (w.collected r) (w.forced r) _ _ _ _ _ _ _ _ _ _ w.taken w.source
         (sym (elsewhere w.view s (first_view (x.setup s)) r ne)) refl refl refl refl
         (less_part (i.each r) (out_of x towards' r) (towards' r) (w.whole r) (out_less x w.towards towards' less r) (less r)
         (still_nothing x w i towards' less r)))
@@ -282,11 +261,11 @@ handed_kept x f w s p up a g k n ms i e h = record {
 
     collects : (r : ℕ) (collected' : ℕ → ℕ → List ℕ) {collected : ℕ → ℕ → List ℕ} → collected ≡ collected'
         → Fine x r (w.view r) (party_at (w.view r)) (w.count r) (out_of x towards' r) (towards' r) (w.whole r) (w.sent r) collected
-        (w.forced r) (w.taken r) w.taken
+        (w.forced r) (w.taken r) w.taken w.source
         → Fine x r (w.view r) (party_at (w.view r)) (w.count r) (out_of x towards' r) (towards' r) (w.whole r) (w.sent r) collected'
-        (w.forced r) (w.taken r) w.taken
+        (w.forced r) (w.taken r) w.taken w.source
     collects r collected' y z = subst (λ (c : ℕ → ℕ → List ℕ). Fine x r (w.view r) (party_at (w.view r)) (w.count r) (out_of x towards' r)
-        (towards' r) (w.whole r) (w.sent r) c (w.forced r) (w.taken r) w.taken) y z
+        (towards' r) (w.whole r) (w.sent r) c (w.forced r) (w.taken r) w.taken w.source) y z
 
     back : x.far a.system a.port ≡ Some (record { system = s; port = p })
     back = f.cables s p a.system a.port e
@@ -323,7 +302,7 @@ handed_kept x f w s p up a g k n ms i e h = record {
           stamps = (popped.each a.system).stamps;
           names = (popped.each a.system).names;
           apart = (popped.each a.system).apart;
-          named = (popped.each a.system).named;
+          last = (popped.each a.system).last;
           lanes = lanes_less (lanes_handed ((i.each a.system).lanes) a.port g k n ms (ends_once x a.system) first)
               (out_of x towards' a.system) (towards' a.system) (w.whole a.system) (λ c. inl (same c)) (place_less w.towards s p (drop 1 (w.towards s p)) (first_less (w.towards s p)) a.system)
               ((popped.each a.system).lanes.cut);
@@ -382,9 +361,9 @@ forced_kept x s g k w i = record {
   each = λ r. is_or_not (FineIn x (λ t. party_at (w.view t)) (record w { forced = at_system w.forced s (at_two (w.forced s) g k true) }) r) r s
       (λ e. subst (FineIn x (λ t. party_at (w.view t)) (record w { forced = at_system w.forced s (at_two (w.forced s) g k true) })) (sym e)
       (subst (λ (c : ℕ → ℕ → Bool). Fine x s (w.view s) (party_at (w.view s)) (w.count s) (out_of x w.towards s) (w.towards s) (w.whole s)
-      (w.sent s) (w.collected s) c (w.taken s) w.taken) (sym (there w.forced s (at_two (w.forced s) g k true))) (forced_part (i.each s) g k)))
+      (w.sent s) (w.collected s) c (w.taken s) w.taken w.source) (sym (there w.forced s (at_two (w.forced s) g k true))) (forced_part (i.each s) g k)))
       (λ ne. subst (λ (c : ℕ → ℕ → Bool). Fine x r (w.view r) (party_at (w.view r)) (w.count r) (out_of x w.towards r) (w.towards r)
-      (w.whole r) (w.sent r) (w.collected r) c (w.taken r) w.taken)
+      (w.whole r) (w.sent r) (w.collected r) c (w.taken r) w.taken w.source)
       (sym (elsewhere w.forced s (at_two (w.forced s) g k true) r ne)) (i.each r));
 }
 
@@ -430,22 +409,22 @@ freed_kept x s test w i = record {
 
     After : ℕ → Type 0
     After r = Fine x r (view' r) (party_at (view' r)) (w.count r) (out_of x w.towards r) (w.towards r) (w.whole r) (w.sent r)
-        (w.collected r) (forced' r) (w.taken r) w.taken
+        (w.collected r) (forced' r) (w.taken r) w.taken w.source
 
     along : (r : ℕ) {v v' : View} {forced forced' : ℕ → ℕ → Bool} → v ≡ v' → forced ≡ forced'
         → Fine x r v (party_at v) (w.count r) (out_of x w.towards r) (w.towards r) (w.whole r) (w.sent r) (w.collected r) forced (w.taken r)
-        w.taken
+        w.taken w.source
         → Fine x r v' (party_at v') (w.count r) (out_of x w.towards r) (w.towards r) (w.whole r) (w.sent r) (w.collected r) forced' (w.taken r)
-        w.taken
+        w.taken w.source
     along r {v} {v'} {forced} {forced'} a b z =
         subst (λ (v : View). Fine x r v (party_at v) (w.count r) (out_of x w.towards r) (w.towards r) (w.whole r) (w.sent r) (w.collected r)
-        forced' (w.taken r) w.taken) a
+        forced' (w.taken r) w.taken w.source) a
         (subst (λ (c : ℕ → ℕ → Bool). Fine x r v (party_at v) (w.count r) (out_of x w.towards r) (w.towards r) (w.whole r) (w.sent r)
-        (w.collected r) c (w.taken r) w.taken) b z)
+        (w.collected r) c (w.taken r) w.taken w.source) b z)
 
 -- another system takes the place of one
 succeeded_kept : (x : NetworkSetup) (s : ℕ) (after : View) (w : Network) → IsNetworkSuccessor x w s after → AllFine x w
-    → AllFine x (record w { view = at_system w.view s after })
+    → AllFine x (record w { view = at_system w.view s after; moved = at_system w.moved s (λ p. moved_again (w.moved s p) (after.port p)) })
 succeeded_kept x s after w y i = record {
   alike = i.alike;
   each = λ r. is_or_not (With (at_system w.view s after r) r) r s
@@ -455,7 +434,7 @@ succeeded_kept x s after w y i = record {
   where
     With : View → ℕ → Type 0
     With v r = Fine x r v (party_at v) (w.count r) (out_of x w.towards r) (w.towards r) (w.whole r) (w.sent r) (w.collected r) (w.forced r)
-        (w.taken r) w.taken
+        (w.taken r) w.taken w.source
 
     here : With after s
     here = record {
@@ -463,10 +442,11 @@ succeeded_kept x s after w y i = record {
       apart = y.apart;
       heard = y.follows.heard;
       lanes = lanes_succeeded (i.each s).lanes after.flows y.follows.on y.follows.waits y.follows.next;
-      stamps = λ t. subst (λ (party : ℕ → Option Party). Stamps (ends_of x s) (theirs_of x s t) party (w.count s) (out_of x w.towards s)
-          (w.taken t)) (λ j p. sym (y.parties p) j) ((i.each s).stamps t);
+      stamps = subst (λ (party : ℕ → Option Party). Stamps (ends_of x s) (λ c. None) party (w.count s) (out_of x w.towards s) (λ p. None))
+          (λ j p. sym (y.parties p) j) (i.each s).stamps;
       names = (i.each s).names;
-      named = (i.each s).named;
+      last = λ t. subst (λ (party : ℕ → Option Party). Last x s party (w.count s) (w.taken t) (w.source t)) (λ j p. sym (y.parties p) j)
+          ((i.each s).last t);
     }
 
 -- a port without a cable hears anything
@@ -484,7 +464,7 @@ hears_kept x f s p (Some pdu) stamp old new i none z = call_kept x f s (Receive 
 
 -- every event
 pub happens_kept : (x : NetworkSetup) → IsNetworkSetup x → (e : NetworkEvent) (old new : Network) → AllFine x old
-    → NetworkHappens x e old new → AllFine x new
+    → NetworkHappens x e old new → AllFine (recabled x e) new
 happens_kept x f (NetworkEvent.Tick s n) old new i z = quiet_kept x f s Tick old new refl i z
 happens_kept x f (NetworkEvent.Emit s p) old new i z = quiet_kept x f s Transmit old new refl i z
 happens_kept x f (NetworkEvent.Deliver s p) old new i z = comes_kept x f s p (old.towards s p) old new i refl z
@@ -503,17 +483,32 @@ happens_kept x f (NetworkEvent.Overtake s p line) old new i z =
     subst (AllFine x) (sym z.1) (line_kept x old s p line (inr (inr (inr z.0))) i)
 happens_kept x f (NetworkEvent.Succeed s after) old new i z = subst (AllFine x) (sym z.1) (succeeded_kept x s after old z.0 i)
 happens_kept x f (NetworkEvent.Hear s p pdu stamp) old new i z = hears_kept x f s p pdu stamp old new i z.0 z.1
+happens_kept x f (NetworkEvent.Pull s p) old new i z =
+    subst (AllFine (recabled x (NetworkEvent.Pull s p))) (sym z) (pulled_kept x f s p old i)
+happens_kept x f (NetworkEvent.Plug s p t q) old new i z =
+    subst (AllFine (recabled x (NetworkEvent.Plug s p t q))) (sym z.2) (plugged_kept x f s p t q z.0 z.1 old i)
+
+-- cables join two ports, still
+pub setup_kept : (x : NetworkSetup) → IsNetworkSetup x → (e : NetworkEvent) (old new : Network) → NetworkHappens x e old new
+    → IsNetworkSetup (recabled x e)
+setup_kept x f (NetworkEvent.Pull s p) old new z = pull_setup x f s p
+setup_kept x f (NetworkEvent.Plug s p t q) old new z = plug_setup x f s p t q z.0 z.1
+setup_kept x f e old new z = f
 
 -- every run
 pub run_kept : (x : NetworkSetup) → IsNetworkSetup x → (es : List NetworkEvent) (old new : Network) → AllFine x old
-    → NetworkRun x es old new → AllFine x new
-run_kept x f [] old new i z = subst (AllFine x) (sym z) i
-run_kept x f (e ∷ es) old new i z = run_kept x f es z.0 new (happens_kept x f e old z.0 i z.1) z.2
+    → NetworkRun x es old new → IsNetworkSetup (recabled_all x es) × AllFine (recabled_all x es) new
+run_kept x f [] old new i z = (f, subst (AllFine x) (sym z) i)
+run_kept x f (e ∷ es) old new i z = run_kept (recabled x e) (setup_kept x f e old z.0 z.1) es z.0 new (happens_kept x f e old z.0 i z.1) z.2
 
-pub runs_joined : (x : NetworkSetup) (es fs : List NetworkEvent) (old mid new : Network) → NetworkRun x es old mid → NetworkRun x fs mid new
-    → NetworkRun x (es ++ fs) old new
+pub runs_joined : (x : NetworkSetup) (es fs : List NetworkEvent) (old mid new : Network) → NetworkRun x es old mid
+    → NetworkRun (recabled_all x es) fs mid new → NetworkRun x (es ++ fs) old new
 runs_joined x [] fs old mid new a b = subst (λ (w : Network). NetworkRun x fs w new) a b
-runs_joined x (e ∷ es) fs old mid new a b = (a.0, a.1, runs_joined x es fs a.0 mid new a.2 b)
+runs_joined x (e ∷ es) fs old mid new a b = (a.0, a.1, runs_joined (recabled x e) es fs a.0 mid new a.2 b)
+
+pub recabled_joined : (x : NetworkSetup) (es fs : List NetworkEvent) → recabled_all x (es ++ fs) ≡ recabled_all (recabled_all x es) fs
+recabled_joined x [] fs = refl
+recabled_joined x (e ∷ es) fs = recabled_joined (recabled x e) es fs
 
 pub first_fine : (x : NetworkSetup) → IsNetworkSetup x → AllFine x (first_network x)
 first_fine x f = record { alike = λ s p t q h. refl; each = start }
@@ -527,15 +522,16 @@ first_fine x f = record { alike = λ s p t q h. refl; each = start }
 
     start : (r : ℕ) → FineIn x (λ s. party_at (first_view (x.setup s))) (first_network x) r
     start r = subst (λ (out : ℕ → List Message). Fine x r (first_view (x.setup r)) (party_at (first_view (x.setup r))) (λ p. 0) out
-        (λ q. []) (λ p. true) (λ g k. []) (λ g k. []) (λ g k. false) (λ p. None) (λ s p. None)) (λ j c. nothing_out r c j) (record {
+        (λ q. []) (λ p. true) (λ g k. []) (λ g k. []) (λ g k. false) (λ p. None) (λ s p. None) (λ s p. None)) (λ j c. nothing_out r c j) (record {
           members = members_first (x.setup r) (f.setup r);
           lanes = lanes_first One (ends_of x r) (x.setup r).first_marker;
           heard = heard_first (x.setup r) (λ p. None);
-          stamps = λ s. stamps_first (ends_of x r) (theirs_of x r s) (party_at (first_view (x.setup r)));
+          stamps = stamps_first (ends_of x r) (λ c. None) (party_at (first_view (x.setup r)));
           names = λ c. tt;
           apart = apart_first (x.setup r);
-          named = λ s c p m e h. absurd (none-some m h);
+          last = λ s p c m e h. absurd (none-some m h);
         })
 
-pub all_fine : (x : NetworkSetup) (es : List NetworkEvent) (w : Network) → IsNetworkSetup x → NetworkRun x es (first_network x) w → AllFine x w
+pub all_fine : (x : NetworkSetup) (es : List NetworkEvent) (w : Network) → IsNetworkSetup x → NetworkRun x es (first_network x) w
+    → IsNetworkSetup (recabled_all x es) × AllFine (recabled_all x es) w
 all_fine x es w f z = run_kept x f es (first_network x) w (first_fine x f) z

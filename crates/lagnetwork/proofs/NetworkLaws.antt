@@ -2,11 +2,13 @@
 use Rattle.lagnetwork.proofs.Common.{Some, [], ap, arith, eq-eqb, inl, inr, option_map, refl, subst, sym, true, ℕ, ◌++◌, ◌∙◌, ◌≡◌, same_Some, Party}
 use Rattle.lagnetwork.proofs.Common.{IsSubsequence, Members, serials, Flushing, Marker, On, PortFacts, Response, SystemSetup, View, conversation_port}
 use Rattle.lagnetwork.proofs.Common.{Control, One, TakenLacpdu, party_at, same_value, Every, MarkerBelow, NoneBehind, ResponseBelow, answers}
-use Rattle.lagnetwork.proofs.Common.{behind_split, every_contains, handed_front, one_partner, AllHeard, FreshPdu, Stamps, IsNetworkSetup, Network}
-use Rattle.lagnetwork.proofs.Common.{NetworkSetup, Place, AllBelowNext, CablesAgree, CollectedThenFlying, EachOnePartner, EachTookInSync}
-use Rattle.lagnetwork.proofs.Common.{FlushedBehindMarker, FlyOnItsCable, IsUpToDate, MaySucceedItself, NamesFarEnd, NetworkInOrder, NotWithItself}
-use Rattle.lagnetwork.proofs.Common.{OneDevice, scene_of}
-use Rattle.lagnetwork.proofs.NetworkLines.{at_far, ends-some, ends_of, theirs_of, out_of, some-port_in}
+use Rattle.lagnetwork.proofs.Common.{behind_split, every_contains, handed_front, one_partner, AllHeard, FreshPdu, Moved, Moved_down, Moved_up}
+use Rattle.lagnetwork.proofs.Common.{Network, NetworkSetup, Place, Unmoved, recabled_all, AllBelowNext, CablesAgree, CollectedThenFlying}
+use Rattle.lagnetwork.proofs.Common.{EachOnePartner, EachTookInSync, FlushedBehindMarker, FlyOnItsCable, GoesByItsCable, IsUpToDate, MaySucceedItself}
+use Rattle.lagnetwork.proofs.Common.{NamesFarEnd, NetworkInOrder, NotWithItself, OneDevice, TookFromFarEnd, TookFromFixedEnd, scene_of}
+use Rattle.lagnetwork.proofs.NetworkSources.{sourced, unmoved, Sourced}
+use Rattle.lagnetwork.proofs.NetworkEvents.{all_fine}
+use Rattle.lagnetwork.proofs.NetworkLines.{at_far, ends-some, ends_of, out_of}
 use Rattle.lagmodel.proofs.Laws.{crossed}
 use Rattle.lagmodel.specs.AnyPeer.{Scene, TookInSync}
 use Rattle.lagnetwork.proofs.Networks.{AllFine}
@@ -20,42 +22,46 @@ party_there v p a y h e = same_Some a.party y (sym (ap (option_map (λ (a : Port
 ends_there : (x : NetworkSetup) (t q : ℕ) (a : Place) → x.far t q ≡ Some a → ends_of x t q ≡ Some q
 ends_there x t q a e = ap (option_map (λ (a : Place). q)) e
 
--- the partner that a port records is the party of the other end, if that did not change
+-- the partner that a port records is the party of the port that the LACPDU came from which it took last, if that did not change
 named : (x : NetworkSetup) (w : Network) → AllFine x w → (s p t q : ℕ) (a b : PortFacts)
-    → x.far t q ≡ Some (record { system = s; port = p }) → IsUpToDate w s p t q a → (w.view t).port q ≡ Some b → a.partner ≡ b.party
-named x w i s p t q a b e h hb =
+    → IsUpToDate w s p t q a → (w.view t).port q ≡ Some b → a.partner ≡ b.party
+named x w i s p t q a b h hb =
     let m = h.taken in
     let r = (i.each s).heard p a h.is h.defaulted in
-    let sent : Stamps (ends_of x t) (theirs_of x t s) (party_at (w.view t)) (w.count t) (out_of x w.towards t) (w.taken s) =
-    (i.each t).stamps s in
-    let fresh : FreshPdu (w.count t q) (party_at (w.view t) q) m.0.pdu m.0.stamp =
-    sent.last q q p m.0 (ends_there x t q (record { system = s; port = p }) e) (some-port_in s (x.far t q) p e) m.1 in
+    let fresh : FreshPdu (w.count t q) (party_at (w.view t) q) m.0.pdu m.0.stamp = ((i.each t).last s p q m.0 h.source m.1).0 in
     r.2 ∙ ap (λ (m : TakenLacpdu). m.pdu.actor) (same_value (w.taken s p) r.0 m.0 r.1 m.1)
     ∙ sym (party_there (w.view t) q b m.0.pdu.actor hb (fresh.1 m.2))
 
-pub cables_agree : (x : NetworkSetup) → IsNetworkSetup x → (w : Network) → AllFine x w → CablesAgree x w
-cables_agree x f w i s p t q a b e h k =
-    crossed a.party a.partner b.party b.partner
-    (sym (named x w i t q s p b a e k h.is))
-    (named x w i s p t q a b (f.cables s p t q e) h k.is)
+pub cables_agree : (x : NetworkSetup) (w : Network) → AllFine x w → CablesAgree w
+cables_agree x w i s p t q a b h k =
+    crossed a.party a.partner b.party b.partner (sym (named x w i t q s p b a k h.is)) (named x w i s p t q a b h k.is)
 
 pub in_order_each : (x : NetworkSetup) (w : Network) → AllFine x w → NetworkInOrder w
 in_order_each x w i s g k u = handed_front ((i.each s).lanes.orderly g k 0 u)
 
-pub names_far_end : (x : NetworkSetup) → IsNetworkSetup x → (w : Network) → AllFine x w → NamesFarEnd x w
-names_far_end x f w i s p t q a e h d =
+pub names_far_end : (x : NetworkSetup) (w : Network) → AllFine x w → NamesFarEnd x w
+names_far_end x w i s p t q a e h d =
     let r = (i.each s).heard p a h d in
-    let own = (i.each t).named s q p r.0 (some-port_in s (x.far t q) p (f.cables s p t q e)) r.1 in
+    let own = ((i.each t).last s p q r.0 e r.1).1 in
     (ap (λ (y : Party). y.system) r.2 ∙ own.0, ap (λ (y : Party). y.port.number) r.2 ∙ own.1)
 
-pub one_device : (x : NetworkSetup) → IsNetworkSetup x → (w : Network) → AllFine x w → OneDevice x w
-one_device x f w i s g p q t r j k a b only e h ia ib ga gb da db na nb =
-    only (sym ((names_far_end x f w i s p t j a e ia na).0) ∙ (one_partner_each x w i s g p q a b ia ib ga gb da db).0
-    ∙ (names_far_end x f w i s q r k b h ib nb).0)
+-- such a port goes by its cable as that is
+pub took_from_far_end : (x : NetworkSetup) (w : Network) → AllFine x w → Sourced x w → TookFromFarEnd x w
+took_from_far_end x w i sources s p a h d = go (w.moved s p) refl
+  where
+    go : (m : Moved) → w.moved s p ≡ m → GoesByItsCable m a → w.source s p ≡ x.far s p
+    go Unmoved e k = let r = (i.each s).heard p a h d in (sources s).start p r.0 e r.1
+    go Moved_down e k = (sources s).down p a e h (((i.each s).members.member p a h k).1) d
+    go Moved_up e k = absurd k
 
-pub not_with_itself : (x : NetworkSetup) → IsNetworkSetup x → (w : Network) → AllFine x w → NotWithItself x w
-not_with_itself x f w i s p t q a e h inside d same =
-    (i.each s).apart p a h inside ((names_far_end x f w i s p t q a e h d).0 ∙ same ∙ sym ((i.each s).members.own p a h))
+pub one_device : (x : NetworkSetup) (w : Network) → AllFine x w → OneDevice x w
+one_device x w i s g p q t r j k a b only e h ia ib ga gb da db na nb =
+    only (sym ((names_far_end x w i s p t j a e ia na).0) ∙ (one_partner_each x w i s g p q a b ia ib ga gb da db).0
+    ∙ (names_far_end x w i s q r k b h ib nb).0)
+
+pub not_with_itself : (x : NetworkSetup) (w : Network) → AllFine x w → NotWithItself x w
+not_with_itself x w i s p t q a e h inside d same =
+    (i.each s).apart p a h inside ((names_far_end x w i s p t q a e h d).0 ∙ same ∙ sym ((i.each s).members.own p a h))
 
 -- what is on the cable of a port, away from it
 there_out : (x : NetworkSetup) (w : Network) (s p t q : ℕ) → x.far s p ≡ Some (record { system = t; port = q })
@@ -125,3 +131,12 @@ took_in_sync u w members heard p a h d n =
 
 pub each_took_in_sync : (x : NetworkSetup) (w : Network) → AllFine x w → EachTookInSync x w
 each_took_in_sync x w i s = took_in_sync (x.setup s) (scene_of x w s) (i.each s).members (i.each s).heard
+
+pub took_from_fixed_end : TookFromFixedEnd
+took_from_fixed_end x events w f stays r =
+    let u = unmoved x events w stays r in
+    let took = took_from_far_end (recabled_all x events) w (all_fine x events w f r).1 (sourced x f events w r) in (
+      u.0,
+      λ s p a h d. took s p a h d (subst (λ (m : Moved). GoesByItsCable m a) (sym (u.1 s p)) tt)
+          ∙ ap (λ (x : NetworkSetup). x.far s p) u.0,
+    )

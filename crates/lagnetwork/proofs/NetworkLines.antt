@@ -100,7 +100,7 @@ ends-some x r c p h = go (x.far r c) h
 pub ends_once : (x : NetworkSetup) (r c d p : ℕ) → ends_of x r c ≡ Some p → ends_of x r d ≡ Some p → c ≡ d
 ends_once x r c d p h k = ends-some x r c p h ∙ sym (ends-some x r d p k)
 
-place_parts : (a b : Place) → Some a ≡ Some b → (a.system ≡ b.system) × (a.port ≡ b.port)
+pub place_parts : (a b : Place) → Some a ≡ Some b → (a.system ≡ b.system) × (a.port ≡ b.port)
 place_parts a b h = let e : a ≡ b = same_Some a b h in (ap (λ (a : Place). a.system) e, ap (λ (a : Place). a.port) e)
 
 -- two ports whose cables end at one port are one

@@ -1,11 +1,12 @@
--- A run of three systems, of which two have one identifier: one aggregator of the first reaches both.
+-- A run of three systems, of which two have one identifier: one aggregator of the first reaches both. And one in which a cable is moved.
 use Rattle.lagnetwork.proofs.Common.{Bool, List, None, Option, Some, [], ap, arith, cond, eqb, eqb-true, false, inl, inr, refl, subst, sym, true, ℕ}
-use Rattle.lagnetwork.proofs.Common.{◌∙◌, ◌∷◌, ◌≡◌, ◌≢◌, false≢true, none-some, same_Some, SystemId, Party, Announce, Answered, Become, Distribute}
-use Rattle.lagnetwork.proofs.Common.{Flow, Join, Mark, Move, Port, Respond, Send, Take, Want, pair_at, port_after, view_after, Lacp, LacpMessage}
-use Rattle.lagnetwork.proofs.Common.{Marker, ModelCall, PortFacts, Receive, Response, SystemSetup, View, at_port, first_port, first_view, is_restart}
-use Rattle.lagnetwork.proofs.Common.{zero_party, party_at, chosen, mapped_some, changed_port, party_moved, AllNetworkMoves, IsNetworkSetup, Network}
-use Rattle.lagnetwork.proofs.Common.{NetworkCall, NetworkEvent, NetworkHappens, NetworkSetup, Place, at_system, first_network, handed_up_from}
-use Rattle.lagnetwork.proofs.Common.{network_after, network_after_all, without_first, OneAggregatorReachesTwo}
+use Rattle.lagnetwork.proofs.Common.{◌∙◌, ◌∷◌, ◌≡◌, ◌≢◌, false≢true, none-some, same_Some, SystemId, Party, Announce, Answered, Become, Desynchronize}
+use Rattle.lagnetwork.proofs.Common.{Distribute, Flow, Join, Leave, Mark, Move, Port, Respond, Send, Take, Want, pair_at, port_after, view_after}
+use Rattle.lagnetwork.proofs.Common.{Lacp, LacpMessage, Marker, ModelCall, PortFacts, Receive, Response, SystemSetup, View, at_port, first_port}
+use Rattle.lagnetwork.proofs.Common.{first_view, is_restart, zero_party, party_at, chosen, mapped_some, changed_port, party_moved, AllNetworkMoves}
+use Rattle.lagnetwork.proofs.Common.{IsNetworkSetup, Network, NetworkCall, NetworkEvent, NetworkHappens, NetworkSetup, Place, at_system}
+use Rattle.lagnetwork.proofs.Common.{first_network, handed_up_from, network_after, network_after_all, recabled, with_cable_moved, without_first}
+use Rattle.lagnetwork.proofs.Common.{EndsMeetAfterMove, OneAggregatorReachesTwo}
 use Rattle.lagtypes.specs.Group.{SamePair, Pair}
 use Rattle.lagnetwork.proofs.Networks.{there, elsewhere, is_or_not}
 
@@ -491,10 +492,10 @@ one_aggregator_reaches_two = (
   ),
   refl,
   refl,
-  record { is = refl; distributes = refl; defaulted = refl; taken = (record { pdu = agreed 1; stamp = 0 }, refl, refl) },
-  record { is = refl; distributes = refl; defaulted = refl; taken = (record { pdu = agreed 2; stamp = 0 }, refl, refl) },
-  record { is = refl; distributes = refl; defaulted = refl; taken = (record { pdu = answer 1; stamp = 0 }, refl, refl) },
-  record { is = refl; distributes = refl; defaulted = refl; taken = (record { pdu = answer 2; stamp = 0 }, refl, refl) },
+  record { is = refl; distributes = refl; defaulted = refl; taken = (record { pdu = agreed 1; stamp = 0 }, refl, refl); source = refl },
+  record { is = refl; distributes = refl; defaulted = refl; taken = (record { pdu = agreed 2; stamp = 0 }, refl, refl); source = refl },
+  record { is = refl; distributes = refl; defaulted = refl; taken = (record { pdu = answer 1; stamp = 0 }, refl, refl); source = refl },
+  record { is = refl; distributes = refl; defaulted = refl; taken = (record { pdu = answer 2; stamp = 0 }, refl, refl); source = refl },
   refl,
   refl,
   refl,
@@ -502,4 +503,148 @@ one_aggregator_reaches_two = (
   refl,
   refl,
   refl,
+)
+
+-- ---- a cable is moved
+
+not_link : (p : ℕ) (up : Bool) → ModelCall.Set_link p up ≡ ModelCall.Configure → ⊥
+not_link p up e = cc
+
+-- no port but this one is in the aggregator
+abbrev OutsideBut : ℕ → (ℕ → Option PortFacts) → Type 0
+OutsideBut p ports = (q : ℕ) (b : PortFacts) → (q ≡ p → ⊥) → ports q ≡ Some b → b.aggregator ≢ Some 1
+
+but_kept : (ports : ℕ → Option PortFacts) (p : ℕ) (a : PortFacts) (f : PortFacts → PortFacts) → ports p ≡ Some a → OutsideBut p ports
+    → OutsideBut p (at_port ports p f)
+but_kept ports p a f h i q b ne hb e = elim (changed_port ports p q f a b h hb) [
+  | inl x ↦ ne x.0
+  | inr x ↦ i q b ne x.1 e
+]
+
+but_left : (ports : ℕ → Option PortFacts) (p : ℕ) (a : PortFacts) → ports p ≡ Some a → OutsideBut p ports
+    → Outside (at_port ports p (port_after Leave))
+but_left ports p a h i q b hb e = elim (changed_port ports p q (port_after Leave) a b h hb) [
+  | inl x ↦ none-some 1 (ap (λ (b : PortFacts). b.aggregator) x.1 ∙ e)
+  | inr x ↦ i q b x.0 x.1 e
+]
+
+-- the cable of port 1 of the first system is taken out, and then put in at the third
+abbrev x₁ : NetworkSetup
+x₁ = recabled x₀ (NetworkEvent.Pull 1 1)
+
+abbrev x₂ : NetworkSetup
+x₂ = recabled x₁ (NetworkEvent.Plug 1 1 3 1)
+
+abbrev next_on : NetworkSetup → ℕ → List (Move × Bool) → Network → Network
+next_on x s ms w = record (network_after_all x s 0 ms w) { count = w.count }
+
+abbrev goes_down : List (Move × Bool)
+goes_down = (Port 1 Desynchronize, true) ∷ (Port 1 Leave, true) ∷ []
+
+abbrev joins_again : List (Move × Bool)
+joins_again = (Port 1 (Join 1), true) ∷ (Port 1 (Announce true), true) ∷ []
+
+abbrev v₁ : Network
+v₁ = with_cable_moved x₀ false 1 1 w₆
+
+abbrev v₂ : Network
+v₂ = next_on x₁ 1 goes_down v₁
+
+abbrev v₃ : Network
+v₃ = next_on x₁ 2 goes_down v₂
+
+abbrev v₄ : Network
+v₄ = with_cable_moved x₂ true 1 1 v₃
+
+abbrev v₅ : Network
+v₅ = next_on x₂ 1 joins_again v₄
+
+abbrev v₆ : Network
+v₆ = without_first 3 1 (next_on x₂ 3 (comes_up 1) v₅)
+
+abbrev v₇ : Network
+v₇ = next_on x₂ 3 (says 1 true) v₆
+
+abbrev v₈ : Network
+v₈ = without_first 1 1 (next_on x₂ 1 (follows 1) v₇)
+
+d₂ : NetworkHappens x₁ (NetworkEvent.Sense 1 1) v₁ v₂
+d₂ = made x₁ 1 (ModelCall.Set_link 1 false) 0 goes_down v₁ refl (not_link 1 false) (tt, (tt, tt))
+
+d₃ : NetworkHappens x₁ (NetworkEvent.Sense 2 1) v₂ v₃
+d₃ = made x₁ 2 (ModelCall.Set_link 1 false) 0 goes_down v₂ refl (not_link 1 false) (tt, (tt, tt))
+
+d₅ : NetworkHappens x₂ (NetworkEvent.Emit 1 1) v₄ v₅
+d₅ = made x₂ 1 ModelCall.Transmit 0 joins_again v₄ refl not_transmit (
+  (
+    refl,
+    ne₁ 0 1 1,
+    refl,
+    inl (but_left _ 1 _ refl
+        (but_kept _ 1 _ (port_after Desynchronize) refl
+        (but_kept _ 1 _ (port_after Distribute) refl
+        (but_kept _ 1 _ (port_after (Take (agreed 1) true)) refl
+        (but_kept _ 1 _ (port_after (Announce true)) refl
+        (but_kept _ 1 _ (port_after (Join 1)) refl
+        (but_kept (first_view (setup_of 1)).port 1 (first_port (party_of 1 1)) (port_after (Take (hello 1) false)) refl
+        (λ q b ne h e. outside_first 1 q b h e)))))))),
+  ),
+  ((refl, λ h. refl), tt),
+)
+
+d₆ : NetworkHappens x₂ (NetworkEvent.Deliver 3 1) v₅ v₆
+d₆ = (
+  next_on x₂ 3 (comes_up 1) v₅,
+  made x₂ 3 (Receive 1 (Some (Lacp (answer 1)))) 0 (comes_up 1) v₅ refl (not_receive 1 (Some (Lacp (answer 1)))) (
+    (refl, inr refl, λ h. (refl, inl refl)),
+    (
+      (
+        refl,
+        (λ e. ne₁ 0 1 1 (sym e)),
+        refl,
+        inl (outside_kept (first_view (setup_of 2)).port 1 (first_port (party_of 2 1)) (port_after (Take (answer 1) true)) refl
+            (λ h. none-some 1 h) (outside_first 2)),
+      ),
+      ((refl, refl), tt),
+    ),
+  ),
+  refl,
+)
+
+d₇ : NetworkHappens x₂ (NetworkEvent.Emit 3 1) v₆ v₇
+d₇ = made x₂ 3 ModelCall.Transmit 0 (says 1 true) v₆ refl not_transmit ((refl, λ h. refl), tt)
+
+d₈ : NetworkHappens x₂ (NetworkEvent.Deliver 1 1) v₇ v₈
+d₈ = (
+  next_on x₂ 1 (follows 1) v₇,
+  made x₂ 1 (Receive 1 (Some (Lacp (agreed 1)))) 0 (follows 1) v₇ refl (not_receive 1 (Some (Lacp (agreed 1))))
+      ((refl, inl refl, λ h. (refl, inl refl)), ((refl, refl), tt)),
+  refl,
+)
+
+pub ends_meet_after_move : EndsMeetAfterMove
+ends_meet_after_move = (
+  x₀,
+  NetworkEvent.Emit 2 1 ∷ NetworkEvent.Deliver 1 1 ∷ NetworkEvent.Emit 1 1 ∷ NetworkEvent.Deliver 2 1 ∷ NetworkEvent.Emit 2 1
+      ∷ NetworkEvent.Deliver 1 1 ∷ [],
+  NetworkEvent.Pull 1 1 ∷ NetworkEvent.Sense 1 1 ∷ NetworkEvent.Sense 2 1 ∷ NetworkEvent.Plug 1 1 3 1 ∷ NetworkEvent.Emit 1 1
+      ∷ NetworkEvent.Deliver 3 1 ∷ NetworkEvent.Emit 3 1 ∷ NetworkEvent.Deliver 1 1 ∷ [],
+  w₆,
+  v₈,
+  up 1 2 1,
+  up 2 1 1,
+  up 1 2 1,
+  up 2 1 1,
+  fixed₀,
+  (w₁, e₁, (w₂, e₂, (w₃, e₃, (w₄, e₄, (w₅, e₅, (w₆, e₆, refl)))))),
+  refl,
+  refl,
+  record { is = refl; distributes = refl; defaulted = refl; taken = (record { pdu = agreed 1; stamp = 0 }, refl, refl); source = refl },
+  record { is = refl; distributes = refl; defaulted = refl; taken = (record { pdu = answer 1; stamp = 0 }, refl, refl); source = refl },
+  (v₁, refl, (v₂, d₂, (v₃, d₃, (v₄, (refl, refl, refl), (v₅, d₅, (v₆, d₆, (v₇, d₇, (v₈, d₈, refl)))))))),
+  refl,
+  refl,
+  refl,
+  record { is = refl; distributes = refl; defaulted = refl; taken = (record { pdu = agreed 1; stamp = 0 }, refl, refl); source = refl },
+  record { is = refl; distributes = refl; defaulted = refl; taken = (record { pdu = answer 1; stamp = 0 }, refl, refl); source = refl },
 )

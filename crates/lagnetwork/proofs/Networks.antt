@@ -1,18 +1,18 @@
 -- What every event of any number of systems preserves.
-use Rattle.lagnetwork.proofs.Common.{Bool, IsSome, IsSomeAnd, List, None, Option, Some, [], ap, eq-eqb, eqb, eqb-true, false, inl, inr, length, refl}
-use Rattle.lagnetwork.proofs.Common.{subst, suc, sym, true, ℕ, ◌∙◌, ◌∷◌, ◌≡◌, ◌≢◌, ◌⊎◌, cases_Bool, eqb-false, true≢false, same_Some, Party, Members}
-use Rattle.lagnetwork.proofs.Common.{Announce, Become, Default, DistributorMove, Flow, Join, Leave, Mark, Move, MoveAllowed, Port, PortAllowed}
-use Rattle.lagnetwork.proofs.Common.{PortMove, Reconfigure, Respond, Restart, Send, Take, act, act_of_port, distributor_act, port_after, view_after}
-use Rattle.lagnetwork.proofs.Common.{Lacp, Marker, ModelCall, PortFacts, Response, SystemSetup, View, at_port, first_port, first_view, is_restart}
-use Rattle.lagnetwork.proofs.Common.{replies_frame, Control, Data, Message, One, TakenLacpdu, at_two, on_cable_after, party_at, sent_after}
-use Rattle.lagnetwork.proofs.Common.{taken_after, cond_false, cond_true, mapped_some, none-is_some, value_of, Within, at_cable_each, lanes_forced}
-use Rattle.lagnetwork.proofs.Common.{lanes_own, lanes_peer, Lanes, Every, changed_port, AllHeard, Stamps, heard_own, parties_kept, stamps_counted}
-use Rattle.lagnetwork.proofs.Common.{stamps_own, stamps_peer, AllNetworkMoves, IsNetworkSetup, Network, NetworkCall, NetworkSetup, also_forced}
-use Rattle.lagnetwork.proofs.Common.{at_system, freed_view, network_after, network_after_all}
+use Rattle.lagnetwork.proofs.Common.{Bool, IsSome, IsSomeAnd, List, None, Option, Some, [], ap, eq-eqb, eqb, eqb-true, false, inl, inr, length}
+use Rattle.lagnetwork.proofs.Common.{option_map, refl, subst, suc, sym, true, ℕ, ◌∙◌, ◌∷◌, ◌≡◌, ◌≢◌, ◌⊎◌, cases_Bool, eqb-false, true≢false}
+use Rattle.lagnetwork.proofs.Common.{same_Some, Party, Members, Announce, Become, Default, DistributorMove, Flow, Join, Leave, Mark, Move}
+use Rattle.lagnetwork.proofs.Common.{MoveAllowed, Port, PortAllowed, PortMove, Reconfigure, Respond, Restart, Send, Take, act, act_of_port}
+use Rattle.lagnetwork.proofs.Common.{distributor_act, port_after, view_after, Lacp, Marker, ModelCall, PortFacts, Response, SystemSetup, View}
+use Rattle.lagnetwork.proofs.Common.{at_port, first_port, first_view, is_restart, replies_frame, Control, Data, Message, One, TakenLacpdu, at_two}
+use Rattle.lagnetwork.proofs.Common.{on_cable_after, party_at, sent_after, taken_after, cond_false, cond_true, mapped_some, none-is_some, value_of}
+use Rattle.lagnetwork.proofs.Common.{Within, lanes_forced, lanes_own, lanes_peer, Lanes, Every, changed_port, AllHeard, Fresh, FreshPdu, Stamps}
+use Rattle.lagnetwork.proofs.Common.{heard_own, parties_kept, stamps_counted, stamps_own, AllNetworkMoves, IsNetworkSetup, Network, NetworkCall}
+use Rattle.lagnetwork.proofs.Common.{NetworkSetup, Place, also_forced, at_system, freed_view, network_after, network_after_all, source_after}
+use Rattle.lagnetwork.proofs.NetworkLines.{some-port_in, ends_of, theirs_of, out_of, SeenAlike, own_after, other_after, back_after, BeginsWith}
+use Rattle.lagnetwork.proofs.NetworkLines.{begins_after, Amid, within_own, within_far, IsLess, lanes_less, lanes_freed, stamps_less, every_less}
+use Rattle.lagnetwork.proofs.NetworkLines.{IsOwn, NamesSender, names_put}
 use Rattle.lagmodel.proofs.Worlds.{members_own}
-use Rattle.lagnetwork.proofs.NetworkLines.{ends_of, theirs_of, out_of, SeenAlike, own_after, other_after, back_after, BeginsWith, begins_after, Amid}
-use Rattle.lagnetwork.proofs.NetworkLines.{within_own, within_far, IsLess, lanes_less, lanes_freed, stamps_less, every_less, IsOwn, NamesSender}
-use Rattle.lagnetwork.proofs.NetworkLines.{names_put}
 
 -- a port in an aggregator has a partner that is not its own system
 abbrev pub Apart : (ℕ → Option PortFacts) → Type 0
@@ -78,52 +78,74 @@ names_own x r call v (Flow m) out whole count sent kept a members i = go m
     go (Become g k m) = i
 names_own x r call v Restart out whole count sent kept a members i = i
 
--- what a port took names the system and port at the other end of its cable
-named_peer : (x : NetworkSetup) (r s : ℕ) (u : SystemSetup) (call : ModelCall) (stamp : ℕ) (v : View) (m : Move) (out : ℕ → List Message)
-    (whole : ℕ → Bool) (forced : ℕ → ℕ → Bool) (taken : ℕ → Option TakenLacpdu) → MoveAllowed u call v m
-    → Within call stamp (theirs_of x r s) out whole forced → ((c : ℕ) → Every (NamesSender (x.setup r).system c) (out c))
-    → ((c p : ℕ) (l : TakenLacpdu) → theirs_of x r s c ≡ Some p → taken p ≡ Some l → IsOwn (x.setup r).system c l.pdu)
-    → (c p : ℕ) (l : TakenLacpdu) → theirs_of x r s c ≡ Some p → taken_after stamp (act u m v) taken p ≡ Some l
-    → IsOwn (x.setup r).system c l.pdu
-named_peer x r s u call stamp v (Port p m) out whole forced taken a w names i = go m (v.port p) a
+-- What ports of a system took last from port c of system r names that, and its Actor is as that is now, if it did not change since.
+abbrev pub Last : NetworkSetup → ℕ → (ℕ → Option Party) → (ℕ → ℕ) → (ℕ → Option TakenLacpdu) → (ℕ → Option Place) → Type 0
+Last x r party count taken source = (p c : ℕ) (l : TakenLacpdu) → source p ≡ Some (record { system = r; port = c }) → taken p ≡ Some l
+    → FreshPdu (count c) (party c) l.pdu l.stamp × IsOwn (x.setup r).system c l.pdu
+
+last_peer : (x : NetworkSetup) → IsNetworkSetup x → (r s : ℕ) (u : SystemSetup) (call : ModelCall) (stamp : ℕ) (v : View) (m : Move)
+    (party : ℕ → Option Party) (count : ℕ → ℕ) (out : ℕ → List Message) (whole : ℕ → Bool) (forced : ℕ → ℕ → Bool)
+    (taken : ℕ → Option TakenLacpdu) (source : ℕ → Option Place) → MoveAllowed u call v m
+    → Within call stamp (theirs_of x r s) out whole forced → Stamps (ends_of x r) (λ c. None) party count out (λ p. None)
+    → ((c : ℕ) → Every (NamesSender (x.setup r).system c) (out c)) → Last x r party count taken source
+    → Last x r party count (taken_after stamp (act u m v) taken) (source_after (x.far s) (act u m v) source)
+last_peer x f r s u call stamp v (Port p m) party count out whole forced taken source a w stamps names i = go m (v.port p) a
   where
-    go : (m : PortMove) (o : Option PortFacts) → IsSomeAnd o (PortAllowed u call v.port p m) → (c q : ℕ) (l : TakenLacpdu)
-        → theirs_of x r s c ≡ Some q → taken_after stamp (act_of_port p m o) taken q ≡ Some l → IsOwn (x.setup r).system c l.pdu
+    go : (m : PortMove) (o : Option PortFacts) → IsSomeAnd o (PortAllowed u call v.port p m)
+        → Last x r party count (taken_after stamp (act_of_port p m o) taken) (source_after (x.far s) (act_of_port p m o) source)
     go m None a = i
-    go (Take pdu synchronized) (Some b) a = λ c q l e h. elim (cases_Bool (eqb q p)) [
-      | inl y ↦ (let same : q ≡ p = eqb-true q p y in
+    go (Take pdu synchronized) (Some b) a = λ q c l e h. elim (cases_Bool (eqb q p)) [
+      | inl y ↦ (let there : x.far s p ≡ Some (record { system = r; port = c }) =
+          sym (cond_true (eqb q p) (x.far s p) (source q) y) ∙ e in
           let this : record { pdu = pdu; stamp = stamp } ≡ l = same_Some (record { pdu = pdu; stamp = stamp }) l
           (sym (cond_true (eqb q p) _ (taken q) y) ∙ h) in
-          let first = w.came p (Lacp pdu) a.0 c (e ∙ ap (λ (n : ℕ). Some n) same) in
+          let back = f.cables s p r c there in
+          let first = w.came p (Lacp pdu) a.0 c (some-port_in s (x.far r c) p back) in
+          let fresh = subst (Every (Fresh (count c) (party c))) first.1
+          (stamps.flight c c (ap (option_map (λ (a : Place). c)) back)) in
           let own = subst (Every (NamesSender (x.setup r).system c)) first.1 (names c) in
-          subst (λ (l : TakenLacpdu). IsOwn (x.setup r).system c l.pdu) this own.0)
-      | inr y ↦ i c q l e (sym (cond_false (eqb q p) (Some (record { pdu = pdu; stamp = stamp })) (taken q) y) ∙ h)
+          subst (λ (l : TakenLacpdu). FreshPdu (count c) (party c) l.pdu l.stamp × IsOwn (x.setup r).system c l.pdu) this (fresh.0, own.0))
+      | inr y ↦ i q c l (sym (cond_false (eqb q p) (x.far s p) (source q) y) ∙ e)
+          (sym (cond_false (eqb q p) (Some (record { pdu = pdu; stamp = stamp })) (taken q) y) ∙ h)
     ]
     go m (Some b) a = i
-named_peer x r s u call stamp v (Flow m) out whole forced taken a w names i = go m
+last_peer x f r s u call stamp v (Flow m) party count out whole forced taken source a w stamps names i = go m
   where
-    go : (m : DistributorMove) → (c q : ℕ) (l : TakenLacpdu) → theirs_of x r s c ≡ Some q
-        → taken_after stamp (distributor_act u.system.mac m v.flows) taken q ≡ Some l → IsOwn (x.setup r).system c l.pdu
+    go : (m : DistributorMove) → Last x r party count (taken_after stamp (distributor_act u.system.mac m v.flows) taken)
+        (source_after (x.far s) (distributor_act u.system.mac m v.flows) source)
     go (Send g k p) = i
     go m = i
-named_peer x r s u call stamp v Restart out whole forced taken a w names i = i
+last_peer x f r s u call stamp v Restart party count out whole forced taken source a w stamps names i = i
+
+-- the end of an event, at which the counts rise if the parties differ
+last_counted : (x : NetworkSetup) (r : ℕ) (was is : ℕ → Option Party) (old new : ℕ → ℕ) (taken : ℕ → Option TakenLacpdu)
+    (source : ℕ → Option Place) → ((p : ℕ) → ((is p ≡ was p) × (new p ≡ old p)) ⊎ ((is p ≢ was p) × (new p ≡ suc (old p))))
+    → Last x r was old taken source → Last x r is new taken source
+last_counted x r was is old new taken source h i p c l e t =
+    let f = i p c l e t in
+    let one : Stamps (λ d. Some c) (λ d. Some p) was old (λ d. []) taken = record {
+      flight = λ d q g. tt;
+      last = λ d q n m g k b. subst (λ q. FreshPdu (old q) (was q) m.pdu m.stamp) (same_Some c q g)
+          (subst (λ (m : TakenLacpdu). FreshPdu (old c) (was c) m.pdu m.stamp) (same_Some l m (sym t ∙ ap taken (same_Some p n k) ∙ b)) f.0);
+    } in
+    ((stamps_counted (λ d. Some c) (λ d. Some p) was is old new (λ d. []) taken h one).last c c p l refl refl t, f.1)
 
 -- what holds of system r: out is what is on the cable of each of its ports, away from it, back what is on it towards it
 pub record Fine (x : NetworkSetup) (r : ℕ) (v : View) (party : ℕ → Option Party) (count : ℕ → ℕ) (out back : ℕ → List Message)
     (whole : ℕ → Bool) (sent collected : ℕ → ℕ → List ℕ) (forced : ℕ → ℕ → Bool) (mine : ℕ → Option TakenLacpdu)
-    (taken : ℕ → ℕ → Option TakenLacpdu) : Type 0 where
+    (taken : ℕ → ℕ → Option TakenLacpdu) (source : ℕ → ℕ → Option Place) : Type 0 where
   pub members : Members (x.setup r) v.port
   pub lanes : Lanes One (ends_of x r) v.flows out back whole sent collected forced
   pub heard : AllHeard v.port mine
-  pub stamps : (s : ℕ) → Stamps (ends_of x r) (theirs_of x r s) party count out (taken s)
+  pub stamps : Stamps (ends_of x r) (λ c. None) party count out (λ p. None)
   pub apart : Apart v.port
   pub names : (c : ℕ) → Every (NamesSender (x.setup r).system c) (out c)
-  pub named : (s c p : ℕ) (m : TakenLacpdu) → theirs_of x r s c ≡ Some p → taken s p ≡ Some m → IsOwn (x.setup r).system c m.pdu
+  pub last : (s : ℕ) → Last x r party count (taken s) (source s)
 
 -- of system r in a network; party: the parties, as the event began
 abbrev pub FineIn : NetworkSetup → (ℕ → ℕ → Option Party) → Network → ℕ → Type 0
 FineIn x party w r = Fine x r (w.view r) (party r) (w.count r) (out_of x w.towards r) (w.towards r) (w.whole r) (w.sent r) (w.collected r)
-    (w.forced r) (w.taken r) w.taken
+    (w.forced r) (w.taken r) w.taken w.source
 
 -- of all systems
 pub record AllFine (x : NetworkSetup) (w : Network) : Type 0 where
@@ -132,107 +154,113 @@ pub record AllFine (x : NetworkSetup) (w : Network) : Type 0 where
 
 pub fine_along : (x : NetworkSetup) (r : ℕ) (party : ℕ → Option Party) (count : ℕ → ℕ) (whole : ℕ → Bool) (collected : ℕ → ℕ → List ℕ)
     (forced : ℕ → ℕ → Bool) (v v' : View) (out out' back back' : ℕ → List Message) (sent sent' : ℕ → ℕ → List ℕ)
-    (mine mine' : ℕ → Option TakenLacpdu) (taken : ℕ → ℕ → Option TakenLacpdu)
+    (mine mine' : ℕ → Option TakenLacpdu) (taken : ℕ → ℕ → Option TakenLacpdu) (source : ℕ → ℕ → Option Place)
     → v ≡ v' → out ≡ out' → back ≡ back' → sent ≡ sent' → mine ≡ mine'
-    → Fine x r v party count out back whole sent collected forced mine taken
-    → Fine x r v' party count out' back' whole sent' collected forced mine' taken
-fine_along x r party count whole collected forced v v' out out' back back' sent sent' mine mine' taken a b c d e f =
-    subst (λ (v : View). Fine x r v party count out' back' whole sent' collected forced mine' taken) a
-    (subst (λ (out : ℕ → List Message). Fine x r v party count out back' whole sent' collected forced mine' taken) b
-    (subst (λ (back : ℕ → List Message). Fine x r v party count out back whole sent' collected forced mine' taken) c
-    (subst (λ (sent : ℕ → ℕ → List ℕ). Fine x r v party count out back whole sent collected forced mine' taken) d
-    (subst (λ (mine : ℕ → Option TakenLacpdu). Fine x r v party count out back whole sent collected forced mine taken) e f))))
+    → Fine x r v party count out back whole sent collected forced mine taken source
+    → Fine x r v' party count out' back' whole sent' collected forced mine' taken source
+fine_along x r party count whole collected forced v v' out out' back back' sent sent' mine mine' taken source a b c d e f =
+    subst (λ (v : View). Fine x r v party count out' back' whole sent' collected forced mine' taken source) a
+    (subst (λ (out : ℕ → List Message). Fine x r v party count out back' whole sent' collected forced mine' taken source) b
+    (subst (λ (back : ℕ → List Message). Fine x r v party count out back whole sent' collected forced mine' taken source) c
+    (subst (λ (sent : ℕ → ℕ → List ℕ). Fine x r v party count out back whole sent collected forced mine' taken source) d
+    (subst (λ (mine : ℕ → Option TakenLacpdu). Fine x r v party count out back whole sent collected forced mine taken source) e f))))
 
 module _ {x : NetworkSetup} {r : ℕ} {v : View} {party : ℕ → Option Party} {count : ℕ → ℕ} {out back : ℕ → List Message} {whole : ℕ → Bool}
     {sent collected : ℕ → ℕ → List ℕ} {forced : ℕ → ℕ → Bool} {mine : ℕ → Option TakenLacpdu} {taken : ℕ → ℕ → Option TakenLacpdu}
-    (i : Fine x r v party count out back whole sent collected forced mine taken) where
+    {source : ℕ → ℕ → Option Place} (i : Fine x r v party count out back whole sent collected forced mine taken source) where
   -- a move of this system: what it sends, and what it took
   own_part : (call : ModelCall) (stamp : ℕ) (kept : Bool) (m : Move) → MoveAllowed (x.setup r) call v m
       → Within call stamp (ends_of x r) back whole forced → (replies_frame call ≡ true → (p : ℕ) → party_at v p ≡ party p)
       → Fine x r (view_after (x.setup r) m v) party count
       (on_cable_after One (ends_of x r) whole count sent kept (act (x.setup r) m v) out) back whole
-      (sent_after (act (x.setup r) m v) sent) collected forced (taken_after stamp (act (x.setup r) m v) mine) taken
+      (sent_after (act (x.setup r) m v) sent) collected forced (taken_after stamp (act (x.setup r) m v) mine) taken source
   own_part call stamp kept m a w h = record {
     members = members_own (x.setup r) call v m a w.running i.members;
     lanes = lanes_own One (ends_of x r) whole collected forced back (x.setup r) call stamp count kept v m out sent a w i.lanes;
     heard = heard_own (x.setup r) call stamp v m mine a w.running i.heard;
-    stamps = λ s. stamps_own One (ends_of x r) (theirs_of x r s) party count out (taken s) whole sent kept (x.setup r) call v m a h
-        (i.stamps s);
+    stamps = stamps_own One (ends_of x r) (λ c. None) party count out (λ p. None) whole sent kept (x.setup r) call v m a h i.stamps;
     names = names_own x r call v m out whole count sent kept a i.members i.names;
     apart = apart_own (x.setup r) call v m a w.running i.apart;
-    named = i.named;
+    last = i.last;
   }
 
   -- a move of system s: what comes towards this system, and what the other took
-  far_part : (s : ℕ) (u : SystemSetup) (sv : View) (s_count : ℕ → ℕ) (s_sent : ℕ → ℕ → List ℕ) (s_forced : ℕ → ℕ → Bool)
+  far_part : IsNetworkSetup x → (s : ℕ) (u : SystemSetup) (sv : View) (s_count : ℕ → ℕ) (s_sent : ℕ → ℕ → List ℕ) (s_forced : ℕ → ℕ → Bool)
       (call : ModelCall) (stamp : ℕ) (kept : Bool) (m : Move)
       → MoveAllowed u call sv m → Within call stamp (theirs_of x r s) out whole s_forced
       → Fine x r v party count out (on_cable_after One (theirs_of x r s) whole s_count s_sent kept (act u m sv) back) whole sent collected
       forced mine (at_system taken s (taken_after stamp (act u m sv) (taken s)))
-  far_part s u sv s_count s_sent s_forced call stamp kept m a w = record {
+      (at_system source s (source_after (x.far s) (act u m sv) (source s)))
+  far_part f s u sv s_count s_sent s_forced call stamp kept m a w = record {
     members = i.members;
     heard = i.heard;
     lanes = lanes_peer One (ends_of x r) whole sent collected forced s_forced v.flows out back One (theirs_of x r s) u call stamp s_count
         s_sent kept sv m a w i.lanes;
-    stamps = at_cable_each (λ t k. Stamps (ends_of x r) (theirs_of x r t) party count out k) taken s
-        (taken_after stamp (act u m sv) (taken s))
-        (stamps_peer (ends_of x r) (theirs_of x r s) party count out (taken s) whole s_forced u call stamp sv m a w (i.stamps s))
-        (λ t ne. i.stamps t);
+    stamps = i.stamps;
     names = i.names;
     apart = i.apart;
-    named = λ t. at_cable_each (λ t k. (c p : ℕ) (l : TakenLacpdu) → theirs_of x r t c ≡ Some p → k p ≡ Some l
-        → IsOwn (x.setup r).system c l.pdu) taken s (taken_after stamp (act u m sv) (taken s))
-        (named_peer x r s u call stamp sv m out whole s_forced (taken s) a w i.names (i.named s)) (λ t ne. i.named t) t;
+    last = λ t. elim (cases_Bool (eqb t s)) [
+      | inl e ↦ along (sym (cond_true (eqb t s) (taken_after stamp (act u m sv) (taken s)) (taken t) e))
+          (sym (cond_true (eqb t s) (source_after (x.far s) (act u m sv) (source s)) (source t) e))
+          (last_peer x f r s u call stamp sv m party count out whole s_forced (taken s) (source s) a w i.stamps i.names (i.last s))
+      | inr e ↦ along (sym (cond_false (eqb t s) (taken_after stamp (act u m sv) (taken s)) (taken t) e))
+          (sym (cond_false (eqb t s) (source_after (x.far s) (act u m sv) (source s)) (source t) e)) (i.last t)
+    ];
   }
+    where
+      along : {taken taken' : ℕ → Option TakenLacpdu} {source source' : ℕ → Option Place} → taken ≡ taken' → source ≡ source'
+          → Last x r party count taken source → Last x r party count taken' source'
+      along {taken} {taken'} {source} {source'} b c h = subst (λ (k : ℕ → Option TakenLacpdu). Last x r party count k source') b
+          (subst (λ (k : ℕ → Option Place). Last x r party count taken k) c h)
 
   -- less is on the cables
   pub less_part : (out' back' : ℕ → List Message) (whole' : ℕ → Bool) → ((c : ℕ) → IsLess (out' c) (out c))
       → ((c : ℕ) → IsLess (back' c) (back c)) → ((c : ℕ) → whole' c ≡ false → out' c ≡ [])
-      → Fine x r v party count out' back' whole' sent collected forced mine taken
+      → Fine x r v party count out' back' whole' sent collected forced mine taken source
   less_part out' back' whole' lo lb cut = record {
     members = i.members;
     heard = i.heard;
     lanes = lanes_less i.lanes out' back' whole' lo lb cut;
-    stamps = λ s. stamps_less (i.stamps s) out' lo;
+    stamps = stamps_less i.stamps out' lo;
     names = λ c. every_less (NamesSender (x.setup r).system c) (out' c) (out c) (lo c) (i.names c);
-    named = i.named;
+    last = i.last;
     apart = i.apart;
   }
 
   -- the change counts at the end of an event
   pub counted_part : (new : ℕ → ℕ)
       → ((p : ℕ) → ((party_at v p ≡ party p) × (new p ≡ count p)) ⊎ ((party_at v p ≢ party p) × (new p ≡ suc (count p))))
-      → Fine x r v (party_at v) new out back whole sent collected forced mine taken
+      → Fine x r v (party_at v) new out back whole sent collected forced mine taken source
   counted_part new h = record {
     members = i.members;
     heard = i.heard;
     lanes = i.lanes;
-    stamps = λ s. stamps_counted (ends_of x r) (theirs_of x r s) party (party_at v) count new out (taken s) h (i.stamps s);
+    stamps = stamps_counted (ends_of x r) (λ c. None) party (party_at v) count new out (λ p. None) h i.stamps;
     names = i.names;
     apart = i.apart;
-    named = i.named;
+    last = λ s. last_counted x r party (party_at v) count new (taken s) (source s) h (i.last s);
   }
 
   pub freed_part : (test : ℕ → ℕ → Bool)
-      → Fine x r (freed_view test v) party count out back whole sent collected (also_forced test forced) mine taken
+      → Fine x r (freed_view test v) party count out back whole sent collected (also_forced test forced) mine taken source
   freed_part test = record {
     members = i.members;
     heard = i.heard;
     stamps = i.stamps;
     names = i.names;
     apart = i.apart;
-    named = i.named;
+    last = i.last;
     lanes = lanes_freed i.lanes test;
   }
 
-  pub forced_part : (g k : ℕ) → Fine x r v party count out back whole sent collected (at_two forced g k true) mine taken
+  pub forced_part : (g k : ℕ) → Fine x r v party count out back whole sent collected (at_two forced g k true) mine taken source
   forced_part g k = record {
     members = i.members;
     heard = i.heard;
     stamps = i.stamps;
     names = i.names;
     apart = i.apart;
-    named = i.named;
+    last = i.last;
     lanes = lanes_forced i.lanes g k;
   }
 
@@ -269,25 +297,25 @@ module _ (x : NetworkSetup) (f : IsNetworkSetup x) (s : ℕ) (call : ModelCall) 
       let o = act (x.setup s) m.0 (w.view s) in
       let own = own_part (i.each s) call stamp m.1 m.0 a (within_own x call stamp s w.towards w.whole (w.forced s) i.amid) i.parties in
       let sent_out = fine_along x s (party s) (w.count s) (w.whole s) (w.collected s) (w.forced s)
-      _ _ _ _ _ _ _ _ _ _ w.taken refl (sym (own_after x f w.whole i.alike m.1 s (w.count s) (w.sent s) w.towards o)) refl refl refl own in
+      _ _ _ _ _ _ _ _ _ _ w.taken w.source refl (sym (own_after x f w.whole i.alike m.1 s (w.count s) (w.sent s) w.towards o)) refl refl refl own in
       fine_along x s (party s) (w.count s) (w.whole s) (w.collected s) (w.forced s)
-      _ _ _ _ _ _ _ _ _ _ (at_system w.taken s (taken_after stamp o (w.taken s)))
+      _ _ _ _ _ _ _ _ _ _ (at_system w.taken s (taken_after stamp o (w.taken s))) (at_system w.source s (source_after (x.far s) o (w.source s)))
       (sym (there w.view s (view_after (x.setup s) m.0 (w.view s)))) refl
       (sym (back_after x f w.whole i.alike m.1 s (w.count s) (w.sent s) w.towards o s))
       (sym (there w.sent s (sent_after o (w.sent s)))) (sym (there w.taken s (taken_after stamp o (w.taken s))))
-      (far_part sent_out s (x.setup s) (w.view s) (w.count s) (w.sent s) (w.forced s) call stamp m.1 m.0 a
+      (far_part sent_out f s (x.setup s) (w.view s) (w.count s) (w.sent s) (w.forced s) call stamp m.1 m.0 a
       (within_far x f call stamp s ((network_after x s stamp m w).towards) w.whole (w.forced s) i.alike amid_after s))
 
   at_other : (r : ℕ) → (r ≡ s → ⊥) → FineIn x party (network_after x s stamp m w) r
   at_other r ne =
       let o = act (x.setup s) m.0 (w.view s) in
       fine_along x r (party r) (w.count r) (w.whole r) (w.collected r) (w.forced r)
-      _ _ _ _ _ _ _ _ _ _ (at_system w.taken s (taken_after stamp o (w.taken s)))
+      _ _ _ _ _ _ _ _ _ _ (at_system w.taken s (taken_after stamp o (w.taken s))) (at_system w.source s (source_after (x.far s) o (w.source s)))
       (sym (elsewhere w.view s (view_after (x.setup s) m.0 (w.view s)) r ne))
       (sym (other_after x f w.whole i.alike m.1 s (w.count s) (w.sent s) w.towards o r ne))
       (sym (back_after x f w.whole i.alike m.1 s (w.count s) (w.sent s) w.towards o r))
       (sym (elsewhere w.sent s (sent_after o (w.sent s)) r ne)) (sym (elsewhere w.taken s (taken_after stamp o (w.taken s)) r ne))
-      (far_part (i.each r) s (x.setup s) (w.view s) (w.count s) (w.sent s) (w.forced s) call stamp m.1 m.0 a
+      (far_part (i.each r) f s (x.setup s) (w.view s) (w.count s) (w.sent s) (w.forced s) call stamp m.1 m.0 a
       (within_far x f call stamp s w.towards w.whole (w.forced s) i.alike i.amid r))
 
   calling_moved : Calling x s call stamp party (network_after x s stamp m w)

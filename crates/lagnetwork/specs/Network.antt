@@ -1,5 +1,5 @@
 -- Any number of systems, cabled in any way, and what can happen to them (profile; links are point-to-point). Systems have
--- numbers; a network of n systems is one in which the others have no cable and no event.
+-- numbers; a network of n systems is one in which the others have no cable and no event. Cables may be moved.
 use Rattle.std.specs.Prelude.{◌≡◌, ◌≢◌, ℕ, suc, Bool, true, false, ◌&&◌, cond, eqb, ◌⊎◌, Option, Some, None, IsSome, List, [], ◌∷◌, ◌++◌, length, drop}
 use Rattle.lagmodel.specs.View.{PartyChange, PortFacts, View, SystemSetup, IsSystemSetup, first_view, ControlMessage, ModelCall}
 use Rattle.lagmodel.specs.View.{Free}
@@ -13,7 +13,7 @@ pub record Place : Type 0 where
   pub system : ℕ
   pub port : ℕ
 
--- what never changes: each system's configuration, and which port is at the other end of the cable of a port, if it has one
+-- each system's configuration, which never changes; and which port is at the other end of the cable of a port, if it has one
 pub record NetworkSetup : Type 0 where
   pub setup : ℕ → SystemSetup
   pub far : ℕ → ℕ → Option Place
@@ -24,6 +24,12 @@ pub record IsNetworkSetup (x : NetworkSetup) : Type 0 where
   pub setup : (s : ℕ) → IsSystemSetup (x.setup s)
   pub cables : (s p t q : ℕ) → x.far s p ≡ Some (record { system = t; port = q }) → x.far t q ≡ Some (record { system = s; port = p })
 
+-- Whether the cable of a port was ever moved, and how the port was when it last was: down, that is, out of sync or on defaults; or up.
+pub data Moved : Type 0 where
+  Unmoved : Moved
+  Moved_down : Moved
+  Moved_up : Moved
+
 -- the systems and their cables, with what has happened so far
 pub record Network : Type 0 where
   pub view : ℕ → View
@@ -31,6 +37,8 @@ pub record Network : Type 0 where
   pub towards : ℕ → ℕ → List Message  -- what is on its way to a port, the next to come first
   pub count : ℕ → ℕ → ℕ  -- the change count of a port
   pub taken : ℕ → ℕ → Option TakenLacpdu  -- the LACPDU that a port took last
+  pub source : ℕ → ℕ → Option Place  -- the port that this came from, at the other end of the cable then; None: it came from outside
+  pub moved : ℕ → ℕ → Moved
   pub sent : ℕ → ℕ → ℕ → List ℕ  -- the serials that a conversation of a system sent
   pub collected : ℕ → ℕ → ℕ → List ℕ  -- those of them that were handed up, at whatever systems, in the order of time
   pub arrived : ℕ → ℕ → ℕ → ℕ → ℕ → List ℕ  -- those that were handed up at one system (the first) in one aggregator (the second)
@@ -44,6 +52,8 @@ first_network x = record {
   towards = λ s p. [];
   count = λ s p. 0;
   taken = λ s p. None;
+  source = λ s p. None;
+  moved = λ s p. Unmoved;
   sent = λ s g k. [];
   collected = λ s g k. [];
   arrived = λ t h s g k. [];
@@ -93,6 +103,13 @@ towards_after x s whole count sent accepted (Some (Sends_frame p g k)) towards =
     put_on_line x whole accepted s p (Data One g k (length (sent g k))) towards
 towards_after x s whole count sent accepted (Some (Took p pdu)) towards = towards
 
+-- the port that the LACPDU came from which each port took last: if one takes one in this act, the port at the other end of its cable
+abbrev pub source_after : (ℕ → Option Place) → Option Act → (ℕ → Option Place) → ℕ → Option Place
+source_after far None source = source
+source_after far (Some (Sends p pdu)) source = source
+source_after far (Some (Sends_frame p g k)) source = source
+source_after far (Some (Took p pdu)) source = λ q. cond (eqb q p) (far p) (source q)
+
 -- The network after a visible act of system s, but for its view. `accepted`: whether the cable accepts what it sends. `stamp`: the stamp
 -- of what came in this call.
 abbrev pub network_after_act : NetworkSetup → ℕ → ℕ → Bool → Option Act → Network → Network
@@ -100,6 +117,7 @@ network_after_act x s stamp accepted seen w = record w {
   towards = towards_after x s w.whole (w.count s) (w.sent s) accepted seen w.towards;
   sent = at_system w.sent s (sent_after seen (w.sent s));
   taken = at_system w.taken s (taken_after stamp seen (w.taken s));
+  source = at_system w.source s (source_after (x.far s) seen (w.source s));
 }
 
 -- the network after one move of system s
@@ -136,7 +154,8 @@ NetworkCall x s call stamp old mid new =
 -- An event: those of two systems, with a port in the place of a cable and its end; Cut and Join name either end. Frees: each
 -- conversation of the system that passes the test is forced. Overtake: an LACPDU on its way to the port goes by what is before it.
 -- Succeed: another system takes the place of the system, as after a warm start. Hear: a port without a cable of this network hears
--- anything at all (None: what is no control PDU), as from a system that keeps no law.
+-- anything at all (None: what is no control PDU), as from a system that keeps no law. Pull: the cable of the port is taken out, at both
+-- ends. Plug: two ports that have none get a cable. Both may happen at any time, whether the ports see it or not.
 pub data NetworkEvent : Type 0 where
   Tick : (s : ℕ) (ticks : ℕ) → NetworkEvent
   Emit : (s port : ℕ) → NetworkEvent
@@ -155,6 +174,39 @@ pub data NetworkEvent : Type 0 where
   Overtake : (s port : ℕ) (line : List Message) → NetworkEvent
   Succeed : (s : ℕ) (after : View) → NetworkEvent
   Hear : (s port : ℕ) (pdu : Option ControlMessage) (stamp : ℕ) → NetworkEvent
+  Pull : (s port : ℕ) → NetworkEvent
+  Plug : (s port t other : ℕ) → NetworkEvent
+
+-- the cables after an event: Pull and Plug change them
+abbrev pub recabled : NetworkSetup → NetworkEvent → NetworkSetup
+recabled x (Pull s p) = record x { far = λ t q. cond (is_end x s p t q) None (x.far t q) }
+recabled x (Plug s p t q) = record x {
+  far = at_place (at_place x.far s p (Some (record { system = t; port = q }))) t q (Some (record { system = s; port = p }));
+}
+recabled x e = x
+
+abbrev pub recabled_all : NetworkSetup → List NetworkEvent → NetworkSetup
+recabled_all x [] = x
+recabled_all x (e ∷ es) = recabled_all (recabled x e) es
+
+-- how a port is when its cable is moved
+abbrev pub moved_of : Option PortFacts → Moved
+moved_of None = Moved_down
+moved_of (Some a) = cond a.defaulted Moved_down (cond a.synchronized Moved_up Moved_down)
+
+-- and how one is that takes the place of a port, of which this is known
+abbrev pub moved_again : Moved → Option PortFacts → Moved
+moved_again Unmoved o = Unmoved
+moved_again Moved_down o = moved_of o
+moved_again Moved_up o = moved_of o
+
+-- the cable of port p of system s is moved: nothing is on it, and it is whole or not
+abbrev pub with_cable_moved : NetworkSetup → Bool → ℕ → ℕ → Network → Network
+with_cable_moved x whole s p w = record w {
+  whole = λ t q. cond (is_end x s p t q) whole (w.whole t q);
+  towards = λ t q. cond (is_end x s p t q) [] (w.towards t q);
+  moved = λ t q. cond (is_end x s p t q) (moved_of ((w.view t).port q)) (w.moved t q);
+}
 
 -- the first message on its way to port p of system s is taken away
 abbrev pub without_first : ℕ → ℕ → Network → Network
@@ -238,13 +290,19 @@ NetworkHappens x (Frees s test) old new = new ≡ record old {
 }
 NetworkHappens x (Overtake s p line) old new =
     Overtakes (old.towards s p) line × (new ≡ record old { towards = at_place old.towards s p line })
-NetworkHappens x (Succeed s after) old new = IsNetworkSuccessor x old s after × (new ≡ record old { view = at_system old.view s after })
+NetworkHappens x (Succeed s after) old new = IsNetworkSuccessor x old s after × (new ≡ record old {
+  view = at_system old.view s after;
+  moved = at_system old.moved s (λ p. moved_again (old.moved s p) (after.port p));
+})
 NetworkHappens x (Hear s p pdu stamp) old new = (x.far s p ≡ None) × NetworkCall x s (ModelCall.Receive p pdu) stamp old old new
+NetworkHappens x (Pull s p) old new = new ≡ with_cable_moved x false s p old
+NetworkHappens x (Plug s p t q) old new =
+    (x.far s p ≡ None) × (x.far t q ≡ None) × (new ≡ with_cable_moved (recabled x (Plug s p t q)) true s p old)
 
--- a run: events one after another
+-- a run: events one after another, from these cables
 abbrev pub NetworkRun : NetworkSetup → List NetworkEvent → Network → Network → Type 0
 NetworkRun x [] old new = new ≡ old
-NetworkRun x (e ∷ es) old new = (mid : Network) × NetworkHappens x e old mid × NetworkRun x es mid new
+NetworkRun x (e ∷ es) old new = (mid : Network) × NetworkHappens x e old mid × NetworkRun (recabled x e) es mid new
 
 -- The network after these visible acts of a call of system s that ended in the view v. `accepts`: whether the cable accepts what an act
 -- sends.

@@ -9,38 +9,50 @@ use Rattle.lagmodel.specs.Law.{IsSubsequence, OnePartner, serials}
 use Rattle.lagnetwork.specs.Network.{Network, NetworkSetup, IsNetworkSetup, NetworkEvent, NetworkRun, first_network}
 use Rattle.lagmodel.specs.AnyPeer.{Scene, TookInSync}
 use Rattle.lagnetwork.specs.Network.{Place, IsNetworkSuccessor, NetworkCall, CountsNetworkChanges, network_after_acts}
+use Rattle.lagnetwork.specs.Network.{Moved, Unmoved, Moved_down, Moved_up, Pull, Plug, recabled_all}
 
 -- Ports of each system that distribute in one aggregator have one partner system and key.
 abbrev pub EachOnePartner : Network → Type 0
 EachOnePartner w = (s : ℕ) → OnePartner (w.view s)
 
--- Port p of system s, with the view a, distributes and does not have a defaulted partner, and port q of system t did not
--- change since it sent the LACPDU that port p took last.
+-- Port p of system s, with the view a, distributes and does not have a defaulted partner; the LACPDU that it took last came from port q of
+-- system t, which did not change since it sent that.
 pub record IsUpToDate (w : Network) (s p t q : ℕ) (a : PortFacts) : Type 0 where
   pub is : (w.view s).port p ≡ Some a
   pub distributes : a.distributes ≡ true
   pub defaulted : a.defaulted ≡ false
   pub taken : (m : TakenLacpdu) × (w.taken s p ≡ Some m) × (m.stamp ≡ w.count t q)
+  pub source : w.source s p ≡ Some (record { system = t; port = q })
 
--- The two ends of each cable have the same group, if both distribute, neither changed since it sent the LACPDU that its
--- peer took last, and neither has a defaulted partner.
-abbrev pub CablesAgree : NetworkSetup → Network → Type 0
-CablesAgree x w =
-    (s p t q : ℕ) (a b : PortFacts) → x.far s p ≡ Some (record { system = t; port = q })
-    → IsUpToDate w s p t q a → IsUpToDate w t q s p b → SamePair (pair_at a) (pair_at b)
+-- Two ports that took their last LACPDUs from each other, as the two ends of a cable do (`TookFromFarEnd`), have the same group, if both
+-- distribute, neither changed since it sent the LACPDU that its peer took last, and neither has a defaulted partner.
+abbrev pub CablesAgree : Network → Type 0
+CablesAgree w =
+    (s p t q : ℕ) (a b : PortFacts) → IsUpToDate w s p t q a → IsUpToDate w t q s p b → SamePair (pair_at a) (pair_at b)
 
--- What a port that is not on defaults names as its partner is the system and the port at the other end of its cable.
+-- the cable that the port a has is the one that it goes by: it was never moved; or the port was down when it last was, and distributes
+abbrev pub GoesByItsCable : Moved → PortFacts → Type 0
+GoesByItsCable Unmoved a = Unit {0}
+GoesByItsCable Moved_down a = a.distributes ≡ true
+GoesByItsCable Moved_up a = ⊥
+
+-- The LACPDU that such a port took last, if it is not on defaults, came from the port at the other end of its cable.
+abbrev pub TookFromFarEnd : NetworkSetup → Network → Type 0
+TookFromFarEnd x w = (s p : ℕ) (a : PortFacts) → (w.view s).port p ≡ Some a → a.defaulted ≡ false → GoesByItsCable (w.moved s p) a
+    → w.source s p ≡ x.far s p
+
+-- What a port that is not on defaults names as its partner is the system and the port that the LACPDU came from which it took last.
 abbrev pub NamesFarEnd : NetworkSetup → Network → Type 0
 NamesFarEnd x w =
-    (s p t q : ℕ) (a : PortFacts) → x.far s p ≡ Some (record { system = t; port = q }) → (w.view s).port p ≡ Some a → a.defaulted ≡ false
+    (s p t q : ℕ) (a : PortFacts) → w.source s p ≡ Some (record { system = t; port = q }) → (w.view s).port p ≡ Some a → a.defaulted ≡ false
     → (a.partner.system ≡ (x.setup t).system) × (a.partner.port.number ≡ q)
 
--- Ports of a system that distribute in one aggregator, none of them on defaults, have cables to one system, if no other
+-- Ports of a system that distribute in one aggregator, none of them on defaults, took their last LACPDUs from one system, if no other
 -- claims its identifier.
 abbrev pub OneDevice : NetworkSetup → Network → Type 0
 OneDevice x w =
     (s g p q t r i j : ℕ) (a b : PortFacts) → ((x.setup t).system ≡ (x.setup r).system → t ≡ r)
-    → x.far s p ≡ Some (record { system = t; port = i }) → x.far s q ≡ Some (record { system = r; port = j })
+    → w.source s p ≡ Some (record { system = t; port = i }) → w.source s q ≡ Some (record { system = r; port = j })
     → (w.view s).port p ≡ Some a → (w.view s).port q ≡ Some b → a.aggregator ≡ Some g → b.aggregator ≡ Some g
     → a.distributes ≡ true → b.distributes ≡ true → a.defaulted ≡ false → b.defaulted ≡ false → t ≡ r
 
@@ -55,11 +67,11 @@ abbrev pub EachCollectorInOrder : Network → Type 0
 EachCollectorInOrder w =
     (t h s g k : ℕ) → w.forced s g k ≡ false → IsSubsequence (w.arrived t h s g k) (w.sent s g k)
 
--- A port that is in an aggregator, not on defaults, has a cable to a system of another identifier: not to its own, and not to
--- one that claims its own.
+-- A port that is in an aggregator, not on defaults, took its last LACPDU from a system of another identifier: not from its own, and not
+-- from one that claims its own.
 abbrev pub NotWithItself : NetworkSetup → Network → Type 0
 NotWithItself x w =
-    (s p t q : ℕ) (a : PortFacts) → x.far s p ≡ Some (record { system = t; port = q }) → (w.view s).port p ≡ Some a
+    (s p t q : ℕ) (a : PortFacts) → w.source s p ≡ Some (record { system = t; port = q }) → (w.view s).port p ≡ Some a
     → IsSome a.aggregator → a.defaulted ≡ false → (x.setup t).system ≢ (x.setup s).system
 
 -- All frames in flight of a conversation that was never forced are on the cable of its port.
@@ -125,10 +137,25 @@ MaySucceedItself x w =
     → ((g k p : ℕ) → conversation_port ((w.view s).flows.state g k) ≡ Some p → (w.view s).flows.state g k ≡ On p)
     → IsNetworkSuccessor x w s (w.view s)
 
--- The statement holds after each event of each schedule, from the start of any systems on any cables.
+-- The statement holds after each event of each schedule, from the start of any systems on any cables; it is of the cables as they are then.
 abbrev pub IsNetworkInvariant : (NetworkSetup → Network → Type 0) → Type 0
 IsNetworkInvariant P = (x : NetworkSetup) (events : List NetworkEvent) (w : Network) → IsNetworkSetup x
-    → NetworkRun x events (first_network x) w → P x w
+    → NetworkRun x events (first_network x) w → P (recabled_all x events) w
+
+-- no cable is moved
+abbrev pub CablesStay : List NetworkEvent → Type 0
+CablesStay [] = Unit {0}
+CablesStay (Pull s p ∷ es) = ⊥
+CablesStay (Plug s p t q ∷ es) = ⊥
+CablesStay (e ∷ es) = CablesStay es
+
+-- Where no cable is moved, every port that is not on defaults took its last LACPDU from the port at the other end of its cable: so what is
+-- said above of ports that took theirs from one another is said of the ends of each cable.
+abbrev pub TookFromFixedEnd : Type 0
+TookFromFixedEnd = (x : NetworkSetup) (events : List NetworkEvent) (w : Network) → IsNetworkSetup x → CablesStay events
+    → NetworkRun x events (first_network x) w
+    → (recabled_all x events ≡ x)
+    × ((s p : ℕ) (a : PortFacts) → (w.view s).port p ≡ Some a → a.defaulted ≡ false → w.source s p ≡ x.far s p)
 
 -- What the contract of each call of a system promises, lawful moves with these visible acts, is a call of the network, whatever cables
 -- accept; and it leaves what the acts leave, frames on the cables with them.
@@ -161,3 +188,21 @@ OneAggregatorReachesTwo =
     × (w.collected 1 1 48 ≡ 0 ∷ 1 ∷ [])
     × (w.arrived 2 1 1 1 48 ≡ 0 ∷ [])
     × (w.arrived 3 1 1 1 48 ≡ 1 ∷ [])
+
+-- There is a run in which port 1 of system 1 and port 1 of system 2 are up with each other, the cable between them is taken out, both see
+-- that, and it is put in between port 1 of system 1 and port 1 of system 3: and these two come up with each other.
+abbrev pub EndsMeetAfterMove : Type 0
+EndsMeetAfterMove =
+    (x : NetworkSetup) × (before after : List NetworkEvent) × (v w : Network) × (a b c d : PortFacts)
+    × IsNetworkSetup x
+    × NetworkRun x before (first_network x) v
+    × (x.far 1 1 ≡ Some (record { system = 2; port = 1 }))
+    × (recabled_all x before ≡ x)
+    × IsUpToDate v 1 1 2 1 a
+    × IsUpToDate v 2 1 1 1 b
+    × NetworkRun x after v w
+    × ((recabled_all x after).far 1 1 ≡ Some (record { system = 3; port = 1 }))
+    × (w.moved 1 1 ≡ Moved_down)
+    × (w.moved 3 1 ≡ Moved_down)
+    × IsUpToDate w 1 1 3 1 c
+    × IsUpToDate w 3 1 1 1 d
