@@ -14,8 +14,9 @@ use Rattle.lagprogress.proofs.Climbing.{PartnerInSync, Rising, distributes_now, 
 use Rattle.lagprogress.proofs.Climbing.{ticks_rising}
 use Rattle.lagprogress.proofs.EndFacts.{Learnt, Synced, activity, wait_of}
 use Rattle.lagprogress.proofs.EachRound.{hosts_on, played_on}
-use Rattle.lagprogress.proofs.HostKnowing.{FreshAt, able_fresh, awake_peer, fits_before, fits_fresh, knows_peer, stays_fresh, AtIt, beside, mode}
-use Rattle.lagprogress.proofs.HostRound.{holds_on, host_holds, host_nears, of_side}
+use Rattle.lagprogress.proofs.HostKnowing.{FreshAt, able_fresh, awake_peer, fits_before, fits_fresh, knows_peer, stays_fresh, AtIt, beside, mode, wakes_now}
+use Rattle.lagprogress.proofs.HostRound.{holds_on, host_holds, of_side}
+use Rattle.lagprogress.proofs.HostTelling.{Extra, host_nears_told}
 use Rattle.lagprogress.proofs.Linked.{EndPort, Fits, Link, at_end, each_map, end_here, end_with, peer_twice}
 use Rattle.lagprogress.proofs.OneRound.{Nothing, join, ticked}
 use Rattle.lagprogress.proofs.Starting.{emptied}
@@ -196,6 +197,21 @@ module _ (at : Side → ℕ) (w : Side → Lacpdu) (named : (t : Side) → IsNam
         ];
       }
 
+  abbrev Anyhow : WorldState → Type 0
+  Anyhow j = Unit {0}
+
+  some : 1 ≤ 2
+  some = omega arith
+
+  anyhow : (gives : Algorithms) (s : Side) → Extra gives 2 at w s some (inr (named (peer s))) Anyhow Anyhow
+  anyhow gives s = record {
+    first = λ e r i j b h a. a;
+    second = λ e r i j b h a. a;
+    ticks_first = λ t n r i j told h a. a;
+    ticks_second = λ t n r i j told h a. a;
+    hears = λ c i j l x v carries a b. a;
+  }
+
   agrees_on : (gives : Algorithms) (n : ℕ) (old new : WorldState) → IsHostRound gives old new → Agrees n old → Agrees (n + 1) new
   agrees_on gives n old new h c =
       let g = c.fresh in
@@ -205,14 +221,15 @@ module _ (at : Side → ℕ) (w : Side → Lacpdu) (named : (t : Side) → IsNam
       }
     where
       tells : (g : FreshAt at w 2 old) → Fits 2 w g.known → Fits 2 w (ticked g.known) → (s : Side) → Tells s n old → Tells s (n + 1) new
-      tells g fits then s (inl (m, some, soon, y)) = let can = able_fresh at w named awake 2 old g s in
-          elim (host_nears gives s 2 at w g.known (omega arith) fits then (mode at w s) m old new can.1 can.0
-          (join 2 at w g.known One s (Sounds (mode at w s) m) old g.link y) h) [
+      tells g fits then s (inl (m, more, soon, y)) = let can = able_fresh at w named awake 2 old g s in
+          elim (host_nears_told gives 2 at w s some (inr (named (peer s))) Anyhow Anyhow (anyhow gives s) g.known fits then (mode at w s) m
+          old new can.1 can.0 (join 2 at w g.known One s (Sounds (mode at w s) m) old g.link y)
+          (wakes_now at w 2 g.known One Nothing s (mode at w s) old can.0 g.link) h tt) [
             | inl q ↦ (let l = q.0 in
                 inl (m - 1, l, omega (arith, soon, l), beside at w 2 (ticked g.known) s (Sounds (mode at w s) (m - 1)) new q.1))
             | inr q ↦ inr (each_map (AtPort (at (peer s)) (Learnt 2 (w (peer (peer s))) (wait_of (w (peer s)) - 1)))
                 (AtPort (at (peer s)) PartnerInSync) (λ i p a e. (a e).1 (omega arith)) (half (peer s) new).state.system_ports
-                (beside at w 2 (ticked g.known) (peer s) (Learnt 2 (w (peer (peer s))) (wait_of (w (peer s)) - 1)) new q))
+                (beside at w 2 (ticked g.known) (peer s) (Learnt 2 (w (peer (peer s))) (wait_of (w (peer s)) - 1)) new q.0))
           ]
       tells g fits then s (inr y) =
           let t = peer s in

@@ -1,4 +1,13 @@
 -- A port of a healthy cable is drained of a conversation that is held on it.
+use Rattle.laghosts.specs.HostEvents.{HostEvent, Plays, Sets, Offers, Leaves, Probes, ForcesPort}
+use Rattle.lagprogress.specs.HostRounds.{StepReplies, RunReplies, IsQuiet}
+use Rattle.lagsystem.specs.Settings.{Set_max_delay}
+use Rattle.lagprogress.proofs.Quieting.{IsCalm, calm_quiet, calm_steady, calm_keeps}
+use Rattle.lagprogress.proofs.HostSteady.{aside, caller, delay_keeps, offers_half, leaves_half, rests_half, gives_next}
+use Rattle.lagsystem.specs.Assigning.{OffersIf}
+use Rattle.lagsystem.specs.HostCalls.{HostPromise}
+use Rattle.lagsystem.specs.declared.drive.HostCall.TheVariants as host
+use Rattle.lagsystem.specs.declared.drive.HostReply.TheVariants as told
 use Rattle.lagprogress.proofs.Common.{Bool, Err, IsSome, List, None, Ok, Option, Result, Some, [], ap, arith, cond, eqb, false, inl, inr, length, ltb}
 use Rattle.lagprogress.proofs.Common.{refl, subst, suc, sym, true, zero, ℕ, ◌&&◌, ◌+◌, ◌<◌, ◌^◌, ◌∙◌, ◌∷◌, ◌≡◌, ◌≤◌, ◌⊎◌, nat_tests, none-some, Vec}
 use Rattle.lagprogress.proofs.Common.{AggId, Choice, is_selected, Lacpdu, One, Side, peer, Machines, is_due, Assignment, after_tick, marker_due}
@@ -53,6 +62,9 @@ Rising s old new = (half s old).state.table.next ≤ (half s new).state.table.ne
 same_next : (s : Side) (old new : WorldState) → (half s new).state ≡ (half s old).state → Rising s old new
 same_next s old new e = subst (λ (t : SystemState). (half s old).state.table.next ≤ t.table.next) (sym e) (omega arith)
 
+same_table : (s : Side) (old new : WorldState) → (half s new).state.table ≡ (half s old).state.table → Rising s old new
+same_table s old new e = subst (λ (t : Table). (half s old).state.table.next ≤ t.next) (sym e) (omega arith)
+
 pub emit_next : (s : Side) (gives : Algorithms) (n p : ℕ) (r : Reply) (old new : WorldState) → WorldSteps gives old (event.Emit n p) r new
     → Rising s old new
 emit_next s gives n p r old new h =
@@ -100,11 +112,6 @@ tick_next s t gives n r old new named h =
     same_number : (a b : ℕ) → b ≡ a → a ≤ b
     same_number a b e = omega (arith, e)
 
-gives_next : (agg : AggId) (conv : ℕ) (what : Result Assignment SystemFault) (old : SystemState) (a : Result Unit SystemFault)
-    (new : SystemState) → GivesOrRefuses agg conv what old a new → old.table.next ≤ new.table.next
-gives_next agg conv (Ok state) old a new k = let same = k.1.0.next in omega (arith, same)
-gives_next agg conv (Err fault) old a new k = subst (λ (t : SystemState). old.table.next ≤ t.table.next) (sym k.1) (omega arith)
-
 move_next : (s : Side) (gives : Algorithms) (n : ℕ) (agg : AggId) (conv p : ℕ) (r : Reply) (old new : WorldState)
     → WorldSteps gives old (event.Move n agg conv p) r new → Rising s old new
 move_next s gives n agg conv p r old new h = elim (moved_half gives n agg conv p r old new h s) [
@@ -120,30 +127,35 @@ force_next s gives n agg conv r old new h = elim (forced_half gives n agg conv r
 ]
 
 -- the events of a round
-between_next : (s : Side) (gives : Algorithms) (e : Event) (r : Reply) (old new : WorldState) → IsBetweenTicks e → WorldSteps gives old e r new
+between_next : (s : Side) (gives : Algorithms) (e : HostEvent) (r : Reply) (old new : WorldState) → IsBetweenTicks e → StepReplies gives old e r new
     → Rising s old new
-between_next s gives (event.Emit n p) r old new b h = emit_next s gives n p r old new h
-between_next s gives (event.Deliver c n) r old new b h = deliver_next s gives c n r old new h
-between_next s gives (event.Offer n agg octets) r old new b h = offer_next s gives n agg octets r old new h
-between_next s gives (event.Move n agg conv p) r old new b h = move_next s gives n agg conv p r old new h
-between_next s gives (event.Force n agg conv) r old new b h = force_next s gives n agg conv r old new h
-between_next s gives e r old new b h = absurd b
+between_next s gives (Plays (event.Emit n p)) r old new b h = emit_next s gives n p r old new h
+between_next s gives (Plays (event.Deliver c n)) r old new b h = deliver_next s gives c n r old new h
+between_next s gives (Plays (event.Offer n agg octets)) r old new b h = offer_next s gives n agg octets r old new h
+between_next s gives (Plays (event.Move n agg conv p)) r old new b h = move_next s gives n agg conv p r old new h
+between_next s gives (Plays (event.Force n agg conv)) r old new b h = force_next s gives n agg conv r old new h
+between_next s gives (Plays e) r old new b h = absurd b
+between_next s gives (Sets t (Set_max_delay delay)) r old new b h =
+    same_table s old new (delay_keeps Table (λ z. z.table) (λ z d. refl) gives t delay old new h s)
+between_next s gives (Sets t setting) r old new b h = absurd b
+between_next s gives e r old new b h =
+    let x = aside gives e old new tt h in each_side (λ t. Rising t old new) (caller e) x.next (same_next (peer (caller e)) old new x.peers) s
 
-one_next : (s t : Side) (gives : Algorithms) (a b : Bool) (e : Event) (es : List Event) (r : Reply) (old new : WorldState)
-    → TickOnce t a b (e ∷ es) → WorldSteps gives old e r new → Rising s old new
+one_next : (s t : Side) (gives : Algorithms) (a b : Bool) (e : HostEvent) (es : List HostEvent) (r : Reply) (old new : WorldState)
+    → TickOnce t a b (e ∷ es) → StepReplies gives old e r new → Rising s old new
 one_next s t gives a b e es r old new (inl (k, due, more)) h =
-    tick_next s t gives k.0 r old new k.1 (subst (λ f. WorldSteps gives old f r new) k.2 h)
+    tick_next s t gives k.0 r old new k.1 (subst (λ f. StepReplies gives old f r new) k.2 h)
 one_next s t gives a b e es r old new (inr (inl (k, due, more))) h =
-    tick_next s (peer t) gives k.0 r old new k.1 (subst (λ f. WorldSteps gives old f r new) k.2 h)
+    tick_next s (peer t) gives k.0 r old new k.1 (subst (λ f. StepReplies gives old f r new) k.2 h)
 one_next s t gives a b e es r old new (inr (inr k)) h = between_next s gives e r old new k.0 h
 
-rest_ticks : (t : Side) (a b : Bool) (e : Event) (es : List Event) → TickOnce t a b (e ∷ es) → (c : Bool) × (d : Bool) × TickOnce t c d es
+rest_ticks : (t : Side) (a b : Bool) (e : HostEvent) (es : List HostEvent) → TickOnce t a b (e ∷ es) → (c : Bool) × (d : Bool) × TickOnce t c d es
 rest_ticks t a b e es (inl h) = (false, b, h.2)
 rest_ticks t a b e es (inr (inl h)) = (a, false, h.2)
 rest_ticks t a b e es (inr (inr h)) = (a, b, h.1)
 
-run_next : (s t : Side) (gives : Algorithms) (a b : Bool) (es : List Event) (rs : List Reply) (old new : WorldState) → TickOnce t a b es
-    → WorldRuns gives old es rs new → Rising s old new
+run_next : (s t : Side) (gives : Algorithms) (a b : Bool) (es : List HostEvent) (rs : List Reply) (old new : WorldState) → TickOnce t a b es
+    → RunReplies gives old es rs new → Rising s old new
 run_next s t gives a b [] [] old new h run = same_next s old new (ap (λ (j : WorldState). (half s j).state) run)
 run_next s t gives a b (e ∷ es) (r ∷ rs) old new h run =
     let o = rest_ticks t a b e es h in
@@ -158,8 +170,8 @@ run_next s t gives a b es rs old new h run = absurd run
 abbrev HasLeft : Side → WorldState → Type 0
 HasLeft s j = IsSome (next_identifier (half s j).state.table)
 
-some_left : (s t : Side) (P : WorldState → Type 0) (gives : Algorithms) (a b : Bool) (es : List Event) (rs : List Reply) (old new : WorldState)
-    → TickOnce t a b es → (run : WorldRuns gives old es rs new) → HasLeft s new → AtSomeWorld P gives es rs old new run
+some_left : (s t : Side) (P : WorldState → Type 0) (gives : Algorithms) (a b : Bool) (es : List HostEvent) (rs : List Reply) (old new : WorldState)
+    → TickOnce t a b es → (run : RunReplies gives old es rs new) → HasLeft s new → AtSomeWorld P gives es rs old new run
     → AtSomeWorld (λ j. P j × HasLeft s j) gives es rs old new run
 some_left s t P gives a b [] [] old new h run left y = (y, subst (HasLeft s) run left)
 some_left s t P gives a b (e ∷ es) (r ∷ rs) old new h run left (inl y) =
@@ -168,8 +180,8 @@ some_left s t P gives a b (e ∷ es) (r ∷ rs) old new h run left (inr y) =
     let o = rest_ticks t a b e es h in inr (some_left s t P gives o.0 o.1 es rs run.0 new o.2 run.2 left y)
 some_left s t P gives a b es rs old new h run left y = absurd run
 
-after_left : (s t : Side) (P : WorldState → Type 0) (gives : Algorithms) (a b : Bool) (es : List Event) (rs : List Reply) (old new : WorldState)
-    → TickOnce t a b es → (run : WorldRuns gives old es rs new) → HasLeft s new → AfterTick s P gives es rs old new run
+after_left : (s t : Side) (P : WorldState → Type 0) (gives : Algorithms) (a b : Bool) (es : List HostEvent) (rs : List Reply) (old new : WorldState)
+    → TickOnce t a b es → (run : RunReplies gives old es rs new) → HasLeft s new → AfterTick s P gives es rs old new run
     → AfterTick s (λ j. P j × HasLeft s j) gives es rs old new run
 after_left s t P gives a b [] rs old new h run left y = y
 after_left s t P gives a b (e ∷ es) [] old new h run left y = y
@@ -208,14 +220,13 @@ module _ (at : Side → ℕ) (w : Side → Lacpdu) (named : (t : Side) → IsNam
     pub own : (half s j).state.system.mac ≡ mac
     pub there : IsConversation (half s j).state.table agg conv
 
-  fixed : (e : Event) (r : Reply) (old new : WorldState) → WorldSteps gives old e r new → IsSteady old → IsFixed old → IsFixed new
-  fixed e r old new h steady f =
-      let now = keeps_steady gives e r old new h steady in
-      let k = each_is_calls gives e r old new h s in
-      let keys = calls_keep ℕ (λ t. length t.keys) (λ t a b. refl) (gives s) (half s old).state (half s new).state k.0 k.1 k.2 in
-      let cols = calls_keep ℕ (λ t. t.conversations) (λ t a b. refl) (gives s) (half s old).state (half s new).state k.0 k.1 k.2 in
+  fixed : (e : HostEvent) (r : Reply) (old new : WorldState) → IsCalm e → StepReplies gives old e r new → IsSteady old → IsFixed old → IsFixed new
+  fixed e r old new calm h steady f =
+      let now = calm_steady gives e r old new calm h steady in
+      let keys = calm_keeps ℕ (λ t. length t.keys) (λ t a b. refl) (λ t a. refl) (λ t d. refl) gives e r old new calm h s in
+      let cols = calm_keeps ℕ (λ t. t.conversations) (λ t a b. refl) (λ t a. refl) (λ t d. refl) gives e r old new calm h s in
       record {
-        own = calls_keep (List ℕ) (λ t. t.system.mac) (λ t a b. refl) (gives s) (half s old).state (half s new).state k.0 k.1 k.2 ∙ f.own;
+        own = calm_keeps (List ℕ) (λ t. t.system.mac) (λ t a b. refl) (λ t a. refl) (λ t d. refl) gives e r old new calm h s ∙ f.own;
         there = (
           f.there.0,
           subst (λ n. agg ≤ n) (sym ((now s).0.aggregators ∙ (keys ∙ sym (steady s).0.aggregators))) f.there.1,
@@ -233,15 +244,15 @@ module _ (at : Side → ℕ) (w : Side → Lacpdu) (named : (t : Side) → IsNam
     fine : FineIn m W (Flights s (at s) mac flying) (half s j).state.table
 
   -- another event of a round
-  made : {m : ℕ} {V : Type 0} {kn : Side → ℕ} {old new : WorldState} (W : Type 0) (e : Event) (r : Reply) → WorldSteps gives old e r new
+  made : {m : ℕ} {V : Type 0} {kn : Side → ℕ} {old new : WorldState} (W : Type 0) (e : HostEvent) (r : Reply) → IsCalm e → StepReplies gives old e r new
       → Mid m V kn old → Link 2 at w kn s Y new → (fl : Side → List ItemValue) (i : ℕ) → OnCable i at fl new.links
       → FineIn m W (Flights s (at s) mac fl) (half s new).state.table → Mid m W kn new
-  made {old = old} {new = new} W e r h d link fl i links fine = record {
+  made {old = old} {new = new} W e r calm h d link fl i links fine = record {
     link = link;
     flying = fl;
     index = i;
     links = links;
-    same = fixed e r old new h d.link.steady d.same;
+    same = fixed e r old new calm h d.link.steady d.same;
     fine = fine;
   }
 
@@ -277,7 +288,7 @@ module _ (at : Side → ℕ) (w : Side → Lacpdu) (named : (t : Side) → IsNam
 
     mid_beside : (m : ℕ) (W : Type 0) (e : Event) (r : Reply) (old new : WorldState) → WorldSteps gives old e r new → (d : Mid m W kn old)
         → Link 2 at w kn s Y new → Beside gives at d.flying old new → Mid m W kn new
-    mid_beside m W e r old new h d link b = made W e r h d link d.flying b.index b.links
+    mid_beside m W e r old new h d link b = made W (Plays e) r tt h d link d.flying b.index b.links
         (elsewhere_fine at w s mac agg conv (gives s) (half s old).state (half s new).state m W (Flights s (at s) mac d.flying)
         (b.calls s) (stays_on at w s mac agg conv c kn kn old new d.link link) d.fine)
 
@@ -295,10 +306,10 @@ module _ (at : Side → ℕ) (w : Side → Lacpdu) (named : (t : Side) → IsNam
         asked : (t : Side) (k : Asks gives t at d.flying old new) → Mid m W kn new
         asked t k = elim (one_of_both s t) [
           | inl e ↦ (let o = subst (λ u. Asks gives u at d.flying old new) e k in
-              made W (event.Emit n p) r h d link o.now o.index o.links
+              made W (Plays (event.Emit n p)) r tt h d link o.now o.index o.links
               (own_asked m W o.a old new d.flying o.now (placed kn old d.link s) d.same o.promise o.went d.fine))
           | inr e ↦ (let o = subst (λ u. Asks gives u at d.flying old new) e k in
-              made W (event.Emit n p) r h d link o.now o.index o.links (peer_asked m W old new d.flying o d.fine))
+              made W (Plays (event.Emit n p)) r tt h d link o.now o.index o.links (peer_asked m W old new d.flying o d.fine))
         ]
 
     mid_delivers : (m : ℕ) (W : Type 0) (cn n : ℕ) (r : Reply) (old new : WorldState) → WorldSteps gives old (event.Deliver cn n) r new
@@ -315,13 +326,13 @@ module _ (at : Side → ℕ) (w : Side → Lacpdu) (named : (t : Side) → IsNam
         came t k = elim (one_of_both s t) [
           | inl e ↦ (let o = subst (λ u. Arrives gives u at d.flying old new) e k in
               let z = placed kn old d.link s in
-              made W (event.Deliver cn n) r h d link o.now o.index o.links
+              made W (Plays (event.Deliver cn n)) r tt h d link o.now o.index o.links
               (comes_fine at w s mac agg conv gives d.flying old new z.index z.port m W z.place z.there z.is.1.0 d.same.own o
               (stays_on at w s mac agg conv c kn kn old new d.link link) d.fine))
           | inr e ↦ (let o = subst (λ u. Arrives gives u at d.flying old new) e k in
               let z = placed kn old d.link (peer s) in
               let still : (half s new).state ≡ (half s old).state = subst (λ u. (half u new).state ≡ (half u old).state) (peer_twice s) o.peers in
-              made W (event.Deliver cn n) r h d link o.now o.index o.links
+              made W (Plays (event.Deliver cn n)) r tt h d link o.now o.index o.links
               (subst (λ (y : SystemState). FineIn m W (Flights s (at s) mac o.now) y.table) (sym still)
               (fine_in_map at w s mac agg conv m W W (Flights s (at s) mac d.flying) (Flights s (at s) mac o.now) (half s old).state.table
               (λ x. x) (peer_answers at w s mac agg conv gives d.flying old new z.index z.port z.place z.there z.is.1.0 o) d.fine)))
@@ -349,53 +360,77 @@ module _ (at : Side → ℕ) (w : Side → Lacpdu) (named : (t : Side) → IsNam
     offered_frame m W F group octets (Ok port) old new h fine = subst (Fine (at s) m W F) (sym (h.2.0.states agg conv))
         (offered_fine (at s) m port W F (eqb group.0 agg && eqb (number_of_conversation old octets) conv) (assignment_of old.table agg conv) fine)
 
-    mid_offered : (m : ℕ) (W : Type 0) (n : ℕ) (group : AggId) (octets : Vec ℕ) (r : Reply) (old new : WorldState)
-        → WorldSteps gives old (event.Offer n group octets) r new → Mid m W kn old → Mid m W kn new
-    mid_offered m W n group octets r old new h d =
-        let e = event.Offer n group octets in
-        let g = quiet_cable gives e d.index at d.flying r old new tt h d.links in
-        made W e r h d (quiet_link gives e 2 at w kn s Y r old new tt h d.link).link g.flying d.index g.on
-        (elim (offered_half gives n group octets r old new h s) [
-          | inl same ↦ subst (λ (y : SystemState). FineIn m W (Flights s (at s) mac g.flying) y.table) (sym same) (grown m W old new d g)
-          | inr (a, step) ↦ offered_frame m W (Flights s (at s) mac g.flying) group octets.items a (half s old).state (half s new).state step
-              (grown m W old new d g)
-        ])
+    numbered_frame : (there known : Bool) (m : ℕ) (W : Type 0) (F : ℕ → Type 0) (group : AggId) (moved : ℕ) (a : Result ℕ SystemFault)
+        (old new : SystemState) → OffersIf there known (gives s) group moved old a new → FineIn m W F old.table → FineIn m W F new.table
+    numbered_frame true true m W F group moved (Ok port) old new h fine = subst (Fine (at s) m W F) (sym (h.1.0.states agg conv))
+        (offered_fine (at s) m port W F (eqb group.0 agg && eqb moved conv) (assignment_of old.table agg conv) fine)
+    numbered_frame true true m W F group moved (Err fault) old new h fine = subst (λ (t : SystemState). FineIn m W F t.table) (sym h.1) fine
+    numbered_frame true false m W F group moved a old new h fine = subst (λ (t : SystemState). FineIn m W F t.table) (sym h.1) fine
+    numbered_frame false known m W F group moved a old new h fine = subst (λ (t : SystemState). FineIn m W F t.table) (sym h.1) fine
 
-    mid_moved : (m : ℕ) (W : Type 0) (n : ℕ) (group : AggId) (moved p : ℕ) (r : Reply) (old new : WorldState)
-        → IsNoMoveOf s agg conv (event.Move n group moved p) → WorldSteps gives old (event.Move n group moved p) r new → Mid m W kn old
-        → Mid m W kn new
-    mid_moved m W n group moved p r old new other h d =
-        let e = event.Move n group moved p in
-        let g = quiet_cable gives e d.index at d.flying r old new tt h d.links in
-        made W e r h d (quiet_link gives e 2 at w kn s Y r old new tt h d.link).link g.flying d.index g.on
-        (elim (moved_half gives n group moved p r old new h s) [
-          | inl same ↦ subst (λ (y : SystemState). FineIn m W (Flights s (at s) mac g.flying) y.table) (sym same) (grown m W old new d g)
-          | inr (told, a, step) ↦ subst (Fine (at s) m W (Flights s (at s) mac g.flying))
-              (sym (moved_elsewhere group moved agg conv (system_move_result (half s old).state group moved p) a (half s old).state (half s new).state
-              (other told) step)) (grown m W old new d g)
-        ])
+    module _ (m : ℕ) (W : Type 0) (F : ℕ → Type 0) where
+      -- a call leaves the conversation if it is another system's, or if this one's leaves it
+      of_side_called : (t : Side) (old new : WorldState) → (half (peer t) new).state ≡ (half (peer t) old).state
+          → (t ≡ s → FineIn m W F (half s old).state.table → FineIn m W F (half s new).state.table)
+          → FineIn m W F (half s old).state.table → FineIn m W F (half s new).state.table
+      of_side_called t old new peers own fine = elim (one_of_both s t) [
+        | inl e ↦ own e fine
+        | inr e ↦ (let same = subst (λ u. (half u new).state ≡ (half u old).state) (peer_twice s)
+            (subst (λ u. (half (peer u) new).state ≡ (half (peer u) old).state) e peers) in
+            subst (λ (y : SystemState). FineIn m W F y.table) (sym same) fine)
+      ]
 
-    mid_forced : (m : ℕ) (W : Type 0) (n : ℕ) (group : AggId) (moved : ℕ) (r : Reply) (old new : WorldState)
-        → IsNoMoveOf s agg conv (event.Force n group moved) → WorldSteps gives old (event.Force n group moved) r new → Mid m W kn old
-        → Mid m W kn new
-    mid_forced m W n group moved r old new other h d =
-        let e = event.Force n group moved in
-        let g = quiet_cable gives e d.index at d.flying r old new tt h d.links in
-        made W e r h d (quiet_link gives e 2 at w kn s Y r old new tt h d.link).link g.flying d.index g.on
-        (elim (forced_half gives n group moved r old new h s) [
-          | inl same ↦ subst (λ (y : SystemState). FineIn m W (Flights s (at s) mac g.flying) y.table) (sym same) (grown m W old new d g)
-          | inr (told, a, step) ↦ subst (Fine (at s) m W (Flights s (at s) mac g.flying))
-              (sym (moved_elsewhere group moved agg conv (system_force_result (half s old).state group moved) a (half s old).state (half s new).state
-              (other told) step)) (grown m W old new d g)
-        ])
+      elsewhere : (group : AggId) (moved : ℕ) (what : Result Assignment SystemFault) (a : Result Unit SystemFault) (old new : SystemState)
+          → (group.0 ≡ agg → moved ≡ conv → ⊥) → GivesOrRefuses group moved what old a new → FineIn m W F old.table → FineIn m W F new.table
+      elsewhere group moved what a old new other h = subst (Fine (at s) m W F) (sym (moved_elsewhere group moved agg conv what a old new other h))
+
+      quiet_fine : (e : HostEvent) (r : Reply) (old new : WorldState) → IsQuiet e → IsNoMoveOf s agg conv e → StepReplies gives old e r new
+          → FineIn m W F (half s old).state.table → FineIn m W F (half s new).state.table
+      quiet_fine (Plays (event.Offer n group octets)) r old new q still h fine = elim (offered_half gives n group octets r old new h s) [
+        | inl same ↦ subst (λ (y : SystemState). FineIn m W F y.table) (sym same) fine
+        | inr (a, step) ↦ offered_frame m W F group octets.items a (half s old).state (half s new).state step fine
+      ]
+      quiet_fine (Plays (event.Move n group moved p)) r old new q still h fine = elim (moved_half gives n group moved p r old new h s) [
+        | inl same ↦ subst (λ (y : SystemState). FineIn m W F y.table) (sym same) fine
+        | inr (told, a, step) ↦ elsewhere group moved (system_move_result (half s old).state group moved p) a (half s old).state (half s new).state
+            (still told) step fine
+      ]
+      quiet_fine (Plays (event.Force n group moved)) r old new q still h fine = elim (forced_half gives n group moved r old new h s) [
+        | inl same ↦ subst (λ (y : SystemState). FineIn m W F y.table) (sym same) fine
+        | inr (told, a, step) ↦ elsewhere group moved (system_force_result (half s old).state group moved) a (half s old).state (half s new).state
+            (still told) step fine
+      ]
+      quiet_fine (Plays e) r old new q still h fine = absurd q
+      quiet_fine (Sets t (Set_max_delay delay)) r old new q still h fine =
+          subst (FineIn m W F) (sym (delay_keeps Table (λ z. z.table) (λ z d. refl) gives t delay old new h s)) fine
+      quiet_fine (Sets t setting) r old new q still h fine = absurd q
+      quiet_fine (Offers t group moved octets) r old new q still h fine = of_side_called t old new
+          (aside gives (Offers t group moved octets) old new tt h).peers
+          (λ e. let o = offers_half gives t group moved octets old new h in
+          let p = subst (λ u. HostPromise (gives u) (half u old).state (host.OfferConversation group moved) (told.OfferConversation o.0)
+          (half u new).state) e o.1 in
+          numbered_frame _ _ m W F group moved o.0 (half s old).state (half s new).state p.0) fine
+      quiet_fine (Leaves t group moved) r old new q still h fine = of_side_called t old new (aside gives (Leaves t group moved) old new tt h).peers
+          (λ e. let o = leaves_half gives t group moved old new h in
+          let p = subst (λ u. HostPromise (gives u) (half u old).state (host.LeaveConversation group moved) (told.LeaveConversation o.0)
+          (half u new).state) e o.1 in
+          elsewhere group moved _ o.0 (half s old).state (half s new).state (still e) p.0) fine
+      quiet_fine (HostEvent.Rests t group moved) r old new q still h fine = of_side_called t old new (aside gives (HostEvent.Rests t group moved) old new tt h).peers
+          (λ e. let o = rests_half gives t group moved old new h in
+          let p = subst (λ u. HostPromise (gives u) (half u old).state (host.Rest group moved) (told.Rest o.0) (half u new).state) e o.1 in
+          elsewhere group moved _ o.0 (half s old).state (half s new).state (still e) p.0) fine
+      quiet_fine (Probes t port) r old new q still h fine =
+          of_side_called t old new (aside gives (Probes t port) old new tt h).peers (λ e. absurd (still e)) fine
+      quiet_fine (ForcesPort t port) r old new q still h fine =
+          of_side_called t old new (aside gives (ForcesPort t port) old new tt h).peers (λ e. absurd (still e)) fine
 
     mid_between : (m : ℕ) (W : Type 0) → KeptWhere gives (IsNoMoveOf s agg conv) (Mid m W kn)
-    mid_between m W (event.Emit n p) r i j still b h d = mid_asked m W n p r i j h d
-    mid_between m W (event.Deliver cn n) r i j still b h d = mid_delivers m W cn n r i j h d
-    mid_between m W (event.Offer n group octets) r i j still b h d = mid_offered m W n group octets r i j h d
-    mid_between m W (event.Move n group moved p) r i j still b h d = mid_moved m W n group moved p r i j still h d
-    mid_between m W (event.Force n group moved) r i j still b h d = mid_forced m W n group moved r i j still h d
-    mid_between m W e r i j still b h d = absurd b
+    mid_between m W (Plays (event.Emit n p)) r i j still b h d = mid_asked m W n p r i j h d
+    mid_between m W (Plays (event.Deliver cn n)) r i j still b h d = mid_delivers m W cn n r i j h d
+    mid_between m W e r i j still b h d =
+        let g = quiet_cable gives e d.index at d.flying r i j b h d.links in
+        made W e r (calm_quiet e b) h d (quiet_link gives e 2 at w kn s Y r i j b h d.link).link g.flying d.index g.on
+        (quiet_fine m W (Flights s (at s) mac g.flying) e r i j b still h (grown m W i j d g))
 
     -- where no marker is due and an identifier is left, it is not Wanted
     mid_drained : (m : ℕ) (W : Type 0) (j : WorldState) → marker_due (half s j).state.table (at s) ≡ None → HasLeft s j → Mid m W kn j → Mid m ⊥ kn j
@@ -423,7 +458,7 @@ module _ (at : Side → ℕ) (w : Side → Lacpdu) (named : (t : Side) → IsNam
         flying = d.flying;
         index = d.index;
         links = subst (OnCable d.index at d.flying) (sym k.links) d.links;
-        same = fixed (event.Tick n 1) r i j step d.link.steady d.same;
+        same = fixed (Plays (event.Tick n 1)) r i j tt step d.link.steady d.same;
         fine = settles_all at w s mac agg conv (m + 1) (Unit {0}) (Flights s (at s) mac d.flying) k.step.0 (half s j).state k.step.2
             (λ g x y. stays_on at w s mac agg conv c kn to i j d.link link g x
             (after_tick_on (at s) (assignment_of (half s i).state.table g x) (sym (k.step.1.1.states g x) ∙ y)))
@@ -441,7 +476,7 @@ module _ (at : Side → ℕ) (w : Side → Lacpdu) (named : (t : Side) → IsNam
         flying = d.flying;
         index = d.index;
         links = subst (OnCable d.index at d.flying) (sym k.links) d.links;
-        same = fixed (event.Tick n 1) r i j step d.link.steady d.same;
+        same = fixed (Plays (event.Tick n 1)) r i j tt step d.link.steady d.same;
         fine = subst (λ (y : SystemState). FineIn m W (Flights s (at s) mac d.flying) y.table) (sym still) d.fine;
       }
 

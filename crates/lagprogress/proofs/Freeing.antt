@@ -43,8 +43,8 @@ fine_last p m l a h e = none-some p e
 was_there : (gives : Algorithms) (n : ℕ) (old new : WorldState) (s : Side) (g k : ℕ) → IsSteady old → HostRounds gives n old new
     → IsConversation (half s new).state.table g k → IsConversation (half s old).state.table g k
 was_there gives n old new s g k steady h is =
-    let keys = played_keep NoneIsLeft gives ℕ (λ t. length t.keys) (λ t a b. refl) n old new h s in
-    let cols = played_keep NoneIsLeft gives ℕ (λ t. t.conversations) (λ t a b. refl) n old new h s in
+    let keys = played_keep NoneIsLeft gives ℕ (λ t. length t.keys) (λ t a b. refl) (λ t a. refl) (λ t d. refl) n old new h s in
+    let cols = played_keep NoneIsLeft gives ℕ (λ t. t.conversations) (λ t a b. refl) (λ t a. refl) (λ t d. refl) n old new h s in
     let later = hosts_steady gives n old new steady h in
     let rows : (half s new).state.table.aggs ≡ (half s old).state.table.aggs =
     (later s).0.aggregators ∙ (keys ∙ sym (steady s).0.aggregators) in

@@ -73,7 +73,7 @@ module _ (Holds : LinkState → WorldState → Type 0) (first : ℕ) (gives : Al
     stands : Stands Holds gives old heard wake mid
     stands = record {
       steady = hosts_steady gives first old mid steady h;
-      config = played_keep NoneIsLeft gives (List PortConfig) (λ t. t.ports) (λ t a b. refl) first old mid h;
+      config = played_keep NoneIsLeft gives (List PortConfig) (λ t. t.ports) (λ t a b. refl) (λ t a. refl) (λ t d. refl) first old mid h;
       alike = λ t k x e. rounds_alike gives first old mid steady h t k x e;
     }
 
