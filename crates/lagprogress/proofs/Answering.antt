@@ -16,7 +16,7 @@ use Rattle.lagprogress.proofs.Holding.{is_port}
 use Rattle.lagprogress.proofs.Linked.{Link, push_there, pushed, end_here, end_with}
 use Rattle.lagprogress.proofs.OneCable.{Went}
 use Rattle.lagprogress.proofs.Passing.{sent_carries}
-use Rattle.lagprogress.proofs.HostKnowing.{beside}
+use Rattle.lagprogress.proofs.Knowing.{beside}
 use Rattle.lagprogress.proofs.HostRound.{left}
 use Rattle.slowpdu.specs.declared.pdu.Pdu.TheVariants as pdu
 

@@ -14,7 +14,8 @@ use Rattle.lagprogress.proofs.Starting.{active_at, awake_at, named_at, Ends, hea
 use Rattle.lagprogress.proofs.EachRound.{EachAt, RoundKeeps, same_index, played_join, host_each, hosts_on, hosts_split, hosts_steady, played_on}
 use Rattle.lagprogress.proofs.EndFacts.{Synced, activity}
 use Rattle.lagprogress.proofs.Linked.{many, at_end, end_here, end_with, EndPort}
-use Rattle.lagprogress.proofs.HostKnowing.{one_meets, AtIt, Fresh, active_meet, knows_peer, fresh_knows}
+use Rattle.lagprogress.proofs.Knowing.{AtIt}
+use Rattle.lagprogress.proofs.HostKnowing.{one_meets, Fresh, active_meet, knows_peer, fresh_knows}
 use Rattle.lagprogress.proofs.OneRound.{Nothing}
 use Rattle.lagprogress.proofs.SharedLemmas.{Finds, lasted, shared_finds}
 use Rattle.lagprogress.proofs.Lasting.{IsAsBefore, all_by_place, as_before, ends_at, old_port, own_system, still_links}
@@ -215,7 +216,7 @@ module _ (Holds : LinkState → WorldState → Type 0) (Other : Side → ℕ →
         let k = as_before gives first old mid m.steady h s in
         at_end at w 1 g.known s mid e middle (λ p. is_selected p.choice ≡ true)
         (is_chosen at w g.known s mid middle (m.finds mid h s) (still_links s old mid k (m.links s))
-        (systems i l y s) (let known = knows_peer at w 1 0 0 mid g (omega arith) s in omega (arith, known)) e)
+        (systems i l y s) (let known = knows_peer at w 1 mid g s in omega (arith, known)) e)
 
     climb : (i : ℕ) (l : LinkState) (y : IsHealthyAt i l old)
         → Climbs (λ t. port_at t l) (said old i l y) (named_of i l y) (awake_of i l y) 20 top

@@ -14,7 +14,8 @@ use Rattle.lagprogress.proofs.Climbing.{PartnerInSync, Rising, distributes_now, 
 use Rattle.lagprogress.proofs.Climbing.{ticks_rising}
 use Rattle.lagprogress.proofs.EndFacts.{Learnt, Synced, activity, wait_of}
 use Rattle.lagprogress.proofs.EachRound.{hosts_on, played_on}
-use Rattle.lagprogress.proofs.HostKnowing.{FreshAt, able_fresh, awake_peer, fits_before, fits_fresh, knows_peer, stays_fresh, AtIt, beside, mode, wakes_now}
+use Rattle.lagprogress.proofs.Knowing.{able_fresh, awake_peer, AtIt, beside, mode, wakes_now}
+use Rattle.lagprogress.proofs.HostKnowing.{host_signs, FreshAt, fits_before, fits_fresh, knows_peer, stays_fresh}
 use Rattle.lagprogress.proofs.HostRound.{holds_on, host_holds, of_side}
 use Rattle.lagprogress.proofs.HostTelling.{Extra, host_nears_told}
 use Rattle.lagprogress.proofs.Linked.{EndPort, Fits, Link, at_end, each_map, end_here, end_with, peer_twice}
@@ -135,7 +136,7 @@ module _ (at : Side → ℕ) (w : Side → Lacpdu) (named : (t : Side) → IsNam
   pub climb_on : (s : Side) (gives : Algorithms) (n : ℕ) (old new : WorldState) (g : FreshAt at w 1 old) → IsHostRound gives old new
       → AtIt at w s (Rising (20 - n)) old → AtIt at w s (Rising (20 - (n + 1))) new
   climb_on s gives n old new g h rising = rises_on at w g.known s gives n old new (fits_before at w named awake 1 old g (omega arith))
-      (fits_fresh at w named awake 1 old g (omega arith)) (knows_peer at w 1 0 0 old g (omega arith) s) g.link h rising
+      (fits_fresh at w named awake 1 old g (omega arith)) (knows_peer at w 1 old g s) g.link h rising
 
   -- both climb
   pub record Climbs (n : ℕ) (j : WorldState) : Type 0 where
@@ -164,7 +165,7 @@ module _ (at : Side → ℕ) (w : Side → Lacpdu) (named : (t : Side) → IsNam
   owed : (j : WorldState) (g : FreshAt at w 2 j) (s : Side) → AtIt at w s (Owes (w (peer s))) j → AtIt at w s (Sounds (mode at w s) 11) j
   owed j g s owes =
       let e = end_here at w 2 g.known One Nothing j g.link s in
-      let known = (e.is.1.1 (let l = knows_peer at w 2 0 0 j g (omega arith) s in omega (arith, l))).0 in
+      let known = (e.is.1.1 (let l = knows_peer at w 2 j g s in omega (arith, l))).0 in
       let timed = all-get (λ (y : SystemPort). IsTimed y.port) (half s j).state.system_ports e.index e.port e.there (g.link.steady s).1 in
       at_end at w 2 g.known s j e g.link.steady (Sounds (mode at w s) 11) (
         inl (end_with at w 2 g.known s j e (Owes (w (peer s))) owes (e.is.2 (omega arith), known.party)),
@@ -180,18 +181,18 @@ module _ (at : Side → ℕ) (w : Side → Lacpdu) (named : (t : Side) → IsNam
       let fresh : FreshAt at w 2 j = record {
         known = g.known;
         next = g.next;
-        link = emptied at w 1 2 g.known One Nothing j g.empty synced g.link;
+        link = emptied at w 1 2 g.known One Nothing j g.rest synced g.link;
         fits = g.fits;
         later = g.later;
         longer = g.longer;
-        sounds = g.sounds;
-        empty = g.empty;
+        ahead = g.ahead;
+        rest = g.rest;
         told = g.told;
-        present = g.present;
+        took = g.took;
       } in
       record {
         fresh = fresh;
-        tells = λ s. elim (g.told s (let l = knows_peer at w 1 0 0 j g (omega arith) (peer s) in omega (arith, l))) [
+        tells = λ s. elim (g.told s (let l = knows_peer at w 1 j g (peer s) in omega (arith, l))) [
           | inl owes ↦ inl (11, omega arith, omega arith, owed j fresh s owes)
           | inr heard ↦ inr heard
         ];
@@ -221,7 +222,7 @@ module _ (at : Side → ℕ) (w : Side → Lacpdu) (named : (t : Side) → IsNam
       }
     where
       tells : (g : FreshAt at w 2 old) → Fits 2 w g.known → Fits 2 w (ticked g.known) → (s : Side) → Tells s n old → Tells s (n + 1) new
-      tells g fits then s (inl (m, more, soon, y)) = let can = able_fresh at w named awake 2 old g s in
+      tells g fits then s (inl (m, more, soon, y)) = let can = able_fresh at w (host_signs at w) named awake 2 old g s in
           elim (host_nears_told gives 2 at w s some (inr (named (peer s))) Anyhow Anyhow (anyhow gives s) g.known fits then (mode at w s) m
           old new can.1 can.0 (join 2 at w g.known One s (Sounds (mode at w s) m) old g.link y)
           (wakes_now at w 2 g.known One Nothing s (mode at w s) old can.0 g.link) h tt) [
@@ -233,11 +234,11 @@ module _ (at : Side → ℕ) (w : Side → Lacpdu) (named : (t : Side) → IsNam
           ]
       tells g fits then s (inr y) =
           let t = peer s in
-          let l = knows_peer at w 2 0 0 old g (omega arith) t in
+          let l = knows_peer at w 2 old g t in
           inr (beside at w 2 (ticked g.known) t PartnerInSync new
           (host_holds gives t 2 at w g.known PartnerInSync PartnerInSync old new fits then
-          (partner_along (w t) (w (peer t)) (g.known t) 2 (omega arith) (awake_peer at w named awake t))
-          (partner_along (w t) (w (peer t)) (ticked g.known t) 2 (omega arith) (awake_peer at w named awake t))
+          (partner_along (w t) (w (peer t)) (g.known t) 2 (omega arith) (awake_peer w awake t))
+          (partner_along (w t) (w (peer t)) (ticked g.known t) 2 (omega arith) (awake_peer w awake t))
           (λ p q r rest a z. ticks_partner 2 (w t) (w (peer t)) (g.known t) p q (omega (arith, l)) r a z)
           (λ p z. z) (λ p z. z) (join 2 at w g.known One t PartnerInSync old g.link y) h))
 
@@ -255,9 +256,9 @@ module _ (at : Side → ℕ) (w : Side → Lacpdu) (named : (t : Side) → IsNam
       record {
         known = g.known;
         link = g.link;
-        knows = λ s. (let l = knows_peer at w 2 0 0 j g (omega arith) s in omega (arith, l));
+        knows = λ s. (let l = knows_peer at w 2 j g s in omega (arith, l));
         heard = told_now up.0 j up.1 up.2;
-        present = λ s. g.present s (let l = knows_peer at w 2 0 0 j g (omega arith) s in omega (arith, l));
+        present = λ s. g.took s (let l = knows_peer at w 2 j g s in omega (arith, l));
       }
 
   -- from a round in which both ends are SELECTED, in 20 rounds to one in which both are synchronized, and on

@@ -29,7 +29,8 @@ use Rattle.lagprogress.proofs.Linked.{Fits, Link, asked_which, each_side, emit_a
 use Rattle.lagprogress.proofs.OneCable.{Arrives, Asks, OnCable, Went, asks, cable, came_off, delivers, emits, ticks, towards_there, Beside}
 use Rattle.lagprogress.proofs.OneCable.{port_there}
 use Rattle.lagprogress.proofs.OneRound.{join, one_of_both, ticked, Nothing}
-use Rattle.lagprogress.proofs.HostKnowing.{AtIt, FreshAt, beside, fits_fresh, knows_peer, stays_fresh, awake_peer, fits_before}
+use Rattle.lagprogress.proofs.Knowing.{AtIt, beside, awake_peer}
+use Rattle.lagprogress.proofs.HostKnowing.{FreshAt, fits_fresh, knows_peer, stays_fresh, fits_before}
 use Rattle.lagprogress.proofs.Claims.{IsNamed}
 use Rattle.lagprogress.proofs.HostRound.{left, fits_in, known_in, peer_holds, own_holds, none_ticked, Stages, of_side, MadeByTick, first_on}
 use Rattle.lagprogress.proofs.HostRound.{healthy_link, KeptWhere}
@@ -212,7 +213,7 @@ module _ (at : Side → ℕ) (w : Side → Lacpdu) (named : (t : Side) → IsNam
 
   along : (kn : Side → ℕ) → 1 ≤ kn s → Along Y (w s) (w (peer s)) (kn s) 2
   along kn l = both_along PartnerInSync (λ p. p.choice ≡ c) (w s) (w (peer s)) (kn s) 2
-      (partner_along (w s) (w (peer s)) (kn s) 2 (omega arith) (awake_peer at w named awake s))
+      (partner_along (w s) (w (peer s)) (kn s) 2 (omega arith) (awake_peer w awake s))
       (choice_along (w s) (w (peer s)) (kn s) 2 c chosen (omega arith) l)
 
   -- what is fixed of the system
@@ -527,7 +528,7 @@ module _ (at : Side → ℕ) (w : Side → Lacpdu) (named : (t : Side) → IsNam
       kn = known_in g.known s
 
       long : (t : Side) → 2 ≤ g.known t
-      long t = knows_peer at w 2 0 0 old g (omega arith) t
+      long t = knows_peer at w 2 old g t
 
       fits : (a b : Bool) → Fits 2 w (kn a b)
       fits = fits_in 2 w g.known s (fits_before at w named awake 2 old g (omega arith)) (fits_fresh at w named awake 2 old g (omega arith))

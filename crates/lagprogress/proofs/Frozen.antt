@@ -269,7 +269,7 @@ module _ (Holds : LinkState → WorldState → Type 0) (gives : Algorithms) (old
         link x l y = (fresh x l y).link
 
         long : OfCables (λ x l y. (t : Side) → 2 ≤ (fresh x l y).known t)
-        long x l y t = knows_peer (λ u. port_at u l) (said old x l y) 1 0 0 i (fresh x l y) (omega arith) t
+        long x l y t = knows_peer (λ u. port_at u l) (said old x l y) 1 i (fresh x l y) t
 
         some_left : (a : Bool) (n : ℕ) → 2 ≤ n → 1 ≤ left a n
         some_left true n l = omega (arith, l)

@@ -9,7 +9,7 @@ use Rattle.lagprogress.proofs.Climbing.{Down, Ripe, Rising, climbed}
 use Rattle.lagprogress.proofs.ComingUp.{AreSynced, distributes}
 use Rattle.lagprogress.proofs.EachRound.{EachAt, played_on, played_split, played_steady}
 use Rattle.lagprogress.proofs.EndFacts.{Synced}
-use Rattle.lagprogress.proofs.HostKnowing.{AtIt}
+use Rattle.lagprogress.proofs.Knowing.{AtIt}
 use Rattle.lagprogress.proofs.LateComingUp.{Climbs, climbs_first, climbs_on, late_comes_up, late_synced}
 use Rattle.lagprogress.proofs.LateKnowing.{Fresh, knows_late, late_active_meet, late_fresh_knows, late_one_meets}
 use Rattle.lagprogress.proofs.LateStart.{counts_of, kept_of}
@@ -56,7 +56,7 @@ module _ (Holds : LinkState → WorldState → Type 0) (first : ℕ) (gives : Al
         at_end at w 1 g.known s mid e middle (λ p. is_selected p.choice ≡ true)
         (is_chosen at w g.known s mid middle (finds s) (still_links s old mid k (b.links s))
         (apart_ends old b.steady b.differ i l y s)
-        (let known = knows_late at w (counts_of at old) (kept_of at old) 1 0 0 mid g (omega arith) s in omega (arith, known)) e)
+        (let known = knows_late at w (counts_of at old) (kept_of at old) 1 mid g s in omega (arith, known)) e)
 
     climb : (i : ℕ) (l : LinkState) (y : IsHealthyAt i l old) → Climbs (λ t. port_at t l) (said old i l y) (counts_of (λ t. port_at t l) old)
         (kept_of (λ t. port_at t l) old) (named_of i l y) (awake_of i l y) 20 top

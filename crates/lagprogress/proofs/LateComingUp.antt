@@ -9,11 +9,11 @@ use Rattle.lagprogress.proofs.ComingUp.{AreSynced, rises_first, rises_on}
 use Rattle.lagprogress.proofs.EachRound.{played_on}
 use Rattle.lagprogress.proofs.EndFacts.{Along, IsEnd, Learnt, Synced, activity, synced_mux, wait_of}
 use Rattle.lagprogress.proofs.HostHearing.{present_of}
-use Rattle.lagprogress.proofs.HostKnowing.{AtIt, beside, mode, wakes_now}
+use Rattle.lagprogress.proofs.Knowing.{AtIt, beside, mode, wakes_now, able_fresh, awake_peer}
 use Rattle.lagprogress.proofs.HostRound.{host_holds}
 use Rattle.lagprogress.proofs.HostStamps.{same_items}
 use Rattle.lagprogress.proofs.LateHearing.{Ahead, Whoever, late_nears}
-use Rattle.lagprogress.proofs.LateKnowing.{FreshAt, able_late, fits_late, fits_now, knows_late, other_awake, stays_late}
+use Rattle.lagprogress.proofs.LateKnowing.{FreshAt, late_signs, fits_late, fits_now, knows_late, stays_late}
 use Rattle.lagprogress.proofs.LateFlow.{Past}
 use Rattle.lagprogress.proofs.LateStart.{counts_of, flush, kept_of}
 use Rattle.lagprogress.proofs.Linked.{Fits, Flying, IsGood, Link, at_end, each_map, end_here, end_with, peer_twice}
@@ -60,7 +60,7 @@ module _ (at : Side → ℕ) (w : Side → Lacpdu) (k : Side → ℕ) (kept : Si
       record {
         fresh = stays_late at w k kept named awake gives 1 old new (omega arith) h g;
         rising = λ s. rises_on at w g.known s gives n old new (fits_now at w k kept named awake 1 old g (omega arith))
-            (fits_late at w k kept named awake 1 old g (omega arith)) (knows_late at w k kept 1 0 0 old g (omega arith) s) g.link h (c.rising s);
+            (fits_late at w k kept named awake 1 old g (omega arith)) (knows_late at w k kept 1 old g s) g.link h (c.rising s);
       }
 
   -- a round after both are synchronized: all that is on the cable says so
@@ -70,7 +70,7 @@ module _ (at : Side → ℕ) (w : Side → Lacpdu) (k : Side → ℕ) (kept : Si
       → Link 1 at w (ticked g.known) (peer t) Synced new × (x : ℕ) × Past t x at (IsGood 2 w t) 0 new
   synced_round gives old new g synced h t =
       let x = peer t in
-      let l = knows_late at w k kept 1 0 0 old g (omega arith) x in
+      let l = knows_late at w k kept 1 old g x in
       flush gives 1 2 at w g.known t Synced (fits_now at w k kept named awake 1 old g (omega arith))
       (fits_late at w k kept named awake 1 old g (omega arith))
       (synced_along (w x) (w (peer x)) (g.known x) 1 (omega arith) (omega (arith, l)))
@@ -92,7 +92,7 @@ module _ (at : Side → ℕ) (w : Side → Lacpdu) (k : Side → ℕ) (kept : Si
             (λ s. each_map (AtPort (at s) Synced) (AtPort (at s) (λ p. 2 ≤ 2 → Synced p)) (λ m p a e l. a e) (half s new).state.system_ports (now s))
             f.link (λ t. let p = (r t).2 in
             subst (AllByRecursion (IsGood 2 w t)) (sym (same_items (r t).1 f.link.index at p.flying f.link.flying new p.on f.link.links t)) p.items);
-        stamped = f.stamped;
+        rest = f.rest;
         fits = f.fits;
         later = f.later;
         longer = f.longer;
@@ -114,7 +114,7 @@ module _ (at : Side → ℕ) (w : Side → Lacpdu) (k : Side → ℕ) (kept : Si
   owed : (j : WorldState) (g : FreshAt at w k kept 2 j) (s : Side) → AtIt at w s (Owes (w (peer s))) j → AtIt at w s (Sounds (mode at w s) 11) j
   owed j g s owes =
       let e = end_here at w 2 g.known One Nothing j g.link s in
-      let known = (e.is.1.1 (let l = knows_late at w k kept 2 0 0 j g (omega arith) s in omega (arith, l))).0 in
+      let known = (e.is.1.1 (let l = knows_late at w k kept 2 j g s in omega (arith, l))).0 in
       let timed = all-get (λ (y : SystemPort). IsTimed y.port) (half s j).state.system_ports e.index e.port e.there (g.link.steady s).1 in
       at_end at w 2 g.known s j e g.link.steady (Sounds (mode at w s) 11) (
         inl (end_with at w 2 g.known s j e (Owes (w (peer s))) owes (e.is.2 (omega arith), known.party)),
@@ -124,7 +124,7 @@ module _ (at : Side → ℕ) (w : Side → Lacpdu) (k : Side → ℕ) (kept : Si
   agrees_first : (j : WorldState) → FreshAt at w k kept 2 j → Agrees 0 j
   agrees_first j g = record {
     fresh = g;
-    tells = λ s. elim (g.told s (let l = knows_late at w k kept 2 0 0 j g (omega arith) (peer s) in omega (arith, l))) [
+    tells = λ s. elim (g.told s (let l = knows_late at w k kept 2 j g (peer s) in omega (arith, l))) [
       | inl owes ↦ inl (12, omega arith, omega arith, inl (omega arith, owed j g s owes))
       | inr (x, fl, on, tells) ↦ elim (tells_which (w (peer s)) (w s) (fl (peer s)) (AtIt at w (peer s) PartnerInSync j) tells) [
         | inl f ↦ inl (
@@ -159,9 +159,9 @@ module _ (at : Side → ℕ) (w : Side → Lacpdu) (k : Side → ℕ) (kept : Si
       }
     where
       tells : (g : FreshAt at w k kept 2 old) → Fits 2 w g.known → Fits 2 w (ticked g.known) → (s : Side) → Tellings s n old → Tellings s (n + 1) new
-      tells g fits then s (inl (m, some, soon, y)) = let can = able_late at w k kept named awake 2 old g s in
+      tells g fits then s (inl (m, some, soon, y)) = let can = able_fresh at w (late_signs at w k kept) named awake 2 old g s in
           elim (late_nears gives 2 at w k kept s (omega arith) (inr (named (peer s))) g.known fits then (mode at w s) m old new can.1 can.0 g.link
-          (wakes_now at w 2 g.known One Nothing s (mode at w s) old can.0 g.link) g.stamped y h) [
+          (wakes_now at w 2 g.known One Nothing s (mode at w s) old can.0 g.link) g.rest y h) [
             | inl q ↦ (let l = q.0 in inl (m - 1, l, omega (arith, soon, l), q.1))
             | inr q ↦ inr (each_map (AtPort (at (peer s)) (Learnt 2 (w (peer (peer s))) (wait_of (w (peer s)) - 1)))
                 (AtPort (at (peer s)) PartnerInSync) (λ i p a e. (a e).1 (omega arith)) (half (peer s) new).state.system_ports
@@ -169,11 +169,11 @@ module _ (at : Side → ℕ) (w : Side → Lacpdu) (k : Side → ℕ) (kept : Si
           ]
       tells g fits then s (inr y) =
           let t = peer s in
-          let l = knows_late at w k kept 2 0 0 old g (omega arith) t in
+          let l = knows_late at w k kept 2 old g t in
           inr (beside at w 2 (ticked g.known) t PartnerInSync new
           (host_holds gives t 2 at w g.known PartnerInSync PartnerInSync old new fits then
-          (partner_along (w t) (w (peer t)) (g.known t) 2 (omega arith) (other_awake at w k kept named awake t))
-          (partner_along (w t) (w (peer t)) (ticked g.known t) 2 (omega arith) (other_awake at w k kept named awake t))
+          (partner_along (w t) (w (peer t)) (g.known t) 2 (omega arith) (awake_peer w awake t))
+          (partner_along (w t) (w (peer t)) (ticked g.known t) 2 (omega arith) (awake_peer w awake t))
           (λ p q r rest a z. ticks_partner 2 (w t) (w (peer t)) (g.known t) p q (omega (arith, l)) r a z)
           (λ p z. z) (λ p z. z) (join 2 at w g.known One t PartnerInSync old g.link y) h))
 
@@ -200,12 +200,12 @@ pub late_synced : (gives : Algorithms) (at : Side → ℕ) (w : Side → Lacpdu)
     → Agrees at w (counts_of at old) (kept_of at old) named awake n j → AreSynced at w j
 late_synced gives at w named awake n old j l c =
     let g = c.fresh in
-    let knows : (s : Side) → 1 ≤ g.known s = λ s. (let m = knows_late at w (counts_of at old) (kept_of at old) 2 0 0 j g (omega arith) s in
+    let knows : (s : Side) → 1 ≤ g.known s = λ s. (let m = knows_late at w (counts_of at old) (kept_of at old) 2 j g s in
     omega (arith, m)) in
     record {
       known = g.known;
       link = g.link;
       knows = knows;
       heard = told_now at w (counts_of at old) (kept_of at old) named awake n j l c;
-      present = λ s. present_of gives at old j s (g.stamped, g.took s (knows s));
+      present = λ s. present_of gives at old j s (g.rest, g.took s (knows s));
     }

@@ -13,7 +13,8 @@ use Rattle.lagprogress.proofs.EachRound.{EachAt, RoundKeeps, host_each, hosts_on
 use Rattle.lagprogress.proofs.EndFacts.{Synced, activity}
 use Rattle.lagprogress.proofs.Frozen.{AllChose, AllFresh, Stands, choice_rounds, on_cable}
 use Rattle.lagprogress.proofs.OneRound.{Nothing}
-use Rattle.lagprogress.proofs.HostKnowing.{AtIt, Fresh, FreshAt, stays_fresh}
+use Rattle.lagprogress.proofs.Knowing.{AtIt}
+use Rattle.lagprogress.proofs.HostKnowing.{Fresh, FreshAt, stays_fresh}
 use Rattle.lagprogress.proofs.Starting.{said_by}
 use Rattle.lagprogress.proofs.Claims.{IsNamed}
 use Rattle.lagprogress.proofs.Linked.{at_end, end_here, end_with}
