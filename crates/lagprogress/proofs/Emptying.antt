@@ -1,14 +1,14 @@
 -- A port of a healthy cable is drained of a conversation that is held on it.
-use Rattle.laghosts.specs.HostEvents.{HostEvent, Plays, Sets, Offers, Leaves, Probes, ForcesPort}
+use Rattle.laghosts.specs.HostEvents.{HostEvent, Plays, Sets, Offers, Leaves, Probes, ForcesPort, HostSteps}
 use Rattle.lagprogress.specs.HostRounds.{StepReplies, RunReplies, IsQuiet}
 use Rattle.lagsystem.specs.Settings.{Set_max_delay}
 use Rattle.lagprogress.proofs.Quieting.{IsCalm, calm_quiet, calm_steady, calm_keeps}
-use Rattle.lagprogress.proofs.HostSteady.{aside, caller, delay_keeps, offers_half, leaves_half, rests_half, gives_next}
+use Rattle.lagprogress.proofs.HostSteady.{aside, caller, delay_keeps, offers_half, leaves_half, rests_half, gives_next, forces_half, probes_half, Probed}
 use Rattle.lagsystem.specs.Assigning.{OffersIf}
 use Rattle.lagsystem.specs.HostCalls.{HostPromise}
 use Rattle.lagsystem.specs.declared.drive.HostCall.TheVariants as host
 use Rattle.lagsystem.specs.declared.drive.HostReply.TheVariants as told
-use Rattle.lagprogress.proofs.Common.{Bool, Err, IsSome, List, None, Ok, Option, Result, Some, [], ap, arith, cond, eqb, false, inl, inr, length, ltb}
+use Rattle.lagprogress.proofs.Common.{Bool, Err, IsSome, List, None, Ok, Option, Result, Some, [], ap, arith, cond, eqb, false, inl, inr, length, ltb, cases_Bool, ◌==◌, port_index}
 use Rattle.lagprogress.proofs.Common.{refl, subst, suc, sym, true, zero, ℕ, ◌&&◌, ◌+◌, ◌<◌, ◌^◌, ◌∙◌, ◌∷◌, ◌≡◌, ◌≤◌, ◌⊎◌, nat_tests, none-some, Vec}
 use Rattle.lagprogress.proofs.Common.{AggId, Choice, is_selected, Lacpdu, One, Side, peer, Machines, is_due, Assignment, after_tick, marker_due}
 use Rattle.lagprogress.proofs.Common.{IsConversation, Table, assignment_of, next_identifier, SystemFault, Offer, Receive, Step, Tick, Transmit}
@@ -16,7 +16,7 @@ use Rattle.lagprogress.proofs.Common.{GivesOrRefuses, system_force_result, syste
 use Rattle.lagprogress.proofs.Common.{CallPromise, SystemState, machines_of, ports_table, settling_parts, found_place, Event, Reply, Algorithms}
 use Rattle.lagprogress.proofs.Common.{WorldRuns, WorldSteps, side_of, ItemValue, WorldState, half, port_at, DrainingRounds, IsDrainingRound}
 use Rattle.lagprogress.proofs.Common.{IsNoMoveOf, AfterTick, AtSomeWorld, IsBetweenTicks, IsHostRound, TickOnce, NothingInFlight, OfPort, IsSteady}
-use Rattle.lagprogress.proofs.Answering.{IsFine, Steady, fine_in_map, turned_by, sends_fine, settles_all, stays_on, went_flights, none_wanted}
+use Rattle.lagprogress.proofs.Answering.{IsFine, Steady, fine_in_map, turned_by, sends_fine, settles_all, stays_on, went_flights, none_wanted, probes_fine, probes_beside}
 use Rattle.lagprogress.proofs.Answering.{not_wanted, none_due}
 use Rattle.lagprogress.proofs.Climbing.{PartnerInSync, choice_along, partner_along, ticks_choice, ticks_partner}
 use Rattle.lagprogress.proofs.Unchanged.{calls_keep}
@@ -24,9 +24,9 @@ use Rattle.lagprogress.proofs.Delivering.{deliver_link}
 use Rattle.lagprogress.proofs.Draining.{after_tick_on, comes_fine, elsewhere_fine, peer_answers}
 use Rattle.lagprogress.proofs.EndFacts.{Along, activity, both_along}
 use Rattle.lagprogress.proofs.Halves.{each_is_calls, keeps_steady}
-use Rattle.lagprogress.proofs.Holding.{Fine, Flights, Has, ticked_fine, IsMarker, asking, answering, has_on, offered_fine}
-use Rattle.lagprogress.proofs.Linked.{Fits, Link, asked_which, each_side, emit_any, peer_twice, EndPort, end_here}
-use Rattle.lagprogress.proofs.OneCable.{Arrives, Asks, OnCable, Went, asks, cable, came_off, delivers, emits, ticks, towards_there, Beside}
+use Rattle.lagprogress.proofs.Holding.{Fine, Flights, Has, ticked_fine, IsMarker, asking, answering, has_on, offered_fine, forced_fine}
+use Rattle.lagprogress.proofs.Linked.{Fits, Link, asked_which, each_side, emit_any, peer_twice, EndPort, end_here, other_side}
+use Rattle.lagprogress.proofs.OneCable.{Arrives, Asks, OnCable, Went, asks, cable, came_off, delivers, emits, ticks, towards_there, Beside, push, puts}
 use Rattle.lagprogress.proofs.OneCable.{port_there}
 use Rattle.lagprogress.proofs.OneRound.{join, one_of_both, ticked, Nothing}
 use Rattle.lagprogress.proofs.Knowing.{AtIt, beside, awake_peer}
@@ -190,6 +190,11 @@ after_left s t P gives a b (e ∷ es) (r ∷ rs) old new h run left (inl y) =
     let o = rest_ticks t a b e es h in inl (y.0, some_left s t P gives o.0 o.1 es rs run.0 new o.2 run.2 left y.1)
 after_left s t P gives a b (e ∷ es) (r ∷ rs) old new h run left (inr y) =
     let o = rest_ticks t a b e es h in inr (after_left s t P gives o.0 o.1 es rs run.0 new o.2 run.2 left y)
+
+-- the event probes another port than this one of system s, or none
+abbrev IsNoProbe : Side → ℕ → HostEvent → Type 0
+IsNoProbe s n (Probes t port) = t ≡ s → port ≡ n → ⊥
+IsNoProbe s n e = Unit {0}
 
 -- another conversation is moved
 
@@ -385,53 +390,115 @@ module _ (at : Side → ℕ) (w : Side → Lacpdu) (named : (t : Side) → IsNam
           → (group.0 ≡ agg → moved ≡ conv → ⊥) → GivesOrRefuses group moved what old a new → FineIn m W F old.table → FineIn m W F new.table
       elsewhere group moved what a old new other h = subst (Fine (at s) m W F) (sym (moved_elsewhere group moved agg conv what a old new other h))
 
-      quiet_fine : (e : HostEvent) (r : Reply) (old new : WorldState) → IsQuiet e → IsNoMoveOf s agg conv e → StepReplies gives old e r new
+      forces_fine : (port : ℕ) (a : Result ℕ SystemFault) (old new : SystemState) → IsConversation old.table agg conv
+          → HostPromise (gives s) old (host.ForcePort port) (told.ForcePort a) new → FineIn m W F old.table → FineIn m W F new.table
+      forces_fine port (Ok count) old new there p fine = subst (Fine (at s) m W F) (sym (p.2.forced agg conv there))
+          (forced_fine (at s) m port W F (assignment_of old.table agg conv) fine)
+      forces_fine port (Err fault) old new there p fine = subst (λ (t : SystemState). FineIn m W F t.table) (sym p.1.same) fine
+
+      -- a probe of another port, or of the other system
+      probed_beside : (port : ℕ) (a : Result (Option (List ℕ)) SystemFault) (old new : SystemState) → (port ≡ at s → ⊥)
+          → HostPromise (gives s) old (host.Probe port) (told.Probe a) new → FineIn m W F old.table → FineIn m W F new.table
+      probed_beside port (Ok a) old new other p fine = probes_beside at w s mac agg conv (port_index port old.system_ports) old a new m W F
+          (λ i z place there number. other (sym (found_place port old.system_ports i z place there) ∙ number)) p.0 fine
+      probed_beside port (Err fault) old new other p fine = subst (λ (t : SystemState). FineIn m W F t.table) (sym p.0.same) fine
+
+      quiet_fine : (e : HostEvent) (r : Reply) (old new : WorldState) → IsQuiet e → IsNoMoveOf s agg conv e → IsNoProbe s (at s) e
+          → IsConversation (half s old).state.table agg conv → StepReplies gives old e r new
           → FineIn m W F (half s old).state.table → FineIn m W F (half s new).state.table
-      quiet_fine (Plays (event.Offer n group octets)) r old new q still h fine = elim (offered_half gives n group octets r old new h s) [
+      quiet_fine (Plays (event.Offer n group octets)) r old new q still far there h fine = elim (offered_half gives n group octets r old new h s) [
         | inl same ↦ subst (λ (y : SystemState). FineIn m W F y.table) (sym same) fine
         | inr (a, step) ↦ offered_frame m W F group octets.items a (half s old).state (half s new).state step fine
       ]
-      quiet_fine (Plays (event.Move n group moved p)) r old new q still h fine = elim (moved_half gives n group moved p r old new h s) [
+      quiet_fine (Plays (event.Move n group moved p)) r old new q still far there h fine = elim (moved_half gives n group moved p r old new h s) [
         | inl same ↦ subst (λ (y : SystemState). FineIn m W F y.table) (sym same) fine
         | inr (told, a, step) ↦ elsewhere group moved (system_move_result (half s old).state group moved p) a (half s old).state (half s new).state
             (still told) step fine
       ]
-      quiet_fine (Plays (event.Force n group moved)) r old new q still h fine = elim (forced_half gives n group moved r old new h s) [
+      quiet_fine (Plays (event.Force n group moved)) r old new q still far there h fine = elim (forced_half gives n group moved r old new h s) [
         | inl same ↦ subst (λ (y : SystemState). FineIn m W F y.table) (sym same) fine
         | inr (told, a, step) ↦ elsewhere group moved (system_force_result (half s old).state group moved) a (half s old).state (half s new).state
             (still told) step fine
       ]
-      quiet_fine (Plays e) r old new q still h fine = absurd q
-      quiet_fine (Sets t (Set_max_delay delay)) r old new q still h fine =
+      quiet_fine (Plays e) r old new q still far there h fine = absurd q
+      quiet_fine (Sets t (Set_max_delay delay)) r old new q still far there h fine =
           subst (FineIn m W F) (sym (delay_keeps Table (λ z. z.table) (λ z d. refl) gives t delay old new h s)) fine
-      quiet_fine (Sets t setting) r old new q still h fine = absurd q
-      quiet_fine (Offers t group moved octets) r old new q still h fine = of_side_called t old new
+      quiet_fine (Sets t setting) r old new q still far there h fine = absurd q
+      quiet_fine (Offers t group moved octets) r old new q still far there h fine = of_side_called t old new
           (aside gives (Offers t group moved octets) old new tt h).peers
           (λ e. let o = offers_half gives t group moved octets old new h in
           let p = subst (λ u. HostPromise (gives u) (half u old).state (host.OfferConversation group moved) (told.OfferConversation o.0)
           (half u new).state) e o.1 in
           numbered_frame _ _ m W F group moved o.0 (half s old).state (half s new).state p.0) fine
-      quiet_fine (Leaves t group moved) r old new q still h fine = of_side_called t old new (aside gives (Leaves t group moved) old new tt h).peers
+      quiet_fine (Leaves t group moved) r old new q still far there h fine = of_side_called t old new (aside gives (Leaves t group moved) old new tt h).peers
           (λ e. let o = leaves_half gives t group moved old new h in
           let p = subst (λ u. HostPromise (gives u) (half u old).state (host.LeaveConversation group moved) (told.LeaveConversation o.0)
           (half u new).state) e o.1 in
           elsewhere group moved _ o.0 (half s old).state (half s new).state (still e) p.0) fine
-      quiet_fine (HostEvent.Rests t group moved) r old new q still h fine = of_side_called t old new (aside gives (HostEvent.Rests t group moved) old new tt h).peers
+      quiet_fine (HostEvent.Rests t group moved) r old new q still far there h fine = of_side_called t old new (aside gives (HostEvent.Rests t group moved) old new tt h).peers
           (λ e. let o = rests_half gives t group moved old new h in
           let p = subst (λ u. HostPromise (gives u) (half u old).state (host.Rest group moved) (told.Rest o.0) (half u new).state) e o.1 in
           elsewhere group moved _ o.0 (half s old).state (half s new).state (still e) p.0) fine
-      quiet_fine (Probes t port) r old new q still h fine =
-          of_side_called t old new (aside gives (Probes t port) old new tt h).peers (λ e. absurd (still e)) fine
-      quiet_fine (ForcesPort t port) r old new q still h fine =
-          of_side_called t old new (aside gives (ForcesPort t port) old new tt h).peers (λ e. absurd (still e)) fine
+      quiet_fine (Probes t port) r old new q still far there h fine =
+          of_side_called t old new (aside gives (Probes t port) old new tt h).peers
+          (λ e. let o = probes_half gives t port old new h in
+          let p = subst (λ u. HostPromise (gives u) (half u old).state (host.Probe port) (told.Probe o.0) (half u new).state) e o.1 in
+          probed_beside port o.0 (half s old).state (half s new).state (far e) p) fine
+      quiet_fine (ForcesPort t port) r old new q still far there h fine =
+          of_side_called t old new (aside gives (ForcesPort t port) old new tt h).peers
+          (λ e. let o = forces_half gives t port old new h in
+          let p = subst (λ u. HostPromise (gives u) (half u old).state (host.ForcePort port) (told.ForcePort o.0) (half u new).state) e o.1 in
+          forces_fine port o.0 (half s old).state (half s new).state there p) fine
+
+    -- the port is probed
+    probed_cable : (a : Result (Option (List ℕ)) SystemFault) (i : ℕ) (fl : Side → List ItemValue) (old new : WorldState) → OnCable i at fl old.links
+        → Probed s (at s) a old.links new.links → (now : Side → List ItemValue) × OnCable i at now new.links × Went s a fl now
+    probed_cable (Ok (Some frame)) i fl old new on (item, is, e) =
+        (push (peer s) item fl, subst (OnCable i at (push (peer s) item fl)) (sym e) (puts s i at fl item old.links on), (item, is, refl))
+    probed_cable (Ok None) i fl old new on e = (fl, subst (OnCable i at fl) (sym e) on, refl)
+    probed_cable (Err fault) i fl old new on e = (fl, subst (OnCable i at fl) (sym e) on, refl)
+
+    mid_probed : (m : ℕ) (W : Type 0) (r : Reply) (old new : WorldState) → HostSteps gives old (Probes s (at s)) new → Mid m W kn old → Mid m W kn new
+    mid_probed m W r old new h d =
+        let o = probes_half gives s (at s) old new h in
+        let c = probed_cable o.0 d.index d.flying old new d.links o.2 in
+        made W (Probes s (at s)) r tt h d (quiet_link gives (Probes s (at s)) 2 at w kn s Y r old new tt h d.link).link c.0 d.index c.1
+        (by_answer o.0 o.1 c.0 c.2)
+      where
+        st : SystemState
+        st = (half s old).state
+
+        by_answer : (a : Result (Option (List ℕ)) SystemFault)
+            → HostPromise (gives s) (half s old).state (host.Probe (at s)) (told.Probe a) (half s new).state → (now : Side → List ItemValue)
+            → Went s a d.flying now → FineIn m W (Flights s (at s) mac now) (half s new).state.table
+        by_answer (Ok a) p now went = probes_fine at w s mac agg conv (port_index (at s) st.system_ports) st a (half s new).state d.flying now m W
+            (λ i z place there. found_place (at s) st.system_ports i z place there) d.same.own p.0 went d.fine
+        by_answer (Err fault) p now went = subst (λ (t : SystemState). FineIn m W (Flights s (at s) mac now) t.table) (sym p.0.same)
+            (subst (λ (f : Side → List ItemValue). FineIn m W (Flights s (at s) mac f) st.table) (sym went) d.fine)
+
+    mid_quiet : (m : ℕ) (W : Type 0) (e : HostEvent) (r : Reply) (i j : WorldState) → IsQuiet e → IsNoMoveOf s agg conv e → IsNoProbe s (at s) e
+        → StepReplies gives i e r j → Mid m W kn i → Mid m W kn j
+    mid_quiet m W e r i j b still far h d =
+        let g = quiet_cable gives e d.index at d.flying r i j b h d.links in
+        made W e r (calm_quiet e b) h d (quiet_link gives e 2 at w kn s Y r i j b h d.link).link g.flying d.index g.on
+        (quiet_fine m W (Flights s (at s) mac g.flying) e r i j b still far d.same.there h (grown m W i j d g))
+
+    mid_one_probed : (m : ℕ) (W : Type 0) (t : Side) (port : ℕ) (r : Reply) (i j : WorldState) → HostSteps gives i (Probes t port) j → Mid m W kn i
+        → Mid m W kn j
+    mid_one_probed m W t port r i j h d = elim (one_of_both s t) [
+      | inl e ↦ elim (cases_Bool (at s == port)) [
+        | inl b ↦ (let is : port ≡ at s = grind (arith, nat_tests) in mid_probed m W r i j
+            (subst (λ n. HostSteps gives i (Probes s n) j) is (subst (λ u. HostSteps gives i (Probes u port) j) e h)) d)
+        | inr b ↦ (let other : port ≡ at s → ⊥ = grind (arith, nat_tests) in mid_quiet m W (Probes t port) r i j tt tt (λ f. other) h d)
+      ]
+      | inr e ↦ mid_quiet m W (Probes t port) r i j tt tt (λ f. absurd (other_side s (sym e ∙ f))) h d
+    ]
 
     mid_between : (m : ℕ) (W : Type 0) → KeptWhere gives (IsNoMoveOf s agg conv) (Mid m W kn)
     mid_between m W (Plays (event.Emit n p)) r i j still b h d = mid_asked m W n p r i j h d
     mid_between m W (Plays (event.Deliver cn n)) r i j still b h d = mid_delivers m W cn n r i j h d
-    mid_between m W e r i j still b h d =
-        let g = quiet_cable gives e d.index at d.flying r i j b h d.links in
-        made W e r (calm_quiet e b) h d (quiet_link gives e 2 at w kn s Y r i j b h d.link).link g.flying d.index g.on
-        (quiet_fine m W (Flights s (at s) mac g.flying) e r i j b still h (grown m W i j d g))
+    mid_between m W (Probes t port) r i j still b h d = mid_one_probed m W t port r i j h d
+    mid_between m W e r i j still b h d = mid_quiet m W e r i j b still tt h d
 
     -- where no marker is due and an identifier is left, it is not Wanted
     mid_drained : (m : ℕ) (W : Type 0) (j : WorldState) → marker_due (half s j).state.table (at s) ≡ None → HasLeft s j → Mid m W kn j → Mid m ⊥ kn j

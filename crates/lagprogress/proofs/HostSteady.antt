@@ -291,6 +291,54 @@ rests_half gives s agg conv old new (a, mid, x, y) =
         ap (λ (j : WorldState). (half s j).state) (y ∙ same_links s h old) ∙ state_there s h old.links old
     own (Err fault) y = ap (λ (j : WorldState). (half s j).state) (y ∙ same_links s mid old) ∙ state_there s mid old.links old
 
+pub forces_half : (gives : Algorithms) (s : Side) (port : ℕ) (old new : WorldState) → HostSteps gives old (ForcesPort s port) new
+    → (a : Result ℕ SystemFault) × HostPromise (gives s) (half s old).state (host.ForcePort port) (told.ForcePort a) (half s new).state
+forces_half gives s port old new (a, mid, last, x, c, y) = (
+  a,
+  subst (HostPromise (gives s) (half s old).state (host.ForcePort port) (told.ForcePort a))
+      (sym (ap (λ (j : WorldState). (half s j).state) (y ∙ same_links s last old) ∙ (state_there s last old.links old ∙ counted a c))) x.answers,
+)
+  where
+    counted : (a : Result ℕ SystemFault) → CountsHeldIfOk a port (half s old).state mid last → last.state ≡ mid.state
+    counted (Ok count) c = c.state
+    counted (Err fault) c = ap (λ (h : HalfState). h.state) c
+
+-- what a probe with this answer makes of the cables
+abbrev pub Probed : Side → ℕ → Result (Option (List ℕ)) SystemFault → List LinkState → List LinkState → Type 0
+Probed s port (Ok (Some frame)) old new = (item : ItemValue) × (item.octets ≡ frame) × (new ≡ put_on_port s port item old)
+Probed s port a old new = new ≡ old
+
+pub probes_half : (gives : Algorithms) (s : Side) (port : ℕ) (old new : WorldState) → HostSteps gives old (Probes s port) new
+    → (a : Result (Option (List ℕ)) SystemFault) × HostPromise (gives s) (half s old).state (host.Probe port) (told.Probe a) (half s new).state
+    × Probed s port a old.links new.links
+probes_half gives s port old new (a, mid, x, y) = by_answer a x y
+  where
+    by_answer : (a : Result (Option (List ℕ)) SystemFault) → HalfTells (gives s) (host.Probe port) (told.Probe a) (half s old) mid
+        → AfterProbe s port a (with_half s mid old) new → (a : Result (Option (List ℕ)) SystemFault)
+        × HostPromise (gives s) (half s old).state (host.Probe port) (told.Probe a) (half s new).state × Probed s port a old.links new.links
+    by_answer (Ok (Some frame)) x y =
+        let item = transmitted_item s port frame (half s (with_half s mid old)) in
+        let e = y ∙ sent_joint s port item mid old in (
+          Ok (Some frame),
+          subst (HostPromise (gives s) (half s old).state (host.Probe port) (told.Probe (Ok (Some frame))))
+              (sym (ap (λ (j : WorldState). (half s j).state) e ∙ state_there s mid (put_on_port s port item old.links) old)) x.answers,
+          (item, refl, ap (λ (j : WorldState). j.links) e),
+        )
+    by_answer (Ok None) x y =
+        let e = y ∙ same_links s mid old in (
+          Ok None,
+          subst (HostPromise (gives s) (half s old).state (host.Probe port) (told.Probe (Ok None)))
+              (sym (ap (λ (j : WorldState). (half s j).state) e ∙ state_there s mid old.links old)) x.answers,
+          ap (λ (j : WorldState). j.links) e,
+        )
+    by_answer (Err fault) x y =
+        let e = y ∙ same_links s mid old in (
+          Err fault,
+          subst (HostPromise (gives s) (half s old).state (host.Probe port) (told.Probe (Err fault)))
+              (sym (ap (λ (j : WorldState). (half s j).state) e ∙ state_there s mid old.links old)) x.answers,
+          ap (λ (j : WorldState). j.links) e,
+        )
+
 -- it leaves the cables quietly
 pub beside_quietly : (s : Side) (old new : WorldState) → IsBeside s old new → Quietly s old new
 beside_quietly s old new b = record {

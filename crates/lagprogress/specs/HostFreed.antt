@@ -8,7 +8,7 @@ use Rattle.lagscript.specs.declared.event.Event.TheVariants as event
 use Rattle.lagworld.specs.declared.reply.Reply.{Reply}
 use Rattle.lagworld.specs.declared.reply.Reply.TheVariants as reply
 use Rattle.lagworld.specs.Events.{Algorithms, side_of}
-use Rattle.laghosts.specs.HostEvents.{ForcesPort, HostEvent, Leaves, Plays, Probes, Rests}
+use Rattle.laghosts.specs.HostEvents.{HostEvent, Leaves, Plays, Rests}
 use Rattle.lagworld.specs.State.{LinkState, WorldState, half, port_at}
 use Rattle.lagprogress.specs.Bundle.{IsBundle}
 use Rattle.lagprogress.specs.CutOff.{IsBundleBesideCutOffs}
@@ -17,15 +17,12 @@ use Rattle.lagprogress.specs.HostRounds.{AfterTick, Asks, HostRounds, IsHostRoun
 use Rattle.lagprogress.specs.Rounds.{AtEnd, IsHealthyAt, IsRound, NothingInFlight}
 use Rattle.lagprogress.specs.Steady.{IsSteady}
 
--- the event neither moves nor forces conversation k of aggregator g of system s, lets it neither leave nor rest, and neither probes nor
--- forces a port of s
+-- the event neither moves nor forces conversation k of aggregator g of system s, and lets it neither leave its port nor rest
 abbrev pub IsNoMoveOf : Side → (g k : ℕ) → HostEvent → Type 0
 IsNoMoveOf s g k (Plays (event.Move n agg conv p)) = side_of n ≡ Some s → agg.0 ≡ g → conv ≡ k → ⊥
 IsNoMoveOf s g k (Plays (event.Force n agg conv)) = side_of n ≡ Some s → agg.0 ≡ g → conv ≡ k → ⊥
 IsNoMoveOf s g k (Leaves t agg conv) = t ≡ s → agg.0 ≡ g → conv ≡ k → ⊥
 IsNoMoveOf s g k (Rests t agg conv) = t ≡ s → agg.0 ≡ g → conv ≡ k → ⊥
-IsNoMoveOf s g k (Probes t port) = t ≡ s → ⊥
-IsNoMoveOf s g k (ForcesPort t port) = t ≡ s → ⊥
 IsNoMoveOf s g k e = Unit {0}
 
 -- no LACPDU and no marker is due at the end of the cable at system s
