@@ -1,19 +1,18 @@
 -- What each event of a round leaves of the conversations that are held on a port whose cable is healthy.
-use Rattle.lagsystem.specs.Probing.{ProbesAt, ProbesIf}
 use Rattle.lagprogress.proofs.Common.{Bool, IsSome, List, None, Ok, Option, Result, Some, [], ap, arith, cond, eqb, false, filter, inl, inr, ltb, map}
 use Rattle.lagprogress.proofs.Common.{refl, slice_get, subst, suc, sym, true, zero, ℕ, ◌+◌, ◌-◌, ◌<◌, ◌==◌, ◌||◌, ◌∙◌, ◌∷◌, ◌≡◌, ◌≤◌, ◌⊎◌, and_parts}
 use Rattle.lagprogress.proofs.Common.{cases_Bool, nat_tests, none-some, list_any, AggId, Choice, Lacpdu, Information, frame_octets, Side, peer}
 use Rattle.lagprogress.proofs.Common.{CollectingDistributing, Machines, same_mux_state, has_chosen, Assignment, On, Wanted, is_among, after_mark}
 use Rattle.lagprogress.proofs.Common.{marker_due, wants_marker, Table, assignment_of, count_conversations, next_identifier, SystemFault, SystemPort}
-use Rattle.lagprogress.proofs.Common.{Carries, IsFrame, MuxIsSettled, aggregator_numbered, distributes_in, distributing, SendsMarkerOf, TransmitsIf}
-use Rattle.lagprogress.proofs.Common.{own_marker, Settling, SystemState, ports_table, settling_parts, all-get, ItemValue, WorldState, half, no}
-use Rattle.lagprogress.proofs.Common.{AtPort}
+use Rattle.lagprogress.proofs.Common.{Carries, IsFrame, MuxIsSettled, ProbesAt, ProbesIf, aggregator_numbered, distributes_in, distributing}
+use Rattle.lagprogress.proofs.Common.{SendsMarkerOf, TransmitsIf, own_marker, Settling, SystemState, ports_table, settling_parts, all-get, ItemValue}
+use Rattle.lagprogress.proofs.Common.{WorldState, half, no, AtPort}
 use Rattle.distributor.specs.Conversations.{sum_below}
 use Rattle.slowpdu.specs.Layout.{IsAddress}
 use Rattle.slowpdu.specs.Markers.{WritesMarker}
 use Rattle.lagprogress.proofs.Climbing.{PartnerInSync, distributes_now}
-use Rattle.lagprogress.proofs.Holding.{Fine, Flights, Has, IsMarker, answering, asking, fine_map, has_last, has_on, marked_here, settled_fine, marked_beside}
-use Rattle.lagprogress.proofs.Holding.{is_port}
+use Rattle.lagprogress.proofs.Holding.{Fine, Flights, Has, IsMarker, answering, asking, fine_map, has_last, has_on, marked_here, settled_fine}
+use Rattle.lagprogress.proofs.Holding.{marked_beside, is_port}
 use Rattle.lagprogress.proofs.Linked.{Link, push_there, pushed, end_here, end_with}
 use Rattle.lagprogress.proofs.OneCable.{Went}
 use Rattle.lagprogress.proofs.Passing.{sent_carries}

@@ -1,21 +1,20 @@
 -- A port that is cut off hears nothing, and is DEFAULTED in the end.
-use Rattle.laghosts.specs.HostEvents.{HostEvent, Plays}
-use Rattle.lagprogress.specs.HostRounds.{StepReplies, IsQuiet}
 use Rattle.lagprogress.proofs.Common.{Bool, List, None, Ok, Option, Result, Some, [], ap, arith, false, if◌then◌else◌, inl, inr, not, refl, slice_get}
-use Rattle.lagprogress.proofs.Common.{slice_set, subst, sym, true, ℕ, ◌&&◌, ◌++◌, ◌+◌, ◌-◌, ◌==◌, ◌∙◌, ◌∷◌, ◌≡◌, ◌≤◌, ◌⊎◌, cases_Bool, nat_tests}
+use Rattle.lagprogress.proofs.Common.{slice_set, subst, sym, true, ℕ, ◌&&◌, ◌++◌, ◌-◌, ◌==◌, ◌∙◌, ◌∷◌, ◌≡◌, ◌≤◌, ◌⊎◌, cases_Bool, nat_tests}
 use Rattle.lagprogress.proofs.Common.{none-some, same_Some, AllByRecursion, Lacpdu, One, Side, Two, peer, value_of, ReceiveState, Machines}
 use Rattle.lagprogress.proofs.Common.{receive_rows, RunsToRest, after_sending, count_down, is_due, SystemFault, Received, TookLacpdu, SystemPort}
 use Rattle.lagprogress.proofs.Common.{Carries, IsFrame, ParsesWhere, Performs, Receive, ReceivesAt, Step, Transmit, can_receive_in, none_enabled}
 use Rattle.lagprogress.proofs.Common.{TransmitsAt, TransmitsIf, CallPromise, SystemState, port_index, can_receive_at_rest, all-get, found_place}
-use Rattle.lagprogress.proofs.Common.{Event, Reply, AfterTransmit, Algorithms, WorldSteps, side_of, HalfState, ItemValue, LinkState, WorldState}
-use Rattle.lagprogress.proofs.Common.{accepts, change_link, half, link_at, link_index, port_at, put_on_port, sent_on, towards, with_half}
-use Rattle.lagprogress.proofs.Common.{with_towards, set_elsewhere, set_here, position_there, IsTimed, most_current_while, timeout_time}
+use Rattle.lagprogress.proofs.Common.{Reply, AfterTransmit, Algorithms, WorldSteps, side_of, HalfState, ItemValue, LinkState, WorldState, accepts}
+use Rattle.lagprogress.proofs.Common.{change_link, half, link_at, link_index, port_at, put_on_port, sent_on, towards, with_half, with_towards}
+use Rattle.lagprogress.proofs.Common.{set_elsewhere, set_here, position_there, HostEvent, Plays, IsTimed, most_current_while, timeout_time}
 use Rattle.lagprogress.proofs.Common.{KeptBySettling, OfEach, Step-each, asked_each, Unheard, begins, is_defaulted, no, receives, rested}
-use Rattle.lagprogress.proofs.Common.{unheard_settles, when_up, AtPort, same_place, CutOffIsDefaulted, IsCutOff, HostRounds, IsHostRound, IsSteady}
+use Rattle.lagprogress.proofs.Common.{unheard_settles, when_up, AtPort, same_place, CutOffIsDefaulted, IsCutOff, HostRounds, IsHostRound, IsQuiet}
+use Rattle.lagprogress.proofs.Common.{StepReplies, IsSteady}
+use Rattle.lagbeside.proofs.Hearing.{counts}
 use Rattle.lagprogress.proofs.OneRound.{one_of_both}
 use Rattle.lagprogress.proofs.RoundEvents.{asked_half, came_half}
 use Rattle.lagbeside.proofs.Told.{current_within}
-use Rattle.lagbeside.proofs.Hearing.{counts}
 use Rattle.lagprogress.proofs.EachRound.{EachAt, RoundKeeps, asks_each, delivers_each, own_keeps, own_ticks, hosts_on, hosts_split, hosts_steady}
 use Rattle.lagprogress.proofs.EachRound.{tick_keeps, tick_leaves, tick_makes}
 use Rattle.lagprogress.proofs.OneCable.{Comes, Sends, came_off, ticks}

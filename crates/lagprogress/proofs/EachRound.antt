@@ -1,20 +1,16 @@
 -- What healthy rounds keep of each port of a system, and of the cables.
-use Rattle.laghosts.specs.HostEvents.{Plays}
-use Rattle.lagprogress.proofs.Quieting.{calm_steady, calm_keeps, runs_calm}
 use Rattle.lagprogress.proofs.Common.{Bool, List, Some, ap, arith, false, inl, inr, map, refl, slice_get, subst, suc, sym, true, zero, ℕ, ◌+◌, ◌∙◌}
 use Rattle.lagprogress.proofs.Common.{◌≡◌, nat_tests, Party, Lacpdu, One, Side, Two, end_at, peer, Machines, receive_rows, RunsToRest, after_sending}
 use Rattle.lagprogress.proofs.Common.{count_down, Table, SystemPort, ProcessesLacpdu, Receive, SystemState, with_system_ports, with_table, Reply}
-use Rattle.lagprogress.proofs.Common.{Algorithms, WorldSteps, link_ends, ItemValue, LinkState, WorldState, half, port_at, end_is, KeptBySettling}
-use Rattle.lagprogress.proofs.Common.{OfEach, Step-each, Tick-each, asked_each, AtPort, settling_leaves, runs_keep, takes_keep, Clearing, HostRounds}
-use Rattle.lagprogress.proofs.Common.{IsHostRound, IsPlayed, NoneIsLeft, PlayedRounds, IsRound, Rounds, IsSteady}
-use Rattle.lagprogress.proofs.Unchanged.{events_keep}
+use Rattle.lagprogress.proofs.Common.{Algorithms, WorldSteps, link_ends, ItemValue, LinkState, WorldState, half, port_at, end_is, Plays}
+use Rattle.lagprogress.proofs.Common.{KeptBySettling, OfEach, Step-each, Tick-each, asked_each, AtPort, settling_leaves, runs_keep, takes_keep}
+use Rattle.lagprogress.proofs.Common.{Clearing, HostRounds, IsHostRound, IsPlayed, NoneIsLeft, PlayedRounds, IsRound, Rounds, IsSteady}
+use Rattle.lagprogress.proofs.Quieting.{calm_steady, calm_keeps, runs_calm, quiet_ports, quiet_ends}
 use Rattle.lagprogress.proofs.OneCable.{OnCable, cable, deliver_ends, emits, ticks}
 use Rattle.lagprogress.proofs.OneRound.{ticked}
 use Rattle.lagprogress.proofs.RoundEvents.{asked_half, came_half}
-use Rattle.lagprogress.proofs.Reaching.{runs_steady}
 use Rattle.lagprogress.proofs.HostRound.{KeptBetween, MadeByTick, holds_on, of_side}
 use Rattle.lagprogress.proofs.Linked.{peer_twice, each_side}
-use Rattle.lagprogress.proofs.Quieting.{quiet_ports, quiet_ends}
 use Rattle.lagsystem.specs.declared.drive.Reply.TheVariants as answer
 use Rattle.lagscript.specs.declared.event.Event.TheVariants as event
 

@@ -1,33 +1,30 @@
 -- A port of a healthy cable is drained of a conversation that is held on it.
-use Rattle.laghosts.specs.HostEvents.{HostEvent, Plays, Sets, Offers, Leaves, Probes, ForcesPort, HostSteps}
-use Rattle.lagprogress.specs.HostRounds.{StepReplies, RunReplies, IsQuiet}
-use Rattle.lagsystem.specs.Settings.{Set_max_delay}
-use Rattle.lagprogress.proofs.Quieting.{IsCalm, calm_quiet, calm_steady, calm_keeps}
-use Rattle.lagprogress.proofs.HostSteady.{aside, caller, delay_keeps, offers_half, leaves_half, rests_half, gives_next, forces_half, probes_half, Probed}
-use Rattle.lagsystem.specs.Assigning.{OffersIf}
-use Rattle.lagsystem.specs.HostCalls.{HostPromise}
+use Rattle.lagprogress.proofs.Common.{Bool, Err, IsSome, List, None, Ok, Option, Result, Some, [], ap, arith, cond, eqb, false, inl, inr, length, ltb}
+use Rattle.lagprogress.proofs.Common.{refl, subst, suc, sym, true, zero, ℕ, ◌&&◌, ◌+◌, ◌<◌, ◌==◌, ◌^◌, ◌∙◌, ◌∷◌, ◌≡◌, ◌≤◌, ◌⊎◌, cases_Bool, nat_tests}
+use Rattle.lagprogress.proofs.Common.{none-some, Vec, AggId, Choice, is_selected, Lacpdu, One, Side, peer, Machines, is_due, Assignment, after_tick}
+use Rattle.lagprogress.proofs.Common.{marker_due, IsConversation, Table, assignment_of, next_identifier, SystemFault, OffersIf, Offer, Receive, Step}
+use Rattle.lagprogress.proofs.Common.{Tick, Transmit, HostPromise, GivesOrRefuses, system_force_result, system_move_result, number_of_conversation}
+use Rattle.lagprogress.proofs.Common.{TransmitsAt, Set_max_delay, Settling, CallPromise, SystemState, machines_of, port_index, ports_table}
+use Rattle.lagprogress.proofs.Common.{settling_parts, found_place, Event, Reply, Algorithms, WorldSteps, side_of, ItemValue, WorldState, half}
+use Rattle.lagprogress.proofs.Common.{port_at, ForcesPort, HostEvent, HostSteps, Leaves, Offers, Plays, Probes, Sets, DrainingRounds, IsDrainingRound}
+use Rattle.lagprogress.proofs.Common.{IsNoMoveOf, AfterTick, AtSomeWorld, IsBetweenTicks, IsHostRound, IsQuiet, RunReplies, StepReplies, TickOnce}
+use Rattle.lagprogress.proofs.Common.{NothingInFlight, OfPort, IsSteady}
+use Rattle.lagprogress.proofs.Quieting.{IsCalm, calm_quiet, calm_steady, calm_keeps, quiet_cable, quiet_link, offered_half, moved_half, forced_half}
+use Rattle.lagprogress.proofs.Quieting.{Grown}
+use Rattle.lagprogress.proofs.HostSteady.{aside, caller, delay_keeps, offers_half, leaves_half, rests_half, gives_next, forces_half, probes_half}
+use Rattle.lagprogress.proofs.HostSteady.{Probed}
 use Rattle.lagsystem.specs.declared.drive.HostCall.TheVariants as host
 use Rattle.lagsystem.specs.declared.drive.HostReply.TheVariants as told
-use Rattle.lagprogress.proofs.Common.{Bool, Err, IsSome, List, None, Ok, Option, Result, Some, [], ap, arith, cond, eqb, false, inl, inr, length, ltb, cases_Bool, ◌==◌, port_index}
-use Rattle.lagprogress.proofs.Common.{refl, subst, suc, sym, true, zero, ℕ, ◌&&◌, ◌+◌, ◌<◌, ◌^◌, ◌∙◌, ◌∷◌, ◌≡◌, ◌≤◌, ◌⊎◌, nat_tests, none-some, Vec}
-use Rattle.lagprogress.proofs.Common.{AggId, Choice, is_selected, Lacpdu, One, Side, peer, Machines, is_due, Assignment, after_tick, marker_due}
-use Rattle.lagprogress.proofs.Common.{IsConversation, Table, assignment_of, next_identifier, SystemFault, Offer, Receive, Step, Tick, Transmit}
-use Rattle.lagprogress.proofs.Common.{GivesOrRefuses, system_force_result, system_move_result, number_of_conversation, TransmitsAt, Settling}
-use Rattle.lagprogress.proofs.Common.{CallPromise, SystemState, machines_of, ports_table, settling_parts, found_place, Event, Reply, Algorithms}
-use Rattle.lagprogress.proofs.Common.{WorldRuns, WorldSteps, side_of, ItemValue, WorldState, half, port_at, DrainingRounds, IsDrainingRound}
-use Rattle.lagprogress.proofs.Common.{IsNoMoveOf, AfterTick, AtSomeWorld, IsBetweenTicks, IsHostRound, TickOnce, NothingInFlight, OfPort, IsSteady}
-use Rattle.lagprogress.proofs.Answering.{IsFine, Steady, fine_in_map, turned_by, sends_fine, settles_all, stays_on, went_flights, none_wanted, probes_fine, probes_beside}
-use Rattle.lagprogress.proofs.Answering.{not_wanted, none_due}
+use Rattle.lagprogress.proofs.Answering.{IsFine, Steady, fine_in_map, turned_by, sends_fine, settles_all, stays_on, went_flights, none_wanted}
+use Rattle.lagprogress.proofs.Answering.{probes_fine, probes_beside, not_wanted, none_due}
 use Rattle.lagprogress.proofs.Climbing.{PartnerInSync, choice_along, partner_along, ticks_choice, ticks_partner}
-use Rattle.lagprogress.proofs.Unchanged.{calls_keep}
 use Rattle.lagprogress.proofs.Delivering.{deliver_link}
 use Rattle.lagprogress.proofs.Draining.{after_tick_on, comes_fine, elsewhere_fine, peer_answers}
 use Rattle.lagprogress.proofs.EndFacts.{Along, activity, both_along}
-use Rattle.lagprogress.proofs.Halves.{each_is_calls, keeps_steady}
 use Rattle.lagprogress.proofs.Holding.{Fine, Flights, Has, ticked_fine, IsMarker, asking, answering, has_on, offered_fine, forced_fine}
 use Rattle.lagprogress.proofs.Linked.{Fits, Link, asked_which, each_side, emit_any, peer_twice, EndPort, end_here, other_side}
-use Rattle.lagprogress.proofs.OneCable.{Arrives, Asks, OnCable, Went, asks, cable, came_off, delivers, emits, ticks, towards_there, Beside, push, puts}
-use Rattle.lagprogress.proofs.OneCable.{port_there}
+use Rattle.lagprogress.proofs.OneCable.{Arrives, Asks, OnCable, Went, asks, cable, came_off, delivers, emits, ticks, towards_there, Beside, push}
+use Rattle.lagprogress.proofs.OneCable.{puts, port_there}
 use Rattle.lagprogress.proofs.OneRound.{join, one_of_both, ticked, Nothing}
 use Rattle.lagprogress.proofs.Knowing.{AtIt, beside, awake_peer}
 use Rattle.lagprogress.proofs.HostKnowing.{FreshAt, fits_fresh, knows_peer, stays_fresh, fits_before}
@@ -35,7 +32,6 @@ use Rattle.lagprogress.proofs.Claims.{IsNamed}
 use Rattle.lagprogress.proofs.HostRound.{left, fits_in, known_in, peer_holds, own_holds, none_ticked, Stages, of_side, MadeByTick, first_on}
 use Rattle.lagprogress.proofs.HostRound.{healthy_link, KeptWhere}
 use Rattle.lagsystem.specs.declared.drive.Reply.TheVariants as answer
-use Rattle.lagprogress.proofs.Quieting.{quiet_cable, quiet_link, offered_half, moved_half, forced_half, Grown}
 use Rattle.lagscript.specs.declared.event.Event.TheVariants as event
 
 -- identifiers

@@ -1,14 +1,11 @@
 -- How a frame that was sent on a healthy cable stays first on it through a round, until it is handed up.
-use Rattle.laghosts.specs.HostEvents.{HostEvent, Plays}
-use Rattle.lagprogress.specs.HostRounds.{StepReplies, RunReplies, IsQuiet}
-use Rattle.lagprogress.specs.Arriving.{SometimePlayed, IsEventWhere}
 use Rattle.lagprogress.proofs.Common.{Bool, List, None, Ok, Option, Result, Some, [], ap, arith, false, if◌then◌else◌, inl, inr, map, refl, slice_get}
 use Rattle.lagprogress.proofs.Common.{subst, suc, sym, true, ℕ, ◌++◌, ◌==◌, ◌∙◌, ◌∷◌, ◌≡◌, ◌⊎◌, cases_Bool, true≢false, nat_tests, same_Some, AggId}
 use Rattle.lagprogress.proofs.Common.{Choice, Selected, is_selected, Lacpdu, One, Side, Two, peer, MuxState, CollectingDistributing, same_mux_state}
 use Rattle.lagprogress.proofs.Common.{SystemFault, Received, SystemPort, Data_frame, IsFrame, MuxIsSettled, collecting, selected_aggregator}
-use Rattle.lagprogress.proofs.Common.{machines_of, port_index, all-get, found_place, Event, Reply, Algorithms, WorldRuns, WorldSteps, side_of}
-use Rattle.lagprogress.proofs.Common.{link_ends, ItemValue, LinkState, WorldState, half, port_at, towards, AtPort, HandsUp, Sometime, IsBetweenTicks}
-use Rattle.lagprogress.proofs.Common.{TickOnce, NothingInFlight, OfPort}
+use Rattle.lagprogress.proofs.Common.{machines_of, port_index, all-get, found_place, Event, Reply, Algorithms, WorldSteps, side_of, link_ends}
+use Rattle.lagprogress.proofs.Common.{ItemValue, LinkState, WorldState, half, port_at, towards, HostEvent, Plays, AtPort, HandsUp, IsEventWhere}
+use Rattle.lagprogress.proofs.Common.{SometimePlayed, IsBetweenTicks, IsQuiet, RunReplies, StepReplies, TickOnce, NothingInFlight, OfPort}
 use Rattle.lagprogress.proofs.ArrivingLemmas.{deliver_hands_up}
 use Rattle.lagprogress.proofs.Climbing.{PartnerInSync, distributes_now, partner_along, ticks_partner}
 use Rattle.lagprogress.proofs.EachRound.{same_index}

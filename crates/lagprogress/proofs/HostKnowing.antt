@@ -6,8 +6,8 @@ use Rattle.lagprogress.proofs.Claims.{IsNamed, Wakeful}
 use Rattle.lagprogress.proofs.EndFacts.{Along, Synced, activity, less_known}
 use Rattle.lagprogress.proofs.HostHearing.{Hears as Heard, host_present, nears, passes, stays_told}
 use Rattle.lagprogress.proofs.HostRound.{host_keeps}
-use Rattle.lagprogress.proofs.Knowing.{Able, AtIt, Chain, Hears, Met, Signs, able_fresh as able_met, beside, both_meet, fits_before as fits_met}
-use Rattle.lagprogress.proofs.Knowing.{fits_fresh as fits_next, knows_peer as knows_met, met_knows, one_meets as one_met, sounds_now, stays_met}
+use Rattle.lagprogress.proofs.Knowing.{AtIt, Chain, Hears, Met, Signs, beside, both_meet, fits_before as fits_met, fits_fresh as fits_next}
+use Rattle.lagprogress.proofs.Knowing.{knows_peer as knows_met, met_knows, one_meets as one_met, sounds_now, stays_met}
 use Rattle.lagprogress.proofs.Lapsing.{Lapsed, Lasting, Phase, Tails, lasting_now, lasting_passes}
 use Rattle.lagprogress.proofs.Linked.{Fits, Link, of_end, other_ports}
 use Rattle.lagprogress.proofs.OneRound.{Nothing, beside_here, join, ticked}

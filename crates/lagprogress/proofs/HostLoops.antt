@@ -1,31 +1,27 @@
 -- Which runs are healthy rounds of hosts.
-use Rattle.laghosts.specs.HostEvents.{HostEvent, HostRuns, HostSteps, Plays}
-use Rattle.lagprogress.specs.HostRounds.{StepReplies, RunReplies}
-use Rattle.lagprogress.proofs.Quieting.{IsCalm, calm_between, calm_tick, calm_steady, calm_place}
-use Rattle.std.specs.Prelude.{map}
-use Rattle.lagprogress.proofs.EachRound.{each_between}
-use Rattle.lagworld.specs.declared.reply.Reply.TheVariants as reply
 use Rattle.lagprogress.proofs.Common.{Bool, Err, List, None, Ok, Option, Result, Some, [], ap, append_assoc, arith, cond, eqb, false, inl, inr, ltb}
 use Rattle.lagprogress.proofs.Common.{refl, slice_get, subst, suc, sym, true, zero, ℕ, ◌++◌, ◌+◌, ◌∙◌, ◌∷◌, ◌≡◌, cases_Bool, false≢true, nat_tests}
-use Rattle.lagprogress.proofs.Common.{none-some, same_Some, AllByRecursion, Pdu, pdu_in, all-append, One, Side, Two, peer, value_of, Machines}
-use Rattle.lagprogress.proofs.Common.{after_sending, is_due, Assignment, Flushing, Wanted, after_mark, marker_due, wants_marker, Table, assignment_of}
+use Rattle.lagprogress.proofs.Common.{none-some, same_Some, AllByRecursion, Pdu, pdu_in, One, Side, Two, peer, value_of, Machines, after_sending}
+use Rattle.lagprogress.proofs.Common.{is_due, Assignment, Flushing, Wanted, after_mark, marker_due, wants_marker, Table, assignment_of}
 use Rattle.lagprogress.proofs.Common.{count_conversations, next_identifier, SystemFault, SystemPort, Step, Transmit, SendsMarkerOf, TransmitsAt}
 use Rattle.lagprogress.proofs.Common.{TransmitsIf, SystemState, machines_of, port_index, all-get, found_place, ports_rise, Event, Reply}
-use Rattle.lagprogress.proofs.Common.{AfterTransmit, Algorithms, WorldEmits, WorldRuns, WorldSteps, sent_reply, side_of, payload_in, HalfState}
-use Rattle.lagprogress.proofs.Common.{LinkState, WorldState, half, is_accepted, port_at, with_half, half_there, OfEach, Tick-each, placed, AtPort}
-use Rattle.lagprogress.proofs.Common.{at_number, AskingInVainIsDraining, AsksInVain, AsksInVainAfterTick, DrainingRounds, IsNoMoveOf, NothingIsDue}
-use Rattle.lagprogress.proofs.Common.{RoundIsDraining, sent_nothing, AfterTick, AskingIsHostRound, Asks, AsksAfterTick, AsksIn, AtSomeWorld, Clearing}
-use Rattle.lagprogress.proofs.Common.{HostRounds, IsBetweenTicks, IsPlayed, IsTickOf, LoopIsHostRound, NoneIsLeft, RoundIsHostRound}
-use Rattle.lagprogress.proofs.Common.{RoundsAreHostRounds, TickOnce, AtEnd, IsDeliver, IsHealthyAt, OfPort, Rounds, asks_all, ticks_of_both, IsSteady}
+use Rattle.lagprogress.proofs.Common.{AfterTransmit, Algorithms, WorldEmits, WorldRuns, sent_reply, side_of, payload_in, HalfState, LinkState}
+use Rattle.lagprogress.proofs.Common.{WorldState, half, is_accepted, port_at, with_half, half_there, HostEvent, HostRuns, HostSteps, Plays, OfEach}
+use Rattle.lagprogress.proofs.Common.{Tick-each, placed, AtPort, at_number, AskingInVainIsDraining, AsksInVain, AsksInVainAfterTick, DrainingRounds}
+use Rattle.lagprogress.proofs.Common.{IsNoMoveOf, NothingIsDue, RoundIsDraining, sent_nothing, AfterTick, AskingIsHostRound, Asks, AsksAfterTick}
+use Rattle.lagprogress.proofs.Common.{AsksIn, AtSomeWorld, Clearing, HostRounds, IsBetweenTicks, IsPlayed, IsTickOf, LoopIsHostRound, NoneIsLeft}
+use Rattle.lagprogress.proofs.Common.{RoundIsHostRound, RoundsAreHostRounds, RunReplies, StepReplies, TickOnce, AtEnd, IsDeliver, IsHealthyAt, OfPort}
+use Rattle.lagprogress.proofs.Common.{Rounds, asks_all, ticks_of_both, IsSteady}
+use Rattle.lagprogress.proofs.Quieting.{IsCalm, calm_between, calm_tick, calm_steady, calm_place}
+use Rattle.std.specs.Prelude.{map}
+use Rattle.lagprogress.proofs.EachRound.{each_between, EachAt, own_keeps, own_ticks, hosts_steady}
+use Rattle.lagworld.specs.declared.reply.Reply.TheVariants as reply
 use Rattle.distributor.specs.Conversations.{sum_below}
-use Rattle.lagprogress.proofs.EachRound.{EachAt, asks_each, delivers_each, own_keeps, own_ticks, hosts_steady}
-use Rattle.lagprogress.proofs.Halves.{keeps_steady}
 use Rattle.lagprogress.proofs.HostRound.{of_side, turned}
-use Rattle.lagprogress.proofs.Linked.{each_side, found, machines_there, place_kept}
+use Rattle.lagprogress.proofs.Linked.{each_side, found, machines_there}
 use Rattle.lagprogress.proofs.OneCable.{Emits, emits, ticks}
 use Rattle.lagprogress.proofs.OneRound.{IsAsk, all_ask, asks_twice, same_ports_then}
 use Rattle.lagprogress.proofs.Passing.{sends_due}
-use Rattle.lagprogress.proofs.Quieting.{quiet_ports}
 use Rattle.lagsystem.specs.declared.drive.Reply.TheVariants as answer
 use Rattle.lagscript.specs.declared.event.Event.TheVariants as event
 use Rattle.lagprogress.proofs.Lasting.{ends_at}

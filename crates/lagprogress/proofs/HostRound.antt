@@ -1,23 +1,20 @@
 -- What a round of hosts leaves of a cable, by its stages.
-use Rattle.laghosts.specs.HostEvents.{HostEvent, Plays}
-use Rattle.lagprogress.specs.HostRounds.{StepReplies, RunReplies, IsQuiet}
 use Rattle.lagprogress.proofs.Common.{Bool, List, None, Some, [], ap, arith, false, inl, inr, refl, subst, sym, true, ℕ, ◌-◌, ◌∙◌, ◌∷◌, ◌≡◌, ◌≤◌, ◌⊎◌}
 use Rattle.lagprogress.proofs.Common.{nat_tests, same_Some, AllByRecursion, Lacpdu, One, Side, Two, peer, Machines, periodic_rows, receive_rows}
-use Rattle.lagprogress.proofs.Common.{AtRest, RunsToRest, after_sending, count_down, is_due, SystemState, machines_of, Event, Reply, Algorithms}
-use Rattle.lagprogress.proofs.Common.{WorldRuns, WorldSteps, side_of, ItemValue, WorldState, half, limit_towards, timeout_time, OfEach, Tick-each, no}
-use Rattle.lagprogress.proofs.Common.{counts, AtPort, mux_leaves, periodic_leaves, with_rest, Sounds, AfterTick, AtSomeWorld, Clearing}
-use Rattle.lagprogress.proofs.Common.{IsBetweenTicks, IsHostRound, IsPlayed, IsTickOf, TickOnce, IsHealthyAt, OfPort}
+use Rattle.lagprogress.proofs.Common.{AtRest, RunsToRest, after_sending, count_down, SystemState, machines_of, Reply, Algorithms, WorldSteps, side_of}
+use Rattle.lagprogress.proofs.Common.{WorldState, half, limit_towards, HostEvent, Plays, OfEach, Tick-each, no, counts, AtPort, mux_leaves}
+use Rattle.lagprogress.proofs.Common.{periodic_leaves, with_rest, AfterTick, AtSomeWorld, Clearing, IsBetweenTicks, IsPlayed, IsTickOf, RunReplies}
+use Rattle.lagprogress.proofs.Common.{StepReplies, TickOnce, IsHealthyAt, OfPort}
 use Rattle.lagsystem.specs.declared.drive.Reply.TheVariants as answer
 use Rattle.lagscript.specs.declared.event.Event.TheVariants as event
 use Rattle.lagprogress.proofs.Climbing.{known_still}
 use Rattle.lagprogress.proofs.Delivering.{deliver_link}
-use Rattle.lagprogress.proofs.EndFacts.{Along, CanSound, IsEnd, Learnt, nothing_along, sounds_along, takes_learnt, ticks_end, short_timeout, wait_of}
-use Rattle.lagprogress.proofs.EndFacts.{activity}
+use Rattle.lagprogress.proofs.EndFacts.{Along, IsEnd, Learnt, nothing_along, takes_learnt, ticks_end, wait_of, activity}
 use Rattle.lagprogress.proofs.Halves.{keeps_steady}
-use Rattle.lagprogress.proofs.Linked.{EndIs, Fits, Flying, Left, Link, each_map, each_side, emit_any, end_kept, end_here, of_end, other_ports}
-use Rattle.lagprogress.proofs.Linked.{other_side, at_end, end_with, peer_twice, place_kept, with_ports}
-use Rattle.lagprogress.proofs.OneCable.{OnCable, cable, port_there, ticks, towards_there}
-use Rattle.lagprogress.proofs.OneRound.{Asked, Nothing, Passes, ask_which, at_rest, beside_here, Later, join, sounds_pass, ticked}
+use Rattle.lagprogress.proofs.Linked.{EndIs, Fits, Left, Link, each_map, each_side, emit_any, end_kept, end_here, other_ports, other_side, peer_twice}
+use Rattle.lagprogress.proofs.Linked.{place_kept}
+use Rattle.lagprogress.proofs.OneCable.{OnCable, cable, port_there, ticks}
+use Rattle.lagprogress.proofs.OneRound.{Nothing, ticked}
 use Rattle.lagprogress.proofs.Quieting.{quiet_link}
 
 -- numbers of both sides

@@ -1,10 +1,8 @@
 -- What the ends of a cable took last bears the present change counts, in healthy rounds of hosts.
-use Rattle.laghosts.specs.HostEvents.{HostEvent, Plays}
-use Rattle.lagprogress.specs.HostRounds.{StepReplies, IsQuiet}
 use Rattle.lagprogress.proofs.Common.{Bool, Err, List, Ok, Result, [], ap, inl, inr, is_some, slice_get, subst, sym, ℕ, ◌++◌, ◌∙◌, ◌∷◌, ◌≡◌, ◌≤◌, ◌⊎◌}
 use Rattle.lagprogress.proofs.Common.{none-some, same_Some, AllByRecursion, Lacpdu, all-append, Side, peer, Machines, SystemFault, Received, Carries}
-use Rattle.lagprogress.proofs.Common.{IsFrame, Receive, CallPromise, Event, Reply, Algorithms, WorldSteps, ItemValue, WorldState, change_count_in}
-use Rattle.lagprogress.proofs.Common.{half, history_at, towards}
+use Rattle.lagprogress.proofs.Common.{IsFrame, Receive, CallPromise, Reply, Algorithms, ItemValue, WorldState, change_count_in, half, history_at}
+use Rattle.lagprogress.proofs.Common.{towards, HostEvent, Plays, IsQuiet, StepReplies}
 use Rattle.slowpdu.specs.declared.pdu.Pdu.TheVariants as pdu
 use Rattle.lagsystem.specs.declared.drive.Reply.TheVariants as answer
 use Rattle.lagscript.specs.declared.event.Event.TheVariants as event

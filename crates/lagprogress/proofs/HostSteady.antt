@@ -1,19 +1,14 @@
 -- What calls and settings of hosts leave of both systems.
-use Rattle.lagsystem.specs.Settings.{Set_max_delay, SettingPromise}
-use Rattle.lagsystem.specs.Assigning.{OffersIf}
-use Rattle.lagsystem.specs.Offers.{GivesOrRefuses}
-use Rattle.distributor.specs.declared.assignment.Assignment.{Assignment}
-use Rattle.lagsystem.specs.State.{with_table}
-use Rattle.distributor.specs.Conversations.{Table}
-use Rattle.lagprogress.proofs.Common.{◌≤◌, arith}
-use Rattle.lagprogress.proofs.Common.{Bool, Err, List, None, Ok, Option, Result, Some, [], ap, false, inl, inr, refl, subst, sym, true, ℕ, ◌∙◌, ◌∷◌}
-use Rattle.lagprogress.proofs.Common.{◌≡◌, ◌⊎◌, none-some, same_Some, AggId, Lacpdu, One, Side, Two, peer, next_identifier, HostCall, HostReply}
-use Rattle.lagprogress.proofs.Common.{Answer, SystemFault, Call, Carries, IsFrame, Step, call_of, HostPromise, SendsMarkerOf, IsSound, SystemState}
-use Rattle.lagprogress.proofs.Common.{port_index, IsOther, TableAlone, host_alone, Step-sound, Algorithms, transmitted_item, with_item_sent}
-use Rattle.lagprogress.proofs.Common.{forced_if_accepted, HalfState, ItemValue, LinkState, WorldState, half, put_on_port, with_half, start_sound}
-use Rattle.lagprogress.proofs.Common.{hosts_keep_headline, PortsAreTimed, Step-each, calls_each, TimedAt, setting_timed, timed_kept, timed_settles}
-use Rattle.lagprogress.proofs.Common.{EachHostReachedIsSteady, EachHostRunKeepsSteady}
-use Rattle.lagsystem.specs.Probing.{ProbesAt, ProbesIf}
+use Rattle.lagprogress.proofs.Common.{Bool, Err, List, None, Ok, Option, Result, Some, [], ap, arith, false, inl, inr, refl, subst, sym, true, ℕ, ◌∙◌}
+use Rattle.lagprogress.proofs.Common.{◌∷◌, ◌≡◌, ◌≤◌, ◌⊎◌, none-some, same_Some, AggId, Lacpdu, One, Side, Two, peer, Assignment, Table}
+use Rattle.lagprogress.proofs.Common.{next_identifier, HostCall, HostReply, Answer, SystemFault, OffersIf, Call, Carries, IsFrame, Step, call_of}
+use Rattle.lagprogress.proofs.Common.{HostPromise, GivesOrRefuses, ProbesAt, ProbesIf, SendsMarkerOf, Set_max_delay, SettingPromise, IsSound}
+use Rattle.lagprogress.proofs.Common.{SystemState, port_index, with_table, IsOther, TableAlone, host_alone, Step-sound, Algorithms, transmitted_item}
+use Rattle.lagprogress.proofs.Common.{with_item_sent, forced_if_accepted, HalfState, ItemValue, LinkState, WorldState, half, put_on_port, with_half}
+use Rattle.lagprogress.proofs.Common.{start_sound, AfterNumberedOffer, AfterProbe, CountsHeldIfOk, ForcesPort, HalfTells, HostEvent, HostRuns}
+use Rattle.lagprogress.proofs.Common.{HostSteps, Leaves, Offers, Plays, Probes, Rests, Sets, numbered_item, hosts_keep_headline, PortsAreTimed}
+use Rattle.lagprogress.proofs.Common.{Step-each, calls_each, TimedAt, setting_timed, timed_kept, timed_settles, EachHostReachedIsSteady}
+use Rattle.lagprogress.proofs.Common.{EachHostRunKeepsSteady}
 use Rattle.slowpdu.specs.declared.pdu.Pdu.TheVariants as pdu
 use Rattle.lagsystem.specs.declared.drive.HostCall.TheVariants as host
 use Rattle.lagsystem.specs.declared.drive.HostReply.TheVariants as told
@@ -23,8 +18,6 @@ use Rattle.lagsystem.proofs.ProbingLemmas.{probes_sound}
 use Rattle.lagsystem.proofs.SettingsKeep.{setting_sound}
 use Rattle.lagworld.specs.Asking.{with_sent_in}
 use Rattle.lagworld.proofs.OneSystem.{after_call}
-use Rattle.laghosts.specs.HostEvents.{AfterNumberedOffer, AfterProbe, CountsHeldIfOk, ForcesPort, HalfTells, HostEvent, HostRuns, HostSteps, Leaves}
-use Rattle.laghosts.specs.HostEvents.{Offers, Plays, Probes, Rests, Sets, numbered_item}
 use Rattle.laghosts.proofs.HostHappens.{offered_joint}
 use Rattle.lagprogress.proofs.Halves.{each_is_calls, start_steady}
 use Rattle.lagbeside.proofs.HostWaits.{forces_port}

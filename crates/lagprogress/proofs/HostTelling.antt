@@ -1,13 +1,11 @@
 -- In a healthy round of hosts, an end that hears the other is told when the other is synchronized, or the other owes it an LACPDU.
-use Rattle.laghosts.specs.HostEvents.{HostEvent, Plays}
-use Rattle.lagprogress.specs.HostRounds.{StepReplies, IsQuiet}
 use Rattle.lagprogress.proofs.Common.{Bool, List, Some, [], ap, arith, false, inl, inr, refl, slice_get, subst, sym, true, ℕ, ◌-◌, ◌∙◌, ◌∷◌, ◌≡◌, ◌≤◌}
 use Rattle.lagprogress.proofs.Common.{◌⊎◌, cases_Bool, same_Some, AllByRecursion, Lacpdu, Side, peer, Machines, partner_synchronized, periodic_rows}
 use Rattle.lagprogress.proofs.Common.{receive_rows, AtRest, RunsToRest, after_sending, count_down, is_due, SystemPort, Carries, IsFrame}
-use Rattle.lagprogress.proofs.Common.{OnlyPortChangesBy, ProcessesLacpdu, ThenSettles, SystemState, machines_of, found_place, Event, Reply}
-use Rattle.lagprogress.proofs.Common.{Algorithms, WorldSteps, side_of, ItemValue, WorldState, half, towards, timeout_time, KeptBySettling, OfEach}
-use Rattle.lagprogress.proofs.Common.{Tick-each, counts, AtPort, Sounds, AfterTick, Clearing, IsBetweenTicks, IsHostRound, IsPlayed, NothingInFlight}
-use Rattle.lagprogress.proofs.Common.{OfPort}
+use Rattle.lagprogress.proofs.Common.{OnlyPortChangesBy, ProcessesLacpdu, ThenSettles, SystemState, machines_of, found_place, Reply, Algorithms}
+use Rattle.lagprogress.proofs.Common.{WorldSteps, side_of, ItemValue, WorldState, half, towards, HostEvent, Plays, timeout_time, KeptBySettling}
+use Rattle.lagprogress.proofs.Common.{OfEach, Tick-each, counts, AtPort, Sounds, AfterTick, Clearing, IsBetweenTicks, IsHostRound, IsPlayed, IsQuiet}
+use Rattle.lagprogress.proofs.Common.{StepReplies, NothingInFlight, OfPort}
 use Rattle.slowpdu.specs.declared.pdu.Pdu.TheVariants as pdu
 use Rattle.lagsystem.specs.declared.drive.Reply.TheVariants as answer
 use Rattle.lagscript.specs.declared.event.Event.TheVariants as event

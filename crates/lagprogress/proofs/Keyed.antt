@@ -1,20 +1,15 @@
 -- The ports of a key that are one group are in one aggregator.
-use Rattle.laghosts.specs.HostEvents.{HostEvent, Plays}
-use Rattle.lagprogress.specs.HostRounds.{StepReplies}
-use Rattle.lagprogress.proofs.Quieting.{IsCalm, calm_steady, runs_calm, quiet_ports}
-use Rattle.lagprogress.proofs.Halves.{each_is_calls}
-use Rattle.lagbeside.proofs.OnePort.{calls_each}
-use Rattle.lagmodel.specs.World.{One}
-use Rattle.lagprogress.specs.Steady.{IsSteady}
-use Rattle.lagprogress.proofs.Common.{List, Some, ap, arith, refl, slice_get, subst, sym, true, ℕ, ◌∙◌, ◌≡◌, ◌≢◌, ◌≤◌, false≢true, none-some, AggId, Reply}
-use Rattle.lagprogress.proofs.Common.{Key, Choice, Selected, Unselected, is_selected, Side, Machines, group-test, HostCall, HostReply, Answer}
+use Rattle.lagprogress.proofs.Common.{List, Some, ap, arith, refl, slice_get, subst, sym, true, ℕ, ◌∙◌, ◌≡◌, ◌≢◌, ◌≤◌, false≢true, none-some, AggId}
+use Rattle.lagprogress.proofs.Common.{Key, Choice, Selected, Unselected, is_selected, One, Side, Machines, group-test, HostCall, HostReply, Answer}
 use Rattle.lagprogress.proofs.Common.{SystemPort, Call, Step, call_of, HostPromise, HostRun, OccupantsAgree, occupied, IsSound, PortsAgree}
 use Rattle.lagprogress.proofs.Common.{SystemState, with_table, selection_view, first_unselected, TableAlone, agrees_beside, host_alone, all-get}
-use Rattle.lagprogress.proofs.Common.{found_place, ports_rise, Step-sound, agrees, Algorithms, LinkState, WorldState, half, port_at, AtPort}
-use Rattle.lagprogress.proofs.Common.{at_number, BothAreActive, EachLinkComesUp, EndsOfEachKnow, IsBundle, OneIsActive, Distributes, HostRounds}
-use Rattle.lagprogress.proofs.Common.{IsHealthyAt, known_if_both_active, known_if_one_is, up_if_both_active, up_if_one_is, AreOneGroup}
-use Rattle.lagprogress.proofs.Common.{AreInOneAggregator, CallsKeepGroupsWhole, EachKeyIsInOneAggregator, FirstGroupsAreWhole, GroupsAreWhole}
-use Rattle.lagprogress.proofs.Common.{ReachedGroupsAreWhole}
+use Rattle.lagprogress.proofs.Common.{found_place, ports_rise, Step-sound, agrees, Reply, Algorithms, LinkState, WorldState, half, port_at, HostEvent}
+use Rattle.lagprogress.proofs.Common.{Plays, AtPort, at_number, calls_each, BothAreActive, EachLinkComesUp, EndsOfEachKnow, IsBundle, OneIsActive}
+use Rattle.lagprogress.proofs.Common.{Distributes, HostRounds, StepReplies, IsHealthyAt, known_if_both_active, known_if_one_is, up_if_both_active}
+use Rattle.lagprogress.proofs.Common.{up_if_one_is, AreOneGroup, IsSteady, AreInOneAggregator, CallsKeepGroupsWhole, EachKeyIsInOneAggregator}
+use Rattle.lagprogress.proofs.Common.{FirstGroupsAreWhole, GroupsAreWhole, ReachedGroupsAreWhole}
+use Rattle.lagprogress.proofs.Quieting.{IsCalm, calm_steady, runs_calm, quiet_ports}
+use Rattle.lagprogress.proofs.Halves.{each_is_calls, both_first, start_steady}
 use Rattle.lagsystem.specs.declared.drive.HostCall.TheVariants as host
 use Rattle.lagsystem.specs.declared.drive.HostReply.TheVariants as told
 use Rattle.lagsystem.proofs.OccupantSteps.{Step-placed}
@@ -22,7 +17,6 @@ use Rattle.std.specs.Prelude.{[], ◌∷◌}
 use Rattle.lagprogress.proofs.Bundling.{heard_holds, each_active_link_comes_up_by_hosts, each_link_comes_up_by_hosts}
 use Rattle.lagprogress.proofs.EachRound.{hosts_on}
 use Rattle.lagprogress.proofs.Grouping.{InOne, first_in_one, in_one_of, step_in_one, whole_of}
-use Rattle.lagprogress.proofs.Halves.{both_first, start_steady}
 use Rattle.lagprogress.proofs.HostKnowing.{active_ends_know_by_hosts, ends_know_by_hosts}
 use Rattle.lagprogress.proofs.Lasting.{still_heard}
 use Rattle.lagprogress.proofs.Linked.{events_each}

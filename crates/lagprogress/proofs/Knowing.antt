@@ -1,8 +1,8 @@
 -- How the ends of a cable come to know each other, by rounds of any kind.
 use Rattle.lagprogress.proofs.Common.{Bool, arith, false, inl, inr, refl, subst, suc, sym, true, zero, ℕ, ◌+◌, ◌-◌, ◌∙◌, ◌≡◌, ◌≤◌, ◌⊎◌, cases_Bool}
-use Rattle.lagprogress.proofs.Common.{Lacpdu, One, Side, Two, peer, Machines, periodic_rows, AtRest, Algorithms, LinkState, WorldState, machines_of}
-use Rattle.lagprogress.proofs.Common.{half, port_at, IsTimed, timeout_time, OfEach, no, AtPort, Sounds, silence_of, sounds_first, Clearing}
-use Rattle.lagprogress.proofs.Common.{IsPlayed, PlayedRounds, EndKnows, Knows, AtEnd, OfPort}
+use Rattle.lagprogress.proofs.Common.{Lacpdu, One, Side, Two, peer, Machines, periodic_rows, AtRest, machines_of, Algorithms, LinkState, WorldState}
+use Rattle.lagprogress.proofs.Common.{half, port_at, IsTimed, timeout_time, OfEach, no, AtPort, Sounds, silence_of, sounds_first, Clearing, IsPlayed}
+use Rattle.lagprogress.proofs.Common.{PlayedRounds, EndKnows, Knows, AtEnd, OfPort}
 use Rattle.lagprogress.proofs.Claims.{IsNamed, Wakeful, can_wake}
 use Rattle.lagprogress.proofs.EndFacts.{CanSound, IsEnd, Learnt, activity, calm, less_known, short_timeout, wait_of}
 use Rattle.lagprogress.proofs.HostRound.{host_keeps, two, two_other, two_there}

@@ -1,9 +1,7 @@
 -- An LACPDU that was on the cable when a late round began is heard in it.
-use Rattle.laghosts.specs.HostEvents.{HostEvent, Plays}
-use Rattle.lagprogress.specs.HostRounds.{StepReplies}
 use Rattle.lagprogress.proofs.Common.{Bool, List, Some, [], arith, false, inl, inr, length, map, refl, subst, suc, sym, true, ℕ, ◌-◌, ◌∙◌, ◌∷◌, ◌≡◌}
-use Rattle.lagprogress.proofs.Common.{◌≤◌, ◌⊎◌, Lacpdu, Side, peer, Event, Reply, Algorithms, WorldSteps, side_of, link_ends, ItemValue, WorldState}
-use Rattle.lagprogress.proofs.Common.{half, KeptBySettling, AtPort, ArriveIn, IsArrivalAt, IsLateRound}
+use Rattle.lagprogress.proofs.Common.{◌≤◌, ◌⊎◌, Lacpdu, Side, peer, Reply, Algorithms, WorldSteps, side_of, link_ends, ItemValue, WorldState, half}
+use Rattle.lagprogress.proofs.Common.{HostEvent, Plays, KeptBySettling, AtPort, StepReplies, ArriveIn, IsArrivalAt, IsLateRound}
 use Rattle.lagscript.specs.declared.event.Event.TheVariants as event
 use Rattle.lagprogress.proofs.Claims.{IsNamed, Wakeful, wakeful_along}
 use Rattle.lagprogress.proofs.EachRound.{joins_kept, joins_tick}

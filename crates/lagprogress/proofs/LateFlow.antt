@@ -1,11 +1,9 @@
 -- What a run leaves of the items that were on a cable, by the number of them that arrive.
-use Rattle.laghosts.specs.HostEvents.{HostEvent, Plays}
-use Rattle.lagprogress.specs.HostRounds.{StepReplies, RunReplies, IsQuiet}
 use Rattle.lagprogress.proofs.Common.{Bool, List, None, Option, Result, Some, [], ap, arith, false, inl, inr, length, map, refl, slice_get, subst}
 use Rattle.lagprogress.proofs.Common.{suc, sym, true, zero, ℕ, ◌++◌, ◌==◌, ◌∙◌, ◌∷◌, ◌≡◌, ◌⊎◌, cases_Bool, nat_tests, same_Some, AllByRecursion}
-use Rattle.lagprogress.proofs.Common.{all-append, One, Side, end_at, peer, value_of, SystemFault, Received, Receive, CallPromise, SystemState, Event}
-use Rattle.lagprogress.proofs.Common.{Reply, Algorithms, DeliversFrom, WorldRuns, WorldSteps, side_of, link_ends, ItemValue, LinkState, WorldState}
-use Rattle.lagprogress.proofs.Common.{half, towards, end_is, IsBetweenTicks, TickOnce, ArriveIn, IsArrivalAt}
+use Rattle.lagprogress.proofs.Common.{all-append, One, Side, end_at, peer, value_of, SystemFault, Received, Receive, CallPromise, SystemState, Reply}
+use Rattle.lagprogress.proofs.Common.{Algorithms, DeliversFrom, WorldSteps, side_of, link_ends, ItemValue, LinkState, WorldState, half, towards}
+use Rattle.lagprogress.proofs.Common.{end_is, HostEvent, Plays, IsBetweenTicks, IsQuiet, RunReplies, StepReplies, TickOnce, ArriveIn, IsArrivalAt}
 use Rattle.lagsystem.specs.declared.drive.Reply.TheVariants as answer
 use Rattle.lagscript.specs.declared.event.Event.TheVariants as event
 use Rattle.lagprogress.proofs.Delivering.{responds_none}

@@ -5,8 +5,8 @@ use Rattle.lagprogress.proofs.Common.{IsLateRound, LateRounds, OldArrive, late_k
 use Rattle.lagprogress.proofs.Claims.{IsNamed, Wakeful}
 use Rattle.lagprogress.proofs.Climbing.{PartnerInSync}
 use Rattle.lagprogress.proofs.EndFacts.{Along, CanSound, activity}
-use Rattle.lagprogress.proofs.Knowing.{Able, AtIt, Chain, Hears, Met, Signs, able_fresh, both_meet, fits_before, fits_fresh, knows_peer, met_knows}
-use Rattle.lagprogress.proofs.Knowing.{one_meets, some_silence, sounds_now, stays_met}
+use Rattle.lagprogress.proofs.Knowing.{AtIt, Chain, Hears, Met, Signs, both_meet, fits_before, fits_fresh, knows_peer, met_knows, one_meets}
+use Rattle.lagprogress.proofs.Knowing.{some_silence, sounds_now, stays_met}
 use Rattle.lagprogress.proofs.LateHearing.{Ahead, Flies, Hears as Heard, Said, Whoever, late_flies, late_nears, late_passes, late_stamped, late_told}
 use Rattle.lagprogress.proofs.LateHearing.{late_took}
 use Rattle.lagprogress.proofs.Lapsing.{Lapsed, Lasting, Phase, Tails, lasting_now, lasting_passes}

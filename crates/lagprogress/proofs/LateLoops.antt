@@ -1,9 +1,7 @@
 -- Which events are a late round.
-use Rattle.laghosts.specs.HostEvents.{HostEvent}
-use Rattle.lagprogress.specs.HostRounds.{StepReplies, RunReplies}
 use Rattle.lagprogress.proofs.Common.{Bool, List, [], ap, false, inl, inr, length, refl, subst, suc, sym, true, zero, ℕ, ◌++◌, ◌∙◌, ◌∷◌, ◌≡◌, One}
-use Rattle.lagprogress.proofs.Common.{Side, peer, Event, Reply, Algorithms, WorldRuns, WorldSteps, ItemValue, WorldState, port_at, towards, IsTickOf}
-use Rattle.lagprogress.proofs.Common.{TickOnce, ArriveIn, AskingIsLateRound, HostRoundIsLateRound, OldArrive}
+use Rattle.lagprogress.proofs.Common.{Side, peer, Reply, Algorithms, ItemValue, WorldState, port_at, towards, HostEvent, IsTickOf, RunReplies}
+use Rattle.lagprogress.proofs.Common.{StepReplies, TickOnce, ArriveIn, AskingIsLateRound, HostRoundIsLateRound, OldArrive}
 use Rattle.lagprogress.proofs.EachRound.{joins_kept}
 use Rattle.lagprogress.proofs.HostLoops.{asking_is_one}
 use Rattle.lagprogress.proofs.LateFlow.{flows, gain_at, stays_there}

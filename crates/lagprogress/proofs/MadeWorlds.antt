@@ -1,11 +1,11 @@
 -- A world that events lead to from one that was made is a bundle, if its links are up as it wants them.
-use Rattle.lagprogress.proofs.Looping.{RunsEvents}
 use Rattle.lagprogress.proofs.Common.{Bool, List, None, Option, Some, [], ap, arith, false, if◌then◌else◌, map, refl, subst, suc, sym, true, zero, ℕ}
 use Rattle.lagprogress.proofs.Common.{◌++◌, ◌+◌, ◌-◌, ◌∙◌, ◌∷◌, ◌≡◌, none-some, SystemId, same_system, system-itself, One, Side, Two, WorldSetup}
-use Rattle.lagprogress.proofs.Common.{Config, config_value, Event, Reply, Algorithms, WorldRuns, AreFirst, LinkState, WorldState, half, start_sound}
-use Rattle.lagprogress.proofs.Common.{hosts_keep_headline, no, EachLinkAgrees, EachLinkComesUp, HostReachedIsBundle, IsBundle, ReachedIsApart}
-use Rattle.lagprogress.proofs.Common.{ReachedIsBundle, SystemsDiffer, CarriersAreUp, NothingIsHeld, DrainingRounds, NothingIsHeldByHosts, HostRounds}
-use Rattle.lagprogress.proofs.Common.{EachAgrees, EachDistributes, IsReached, IsReady, LeadsTo, NothingStaysHeld, Rounds, IsSteady}
+use Rattle.lagprogress.proofs.Common.{Config, config_value, Algorithms, AreFirst, LinkState, WorldState, half, start_sound, hosts_keep_headline, no}
+use Rattle.lagprogress.proofs.Common.{EachLinkAgrees, EachLinkComesUp, HostReachedIsBundle, IsBundle, ReachedIsApart, ReachedIsBundle, SystemsDiffer}
+use Rattle.lagprogress.proofs.Common.{CarriersAreUp, NothingIsHeld, DrainingRounds, NothingIsHeldByHosts, HostRounds, EachAgrees, EachDistributes}
+use Rattle.lagprogress.proofs.Common.{IsReached, IsReady, LeadsTo, NothingStaysHeld, Rounds, IsSteady}
+use Rattle.lagprogress.proofs.Looping.{RunsEvents}
 use Rattle.lagscript.specs.declared.config.BadWorld.TheVariants.{SameSystem}
 use Rattle.cables.specs.declared.item.Item.{Item}
 use Rattle.lagscript.specs.Configs.{refusal_of_all}

@@ -1,16 +1,14 @@
 -- A frame that a bundle is offered after its links came up arrives within one round.
-use Rattle.laghosts.specs.HostEvents.{HostEvent, Plays}
-use Rattle.lagprogress.specs.HostRounds.{RunReplies}
-use Rattle.lagprogress.proofs.HostLoops.{as_played}
-use Rattle.lagprogress.specs.Arriving.{SometimePlayed}
-use Rattle.lagprogress.proofs.Common.{List, inl, inr, Some, [], ap, arith, map, refl, slice_get, subst, suc, sym, true, zero, ℕ, ◌++◌, ◌+◌, ◌∙◌, ◌∷◌, ◌≡◌, ◌≤◌}
-use Rattle.lagprogress.proofs.Common.{Vec, AggId, Lacpdu, One, Side, peer, Machines, receive_rows, count_down, SystemPort, Data_frame, IsFrame}
-use Rattle.lagprogress.proofs.Common.{SystemState, all-get, Event, Reply, Algorithms, WorldRuns, WorldSteps, side_of, link_ends, ItemValue, LinkState}
-use Rattle.lagprogress.proofs.Common.{WorldState, accepts_at, half, is_accepted, link_at, port_at, put_on_port, towards, put_ends, OfEach, Step-each}
-use Rattle.lagprogress.proofs.Common.{first_each, AtPort, runs_keep, takes_keep, Arrives, DisabledAreUnsynchronized, EachFrameArrives}
-use Rattle.lagprogress.proofs.Common.{EachFrameArrivesByHosts, EachReachedHasUnsynchronized, GetsPort, HandsUp, Sometime, TakesFrame, BothAreActive}
-use Rattle.lagprogress.proofs.Common.{EndsHealthyCable, IsBundle, OneIsActive, HostRounds, IsHostRound, TickOnce, IsRound, NothingInFlight, Rounds}
-use Rattle.lagprogress.proofs.Common.{asks_all, ticks_of_both, up_if_both_active, up_if_one_is}
+use Rattle.lagprogress.proofs.Common.{List, Some, [], ap, arith, inl, inr, map, refl, slice_get, subst, suc, sym, true, zero, ℕ, ◌++◌, ◌+◌, ◌∙◌, ◌∷◌}
+use Rattle.lagprogress.proofs.Common.{◌≡◌, ◌≤◌, Vec, AggId, Lacpdu, One, Side, peer, Machines, receive_rows, count_down, SystemPort, Data_frame}
+use Rattle.lagprogress.proofs.Common.{IsFrame, SystemState, all-get, Event, Reply, Algorithms, WorldRuns, WorldSteps, side_of, link_ends, ItemValue}
+use Rattle.lagprogress.proofs.Common.{LinkState, WorldState, accepts_at, half, is_accepted, link_at, port_at, put_on_port, towards, put_ends}
+use Rattle.lagprogress.proofs.Common.{HostEvent, Plays, OfEach, Step-each, first_each, AtPort, runs_keep, takes_keep, Arrives}
+use Rattle.lagprogress.proofs.Common.{DisabledAreUnsynchronized, EachFrameArrives, EachFrameArrivesByHosts, EachReachedHasUnsynchronized, GetsPort}
+use Rattle.lagprogress.proofs.Common.{HandsUp, Sometime, SometimePlayed, TakesFrame, BothAreActive, EndsHealthyCable, IsBundle, OneIsActive}
+use Rattle.lagprogress.proofs.Common.{HostRounds, IsHostRound, RunReplies, TickOnce, IsRound, NothingInFlight, Rounds, asks_all, ticks_of_both}
+use Rattle.lagprogress.proofs.Common.{up_if_both_active, up_if_one_is}
+use Rattle.lagprogress.proofs.HostLoops.{as_played, rounds_are_host_rounds, round_ticks}
 use Rattle.lagprogress.proofs.ArrivingLemmas.{is_data, offer_gets_port}
 use Rattle.lagprogress.proofs.Bundling.{Meets, Nowhere, awake_of, both_active, one_active, said, ups_of, named_of}
 use Rattle.lagprogress.proofs.Carrying.{Lapses, LapsesAt, distributes_up, lapse_first, lapse_kept, lapse_settles, receive_lapses}
@@ -23,7 +21,6 @@ use Rattle.lagprogress.proofs.OneCable.{OnCable, cable, placed, port_there, push
 use Rattle.lagprogress.proofs.OneRound.{join}
 use Rattle.lagprogress.proofs.HostKnowing.{fits_fresh, fits_before}
 use Rattle.lagprogress.proofs.ComingUp.{told_now}
-use Rattle.lagprogress.proofs.HostLoops.{rounds_are_host_rounds, round_ticks}
 use Rattle.lagscript.specs.declared.event.Event.TheVariants as event
 use Rattle.lagworld.specs.declared.reply.Reply.TheVariants as reply
 use Rattle.lagprogress.proofs.Lasting.{all_by_place, as_before, still_heard}

@@ -1,22 +1,16 @@
 -- What moves no port (`IsQuiet`) leaves the ports, and what their LACPDUs say.
-use Rattle.laghosts.specs.HostEvents.{HostEvent, HostSteps, Plays, Sets}
-use Rattle.lagprogress.specs.HostRounds.{StepReplies, RunReplies, IsQuiet, IsBetweenTicks, IsTickOf, TickOnce}
-use Rattle.lagsystem.specs.Settings.{Set_max_delay}
+use Rattle.lagprogress.proofs.Common.{Bool, Err, List, Ok, Result, Some, [], ap, arith, false, inl, inr, map, refl, subst, sym, ℕ, ◌++◌, ◌==◌, ◌∙◌}
+use Rattle.lagprogress.proofs.Common.{◌∷◌, ◌≡◌, ◌⊎◌, cases_Bool, nat_tests, Vec, AllByRecursion, AggId, Lacpdu, One, Side, Two, peer, value_of}
+use Rattle.lagprogress.proofs.Common.{Machines, Table, SystemFault, SystemPort, Carries, Force, IsFrame, Move_conversation, Offer, Step}
+use Rattle.lagprogress.proofs.Common.{system_force_result, system_move_result, Set_max_delay, SystemState, port_index, with_system_ports, with_table}
+use Rattle.lagprogress.proofs.Common.{becomes_slots, offers_slots, Reply, AfterOffer, Algorithms, InHalf, WorldSteps, offered_item, side_of}
+use Rattle.lagprogress.proofs.Common.{with_frame_counted, HalfForces, HalfMoves, forced_if_accepted, link_ends, HalfState, ItemValue, WorldState}
+use Rattle.lagprogress.proofs.Common.{half, put_on_port, with_half, put_ends, half_there, HostEvent, HostSteps, Plays, Sets, OfEach, AtPort}
+use Rattle.lagprogress.proofs.Common.{IsBetweenTicks, IsQuiet, IsTickOf, RunReplies, StepReplies, TickOnce, IsSteady}
 use Rattle.lagprogress.proofs.HostSteady.{Quietly, SendsPlain, aside, caller, beside_quietly, delay_quietly, delay_keeps, aside_keeps, step_timely}
-use Rattle.lagprogress.proofs.Halves.{each_is_calls}
+use Rattle.lagprogress.proofs.Halves.{each_is_calls, keeps_steady}
 use Rattle.lagprogress.proofs.Unchanged.{calls_keep}
-use Rattle.lagsystem.specs.State.{with_system_ports, with_table}
-use Rattle.distributor.specs.Conversations.{Table}
-use Rattle.lagsystem.specs.declared.system_ports.SystemPort.{SystemPort}
-use Rattle.std.specs.List.{AllByRecursion}
-use Rattle.lagprogress.proofs.Common.{Err, List, Ok, Result, Some, [], ap, arith, inl, inr, map, refl, subst, sym, ℕ, ◌++◌, ◌==◌, ◌∙◌, ◌∷◌, ◌≡◌, ◌⊎◌, Bool, false}
-use Rattle.lagprogress.proofs.Common.{cases_Bool, nat_tests, Vec, AggId, Lacpdu, One, Side, Two, peer, value_of, Machines, SystemFault, Carries}
-use Rattle.lagprogress.proofs.Common.{Force, IsFrame, Move_conversation, Offer, Step, system_force_result, system_move_result, SystemState}
-use Rattle.lagprogress.proofs.Common.{port_index, becomes_slots, offers_slots, Event, Reply, AfterOffer, Algorithms, InHalf, WorldSteps, offered_item}
-use Rattle.lagprogress.proofs.Common.{side_of, with_frame_counted, HalfForces, HalfMoves, forced_if_accepted, link_ends, HalfState, ItemValue}
-use Rattle.lagprogress.proofs.Common.{WorldState, half, put_on_port, with_half, put_ends, half_there, OfEach, AtPort, IsSteady}
 use Rattle.lagprogress.proofs.ArrivingLemmas.{is_data, same_ports}
-use Rattle.lagprogress.proofs.Halves.{keeps_steady}
 use Rattle.lagprogress.proofs.Linked.{EndIs, Flying, HasLacpdu, IsGood, Link, has_on, each_side, place_kept, push_other, push_there, pushed}
 use Rattle.lagprogress.proofs.OneCable.{OnCable, half_logs, push, push_each, put_beside, puts}
 use Rattle.slowpdu.specs.declared.pdu.Pdu.TheVariants as pdu
