@@ -1,4 +1,5 @@
 -- Which runs are healthy rounds of hosts.
+use Rattle.lagprogress.specs.HostRounds.{EventsAreOfHosts}
 use Rattle.lagprogress.proofs.Common.{Bool, Err, List, None, Ok, Option, Result, Some, [], ap, append_assoc, arith, cond, eqb, false, inl, inr, ltb}
 use Rattle.lagprogress.proofs.Common.{refl, slice_get, subst, suc, sym, true, zero, ℕ, ◌++◌, ◌+◌, ◌∙◌, ◌∷◌, ◌≡◌, cases_Bool, false≢true, nat_tests}
 use Rattle.lagprogress.proofs.Common.{none-some, same_Some, AllByRecursion, Pdu, pdu_in, One, Side, Two, peer, value_of, Machines, after_sending}
@@ -321,7 +322,12 @@ with_replies gives (e ∷ es) old new h =
     replied (Plays e) x = x
     replied e x = (reply.Nothing, x)
 
--- and a run of events is one of hosts
+pub events_are_of_hosts : (gives : Algorithms) → EventsAreOfHosts gives
+events_are_of_hosts gives [] [] old new h = h
+events_are_of_hosts gives (e ∷ es) (r ∷ rs) old new h = (h.0, (r, h.1), events_are_of_hosts gives es rs h.0 new h.2)
+events_are_of_hosts gives es rs old new h = absurd h
+
+-- and a run of events is one, with its replies
 unfoldable pub as_played : (gives : Algorithms) (es : List Event) (rs : List Reply) (old new : WorldState) → WorldRuns gives old es rs new
     → RunReplies gives old (map Plays es) rs new
 as_played gives [] [] old new h = h

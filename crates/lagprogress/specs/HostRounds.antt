@@ -1,13 +1,14 @@
 -- A healthy round of a world as hosts play it: in any order, each system ticks once, is asked, is offered frames, and is called as hosts
 -- with a data plane do (profile).
-use Rattle.std.specs.Prelude.{◌≡◌, ◌⊎◌, ℕ, zero, suc, Bool, true, false, List, [], ◌∷◌, ◌++◌, Some, slice_get}
+use Rattle.std.specs.Prelude.{◌≡◌, ◌⊎◌, ℕ, zero, suc, Bool, true, false, List, [], ◌∷◌, ◌++◌, map, Some, slice_get}
 use Rattle.std.specs.List.{AllByRecursion}
 use Rattle.lagsystem.specs.declared.system_ports.SystemPort.{SystemPort}
 use Rattle.lagmodel.specs.World.{Side, One, Two, peer}
 use Rattle.portmachines.specs.Transmit.{is_due}
+use Rattle.lagscript.specs.declared.event.Event.{Event}
 use Rattle.lagscript.specs.declared.event.Event.TheVariants as event
 use Rattle.lagworld.specs.declared.reply.Reply.{Reply}
-use Rattle.lagworld.specs.Events.{Algorithms, WorldSteps, side_of}
+use Rattle.lagworld.specs.Events.{Algorithms, WorldRuns, WorldSteps, side_of}
 use Rattle.lagworld.specs.State.{LinkState, WorldState, port_at}
 use Rattle.lagsystem.specs.Settings.{Set_max_delay}
 use Rattle.laghosts.specs.HostEvents.{HostEvent, HostRuns, HostSteps, Plays, Sets}
@@ -122,6 +123,11 @@ AskingIsHostRound gives = (events : List HostEvent) (old new : WorldState) → I
     → HostRuns gives old events new
     → ((s : Side) (i : ℕ) (l : LinkState) → IsHealthyAt i l old → AsksAfterTick s (port_at s l) events) → NothingInFlight new
     → IsHostRound gives old new
+
+-- A list of events that acts is a run of hosts, so what is said of runs of hosts holds of events.
+abbrev pub EventsAreOfHosts : Algorithms → Type 0
+EventsAreOfHosts gives = (events : List Event) (replies : List Reply) (old new : WorldState) → WorldRuns gives old events replies new
+    → HostRuns gives old (map Plays events) new
 
 -- The loop of two hosts: each system ticks, and then asks each of its ports, until nothing is due or once at the least; then what
 -- is on the cables arrives, and ports are asked again after each arrival, or not. Items may arrive, and what moves no port may be

@@ -3,10 +3,10 @@
 ghost use Rattle.lagworld.specs.Sound.{both_algorithms};
 ghost use Rattle.lagprogress.specs.LateRounds.{AskingIsLateRound, HostRoundIsLateRound};
 
-// promise: events as in the first row are a late round (`IsLateRound`) if what was on each healthy cable before has arrived, whatever is on
+// promise: events and calls as in the first row are a late round (`IsLateRound`) if what was on each healthy cable before has arrived, whatever is on
 //    it in the end; each healthy round of hosts is one
 // contract: `clocks_play_rounds` (`asking`, `host`)
-// premises: steady; the events acted; no port has two cables
+// premises: steady; the events acted, the calls kept their contracts; no port has two cables
 /// Which events are a late round: each system ticks once, and every other event or call is as `hosts_play_rounds` has it, in any order; each
 /// end of a healthy cable is asked at least once after the tick of its system; and what was on each healthy cable before has arrived,
 /// while frames may be on it in the end. The timers of both systems are within their bounds, and no port is held (6.4.16; profile).
@@ -22,7 +22,7 @@ ghost use Rattle.lagprogress.specs.LateRounds.{LateRounds, late_known_if_both_ac
 // contract: `ends_come_to_know_by_clocks`, `each_link_comes_up_by_clocks`, `each_link_agrees_by_clocks`
 // premises: those of the same laws by rounds of hosts
 /// The ends of each healthy cable come to know each other in late rounds: from 323 (32.3 s) on if both are active, from 624 (62.4 s) on if
-/// one is, whatever was before them, as in `ends_of_each_cable_come_to_know` (6.4.12, 6.4.13).
+/// one is, whatever was before them, and whatever is offered or called in them, as in `ends_of_each_cable_come_to_know` (6.4.12, 6.4.13).
 pub fn ends_come_to_know_by_clocks<F: Fn(u16, usize) -> usize>()
     ensures both { (one two : F) → EndsOfEachKnow LateRounds BothAreActive late_known_if_both_active (both_algorithms (F.post one) (F.post two)) }
     ensures one { (one two : F) → EndsOfEachKnow LateRounds OneIsActive late_known_if_one_is (both_algorithms (F.post one) (F.post two)) }

@@ -1,7 +1,7 @@
 //! Healthy rounds as hosts play them.
 
 ghost use Rattle.lagworld.specs.Sound.{both_algorithms};
-ghost use Rattle.lagprogress.specs.HostRounds.{AskingIsHostRound, LoopIsHostRound, RoundIsHostRound, RoundsAreHostRounds};
+ghost use Rattle.lagprogress.specs.HostRounds.{AskingIsHostRound, EventsAreOfHosts, LoopIsHostRound, RoundIsHostRound, RoundsAreHostRounds};
 
 // promise: events and calls are such a round in which each system ticks once, every other one is Emit, Deliver, Offer, Move or Force, or
 //    `offer_conversation`, `leave_conversation`, `probe`, `rest`, `force_port` or `set_max_delay`, each end of a healthy cable is asked after
@@ -12,6 +12,9 @@ ghost use Rattle.lagprogress.specs.HostRounds.{AskingIsHostRound, LoopIsHostRoun
 //    stands in the row above is called
 // contract: `hosts_play_rounds` (`host_loop`: `IsHostLoop`)
 // premises: the same; nothing is on any cable in the end
+// promise: a list of events is one of such events and calls, so each of these laws holds of events alone
+// contract: `hosts_play_rounds` (`events`)
+// premises: the events acted
 // promise: each healthy round is a healthy round of hosts
 // contract: `hosts_play_rounds` (`round`, `rounds`)
 // premises: steady
@@ -19,9 +22,11 @@ ghost use Rattle.lagprogress.specs.HostRounds.{AskingIsHostRound, LoopIsHostRoun
 /// call `offer_conversation`, `leave_conversation`, `probe`, `rest`, `force_port` or `set_max_delay`, in any order; each end of a healthy
 /// cable is asked at least once after the tick of its system; and nothing is on any cable in the end. So are the rounds that
 /// `play_round` plays, and those of a host that asks each port after each of its calls until nothing is due. The timers of both systems
-/// are within their bounds, and no port is held (6.4.16; profile).
+/// are within their bounds, and no port is held. A list of events alone is such a list, so what follows from rounds of hosts follows, after
+/// as many, from rounds of events (6.4.16; profile).
 pub fn hosts_play_rounds<F: Fn(u16, usize) -> usize>()
     ensures asking { (one two : F) → AskingIsHostRound (both_algorithms (F.post one) (F.post two)) }
+    ensures events { (one two : F) → EventsAreOfHosts (both_algorithms (F.post one) (F.post two)) }
     ensures host_loop { (one two : F) → LoopIsHostRound (both_algorithms (F.post one) (F.post two)) }
     ensures round { (one two : F) → RoundIsHostRound (both_algorithms (F.post one) (F.post two)) }
     ensures rounds { (one two : F) → RoundsAreHostRounds (both_algorithms (F.post one) (F.post two)) }
@@ -38,7 +43,8 @@ ghost use Rattle.lagprogress.specs.Rounds.{known_if_both_active, known_if_one_is
 //    (`defaulted`, `up`, `agrees`)
 // premises: theirs. A frame that is offered behind these rounds arrives in the next one, whatever else is offered or called in that
 /// The ends of each healthy cable come to know each other in healthy rounds of hosts: from 321 (32.1 s) on if both are active,
-/// from 621 (62.1 s) on if one is, whatever was before them, as in `ends_of_each_cable_come_to_know` (6.4.12, 6.4.13).
+/// from 621 (62.1 s) on if one is, whatever was before them, and whatever is offered or called in them, as in
+/// `ends_of_each_cable_come_to_know` (6.4.12, 6.4.13).
 pub fn ends_come_to_know_by_hosts<F: Fn(u16, usize) -> usize>()
     ensures both { (one two : F) → EndsOfEachKnow HostRounds BothAreActive known_if_both_active (both_algorithms (F.post one) (F.post two)) }
     ensures one { (one two : F) → EndsOfEachKnow HostRounds OneIsActive known_if_one_is (both_algorithms (F.post one) (F.post two)) }
@@ -49,7 +55,7 @@ ghost use Rattle.lagprogress.specs.Rounds.{up_if_both_active, up_if_one_is};
 
 /// The links of a bundle as in `each_link_comes_up` come up in healthy rounds of hosts: both ends of each healthy cable are
 /// SELECTED and distribute from 352 (35.2 s) on if both ends of each are active, from 652 (65.2 s) on if one is, whatever was
-/// before them (6.4.12 to 6.4.16).
+/// before them, and whatever is offered or called in them (6.4.12 to 6.4.16).
 pub fn each_link_comes_up_by_hosts<F: Fn(u16, usize) -> usize>()
     ensures both { (one two : F) → EachLinkComesUp HostRounds BothAreActive up_if_both_active (both_algorithms (F.post one) (F.post two)) }
     ensures one { (one two : F) → EachLinkComesUp HostRounds OneIsActive up_if_one_is (both_algorithms (F.post one) (F.post two)) }
