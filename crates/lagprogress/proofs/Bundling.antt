@@ -9,13 +9,13 @@ use Rattle.lagprogress.proofs.Common.{count_more_of, counted, OfEach, AtPort, wa
 use Rattle.lagprogress.proofs.Common.{EachLinkComesUp, EndsHealthyCable, EnoughLinks, IsBundle, OneIsActive, SystemsDiffer, Distributes, Clearing}
 use Rattle.lagprogress.proofs.Common.{HostRounds, NoneIsLeft, PlayedRounds, AtEnd, IsHealthyAt, up_if_both_active, up_if_one_is, IsSteady}
 use Rattle.lagprogress.proofs.Climbing.{Down, Ripe, Rising, climbed, down_settles, down_takes, down_ticks, rising_first}
-use Rattle.lagprogress.proofs.ComingUp.{AreSynced, Climbs, Up, agrees_now, climbs_first, climbs_on, comes_up, distributes, hosts_kept, synced_of}
+use Rattle.lagprogress.proofs.ComingUp.{AreSynced, Climbs, Up, agrees_now, climbs_first, climbs_on, distributes, host_comes_up, hosts_kept, up_synced}
 use Rattle.lagprogress.proofs.Starting.{active_at, awake_at, named_at, Ends, healthy_cable, said_by, starts}
 use Rattle.lagprogress.proofs.EachRound.{EachAt, RoundKeeps, same_index, played_join, host_each, hosts_on, hosts_split, hosts_steady, played_on}
 use Rattle.lagprogress.proofs.EndFacts.{Synced, activity}
 use Rattle.lagprogress.proofs.Linked.{many, at_end, end_here, end_with, EndPort}
 use Rattle.lagprogress.proofs.Knowing.{AtIt}
-use Rattle.lagprogress.proofs.HostKnowing.{one_meets, Fresh, active_meet, knows_peer, fresh_knows}
+use Rattle.lagprogress.proofs.HostKnowing.{host_chain, host_signs, one_meets, Fresh, active_meet, knows_peer, fresh_knows}
 use Rattle.lagprogress.proofs.OneRound.{Nothing}
 use Rattle.lagprogress.proofs.SharedLemmas.{Finds, lasted, shared_finds}
 use Rattle.lagprogress.proofs.Lasting.{IsAsBefore, all_by_place, as_before, ends_at, old_port, own_system, still_links}
@@ -219,15 +219,12 @@ module _ (Holds : LinkState → WorldState → Type 0) (Other : Side → ℕ →
         (systems i l y s) (let known = knows_peer at w 1 mid g s in omega (arith, known)) e)
 
     climb : (i : ℕ) (l : LinkState) (y : IsHealthyAt i l old)
-        → Climbs (λ t. port_at t l) (said old i l y) (named_of i l y) (awake_of i l y) 20 top
+        → Climbs (λ t. port_at t l) (said old i l y) (host_signs (λ t. port_at t l) (said old i l y)) 20 top
     climb i l y =
         let at : Side → ℕ = λ t. port_at t l in
         let w = said old i l y in
-        let named = named_of i l y in
-        let awake = awake_of i l y in
-        hosts_on gives (Climbs at w named awake) mid
-        (climbs_first at w named awake mid (met i l y mid h) (chosen i l y))
-        (climbs_on at w named awake gives) 20 top more
+        hosts_on gives (Climbs at w (host_signs at w)) mid (climbs_first at w (host_signs at w) mid (met i l y mid h) (chosen i l y))
+        (climbs_on at w (host_signs at w) NoneIsLeft gives 0 (host_chain at w gives) (named_of i l y) (awake_of i l y)) 20 top more
 
     -- and have risen, as the SELECTED ports have whose links are down
     ripe : (s : Side) → AllByRecursion (λ (y : SystemPort). Ripe 0 y.port) (half s top).state.system_ports
@@ -272,25 +269,25 @@ module _ (Holds : LinkState → WorldState → Type 0) (Other : Side → ℕ →
         (climbed (half s top).state e.index e.port (above s).0 e.there (ripe s) (end_with at w 1 g.known s top e (Rising 0) a))
 
   pub ups_of : (i : ℕ) (l : LinkState) (y : IsHealthyAt i l old) (n : ℕ) (new : WorldState) → first + 31 ≤ n → HostRounds gives n old new
-      → Up (λ s. port_at s l) (said old i l y) (named_of i l y) (awake_of i l y) new
+      → Up (λ s. port_at s l) (said old i l y) new
   ups_of i l y n new enough h =
       let at : Side → ℕ = λ s. port_at s l in
       let w = said old i l y in
       let cut = hosts_split gives (n - first) first n old new (omega (arith, enough)) h in
       let up = hosts_split gives (n - first - 20) 20 (n - first) cut.0 new (omega (arith, enough)) cut.2 in
-      comes_up at w (named_of i l y) (awake_of i l y) gives (n - first - 20) cut.0 up.0 new (met i l y cut.0 cut.1)
+      host_comes_up at w (named_of i l y) (awake_of i l y) gives (n - first - 20) cut.0 up.0 new (met i l y cut.0 cut.1)
       (chosen cut.0 up.0 cut.1 up.1 i l y) (ready cut.0 up.0 cut.1 up.1 i l y) (omega (arith, enough)) up.1 up.2
 
   pub distribute_of : (i : ℕ) (l : LinkState) (y : IsHealthyAt i l old) (n : ℕ) (new : WorldState) → first + 31 ≤ n → HostRounds gives n old new
       → (s : Side) → AtEnd Distributes s l new
   distribute_of i l y n new enough h =
       distributes (λ s. port_at s l) (said old i l y) new
-      (synced_of (λ s. port_at s l) (said old i l y) (named_of i l y) (awake_of i l y) new (ups_of i l y n new enough h))
+      (up_synced (λ s. port_at s l) (said old i l y) new (ups_of i l y n new enough h))
 
   pub agree_of : IsWorldSound old → (i : ℕ) (l : LinkState) (y : IsHealthyAt i l old) (n : ℕ) (new : WorldState) → first + 31 ≤ n
       → HostRounds gives n old new → agreement_at new (suc i) ≡ Some Same
   agree_of sound i l y n new enough h = agree_up NoneIsLeft gives n old new sound h i l y
-      (synced_of (λ s. port_at s l) (said old i l y) (named_of i l y) (awake_of i l y) new (ups_of i l y n new enough h))
+      (up_synced (λ s. port_at s l) (said old i l y) new (ups_of i l y n new enough h))
 
 -- where there are no others
 

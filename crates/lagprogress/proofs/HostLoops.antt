@@ -1,5 +1,4 @@
 -- Which runs are healthy rounds of hosts.
-use Rattle.lagprogress.specs.HostRounds.{EventsAreOfHosts}
 use Rattle.lagprogress.proofs.Common.{Bool, Err, List, None, Ok, Option, Result, Some, [], ap, append_assoc, arith, cond, eqb, false, inl, inr, ltb}
 use Rattle.lagprogress.proofs.Common.{refl, slice_get, subst, suc, sym, true, zero, ℕ, ◌++◌, ◌+◌, ◌∙◌, ◌∷◌, ◌≡◌, cases_Bool, false≢true, nat_tests}
 use Rattle.lagprogress.proofs.Common.{none-some, same_Some, AllByRecursion, Pdu, pdu_in, One, Side, Two, peer, value_of, Machines, after_sending}
@@ -10,14 +9,14 @@ use Rattle.lagprogress.proofs.Common.{AfterTransmit, Algorithms, WorldEmits, Wor
 use Rattle.lagprogress.proofs.Common.{WorldState, half, is_accepted, port_at, with_half, half_there, HostEvent, HostRuns, HostSteps, Plays, OfEach}
 use Rattle.lagprogress.proofs.Common.{Tick-each, placed, AtPort, at_number, AskingInVainIsDraining, AsksInVain, AsksInVainAfterTick, DrainingRounds}
 use Rattle.lagprogress.proofs.Common.{IsNoMoveOf, NothingIsDue, RoundIsDraining, sent_nothing, AfterTick, AskingIsHostRound, Asks, AsksAfterTick}
-use Rattle.lagprogress.proofs.Common.{AsksIn, AtSomeWorld, Clearing, HostRounds, IsBetweenTicks, IsPlayed, IsTickOf, LoopIsHostRound, NoneIsLeft}
-use Rattle.lagprogress.proofs.Common.{RoundIsHostRound, RoundsAreHostRounds, RunReplies, StepReplies, TickOnce, AtEnd, IsDeliver, IsHealthyAt, OfPort}
-use Rattle.lagprogress.proofs.Common.{Rounds, asks_all, ticks_of_both, IsSteady}
+use Rattle.lagprogress.proofs.Common.{AsksIn, AtSomeWorld, Clearing, EventsAreOfHosts, HostRounds, IsBetweenTicks, IsPlayed, IsTickOf}
+use Rattle.lagprogress.proofs.Common.{LoopIsHostRound, NoneIsLeft, RoundIsHostRound, RoundsAreHostRounds, RunReplies, StepReplies, TickOnce, AtEnd}
+use Rattle.lagprogress.proofs.Common.{IsDeliver, IsHealthyAt, OfPort, Rounds, asks_all, ticks_of_both, IsSteady}
+use Rattle.distributor.specs.Conversations.{sum_below}
 use Rattle.lagprogress.proofs.Quieting.{IsCalm, calm_between, calm_tick, calm_steady, calm_place}
 use Rattle.std.specs.Prelude.{map}
 use Rattle.lagprogress.proofs.EachRound.{each_between, EachAt, own_keeps, own_ticks, hosts_steady}
 use Rattle.lagworld.specs.declared.reply.Reply.TheVariants as reply
-use Rattle.distributor.specs.Conversations.{sum_below}
 use Rattle.lagprogress.proofs.HostRound.{of_side, turned}
 use Rattle.lagprogress.proofs.Linked.{each_side, found, machines_there}
 use Rattle.lagprogress.proofs.OneCable.{Emits, emits, ticks}

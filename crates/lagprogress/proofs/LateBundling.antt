@@ -1,17 +1,17 @@
 -- How the links of a bundle come up and agree in late rounds.
 use Rattle.lagprogress.proofs.Common.{Some, arith, inl, inr, slice_get, subst, suc, sym, true, ℕ, ◌+◌, ◌-◌, ◌∙◌, ◌≡◌, ◌≤◌, cases_Bool, AllByRecursion}
-use Rattle.lagprogress.proofs.Common.{is_selected, One, Side, SystemPort, all-get, Same, agreement_at, Algorithms, IsWorldSound, LinkState}
+use Rattle.lagprogress.proofs.Common.{is_selected, Lacpdu, One, Side, SystemPort, all-get, Same, agreement_at, Algorithms, IsWorldSound, LinkState}
 use Rattle.lagprogress.proofs.Common.{WorldState, half, port_at, AtPort, BothAreActive, EachLinkAgrees, EachLinkComesUp, IsBundle, OneIsActive}
 use Rattle.lagprogress.proofs.Common.{Distributes, IsLateRound, LateRounds, OldArrive, late_up_if_both_active, late_up_if_one_is, AtEnd, IsHealthyAt}
 use Rattle.lagprogress.proofs.Common.{IsSteady}
 use Rattle.lagprogress.proofs.Bundling.{Awake, Named, agree_up, apart_ends, both_wake, down_rounds, heard_holds, is_chosen, names, one_wakes, said}
 use Rattle.lagprogress.proofs.Climbing.{Down, Ripe, Rising, climbed}
-use Rattle.lagprogress.proofs.ComingUp.{AreSynced, distributes}
+use Rattle.lagprogress.proofs.ComingUp.{AreSynced, Climbs, climbs_first, climbs_on, distributes}
 use Rattle.lagprogress.proofs.EachRound.{EachAt, played_on, played_split, played_steady}
 use Rattle.lagprogress.proofs.EndFacts.{Synced}
-use Rattle.lagprogress.proofs.Knowing.{AtIt}
-use Rattle.lagprogress.proofs.LateComingUp.{Climbs, climbs_first, climbs_on, late_comes_up, late_synced}
-use Rattle.lagprogress.proofs.LateKnowing.{Fresh, knows_late, late_active_meet, late_fresh_knows, late_one_meets}
+use Rattle.lagprogress.proofs.Knowing.{Signs, AtIt}
+use Rattle.lagprogress.proofs.LateComingUp.{late_comes_up, late_synced}
+use Rattle.lagprogress.proofs.LateKnowing.{late_chain, late_signs, Fresh, knows_late, late_active_meet, late_fresh_knows, late_one_meets}
 use Rattle.lagprogress.proofs.LateStart.{counts_of, kept_of}
 use Rattle.lagprogress.proofs.Lasting.{IsAsBefore, all_by_place, ends_at, old_port, played_before, still_links}
 use Rattle.lagprogress.proofs.Linked.{at_end, end_here, end_with}
@@ -23,6 +23,9 @@ module _ (Holds : LinkState → WorldState → Type 0) (first : ℕ) (gives : Al
     (meets : (i : ℕ) (l : LinkState) (h : IsHealthyAt i l old) → Holds l old → (mid : WorldState) → LateRounds gives first old mid
     → Fresh (λ s. port_at s l) (said old i l h) old mid)
     (wakes : (i : ℕ) (l : LinkState) (h : IsHealthyAt i l old) → Holds l old → Awake old i l h) where
+  abbrev signs : (Side → ℕ) → (Side → Lacpdu) → Signs
+  signs at w = late_signs at w (counts_of at old) (kept_of at old)
+
   met : (i : ℕ) (l : LinkState) (h : IsHealthyAt i l old) (mid : WorldState) → LateRounds gives first old mid
       → Fresh (λ s. port_at s l) (said old i l h) old mid
   met i l h = meets i l h (heard_holds Holds old b.cabling b.heard i l h)
@@ -58,16 +61,14 @@ module _ (Holds : LinkState → WorldState → Type 0) (first : ℕ) (gives : Al
         (apart_ends old b.steady b.differ i l y s)
         (let known = knows_late at w (counts_of at old) (kept_of at old) 1 mid g s in omega (arith, known)) e)
 
-    climb : (i : ℕ) (l : LinkState) (y : IsHealthyAt i l old) → Climbs (λ t. port_at t l) (said old i l y) (counts_of (λ t. port_at t l) old)
-        (kept_of (λ t. port_at t l) old) (named_of i l y) (awake_of i l y) 20 top
+    climb : (i : ℕ) (l : LinkState) (y : IsHealthyAt i l old)
+        → Climbs (λ t. port_at t l) (said old i l y) (signs (λ t. port_at t l) (said old i l y)) 20 top
     climb i l y =
         let at : Side → ℕ = λ t. port_at t l in
         let w = said old i l y in
-        let k = counts_of at old in
-        let kept = kept_of at old in
-        played_on OldArrive gives (Climbs at w k kept (named_of i l y) (awake_of i l y)) mid
-        (climbs_first at w k kept (named_of i l y) (awake_of i l y) mid (met i l y mid h) (chosen i l y))
-        (climbs_on at w k kept (named_of i l y) (awake_of i l y) gives) 20 top more
+        played_on OldArrive gives (Climbs at w (signs at w)) mid (climbs_first at w (signs at w) mid (met i l y mid h) (chosen i l y))
+        (climbs_on at w (signs at w) OldArrive gives 1 (late_chain at w (counts_of at old) (kept_of at old) gives) (named_of i l y) (awake_of i l y))
+        20 top more
 
     -- and have risen, as the SELECTED ports have whose links are down
     ripe : (s : Side) → AllByRecursion (λ (y : SystemPort). Ripe 0 y.port) (half s top).state.system_ports
@@ -118,9 +119,9 @@ module _ (Holds : LinkState → WorldState → Type 0) (first : ℕ) (gives : Al
       let up = played_split OldArrive gives (n - first - 20) 20 (n - first) cut.0 new (omega (arith, enough)) cut.2 in
       let next = played_split OldArrive gives (n - first - 21) 1 (n - first - 20) up.0 new (omega (arith, enough)) up.2 in
       let one : IsLateRound gives up.0 next.0 = subst (λ j. IsLateRound gives j next.0) next.1.1 next.1.2 in
-      late_synced gives at w (named_of i l y) (awake_of i l y) (n - first - 21) old new (omega (arith, enough))
+      late_synced gives at w (n - first - 21) old new (omega (arith, enough))
       (late_comes_up at w (counts_of at old) (kept_of at old) (named_of i l y) (awake_of i l y) gives (n - first - 21) cut.0 up.0 next.0 new
-      (met i l y cut.0 cut.1) (chosen cut.0 up.0 cut.1 up.1 i l y) (ready cut.0 up.0 cut.1 up.1 i l y) (omega (arith, enough)) up.1 one next.2)
+      (met i l y cut.0 cut.1) (chosen cut.0 up.0 cut.1 up.1 i l y) (ready cut.0 up.0 cut.1 up.1 i l y) up.1 one next.2)
 
   pub late_distribute : (i : ℕ) (l : LinkState) (y : IsHealthyAt i l old) (n : ℕ) (new : WorldState) → first + 33 ≤ n → LateRounds gives n old new
       → (s : Side) → AtEnd Distributes s l new

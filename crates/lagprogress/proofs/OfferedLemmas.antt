@@ -19,7 +19,7 @@ use Rattle.lagprogress.proofs.Halves.{both_first, keeps_steady}
 use Rattle.lagprogress.proofs.Linked.{EndIs, IsGood, Link, place_kept, push_there, events_each}
 use Rattle.lagprogress.proofs.OneCable.{OnCable, cable, placed, port_there, push, push_each, puts, takes_all, towards_there}
 use Rattle.lagprogress.proofs.OneRound.{join}
-use Rattle.lagprogress.proofs.HostKnowing.{fits_fresh, fits_before}
+use Rattle.lagprogress.proofs.HostKnowing.{host_signs, fits_fresh, fits_before}
 use Rattle.lagprogress.proofs.ComingUp.{told_now}
 use Rattle.lagscript.specs.declared.event.Event.TheVariants as event
 use Rattle.lagworld.specs.declared.reply.Reply.TheVariants as reply
@@ -132,7 +132,7 @@ module _ (Holds : LinkState → WorldState → Type 0) (first : ℕ) (gives : Al
       let awake = awake_of Holds Nowhere first gives old m i l y in
       let top = ups_of Holds Nowhere first gives old m i l y n mid enough h in
       let fresh = top.2.fresh in
-      let heard = told_now at w named awake top.0 mid top.1 top.2 (peer s) in
+      let heard = told_now at w (host_signs at w) 0 top.0 mid top.1 top.2 (peer s) in
       let start = join 2 at w fresh.known One (peer s) PartnerInSync mid fresh.link heard in
       let plain = subst (λ o. IsFrame o Data_frame) (sym g.frame) (is_data octets.items takes.may.1) in
       let o = offer_link gives number s 2 at w fresh.known (peer s) PartnerInSync agg octets r mid sent g (sym it.joins) plain step start in
