@@ -3,8 +3,8 @@
 ghost use Rattle.lagworld.specs.Sound.{both_algorithms};
 ghost use Rattle.lagprogress.specs.LateRounds.{AskingIsLateRound, HostRoundIsLateRound};
 
-// promise: events and calls as in the first row are a late round (`IsLateRound`) if what was on each healthy cable before has arrived, whatever is on
-//    it in the end; each healthy round of hosts is one
+// promise: events and calls as in the first row are a late round (`IsLateRound`) if what was on each healthy cable before has arrived,
+//    whatever is on it in the end; each healthy round of hosts is one
 // contract: `clocks_play_rounds` (`asking`, `host`)
 // premises: steady; the events acted, the calls kept their contracts; no port has two cables
 /// Which events are a late round: each system ticks once, and every other event or call is as `hosts_play_rounds` has it, in any order; each

@@ -107,8 +107,9 @@ pub fn cut_offs_do_no_harm_by_hosts<F: Fn(u16, usize) -> usize>()
 ghost use Rattle.lagprogress.specs.HostFreed.{AskingInVainIsDraining, NoneIsHeldBesideCutOffsByHosts, NoneIsHeldOnEndsByHosts};
 ghost use Rattle.lagprogress.specs.HostFreed.{NothingIsHeldByHosts, RoundIsDraining};
 
-// promise: a conversation is not held on an end of a healthy cable after 352 | 652, and 30 more that neither move nor force it, nor let it leave
-//    or rest, in which at each end nothing is due, nor a marker, at some time after its tick, as in each healthy round, or if each end is asked until it sends nothing
+// promise: a conversation is not held on an end of a healthy cable after 352 | 652, and 30 more that neither move nor force it, nor let it
+//    leave or rest, in which at each end nothing is due, nor a marker, at some time after its tick, as in each healthy round, or if each end
+//    is asked until it sends nothing
 // contract: `held_conversations_are_freed_by_hosts` (`ends_both`, `ends_one`, `round`, `asking`)
 // premises: those of `each_link_comes_up`; an identifier is left in the end
 // promise: nor is it held at all; nor beside ports that are cut off, after 962 and 30
@@ -117,10 +118,11 @@ ghost use Rattle.lagprogress.specs.HostFreed.{NothingIsHeldByHosts, RoundIsDrain
 /// A conversation that is held in a bundle as in `each_link_comes_up` is freed in healthy rounds of hosts that ask until nothing is
 /// due: after 352 healthy rounds of hosts (35.2 s) or more if both ends of each healthy cable are active, after 652 (65.2 s) if one is,
 /// and 30 more (3 s) in which it is neither moved nor forced, leaves no port and does not rest, and each end has neither an LACPDU nor a
-/// marker due at some time after its system's tick, it is not Wanted or Flushing on an end of a healthy cable, if an identifier for a marker is left in the end; nor on any port,
-/// if the links of the ports are up then that carry a conversation, or hold one, as `carriers_are_up` has it. Beside ports that are cut
-/// off it takes 962 and 30. Frames may be offered, and others moved, in all of them. Each healthy round is one of the 30 that does not
-/// move it, and so is one of hosts in which each end is asked after its system's tick until it sends nothing (6.2.5; profile).
+/// marker due at some time after its system's tick, it is not Wanted or Flushing on an end of a healthy cable, if an identifier for a
+/// marker is left in the end; nor on any port, if the links of the ports are up then that carry a conversation, or hold one, as
+/// `carriers_are_up` has it. Beside ports that are cut off it takes 962 and 30. Frames may be offered, others moved, and ports probed
+/// and forced in all of them. Each healthy round is one of the 30 that does not move it, and so is one of hosts in which each end is
+/// asked after its system's tick until it sends nothing (6.2.5; profile).
 pub fn held_conversations_are_freed_by_hosts<F: Fn(u16, usize) -> usize>()
     ensures ends_both { (one two : F) → NoneIsHeldOnEndsByHosts BothAreActive up_if_both_active (both_algorithms (F.post one) (F.post two)) }
     ensures ends_one { (one two : F) → NoneIsHeldOnEndsByHosts OneIsActive up_if_one_is (both_algorithms (F.post one) (F.post two)) }
