@@ -233,7 +233,7 @@ module _ (at : Side → ℕ) (w : Side → Lacpdu) (z : Signs) where
 abbrev pub Up : (Side → ℕ) → (Side → Lacpdu) → WorldState → Type 0
 Up at w j = (n : ℕ) × (11 ≤ n) × Agrees at w (host_signs at w) 0 n j
 
-host_turn : (at : Side → ℕ) (w : Side → Lacpdu) (j : WorldState) → FreshAt at w 1 j → ((s : Side) → AtIt at w s Synced j)
+pub host_turn : (at : Side → ℕ) (w : Side → Lacpdu) (j : WorldState) → FreshAt at w 1 j → ((s : Side) → AtIt at w s Synced j)
     → Agrees at w (host_signs at w) 0 0 j
 host_turn at w j g ready =
     let synced : (s : Side) → OfEach (AtPort (at s) (λ p. 2 ≤ 2 → Synced p)) (half s j).state.system_ports =

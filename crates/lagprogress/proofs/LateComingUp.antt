@@ -2,16 +2,15 @@
 use Rattle.lagprogress.proofs.Common.{Bool, List, [], ap, arith, inl, inr, subst, sym, true, ℕ, ◌-◌, ◌∙◌, ◌∷◌, ◌≡◌, ◌≤◌, ◌⊎◌, AllByRecursion}
 use Rattle.lagprogress.proofs.Common.{is_selected, Lacpdu, One, Side, peer, Machines, is_synchronized, mux_rows, receive_rows, RunsToRest, count_down}
 use Rattle.lagprogress.proofs.Common.{Algorithms, ItemValue, WorldState, half, no, times_keep, AtPort, periodic_leaves, IsLateRound, LateRounds}
-use Rattle.lagprogress.proofs.Common.{OldArrive}
 use Rattle.lagprogress.proofs.Claims.{IsNamed}
-use Rattle.lagprogress.proofs.Climbing.{PartnerInSync, Rising, keeps_selected, ticks_still}
-use Rattle.lagprogress.proofs.ComingUp.{Agrees, AreSynced, comes_up, owed, synced_of}
+use Rattle.lagprogress.proofs.Climbing.{PartnerInSync, keeps_selected, ticks_still}
+use Rattle.lagprogress.proofs.ComingUp.{Agrees, AreSynced, owed, synced_of}
 use Rattle.lagprogress.proofs.EndFacts.{Along, IsEnd, Synced, activity, synced_mux}
 use Rattle.lagprogress.proofs.HostHearing.{present_of}
 use Rattle.lagprogress.proofs.Knowing.{AtIt, beside}
 use Rattle.lagprogress.proofs.HostStamps.{same_items}
 use Rattle.lagprogress.proofs.LateHearing.{Whoever}
-use Rattle.lagprogress.proofs.LateKnowing.{late_chain, FreshAt, late_signs, fits_late, fits_now, knows_late, stays_late}
+use Rattle.lagprogress.proofs.LateKnowing.{FreshAt, late_signs, fits_late, fits_now, knows_late, stays_late}
 use Rattle.lagprogress.proofs.LateFlow.{Past}
 use Rattle.lagprogress.proofs.LateStart.{counts_of, flush, kept_of}
 use Rattle.lagprogress.proofs.Linked.{Flying, IsGood, Link, each_map, peer_twice}
@@ -120,15 +119,10 @@ module _ (at : Side → ℕ) (w : Side → Lacpdu) (k : Side → ℕ) (kept : Si
     ];
   }
 
-  -- from a round in which both ends are SELECTED, in 20 rounds to one in which both are synchronized, in one more to one in which all that
-  -- is on the cable says so, and on
-  pub late_comes_up : (gives : Algorithms) (n : ℕ) (start mid next new : WorldState) → FreshAt at w k kept 1 start
-      → ((s : Side) → AtIt at w s (λ p. is_selected p.choice ≡ true) start)
-      → ((s : Side) → AtIt at w s (Rising 0) mid → AtIt at w s Synced mid)
-      → LateRounds gives 20 start mid → IsLateRound gives mid next → LateRounds gives n next new → Agrees at w (late_signs at w k kept) 1 n new
-  late_comes_up gives n start mid next new g chosen ready h one more = comes_up at w (late_signs at w k kept) OldArrive gives 1
-      (late_chain at w k kept gives) named awake n start mid next new g chosen ready h
-      (λ met synced. agrees_first next (raises gives mid next met synced one)) more
+  -- in one round more all that is on the cable says so
+  pub late_turn : (gives : Algorithms) (mid next : WorldState) → LateRounds gives 1 mid next → FreshAt at w k kept 1 mid
+      → ((s : Side) → AtIt at w s Synced mid) → Agrees at w (late_signs at w k kept) 1 0 next
+  late_turn gives mid next r met synced = agrees_first next (raises gives mid next met synced (subst (λ j. IsLateRound gives j next) r.1 r.2))
 
 -- both ends are synchronized, and know that of each other
 pub late_synced : (gives : Algorithms) (at : Side → ℕ) (w : Side → Lacpdu) (n : ℕ) (old j : WorldState) → 12 ≤ n
