@@ -4,19 +4,19 @@ use Rattle.lagprogress.proofs.Common.{refl, slice_get, subst, suc, sym, true, ze
 use Rattle.lagprogress.proofs.Common.{cases_Bool, nat_tests, none-some, list_any, AggId, Choice, Lacpdu, Information, frame_octets, Side, peer}
 use Rattle.lagprogress.proofs.Common.{CollectingDistributing, Machines, same_mux_state, has_chosen, Assignment, On, Wanted, is_among, after_mark}
 use Rattle.lagprogress.proofs.Common.{marker_due, wants_marker, Table, assignment_of, count_conversations, next_identifier, SystemFault, SystemPort}
-use Rattle.lagprogress.proofs.Common.{Carries, IsFrame, MuxIsSettled, aggregator_numbered, distributes_in, distributing, SendsMarkerOf, TransmitsIf}
-use Rattle.lagprogress.proofs.Common.{own_marker, Settling, SystemState, ports_table, settling_parts, all-get, ItemValue, WorldState, half, no}
-use Rattle.lagprogress.proofs.Common.{AtPort}
+use Rattle.lagprogress.proofs.Common.{Carries, IsFrame, MuxIsSettled, ProbesAt, ProbesIf, aggregator_numbered, distributes_in, distributing}
+use Rattle.lagprogress.proofs.Common.{SendsMarkerOf, TransmitsIf, own_marker, Settling, SystemState, ports_table, settling_parts, all-get, ItemValue}
+use Rattle.lagprogress.proofs.Common.{WorldState, half, no, AtPort}
 use Rattle.distributor.specs.Conversations.{sum_below}
 use Rattle.slowpdu.specs.Layout.{IsAddress}
 use Rattle.slowpdu.specs.Markers.{WritesMarker}
 use Rattle.lagprogress.proofs.Climbing.{PartnerInSync, distributes_now}
 use Rattle.lagprogress.proofs.Holding.{Fine, Flights, Has, IsMarker, answering, asking, fine_map, has_last, has_on, marked_here, settled_fine}
-use Rattle.lagprogress.proofs.Holding.{is_port}
+use Rattle.lagprogress.proofs.Holding.{marked_beside, is_port}
 use Rattle.lagprogress.proofs.Linked.{Link, push_there, pushed, end_here, end_with}
 use Rattle.lagprogress.proofs.OneCable.{Went}
 use Rattle.lagprogress.proofs.Passing.{sent_carries}
-use Rattle.lagprogress.proofs.HostKnowing.{beside}
+use Rattle.lagprogress.proofs.Knowing.{beside}
 use Rattle.lagprogress.proofs.HostRound.{left}
 use Rattle.slowpdu.specs.declared.pdu.Pdu.TheVariants as pdu
 
@@ -155,6 +155,37 @@ module _ (at : Side → ℕ) (w : Side → Lacpdu) (s : Side) (mac : List ℕ) (
         | inl n ↦ went_fine a old new fl now m W (ap (λ (t : SystemState). t.table) n.1) went fine
         | inr f ↦ fine_in_map m ⊥ W (Flights s (at s) mac now) (Flights s (at s) mac now) new.table (λ x. absurd x) (λ id y. y) f
       ]
+
+  -- the port is probed, or another one
+
+  pub probes_fine : (o : Option ℕ) (old : SystemState) (a : Option (List ℕ)) (new : SystemState) (fl now : Side → List ItemValue) (m : ℕ)
+      (W : Type 0) → ((i : ℕ) (z : SystemPort) → o ≡ Some i → slice_get old.system_ports i ≡ Some z → z.number ≡ at s) → old.system.mac ≡ mac
+      → ProbesAt o old a new → Went s (Ok a) fl now → IsFine m W (Flights s (at s) mac fl) old.table
+      → IsFine m W (Flights s (at s) mac now) new.table
+  probes_fine None old a new fl now m W number own h went fine = absurd h
+  probes_fine (Some i) old a new fl now m W number own h went fine = by_up h.0.port.enabled h.2
+    where
+      by_up : (up : Bool) → ProbesIf up h.0 old a new → IsFine m W (Flights s (at s) mac now) new.table
+      by_up false k = went_fine a old new fl now m W (ap (λ (t : SystemState). t.table) k.1) went fine
+      by_up true k = elim (sends_marker (next_identifier old.table) h.0 old a new fl now m W (number i h.0 refl h.1) own k went fine) [
+        | inl n ↦ went_fine a old new fl now m W (ap (λ (t : SystemState). t.table) n.1) went fine
+        | inr f ↦ fine_in_map m ⊥ W (Flights s (at s) mac now) (Flights s (at s) mac now) new.table (λ x. absurd x) (λ id y. y) f
+      ]
+
+  pub probes_beside : (o : Option ℕ) (old : SystemState) (a : Option (List ℕ)) (new : SystemState) (m : ℕ) (W : Type 0) (F : ℕ → Type 0)
+      → ((i : ℕ) (z : SystemPort) → o ≡ Some i → slice_get old.system_ports i ≡ Some z → z.number ≡ at s → ⊥) → ProbesAt o old a new
+      → IsFine m W F old.table → IsFine m W F new.table
+  probes_beside None old a new m W F other h fine = absurd h
+  probes_beside (Some i) old a new m W F other h fine = by_up h.0.port.enabled h.2
+    where
+      by_marker : (x : Option ℕ) → SendsMarkerOf x h.0.number h.0.mac old a new → IsFine m W F new.table
+      by_marker None k = subst (λ (t : SystemState). IsFine m W F t.table) (sym k.1) fine
+      by_marker (Some id) k = subst (Fine (at s) m W F) (sym (k.4.states agg conv))
+          (marked_beside (at s) m h.0.number id W F (other i h.0 refl h.1) (assignment_of old.table agg conv) fine)
+
+      by_up : (up : Bool) → ProbesIf up h.0 old a new → IsFine m W F new.table
+      by_up false k = subst (λ (t : SystemState). IsFine m W F t.table) (sym k.1) fine
+      by_up true k = by_marker (next_identifier old.table) k
 
   -- no marker is due: no conversation is Wanted there, if an identifier is left
   pub none_due : (t : Table) → IsSome (next_identifier t) → marker_due t (at s) ≡ None → count_conversations (wants_marker (at s)) t ≡ 0

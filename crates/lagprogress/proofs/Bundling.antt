@@ -9,15 +9,17 @@ use Rattle.lagprogress.proofs.Common.{count_more_of, counted, OfEach, AtPort, wa
 use Rattle.lagprogress.proofs.Common.{EachLinkComesUp, EndsHealthyCable, EnoughLinks, IsBundle, OneIsActive, SystemsDiffer, Distributes, Clearing}
 use Rattle.lagprogress.proofs.Common.{HostRounds, NoneIsLeft, PlayedRounds, AtEnd, IsHealthyAt, up_if_both_active, up_if_one_is, IsSteady}
 use Rattle.lagprogress.proofs.Climbing.{Down, Ripe, Rising, climbed, down_settles, down_takes, down_ticks, rising_first}
-use Rattle.lagprogress.proofs.ComingUp.{AreSynced, Climbs, Up, agrees_now, climbs_first, climbs_on, comes_up, distributes, hosts_kept, synced_of}
+use Rattle.lagprogress.proofs.ComingUp.{AreSynced, Climbs, Up, agrees_now, climbs_first, climbs_on, distributes, hosts_kept, up_synced, Agrees}
+use Rattle.lagprogress.proofs.ComingUp.{comes_up, host_turn}
 use Rattle.lagprogress.proofs.Starting.{active_at, awake_at, named_at, Ends, healthy_cable, said_by, starts}
-use Rattle.lagprogress.proofs.EachRound.{EachAt, RoundKeeps, same_index, played_join, host_each, hosts_on, hosts_split, hosts_steady, played_on}
+use Rattle.lagprogress.proofs.EachRound.{EachAt, RoundKeeps, same_index, played_join, host_each, played_on, played_split, played_steady}
 use Rattle.lagprogress.proofs.EndFacts.{Synced, activity}
 use Rattle.lagprogress.proofs.Linked.{many, at_end, end_here, end_with, EndPort}
-use Rattle.lagprogress.proofs.HostKnowing.{one_meets, AtIt, Fresh, active_meet, knows_peer, fresh_knows}
+use Rattle.lagprogress.proofs.Knowing.{AtIt, Chain, Met, Signs, knows_peer, met_knows}
+use Rattle.lagprogress.proofs.HostKnowing.{host_chain, host_signs, one_meets, Fresh, active_meet}
 use Rattle.lagprogress.proofs.OneRound.{Nothing}
-use Rattle.lagprogress.proofs.SharedLemmas.{Finds, lasted, shared_finds}
-use Rattle.lagprogress.proofs.Lasting.{IsAsBefore, all_by_place, as_before, ends_at, old_port, own_system, still_links}
+use Rattle.lagprogress.proofs.SharedLemmas.{Finds, shared_finds, played_lasted}
+use Rattle.lagprogress.proofs.Lasting.{IsAsBefore, all_by_place, ends_at, old_port, own_system, still_links, played_before}
 use Rattle.lagprogress.proofs.Claims.{IsNamed}
 
 -- no port stands by
@@ -152,30 +154,30 @@ agree_up E gives n old new sound rounds i l h up = agrees_now (λ s. port_at s l
     some_is None h = absurd (let e = h in cc)
     some_is (Some x) h = refl
 
--- A bundle, but that a port whose link is up may be another in place of an end of a healthy cable. In so many rounds the ends of
+-- A bundle, by rounds of a kind, but that a port whose link is up may be another in place of an end of a healthy cable. In so many rounds the ends of
 -- each healthy cable know each other, and one of them is active; the others end none, and have risen in 20 rounds more if they are
 -- SELECTED.
-pub record Meets (Holds : LinkState → WorldState → Type 0) (Other : Side → ℕ → Type 0) (first : ℕ) (gives : Algorithms) (old : WorldState)
+pub record MeetsBy (E : Clearing) (signs : (Side → ℕ) → (Side → Lacpdu) → Signs) (Holds : LinkState → WorldState → Type 0) (Other : Side → ℕ → Type 0) (first : ℕ) (gives : Algorithms) (old : WorldState)
     : Type 0 where
   pub steady : IsSteady old
   pub cabling : IsCabling (world_setup old).cables
   pub differ : SystemsDiffer old
   pub heard : (s : Side) (k : ℕ) (x : SystemPort) → slice_get (half s old).state.system_ports k ≡ Some x → x.port.enabled ≡ true
       → EndsHealthyCable Holds s x.number old ⊎ Other s x.number
-  pub finds : (mid : WorldState) → HostRounds gives first old mid → (s : Side) → Finds s mid
+  pub finds : (mid : WorldState) → PlayedRounds E gives first old mid → (s : Side) → Finds s mid
   pub links : (s : Side) → EnoughLinks (half s old).state
   pub never : (s : Side) (i : ℕ) (l : LinkState) → IsHealthyAt i l old → Other s (port_at s l) → ⊥
-  pub idle : (mid top : WorldState) → HostRounds gives first old mid → HostRounds gives 20 mid top → (s : Side) (k : ℕ) (z y : SystemPort)
+  pub idle : (mid top : WorldState) → PlayedRounds E gives first old mid → PlayedRounds E gives 20 mid top → (s : Side) (k : ℕ) (z y : SystemPort)
       → slice_get (half s old).state.system_ports k ≡ Some z → z.port.enabled ≡ true → Other s z.number
       → slice_get (half s top).state.system_ports k ≡ Some y → Ripe 0 y.port
-  pub meets : (i : ℕ) (l : LinkState) (h : IsHealthyAt i l old) → Holds l old → (mid : WorldState) → HostRounds gives first old mid
-      → Fresh (λ s. port_at s l) (said old i l h) mid
+  pub meets : (i : ℕ) (l : LinkState) (h : IsHealthyAt i l old) → Holds l old → (mid : WorldState) → PlayedRounds E gives first old mid
+      → Met (λ s. port_at s l) (said old i l h) (signs (λ s. port_at s l) (said old i l h)) 1 mid
   pub wakes : (i : ℕ) (l : LinkState) (h : IsHealthyAt i l old) → Holds l old → Awake old i l h
 
-module _ (Holds : LinkState → WorldState → Type 0) (Other : Side → ℕ → Type 0) (first : ℕ) (gives : Algorithms) (old : WorldState)
-    (m : Meets Holds Other first gives old) where
+module _ (E : Clearing) (signs : (Side → ℕ) → (Side → Lacpdu) → Signs) (Holds : LinkState → WorldState → Type 0) (Other : Side → ℕ → Type 0)
+    (first : ℕ) (gives : Algorithms) (old : WorldState) (m : MeetsBy E signs Holds Other first gives old) where
   -- of each healthy cable it holds
-  pub holds_of : (i : ℕ) (l : LinkState) → IsHealthyAt i l old → Holds l old
+  holds_of : (i : ℕ) (l : LinkState) → IsHealthyAt i l old → Holds l old
   holds_of i l h =
       let e = ends_at i l old h One in
       holds_there Holds old m.cabling i l h (elim (m.heard One e.0 e.1 e.3 e.4) [
@@ -184,25 +186,24 @@ module _ (Holds : LinkState → WorldState → Type 0) (Other : Side → ℕ →
             (subst (Other One) (found_place (port_at One l) (half One old).state.system_ports e.0 e.1 e.2 e.3) o))
       ])
 
-  pub awake_of : (i : ℕ) (l : LinkState) (h : IsHealthyAt i l old) → Awake old i l h
-  awake_of i l h = m.wakes i l h (holds_of i l h)
+  pub awake_by : (i : ℕ) (l : LinkState) (h : IsHealthyAt i l old) → Awake old i l h
+  awake_by i l h = m.wakes i l h (holds_of i l h)
 
-  pub named_of : (i : ℕ) (l : LinkState) (h : IsHealthyAt i l old) → Named old i l h
-  named_of = names old m.steady
-
-  met : (i : ℕ) (l : LinkState) (h : IsHealthyAt i l old) (mid : WorldState) → HostRounds gives first old mid → Fresh (λ s. port_at s l) (said old i l h) mid
+  met : (i : ℕ) (l : LinkState) (h : IsHealthyAt i l old) (mid : WorldState) → PlayedRounds E gives first old mid
+      → Met (λ s. port_at s l) (said old i l h) (signs (λ s. port_at s l) (said old i l h)) 1 mid
   met i l h = m.meets i l h (holds_of i l h)
 
   systems : (i : ℕ) (l : LinkState) (h : IsHealthyAt i l old) → (s : Side)
       → (said old i l h (peer s)).actor.system ≢ (said old i l h s).actor.system
   systems = apart_ends old m.steady m.differ
 
-  module _ (mid top : WorldState) (h : HostRounds gives first old mid) (more : HostRounds gives 20 mid top) where
+  module _ (e : ℕ) (chain : (at : Side → ℕ) (w : Side → Lacpdu) → Chain at w (signs at w) E gives e) (mid top : WorldState)
+      (h : PlayedRounds E gives first old mid) (more : PlayedRounds E gives 20 mid top) where
     middle : IsSteady mid
-    middle = hosts_steady gives first old mid m.steady h
+    middle = played_steady E gives first old mid m.steady h
 
     above : IsSteady top
-    above = hosts_steady gives 20 mid top middle more
+    above = played_steady E gives 20 mid top middle more
 
     -- both ends of each healthy cable are SELECTED
     chosen : (i : ℕ) (l : LinkState) (y : IsHealthyAt i l old) → (s : Side)
@@ -212,35 +213,32 @@ module _ (Holds : LinkState → WorldState → Type 0) (Other : Side → ℕ →
         let w = said old i l y in
         let g = met i l y mid h in
         let e = end_here at w 1 g.known One Nothing mid g.link s in
-        let k = as_before gives first old mid m.steady h s in
+        let k = played_before E gives first old mid m.steady h s in
         at_end at w 1 g.known s mid e middle (λ p. is_selected p.choice ≡ true)
         (is_chosen at w g.known s mid middle (m.finds mid h s) (still_links s old mid k (m.links s))
-        (systems i l y s) (let known = knows_peer at w 1 0 0 mid g (omega arith) s in omega (arith, known)) e)
+        (systems i l y s) (let known = knows_peer at w (signs at w) 1 0 0 mid g (omega arith) s in omega (arith, known)) e)
 
     climb : (i : ℕ) (l : LinkState) (y : IsHealthyAt i l old)
-        → Climbs (λ t. port_at t l) (said old i l y) (named_of i l y) (awake_of i l y) 20 top
+        → Climbs (λ t. port_at t l) (said old i l y) (signs (λ t. port_at t l) (said old i l y)) 20 top
     climb i l y =
         let at : Side → ℕ = λ t. port_at t l in
         let w = said old i l y in
-        let named = named_of i l y in
-        let awake = awake_of i l y in
-        hosts_on gives (Climbs at w named awake) mid
-        (climbs_first at w named awake mid (met i l y mid h) (chosen i l y))
-        (climbs_on at w named awake gives) 20 top more
+        played_on E gives (Climbs at w (signs at w)) mid (climbs_first at w (signs at w) mid (met i l y mid h) (chosen i l y))
+        (climbs_on at w (signs at w) E gives e (chain at w) (names old m.steady i l y) (awake_by i l y)) 20 top more
 
     -- and have risen, as the SELECTED ports have whose links are down
     ripe : (s : Side) → AllByRecursion (λ (y : SystemPort). Ripe 0 y.port) (half s top).state.system_ports
     ripe s = all_by_place (λ y. Ripe 0 y.port) (half s top).state.system_ports each
       where
         both : IsAsBefore s mid top
-        both = as_before gives 20 mid top middle more s
+        both = played_before E gives 20 mid top middle more s
 
         start : IsAsBefore s old mid
-        start = as_before gives first old mid m.steady h s
+        start = played_before E gives first old mid m.steady h s
 
         down : EachAt (Down 0) s top
         down = subst (λ t. EachAt (Down t) s top) (omega arith)
-            (down_rounds NoneIsLeft gives 20 mid top middle s (still_links s old mid start (m.links s)) more)
+            (down_rounds E gives 20 mid top middle s (still_links s old mid start (m.links s)) more)
 
         each : (k : ℕ) (y : SystemPort) → slice_get (half s top).state.system_ports k ≡ Some y → Ripe 0 y.port
         each k y there =
@@ -270,49 +268,80 @@ module _ (Holds : LinkState → WorldState → Type 0) (Other : Side → ℕ →
         at_end at w 1 g.known s top e above Synced
         (climbed (half s top).state e.index e.port (above s).0 e.there (ripe s) (end_with at w 1 g.known s top e (Rising 0) a))
 
-  pub ups_of : (i : ℕ) (l : LinkState) (y : IsHealthyAt i l old) (n : ℕ) (new : WorldState) → first + 31 ≤ n → HostRounds gives n old new
-      → Up (λ s. port_at s l) (said old i l y) (named_of i l y) (awake_of i l y) new
-  ups_of i l y n new enough h =
+  -- so in so many rounds more both ends come to agree
+  pub agrees_by : (e : ℕ) (chain : (at : Side → ℕ) (w : Side → Lacpdu) → Chain at w (signs at w) E gives e)
+      → ((at : Side → ℕ) (w : Side → Lacpdu) → ((t : Side) → IsNamed (w t))
+      → ((s : Side) → (activity (w s) ≡ true) ⊎ (activity (w (peer s)) ≡ true)) → (mid next : WorldState) → PlayedRounds E gives e mid next
+      → Met at w (signs at w) 1 mid → ((s : Side) → AtIt at w s Synced mid) → Agrees at w (signs at w) e 0 next)
+      → (i : ℕ) (l : LinkState) (y : IsHealthyAt i l old) (n : ℕ) (new : WorldState) → first + 31 + e + e ≤ n → PlayedRounds E gives n old new
+      → (k : ℕ) × (11 + e ≤ k) × Agrees (λ s. port_at s l) (said old i l y) (signs (λ s. port_at s l) (said old i l y)) e k new
+  agrees_by e chain turn i l y n new enough h =
       let at : Side → ℕ = λ s. port_at s l in
       let w = said old i l y in
-      let cut = hosts_split gives (n - first) first n old new (omega (arith, enough)) h in
-      let up = hosts_split gives (n - first - 20) 20 (n - first) cut.0 new (omega (arith, enough)) cut.2 in
-      comes_up at w (named_of i l y) (awake_of i l y) gives (n - first - 20) cut.0 up.0 new (met i l y cut.0 cut.1)
-      (chosen cut.0 up.0 cut.1 up.1 i l y) (ready cut.0 up.0 cut.1 up.1 i l y) (omega (arith, enough)) up.1 up.2
+      let named = names old m.steady i l y in
+      let cut = played_split E gives (n - first) first n old new (omega (arith, enough)) h in
+      let up = played_split E gives (n - first - 20) 20 (n - first) cut.0 new (omega (arith, enough)) cut.2 in
+      let next = played_split E gives (n - first - 20 - e) e (n - first - 20) up.0 new (omega (arith, enough)) up.2 in (
+        n - first - 20 - e,
+        omega (arith, enough),
+        comes_up at w (signs at w) E gives e (chain at w) named (awake_by i l y) (n - first - 20 - e) cut.0 up.0 next.0 new (met i l y cut.0 cut.1)
+            (chosen e chain cut.0 up.0 cut.1 up.1 i l y) (ready e chain cut.0 up.0 cut.1 up.1 i l y) up.1
+            (turn at w named (awake_by i l y) up.0 next.0 next.1) next.2,
+      )
 
-  pub distribute_of : (i : ℕ) (l : LinkState) (y : IsHealthyAt i l old) (n : ℕ) (new : WorldState) → first + 31 ≤ n → HostRounds gives n old new
-      → (s : Side) → AtEnd Distributes s l new
-  distribute_of i l y n new enough h =
-      distributes (λ s. port_at s l) (said old i l y) new
-      (synced_of (λ s. port_at s l) (said old i l y) (named_of i l y) (awake_of i l y) new (ups_of i l y n new enough h))
-
-  pub agree_of : IsWorldSound old → (i : ℕ) (l : LinkState) (y : IsHealthyAt i l old) (n : ℕ) (new : WorldState) → first + 31 ≤ n
-      → HostRounds gives n old new → agreement_at new (suc i) ≡ Some Same
-  agree_of sound i l y n new enough h = agree_up NoneIsLeft gives n old new sound h i l y
-      (synced_of (λ s. port_at s l) (said old i l y) (named_of i l y) (awake_of i l y) new (ups_of i l y n new enough h))
-
--- where there are no others
+-- where each port whose link is up ends a healthy cable
 
 abbrev pub Nowhere : Side → ℕ → Type 0
 Nowhere s n = ⊥
 
-alone : (Holds : LinkState → WorldState → Type 0) (first : ℕ) (gives : Algorithms) (old : WorldState) → IsBundle Holds old
-    → ((i : ℕ) (l : LinkState) (h : IsHealthyAt i l old) → Holds l old → (mid : WorldState) → HostRounds gives first old mid
-    → Fresh (λ s. port_at s l) (said old i l h) mid)
-    → ((i : ℕ) (l : LinkState) (h : IsHealthyAt i l old) → Holds l old → Awake old i l h) → Meets Holds Nowhere first gives old
-alone Holds first gives old b meets wakes = record {
+pub alone : (E : Clearing) (signs : (Side → ℕ) → (Side → Lacpdu) → Signs) (Holds : LinkState → WorldState → Type 0) (first : ℕ) (gives : Algorithms)
+    (old : WorldState) → IsBundle Holds old
+    → ((i : ℕ) (l : LinkState) (h : IsHealthyAt i l old) → Holds l old → (mid : WorldState) → PlayedRounds E gives first old mid
+    → Met (λ s. port_at s l) (said old i l h) (signs (λ s. port_at s l) (said old i l h)) 1 mid)
+    → ((i : ℕ) (l : LinkState) (h : IsHealthyAt i l old) → Holds l old → Awake old i l h) → MeetsBy E signs Holds Nowhere first gives old
+alone E signs Holds first gives old b meets wakes = record {
   steady = b.steady;
   cabling = b.cabling;
   differ = b.differ;
   heard = λ s k x e up. inl (b.heard s k x e up);
-  finds = λ mid h. shared_finds old mid b.steady (lasted gives first old mid b.steady h) Holds b.heard
-      (λ i l y s. fresh_knows l (said old i l y) mid (meets i l y (heard_holds Holds old b.cabling b.heard i l y) mid h) s) b.aggregators;
+  finds = λ mid h. shared_finds old mid b.steady (played_lasted E gives first old mid b.steady h) Holds b.heard
+      (λ i l y s. met_knows (λ t. port_at t l) (said old i l y) (signs (λ t. port_at t l) (said old i l y)) l (λ t. refl) mid
+      (meets i l y (heard_holds Holds old b.cabling b.heard i l y) mid h) s) b.aggregators;
   links = b.links;
   never = λ s i l h o. o;
   idle = λ mid top h more s k z y there up o now. absurd o;
   meets = meets;
   wakes = wakes;
 }
+
+-- in rounds of hosts
+
+abbrev pub Meets : (LinkState → WorldState → Type 0) → (Side → ℕ → Type 0) → ℕ → Algorithms → WorldState → Type 0
+Meets Holds Other first gives old = MeetsBy NoneIsLeft (λ at w. host_signs at w) Holds Other first gives old
+
+module _ (Holds : LinkState → WorldState → Type 0) (Other : Side → ℕ → Type 0) (first : ℕ) (gives : Algorithms) (old : WorldState)
+    (m : Meets Holds Other first gives old) where
+  pub awake_of : (i : ℕ) (l : LinkState) (h : IsHealthyAt i l old) → Awake old i l h
+  awake_of = awake_by NoneIsLeft (λ at w. host_signs at w) Holds Other first gives old m
+
+  pub named_of : (i : ℕ) (l : LinkState) (h : IsHealthyAt i l old) → Named old i l h
+  named_of = names old m.steady
+
+  pub ups_of : (i : ℕ) (l : LinkState) (y : IsHealthyAt i l old) (n : ℕ) (new : WorldState) → first + 31 ≤ n → HostRounds gives n old new
+      → Up (λ s. port_at s l) (said old i l y) new
+  ups_of i l y n new enough h = agrees_by NoneIsLeft (λ at w. host_signs at w) Holds Other first gives old m 0 (λ at w. host_chain at w gives)
+      (λ at w named awake mid next r g ready. subst (λ j. Agrees at w (host_signs at w) 0 0 j) (sym r) (host_turn at w mid g ready)) i l y n new
+      (omega (arith, enough)) h
+
+  pub distribute_of : (i : ℕ) (l : LinkState) (y : IsHealthyAt i l old) (n : ℕ) (new : WorldState) → first + 31 ≤ n → HostRounds gives n old new
+      → (s : Side) → AtEnd Distributes s l new
+  distribute_of i l y n new enough h =
+      distributes (λ s. port_at s l) (said old i l y) new (up_synced (λ s. port_at s l) (said old i l y) new (ups_of i l y n new enough h))
+
+  pub agree_of : IsWorldSound old → (i : ℕ) (l : LinkState) (y : IsHealthyAt i l old) (n : ℕ) (new : WorldState) → first + 31 ≤ n
+      → HostRounds gives n old new → agreement_at new (suc i) ≡ Some Same
+  agree_of sound i l y n new enough h = agree_up NoneIsLeft gives n old new sound h i l y
+      (up_synced (λ s. port_at s l) (said old i l y) new (ups_of i l y n new enough h))
 
 -- where one end of each healthy cable is active
 
@@ -328,7 +357,7 @@ one_meet gives first old cabling steady many i l h a mid r =
     (starts i l old e steady cabling h) r
 
 pub one_active : (gives : Algorithms) (old : WorldState) → IsBundle OneIsActive old → Meets OneIsActive Nowhere 621 gives old
-one_active gives old b = alone OneIsActive 621 gives old b (one_meet gives 621 old b.cabling b.steady (omega arith)) (one_wakes old)
+one_active gives old b = alone NoneIsLeft (λ at w. host_signs at w) OneIsActive 621 gives old b (one_meet gives 621 old b.cabling b.steady (omega arith)) (one_wakes old)
 
 -- where both are
 
@@ -344,7 +373,7 @@ both_meet gives old cabling steady i l h a mid r =
     (starts i l old e steady cabling h) r
 
 pub both_active : (gives : Algorithms) (old : WorldState) → IsBundle BothAreActive old → Meets BothAreActive Nowhere 321 gives old
-both_active gives old b = alone BothAreActive 321 gives old b (both_meet gives old b.cabling b.steady) (both_wake old)
+both_active gives old b = alone NoneIsLeft (λ at w. host_signs at w) BothAreActive 321 gives old b (both_meet gives old b.cabling b.steady) (both_wake old)
 
 -- the laws of a bundle, by rounds of hosts
 

@@ -7,11 +7,12 @@ use Rattle.lagprogress.proofs.Common.{selected, lacpdu_rows, receive_rows, same_
 use Rattle.lagprogress.proofs.Common.{has_chosen, Assignment, Free, On, force_result, is_among, move_result, after_down, Table, assignment_of}
 use Rattle.lagprogress.proofs.Common.{next_identifier, Answer, SystemFault, SystemPort, Call, Configure, Force, FreesIfDown, Move_conversation, Offer}
 use Rattle.lagprogress.proofs.Common.{Receive, Restart, Set_link, Step, Tick, Transmit, changed_party, choice_with_link, IsFirst, configured_numbers}
-use Rattle.lagprogress.proofs.Common.{none_enabled, MuxIsSettled, Offers, system_force_result, system_move_result, aggregator_numbered, distributing}
-use Rattle.lagprogress.proofs.Common.{IsSound, SystemState, port_numbers, Step-frame, rests, all-get, ports_rise, Step-sound, first_sound, Algorithms}
-use Rattle.lagprogress.proofs.Common.{half, KeptByCall, KeptBySettling, OfEach, Step-each, first_each, no, AtPort, at_number, same_place}
-use Rattle.lagprogress.proofs.Common.{settling_leaves, Turns, asks_turn, comes_turn, gives_turn, same_turns, settles_turn, ticks_turn, turns_through}
-use Rattle.lagprogress.proofs.Common.{RowsKeep, fires_keep, runs_keep, EachReachedHasCarriersUp, HasPortUp, carrier_of, held_on}
+use Rattle.lagprogress.proofs.Common.{none_enabled, MuxIsSettled, system_force_result, system_move_result, aggregator_numbered, distributing, IsSound}
+use Rattle.lagprogress.proofs.Common.{SystemState, port_numbers, Step-frame, rests, all-get, ports_rise, Step-sound, first_sound, Algorithms, half}
+use Rattle.lagprogress.proofs.Common.{KeptByCall, KeptBySettling, OfEach, Step-each, first_each, no, AtPort, at_number, same_place, settling_leaves}
+use Rattle.lagprogress.proofs.Common.{Turns, asks_turn, comes_turn, gives_turn, same_turns, settles_turn, ticks_turn, turns_through, RowsKeep}
+use Rattle.lagprogress.proofs.Common.{fires_keep, runs_keep, EachReachedHasCarriersUp, HasPortUp, carrier_of, held_on}
+use Rattle.lagsystem.specs.Offers.{Offers}
 use Rattle.distributor.proofs.TableLemmas.{first_free}
 use Rattle.lagsystem.proofs.Steps.{forced_to, moved_to}
 use Rattle.lagbeside.specs.Heartbeat.{takes_down}

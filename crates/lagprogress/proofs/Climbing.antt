@@ -1,6 +1,6 @@
 -- How the mux machine of a SELECTED port climbs, and what a round keeps of what holds of one end.
 use Rattle.lagprogress.proofs.Common.{Bool, List, Some, [], ap, arith, false, if◌then◌else◌, inl, inr, not, refl, slice_get, subst, sym, true, ℕ}
-use Rattle.lagprogress.proofs.Common.{◌&&◌, ◌-◌, ◌==◌, ◌||◌, ◌∙◌, ◌∷◌, ◌≡◌, ◌≤◌, ◌⊎◌, and_parts, nat_tests, AllByRecursion, AggId, Choice, Selected}
+use Rattle.lagprogress.proofs.Common.{◌&&◌, ◌-◌, ◌==◌, ◌∙◌, ◌∷◌, ◌≡◌, ◌≤◌, ◌⊎◌, and_parts, nat_tests, AllByRecursion, AggId, Choice, Selected}
 use Rattle.lagprogress.proofs.Common.{Standby, Unselected, is_selected, is_unselected, same_party, party_itself, Lacpdu, party_of, MuxState, Attached}
 use Rattle.lagprogress.proofs.Common.{CollectingDistributing, Detached, Waiting, ReceiveState, Machines, is_synchronized, mux_rows}
 use Rattle.lagprogress.proofs.Common.{partner_synchronized, same_mux_state, default_partner, lacpdu_rows, receive_rows, same_receive_state, AtRest}

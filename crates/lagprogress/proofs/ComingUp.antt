@@ -5,17 +5,19 @@ use Rattle.lagprogress.proofs.Common.{pair_of, same_group, group-itself, Lacpdu,
 use Rattle.lagprogress.proofs.Common.{same_mux_state, SystemPort, MuxIsSettled, group_at, machines_of, all-get, Same, agreement_at, agreement_of}
 use Rattle.lagprogress.proofs.Common.{end_facts, first_agreement, is_stamp, same_groups, Algorithms, ItemValue, LinkState, WorldState}
 use Rattle.lagprogress.proofs.Common.{change_count_in, half, history_at, IsTimed, OfEach, AtPort, Sounds, all_leave, Distributes, Clearing}
-use Rattle.lagprogress.proofs.Common.{HostRounds, IsHostRound, IsPlayed, PlayedRounds, OfPort}
+use Rattle.lagprogress.proofs.Common.{HostRounds, IsPlayed, NoneIsLeft, PlayedRounds, OfPort}
+use Rattle.lagprogress.proofs.Knowing.{AtIt, Chain, Met, Signs, able_fresh, awake_peer, beside, fits_before, fits_fresh, knows_peer, mode, stays_met}
+use Rattle.lagprogress.proofs.Knowing.{wait, wakes_now}
+use Rattle.lagprogress.proofs.HostKnowing.{FreshAt, host_chain, host_signs, knows_peer as host_knows}
 use Rattle.lagprogress.proofs.HostStamps.{stamped_between, stamped_tick}
 use Rattle.lagprogress.proofs.OneCable.{OnCable, cable}
 use Rattle.lagprogress.proofs.Stamps.{Present, Stamped}
 use Rattle.lagprogress.proofs.Claims.{IsNamed, Owes}
 use Rattle.lagprogress.proofs.Climbing.{PartnerInSync, Rising, distributes_now, partner_along, rising_along, rising_first, ticks_partner}
 use Rattle.lagprogress.proofs.Climbing.{ticks_rising}
-use Rattle.lagprogress.proofs.EndFacts.{Learnt, Synced, activity, wait_of}
-use Rattle.lagprogress.proofs.EachRound.{hosts_on, played_on}
-use Rattle.lagprogress.proofs.HostKnowing.{FreshAt, able_fresh, awake_peer, fits_before, fits_fresh, knows_peer, stays_fresh, AtIt, beside, mode}
-use Rattle.lagprogress.proofs.HostRound.{holds_on, host_holds, host_nears, of_side}
+use Rattle.lagprogress.proofs.EndFacts.{Learnt, Synced, activity}
+use Rattle.lagprogress.proofs.EachRound.{played_on}
+use Rattle.lagprogress.proofs.HostRound.{holds_on, host_holds, of_side}
 use Rattle.lagprogress.proofs.Linked.{EndPort, Fits, Link, at_end, each_map, end_here, end_with, peer_twice}
 use Rattle.lagprogress.proofs.OneRound.{Nothing, join, ticked}
 use Rattle.lagprogress.proofs.Starting.{emptied}
@@ -125,132 +127,151 @@ module _ (at : Side → ℕ) (w : Side → Lacpdu) (c : Side → ℕ) where
       (λ p q r rest a y. ticks_rising 1 (w s) (w (peer s)) (c s) (20 - n) p q (omega (arith, l)) r a y)
       (λ p y. y) (λ p y. y) (join 1 at w c One s (Rising (20 - n)) old link rising) h))
 
-module _ (at : Side → ℕ) (w : Side → Lacpdu) (named : (t : Side) → IsNamed (w t))
-    (awake : (s : Side) → (activity (w s) ≡ true) ⊎ (activity (w (peer s)) ≡ true)) where
-  pub climb_first : (j : WorldState) (g : FreshAt at w 1 j) (s : Side) → AtIt at w s (λ p. is_selected p.choice ≡ true) j
-      → AtIt at w s (Rising (20 - 0)) j
-  climb_first j g s chosen = rises_first at w g.known j g.link s chosen
+-- an end that owes an LACPDU sounds as soon as its transmit window lets it
+pub owed : (at : Side → ℕ) (w : Side → Lacpdu) (c : Side → ℕ) (j : WorldState) (l : Link 2 at w c One Nothing j) (s : Side) → 1 ≤ c s
+    → AtIt at w s (Owes (w (peer s))) j → AtIt at w s (Sounds (mode at w s) 11) j
+owed at w c j l s heard owes =
+    let e = end_here at w 2 c One Nothing j l s in
+    let known = (e.is.1.1 heard).0 in
+    let timed = all-get (λ (y : SystemPort). IsTimed y.port) (half s j).state.system_ports e.index e.port e.there (l.steady s).1 in
+    at_end at w 2 c s j e l.steady (Sounds (mode at w s) 11) (
+      inl (end_with at w 2 c s j e (Owes (w (peer s))) owes (e.is.2 (omega arith), known.party)),
+      all_leave true e.port.port.ages timed.3,
+    )
 
-  pub climb_on : (s : Side) (gives : Algorithms) (n : ℕ) (old new : WorldState) (g : FreshAt at w 1 old) → IsHostRound gives old new
-      → AtIt at w s (Rising (20 - n)) old → AtIt at w s (Rising (20 - (n + 1))) new
-  climb_on s gives n old new g h rising = rises_on at w g.known s gives n old new (fits_before at w named awake 1 old g (omega arith))
-      (fits_fresh at w named awake 1 old g (omega arith)) (knows_peer at w 1 0 0 old g (omega arith) s) g.link h rising
-
+module _ (at : Side → ℕ) (w : Side → Lacpdu) (z : Signs) where
   -- both climb
   pub record Climbs (n : ℕ) (j : WorldState) : Type 0 where
-    pub fresh : FreshAt at w 1 j
+    pub fresh : Met at w z 1 j
     pub rising : (s : Side) → AtIt at w s (Rising (20 - n)) j
 
-  pub climbs_first : (j : WorldState) → FreshAt at w 1 j → ((s : Side) → AtIt at w s (λ p. is_selected p.choice ≡ true) j) → Climbs 0 j
-  climbs_first j g chosen = record { fresh = g; rising = λ s. climb_first j g s (chosen s) }
+  pub climbs_first : (j : WorldState) → Met at w z 1 j → ((s : Side) → AtIt at w s (λ p. is_selected p.choice ≡ true) j) → Climbs 0 j
+  climbs_first j g chosen = record { fresh = g; rising = λ s. rises_first at w g.known j g.link s (chosen s) }
 
-  pub climbs_on : (gives : Algorithms) (n : ℕ) (old new : WorldState) → IsHostRound gives old new → Climbs n old → Climbs (n + 1) new
-  climbs_on gives n old new h k = record {
-    fresh = stays_fresh at w named awake gives 1 old new (omega arith) h k.fresh;
-    rising = λ s. climb_on s gives n old new k.fresh h (k.rising s);
-  }
+  -- Then each end hears that the other is in sync, since it is told, or an LACPDU that says so is on its way, or is owed.
 
-  -- Then each end hears that the other is in sync, since it is told or is owed an LACPDU.
+  abbrev pub Tellings : ℕ → Side → ℕ → WorldState → Type 0
+  Tellings e s n j = ((m : ℕ) × (1 ≤ m) × (n + m ≤ 11 + e) × z.Ahead s (mode at w s) m j) ⊎ AtIt at w (peer s) PartnerInSync j
 
-  abbrev pub Tells : Side → ℕ → WorldState → Type 0
-  Tells s n j = ((k : ℕ) × (1 ≤ k) × (n + k ≤ 11) × AtIt at w s (Sounds (mode at w s) k) j) ⊎ AtIt at w (peer s) PartnerInSync j
+  pub record Agrees (e n : ℕ) (j : WorldState) : Type 0 where
+    pub fresh : Met at w z 2 j
+    pub tells : (s : Side) → Tellings e s n j
 
-  pub record Agrees (n : ℕ) (j : WorldState) : Type 0 where
-    pub fresh : FreshAt at w 2 j
-    pub tells : (s : Side) → Tells s n j
-
-  -- an end that owes an LACPDU sounds as soon as its transmit window lets it
-  owed : (j : WorldState) (g : FreshAt at w 2 j) (s : Side) → AtIt at w s (Owes (w (peer s))) j → AtIt at w s (Sounds (mode at w s) 11) j
-  owed j g s owes =
-      let e = end_here at w 2 g.known One Nothing j g.link s in
-      let known = (e.is.1.1 (let l = knows_peer at w 2 0 0 j g (omega arith) s in omega (arith, l))).0 in
-      let timed = all-get (λ (y : SystemPort). IsTimed y.port) (half s j).state.system_ports e.index e.port e.there (g.link.steady s).1 in
-      at_end at w 2 g.known s j e g.link.steady (Sounds (mode at w s) 11) (
-        inl (end_with at w 2 g.known s j e (Owes (w (peer s))) owes (e.is.2 (omega arith), known.party)),
-        all_leave true e.port.port.ages timed.3,
-      )
-
-  agrees_first : (j : WorldState) → Climbs 20 j → ((s : Side) → AtIt at w s (Rising 0) j → AtIt at w s Synced j) → Agrees 0 j
-  agrees_first j c ready =
-      let g = c.fresh in
-      let synced : (s : Side) → OfEach (AtPort (at s) (λ p. 2 ≤ 2 → Synced p)) (half s j).state.system_ports =
-      λ s. each_map (AtPort (at s) Synced) (AtPort (at s) (λ p. 2 ≤ 2 → Synced p)) (λ m p a f l. a f) (half s j).state.system_ports
-      (ready s (subst (λ t. AtIt at w s (Rising t) j) (omega arith) (c.rising s))) in
-      let fresh : FreshAt at w 2 j = record {
-        known = g.known;
-        next = g.next;
-        link = emptied at w 1 2 g.known One Nothing j g.empty synced g.link;
-        fits = g.fits;
-        later = g.later;
-        longer = g.longer;
-        sounds = g.sounds;
-        empty = g.empty;
-        told = g.told;
-        present = g.present;
-      } in
-      record {
-        fresh = fresh;
-        tells = λ s. elim (g.told s (let l = knows_peer at w 1 0 0 j g (omega arith) (peer s) in omega (arith, l))) [
-          | inl owes ↦ inl (11, omega arith, omega arith, owed j fresh s owes)
-          | inr heard ↦ inr heard
-        ];
-      }
-
-  agrees_on : (gives : Algorithms) (n : ℕ) (old new : WorldState) → IsHostRound gives old new → Agrees n old → Agrees (n + 1) new
-  agrees_on gives n old new h c =
-      let g = c.fresh in
-      record {
-        fresh = stays_fresh at w named awake gives 2 old new (omega arith) h g;
-        tells = λ s. tells g (fits_before at w named awake 2 old g (omega arith)) (fits_fresh at w named awake 2 old g (omega arith)) s (c.tells s);
-      }
-    where
-      tells : (g : FreshAt at w 2 old) → Fits 2 w g.known → Fits 2 w (ticked g.known) → (s : Side) → Tells s n old → Tells s (n + 1) new
-      tells g fits then s (inl (m, some, soon, y)) = let can = able_fresh at w named awake 2 old g s in
-          elim (host_nears gives s 2 at w g.known (omega arith) fits then (mode at w s) m old new can.1 can.0
-          (join 2 at w g.known One s (Sounds (mode at w s) m) old g.link y) h) [
-            | inl q ↦ (let l = q.0 in
-                inl (m - 1, l, omega (arith, soon, l), beside at w 2 (ticked g.known) s (Sounds (mode at w s) (m - 1)) new q.1))
-            | inr q ↦ inr (each_map (AtPort (at (peer s)) (Learnt 2 (w (peer (peer s))) (wait_of (w (peer s)) - 1)))
-                (AtPort (at (peer s)) PartnerInSync) (λ i p a e. (a e).1 (omega arith)) (half (peer s) new).state.system_ports
-                (beside at w 2 (ticked g.known) (peer s) (Learnt 2 (w (peer (peer s))) (wait_of (w (peer s)) - 1)) new q))
-          ]
-      tells g fits then s (inr y) =
-          let t = peer s in
-          let l = knows_peer at w 2 0 0 old g (omega arith) t in
-          inr (beside at w 2 (ticked g.known) t PartnerInSync new
-          (host_holds gives t 2 at w g.known PartnerInSync PartnerInSync old new fits then
-          (partner_along (w t) (w (peer t)) (g.known t) 2 (omega arith) (awake_peer at w named awake t))
-          (partner_along (w t) (w (peer t)) (ticked g.known t) 2 (omega arith) (awake_peer at w named awake t))
-          (λ p q r rest a z. ticks_partner 2 (w t) (w (peer t)) (g.known t) p q (omega (arith, l)) r a z)
-          (λ p z. z) (λ p z. z) (join 2 at w g.known One t PartnerInSync old g.link y) h))
-
-  pub told_now : (n : ℕ) (j : WorldState) → 11 ≤ n → Agrees n j → (t : Side) → AtIt at w t PartnerInSync j
-  told_now n j l c t = subst (λ u. AtIt at w u PartnerInSync j) (peer_twice t) (elim (c.tells (peer t)) [
+  pub told_now : (e n : ℕ) (j : WorldState) → 11 + e ≤ n → Agrees e n j → (t : Side) → AtIt at w t PartnerInSync j
+  told_now e n j l c t = subst (λ u. AtIt at w u PartnerInSync j) (peer_twice t) (elim (c.tells (peer t)) [
     | inl (m, some, soon, y) ↦ absurd (omega (arith, l, some, soon))
     | inr y ↦ y
   ])
 
-  abbrev pub Up : WorldState → Type 0
-  Up j = (n : ℕ) × (11 ≤ n) × Agrees n j
-
-  pub synced_of : (j : WorldState) → Up j → AreSynced at w j
-  synced_of j up = let g = up.2.fresh in
+  -- both are synchronized, and know that of each other
+  pub synced_of : (e n : ℕ) (j : WorldState) → 11 + e ≤ n → Agrees e n j → ((s : Side) → z.Rest j → z.Took s j → Present at s j) → AreSynced at w j
+  synced_of e n j l c present =
+      let g = c.fresh in
+      let knows : (s : Side) → 1 ≤ g.known s = λ s. (let m = knows_peer at w z 2 0 0 j g (omega arith) s in omega (arith, m)) in
       record {
         known = g.known;
         link = g.link;
-        knows = λ s. (let l = knows_peer at w 2 0 0 j g (omega arith) s in omega (arith, l));
-        heard = told_now up.0 j up.1 up.2;
-        present = λ s. g.present s (let l = knows_peer at w 2 0 0 j g (omega arith) s in omega (arith, l));
+        knows = knows;
+        heard = told_now e n j l c;
+        present = λ s. present s g.rest (g.took s (knows s));
       }
 
-  -- from a round in which both ends are SELECTED, in 20 rounds to one in which both are synchronized, and on
-  pub comes_up : (gives : Algorithms) (n : ℕ) (start mid new : WorldState) → FreshAt at w 1 start
-      → ((s : Side) → AtIt at w s (λ p. is_selected p.choice ≡ true) start)
-      → ((s : Side) → AtIt at w s (Rising 0) mid → AtIt at w s Synced mid)
-      → 11 ≤ n → HostRounds gives 20 start mid → HostRounds gives n mid new → Up new
-  comes_up gives n start mid new g chosen ready enough h more =
-      let climbed = hosts_on gives Climbs start (climbs_first start g chosen) (climbs_on gives) 20 mid h in
-      (n, enough, hosts_on gives Agrees mid (agrees_first mid climbed ready) (agrees_on gives) n new more)
+  module _ (E : Clearing) (gives : Algorithms) (e : ℕ) (k : Chain at w z E gives e) (named : (t : Side) → IsNamed (w t))
+      (awake : (s : Side) → (activity (w s) ≡ true) ⊎ (activity (w (peer s)) ≡ true)) where
+    pub climb_on : (s : Side) (n : ℕ) (old new : WorldState) (g : Met at w z 1 old) → IsPlayed E gives old new
+        → AtIt at w s (Rising (20 - n)) old → AtIt at w s (Rising (20 - (n + 1))) new
+    climb_on s n old new g h rising = rises_on at w g.known s gives n old new (fits_before at w z named awake 1 old g (omega arith))
+        (fits_fresh at w z named awake 1 old g (omega arith)) (knows_peer at w z 1 0 0 old g (omega arith) s) g.link h rising
+
+    pub climbs_on : (n : ℕ) (old new : WorldState) → IsPlayed E gives old new → Climbs n old → Climbs (n + 1) new
+    climbs_on n old new h c = record {
+      fresh = stays_met at w z E gives e k named awake 1 old new (omega arith) h c.fresh;
+      rising = λ s. climb_on s n old new c.fresh h (c.rising s);
+    }
+
+    agrees_on : (n : ℕ) (old new : WorldState) → IsPlayed E gives old new → Agrees e n old → Agrees e (n + 1) new
+    agrees_on n old new h c =
+        let g = c.fresh in
+        record {
+          fresh = stays_met at w z E gives e k named awake 2 old new (omega arith) h g;
+          tells = λ s. tells g (fits_before at w z named awake 2 old g (omega arith)) (fits_fresh at w z named awake 2 old g (omega arith)) s
+              (c.tells s);
+        }
+      where
+        tells : (g : Met at w z 2 old) → Fits 2 w g.known → Fits 2 w (ticked g.known) → (s : Side) → Tellings e s n old → Tellings e s (n + 1) new
+        tells g fits then s (inl (m, some, soon, y)) = let can = able_fresh at w z named awake 2 old g s in
+            elim (k.nears 2 s (omega arith) (inr (named (peer s))) g.known fits then (mode at w s) m old new can.1 can.0 g.link
+            (wakes_now at w 2 g.known One Nothing s (mode at w s) old can.0 g.link) g.rest y h) [
+              | inl q ↦ (let l = q.0 in inl (m - 1, l, omega (arith, soon, l), q.1))
+              | inr q ↦ inr (each_map (AtPort (at (peer s)) (Learnt 2 (w (peer (peer s))) (wait at w (peer s))))
+                  (AtPort (at (peer s)) PartnerInSync) (λ i p a f. (a f).1 (omega arith)) (half (peer s) new).state.system_ports
+                  (beside at w 2 (ticked g.known) (peer s) (Learnt 2 (w (peer (peer s))) (wait at w (peer s))) new q.link))
+            ]
+        tells g fits then s (inr y) =
+            let t = peer s in
+            let l = knows_peer at w z 2 0 0 old g (omega arith) t in
+            inr (beside at w 2 (ticked g.known) t PartnerInSync new
+            (host_holds gives t 2 at w g.known PartnerInSync PartnerInSync old new fits then
+            (partner_along (w t) (w (peer t)) (g.known t) 2 (omega arith) (awake_peer w awake t))
+            (partner_along (w t) (w (peer t)) (ticked g.known t) 2 (omega arith) (awake_peer w awake t))
+            (λ p q r rest a x. ticks_partner 2 (w t) (w (peer t)) (g.known t) p q (omega (arith, l)) r a x)
+            (λ p x. x) (λ p x. x) (join 2 at w g.known One t PartnerInSync old g.link y) h))
+
+    -- from a round in which both ends are SELECTED, in 20 rounds to one in which both are synchronized, and on from one in which all that is
+    -- on the cable says so
+    pub comes_up : (n : ℕ) (start mid next new : WorldState) → Met at w z 1 start
+        → ((s : Side) → AtIt at w s (λ p. is_selected p.choice ≡ true) start) → ((s : Side) → AtIt at w s (Rising 0) mid → AtIt at w s Synced mid)
+        → PlayedRounds E gives 20 start mid → (Met at w z 1 mid → ((s : Side) → AtIt at w s Synced mid) → Agrees e 0 next)
+        → PlayedRounds E gives n next new → Agrees e n new
+    comes_up n start mid next new g chosen ready h turn more =
+        let climbed = played_on E gives Climbs start (climbs_first start g chosen) climbs_on 20 mid h in
+        played_on E gives (Agrees e) next
+        (turn climbed.fresh (λ s. ready s (subst (λ t. AtIt at w s (Rising t) mid) (omega arith) (climbed.rising s)))) agrees_on n new more
+
+-- in rounds of hosts nothing is on the cable then
+
+abbrev pub Up : (Side → ℕ) → (Side → Lacpdu) → WorldState → Type 0
+Up at w j = (n : ℕ) × (11 ≤ n) × Agrees at w (host_signs at w) 0 n j
+
+pub host_turn : (at : Side → ℕ) (w : Side → Lacpdu) (j : WorldState) → FreshAt at w 1 j → ((s : Side) → AtIt at w s Synced j)
+    → Agrees at w (host_signs at w) 0 0 j
+host_turn at w j g ready =
+    let synced : (s : Side) → OfEach (AtPort (at s) (λ p. 2 ≤ 2 → Synced p)) (half s j).state.system_ports =
+    λ s. each_map (AtPort (at s) Synced) (AtPort (at s) (λ p. 2 ≤ 2 → Synced p)) (λ m p a f l. a f) (half s j).state.system_ports (ready s) in
+    let link = emptied at w 1 2 g.known One Nothing j g.rest synced g.link in
+    record {
+      fresh = record {
+        known = g.known;
+        next = g.next;
+        link = link;
+        rest = g.rest;
+        fits = g.fits;
+        later = g.later;
+        longer = g.longer;
+        ahead = g.ahead;
+        told = g.told;
+        took = g.took;
+      };
+      tells = λ s. elim (g.told s (let l = host_knows at w 1 j g (peer s) in omega (arith, l))) [
+        | inl owes ↦ inl (11, omega arith, omega arith, owed at w g.known j link s (let l = host_knows at w 1 j g s in omega (arith, l)) owes)
+        | inr heard ↦ inr heard
+      ];
+    }
+
+pub host_comes_up : (at : Side → ℕ) (w : Side → Lacpdu) → ((t : Side) → IsNamed (w t))
+    → ((s : Side) → (activity (w s) ≡ true) ⊎ (activity (w (peer s)) ≡ true)) → (gives : Algorithms) (n : ℕ) (start mid new : WorldState)
+    → FreshAt at w 1 start → ((s : Side) → AtIt at w s (λ p. is_selected p.choice ≡ true) start)
+    → ((s : Side) → AtIt at w s (Rising 0) mid → AtIt at w s Synced mid) → 11 ≤ n → HostRounds gives 20 start mid → HostRounds gives n mid new
+    → Up at w new
+host_comes_up at w named awake gives n start mid new g chosen ready enough h more = (
+  n,
+  enough,
+  comes_up at w (host_signs at w) NoneIsLeft gives 0 (host_chain at w gives) named awake n start mid mid new g chosen ready h (host_turn at w mid)
+      more,
+)
+
+pub up_synced : (at : Side → ℕ) (w : Side → Lacpdu) (j : WorldState) → Up at w j → AreSynced at w j
+up_synced at w j up = synced_of at w (host_signs at w) 0 up.0 j up.1 up.2 (λ s rest took. took)
 
 -- a port at an end of a cable has a history as before
 pub hosts_kept : (E : Clearing) (gives : Algorithms) (n i : ℕ) (at : Side → ℕ) (fl : Side → List ItemValue) (old new : WorldState)

@@ -72,6 +72,7 @@ pub use Rattle.lagsystem.specs.declared.fault.SystemFault.{SystemFault}
 pub use Rattle.lagsystem.specs.declared.received.Received.{Received}
 pub use Rattle.lagsystem.specs.declared.received.Received.TheVariants.{TookLacpdu, Up}
 pub use Rattle.lagsystem.specs.declared.system_ports.SystemPort.{SystemPort}
+pub use Rattle.lagsystem.specs.Assigning.{OffersIf}
 pub use Rattle.lagsystem.specs.Calls.{Call, Carries, ChangesParty, Configure, Data_frame, Faulty, Force, FreesIfDown, GivesEffect, IsFrame}
 pub use Rattle.lagsystem.specs.Calls.{Move_conversation, Offer, OnlyPortChangesBy, ParsesWhere, Performs, ProcessesLacpdu, Receive, ReceivedFrame}
 pub use Rattle.lagsystem.specs.Calls.{ReceivesAt, Releases, Restart, Runt, Set_link, SetsLink, SetsPortEnabled, Step, TableRun, ThenSettles, Tick}
@@ -83,11 +84,12 @@ pub use Rattle.lagsystem.specs.ModelView.{IsSent, can_receive, can_receive_in, k
 pub use Rattle.lagsystem.specs.ModelView.{number_of_port}
 pub use Rattle.lagsystem.specs.NothingToSettle.{MuxIsSettled, PeriodicIsSettled}
 pub use Rattle.lagsystem.specs.Occupants.{OccupantsAgree, occupied}
-pub use Rattle.lagsystem.specs.Offers.{GivesOrRefuses, MayBeOffered, Offers, RefusesOffer, assignment_of_frame, system_force_result}
-pub use Rattle.lagsystem.specs.Offers.{system_move_result}
+pub use Rattle.lagsystem.specs.Offers.{GivesOrRefuses, MayBeOffered, RefusesOffer, assignment_of_frame, system_force_result, system_move_result}
+pub use Rattle.lagsystem.specs.Probing.{ProbesAt, ProbesIf}
 pub use Rattle.lagsystem.specs.Readers.{aggregator_numbered, collecting, distributes_in, distributing, group_at, number_of_conversation}
 pub use Rattle.lagsystem.specs.Readers.{selected_aggregator}
 pub use Rattle.lagsystem.specs.Sending.{IsLacpduOf, SendsLacpdu, SendsMarkerOf, TransmitsAt, TransmitsIf, own_marker}
+pub use Rattle.lagsystem.specs.Settings.{Set_max_delay, SettingPromise}
 pub use Rattle.lagsystem.specs.Settling.{ChoosesIn, PortsChangeBy, PromotesNext, Settling, aggregator_for, choice_for, choice_if, choice_in}
 pub use Rattle.lagsystem.specs.Settling.{held_unless_on, ready_of, with_choice}
 pub use Rattle.lagsystem.specs.Sound.{CallPromise, HasPorts, IsSound, NoneHeld, PortsAgree}
@@ -131,6 +133,8 @@ pub use Rattle.lagworld.proofs.Arrives.{count_heard, read_log}
 pub use Rattle.lagworld.proofs.Cables.{end_is, mapped_set, put_ends, set_elsewhere, set_here}
 pub use Rattle.lagworld.proofs.Sides.{half_there, position_there}
 pub use Rattle.lagworld.proofs.Starts.{start_sound}
+pub use Rattle.laghosts.specs.HostEvents.{AfterNumberedOffer, AfterProbe, CountsHeldIfOk, ForcesPort, HalfTells, HostEvent, HostRuns, HostSteps}
+pub use Rattle.laghosts.specs.HostEvents.{Leaves, Offers, Plays, Probes, Rests, Sets, numbered_item}
 pub use Rattle.laghosts.proofs.HostHeadline.{hosts_keep_headline}
 pub use Rattle.lagbeside.specs.Knowing.{HasRecorded}
 pub use Rattle.lagbeside.specs.Selecting.{SharesGroup, StandsByFull, WantsAggregator, aggregators_with, ports_with}
@@ -150,7 +154,8 @@ pub use Rattle.lagbeside.proofs.Sounding.{silence_of, sounds_first, sounds_in_sl
 pub use Rattle.lagbeside.proofs.TableSteps.{Turning, Turns, asks_turn, comes_turn, gives_turn, same_turns, settles_turn, ticks_turn, turns_through}
 pub use Rattle.lagbeside.proofs.Timers.{RowsKeep, TimedAt, fires_keep, runs_keep, setting_timed, takes_keep, timed_kept, timed_settles, timed_starts}
 pub use Rattle.lagprogress.specs.Arriving.{Arrives, DeliverHandsUp, DisabledAreUnsynchronized, EachFrameArrives, EachFrameArrivesByHosts}
-pub use Rattle.lagprogress.specs.Arriving.{EachReachedHasUnsynchronized, GetsPort, HandsUp, IsHandedUp, OfferGetsPort, Sometime, TakesFrame}
+pub use Rattle.lagprogress.specs.Arriving.{EachReachedHasUnsynchronized, GetsPort, HandsUp, IsEventWhere, IsHandedUp, OfferGetsPort, Sometime}
+pub use Rattle.lagprogress.specs.Arriving.{SometimePlayed, TakesFrame}
 pub use Rattle.lagprogress.specs.Bundle.{AllHeard, BothAreActive, EachLinkAgrees, EachLinkComesUp, EndsHealthyCable, EndsOfEachKnow}
 pub use Rattle.lagprogress.specs.Bundle.{EnoughAggregators, EnoughLinks, HostReachedIsBundle, IsBundle, OneIsActive, ReachedIsApart, ReachedIsBundle}
 pub use Rattle.lagprogress.specs.Bundle.{SelectedPairsAgree, SelectedPairsComeUp, SystemsDiffer}
@@ -162,9 +167,9 @@ pub use Rattle.lagprogress.specs.Freed.{NoneIsHeldOn, NoneIsHeldOnEnds, NothingI
 pub use Rattle.lagprogress.specs.HostFreed.{AskingInVainIsDraining, AsksInVain, AsksInVainAfterTick, DrainingRounds, IsDrainingRound, IsNoMoveOf}
 pub use Rattle.lagprogress.specs.HostFreed.{NoneIsHeldBesideCutOffsByHosts, NoneIsHeldOnEndsByHosts, NothingIsDue, NothingIsHeldByHosts}
 pub use Rattle.lagprogress.specs.HostFreed.{RoundIsDraining, sent_nothing}
-pub use Rattle.lagprogress.specs.HostRounds.{AfterTick, AskingIsHostRound, Asks, AsksAfterTick, AsksIn, AtSomeWorld, Clearing, HostRounds}
-pub use Rattle.lagprogress.specs.HostRounds.{IsBetweenTicks, IsHostRound, IsPlayed, IsTickOf, LoopIsHostRound, NoneIsLeft, PlayedRounds}
-pub use Rattle.lagprogress.specs.HostRounds.{RoundIsHostRound, RoundsAreHostRounds, TickOnce}
+pub use Rattle.lagprogress.specs.HostRounds.{AfterTick, AskingIsHostRound, Asks, AsksAfterTick, AsksIn, AtSomeWorld, Clearing, EventsAreOfHosts}
+pub use Rattle.lagprogress.specs.HostRounds.{HostRounds, IsBetweenTicks, IsHostRound, IsPlayed, IsQuiet, IsTickOf, LoopIsHostRound, NoneIsLeft}
+pub use Rattle.lagprogress.specs.HostRounds.{PlayedRounds, RoundIsHostRound, RoundsAreHostRounds, RunReplies, StepReplies, TickOnce}
 pub use Rattle.lagprogress.specs.LateRounds.{ArriveIn, AskingIsLateRound, HostRoundIsLateRound, IsArrivalAt, IsLateRound, LateRounds, OldArrive}
 pub use Rattle.lagprogress.specs.LateRounds.{late_known_if_both_active, late_known_if_one_is, late_up_if_both_active, late_up_if_one_is}
 pub use Rattle.lagprogress.specs.Limited.{CarriesOnAll, DownAreUnselected, EachLimitedLinkAgrees, EachReachedHasDownUnselected, EndsAgreed}

@@ -1,24 +1,26 @@
 -- A port that is cut off hears nothing, and is DEFAULTED in the end.
 use Rattle.lagprogress.proofs.Common.{Bool, List, None, Ok, Option, Result, Some, [], ap, arith, false, if◌then◌else◌, inl, inr, not, refl, slice_get}
-use Rattle.lagprogress.proofs.Common.{slice_set, subst, sym, true, ℕ, ◌&&◌, ◌++◌, ◌+◌, ◌-◌, ◌==◌, ◌∙◌, ◌∷◌, ◌≡◌, ◌≤◌, ◌⊎◌, cases_Bool, nat_tests}
+use Rattle.lagprogress.proofs.Common.{slice_set, subst, sym, true, ℕ, ◌&&◌, ◌++◌, ◌-◌, ◌==◌, ◌∙◌, ◌∷◌, ◌≡◌, ◌≤◌, ◌⊎◌, cases_Bool, nat_tests}
 use Rattle.lagprogress.proofs.Common.{none-some, same_Some, AllByRecursion, Lacpdu, One, Side, Two, peer, value_of, ReceiveState, Machines}
 use Rattle.lagprogress.proofs.Common.{receive_rows, RunsToRest, after_sending, count_down, is_due, SystemFault, Received, TookLacpdu, SystemPort}
 use Rattle.lagprogress.proofs.Common.{Carries, IsFrame, ParsesWhere, Performs, Receive, ReceivesAt, Step, Transmit, can_receive_in, none_enabled}
 use Rattle.lagprogress.proofs.Common.{TransmitsAt, TransmitsIf, CallPromise, SystemState, port_index, can_receive_at_rest, all-get, found_place}
-use Rattle.lagprogress.proofs.Common.{Event, Reply, AfterTransmit, Algorithms, WorldSteps, side_of, HalfState, ItemValue, LinkState, WorldState}
-use Rattle.lagprogress.proofs.Common.{accepts, change_link, half, link_at, link_index, port_at, put_on_port, sent_on, towards, with_half}
-use Rattle.lagprogress.proofs.Common.{with_towards, set_elsewhere, set_here, position_there, IsTimed, most_current_while, timeout_time}
+use Rattle.lagprogress.proofs.Common.{Reply, AfterTransmit, Algorithms, WorldSteps, side_of, HalfState, ItemValue, LinkState, WorldState, accepts}
+use Rattle.lagprogress.proofs.Common.{change_link, half, link_at, link_index, port_at, put_on_port, sent_on, towards, with_half, with_towards}
+use Rattle.lagprogress.proofs.Common.{set_elsewhere, set_here, position_there, HostEvent, Plays, IsTimed, most_current_while, timeout_time}
 use Rattle.lagprogress.proofs.Common.{KeptBySettling, OfEach, Step-each, asked_each, Unheard, begins, is_defaulted, no, receives, rested}
-use Rattle.lagprogress.proofs.Common.{unheard_settles, when_up, AtPort, same_place, CutOffIsDefaulted, IsCutOff, HostRounds, IsHostRound, IsSteady}
+use Rattle.lagprogress.proofs.Common.{unheard_settles, when_up, AtPort, same_place, CutOffIsDefaulted, IsCutOff, HostRounds, IsHostRound, IsQuiet}
+use Rattle.lagprogress.proofs.Common.{StepReplies, IsSteady}
+use Rattle.lagbeside.proofs.Hearing.{counts}
 use Rattle.lagprogress.proofs.OneRound.{one_of_both}
 use Rattle.lagprogress.proofs.RoundEvents.{asked_half, came_half}
 use Rattle.lagbeside.proofs.Told.{current_within}
-use Rattle.lagbeside.proofs.Hearing.{counts}
 use Rattle.lagprogress.proofs.EachRound.{EachAt, RoundKeeps, asks_each, delivers_each, own_keeps, own_ticks, hosts_on, hosts_split, hosts_steady}
 use Rattle.lagprogress.proofs.EachRound.{tick_keeps, tick_leaves, tick_makes}
 use Rattle.lagprogress.proofs.OneCable.{Comes, Sends, came_off, ticks}
 use Rattle.lagprogress.proofs.HostRound.{KeptBetween, MadeByTick, holds_on, of_side}
-use Rattle.lagprogress.proofs.Quieting.{Quietly, quiet_ports, quietly, IsQuiet}
+use Rattle.lagprogress.proofs.HostSteady.{Quietly}
+use Rattle.lagprogress.proofs.Quieting.{quiet_ports, quietly}
 use Rattle.lagprogress.proofs.Linked.{peer_twice}
 use Rattle.lagsystem.specs.declared.drive.Reply.TheVariants as answer
 use Rattle.lagsystem.specs.declared.received.Received.TheVariants as received
@@ -242,8 +244,8 @@ deliver_severed gives b s p M cn n r old new h a = (
   λ m dead. delivers_each (AtPort m Dead) (dead_keeps m) (peer s) gives cn n r old new h (a.1 m dead),
 )
 
-quiet_severed : (gives : Algorithms) (b : ℕ) (s : Side) (p : ℕ) (M : ℕ → Type 0) (e : Event) (r : Reply) (old new : WorldState) → IsQuiet e
-    → WorldSteps gives old e r new → Severed b s p M old → Severed b s p M new
+quiet_severed : (gives : Algorithms) (b : ℕ) (s : Side) (p : ℕ) (M : ℕ → Type 0) (e : HostEvent) (r : Reply) (old new : WorldState) → IsQuiet e
+    → StepReplies gives old e r new → Severed b s p M old → Severed b s p M new
 quiet_severed gives b s p M e r old new q h a = (
   elim k.1.links [
     | inl same ↦ subst (CutAt b s p M) (sym same) a.0
@@ -257,12 +259,9 @@ quiet_severed gives b s p M e r old new q h a = (
     k = quietly gives e r old new q h
 
 severed_between : (gives : Algorithms) (b : ℕ) (s : Side) (p : ℕ) (M : ℕ → Type 0) → KeptBetween gives (Severed b s p M)
-severed_between gives b s p M (event.Emit n q) r i j x h a = emit_severed gives b s p M n q r i j h a
-severed_between gives b s p M (event.Deliver cn n) r i j x h a = deliver_severed gives b s p M cn n r i j h a
-severed_between gives b s p M (event.Offer n agg octets) r i j x h a = quiet_severed gives b s p M (event.Offer n agg octets) r i j tt h a
-severed_between gives b s p M (event.Move n agg conv q) r i j x h a = quiet_severed gives b s p M (event.Move n agg conv q) r i j tt h a
-severed_between gives b s p M (event.Force n agg conv) r i j x h a = quiet_severed gives b s p M (event.Force n agg conv) r i j tt h a
-severed_between gives b s p M e r i j x h a = absurd x
+severed_between gives b s p M (Plays (event.Emit n q)) r i j x h a = emit_severed gives b s p M n q r i j h a
+severed_between gives b s p M (Plays (event.Deliver cn n)) r i j x h a = deliver_severed gives b s p M cn n r i j h a
+severed_between gives b s p M e r i j x h a = quiet_severed gives b s p M e r i j x h a
 
 severed_tick : (gives : Algorithms) (b : ℕ) (s : Side) (p : ℕ) (M : ℕ → Type 0) (t : Side)
     → MadeByTick gives t (Severed b s p M) (Severed b s p M)
@@ -315,19 +314,16 @@ module _ (p : ℕ) (M : ℕ → Type 0) (Q : Machines → Type 0) (keeps : KeptU
     deliver_severed gives 1 s p M cn n r old new h a.1,
   )
 
-  quiet : (e : Event) (r : Reply) (old new : WorldState) → IsQuiet e → WorldSteps gives old e r new → Silent p M Q s old → Silent p M Q s new
+  quiet : (e : HostEvent) (r : Reply) (old new : WorldState) → IsQuiet e → StepReplies gives old e r new → Silent p M Q s old → Silent p M Q s new
   quiet e r old new q h a = (
     subst (OfEach (AtPort p Q)) (sym (quiet_ports gives e r old new q h s)) a.0,
     quiet_severed gives 1 s p M e r old new q h a.1,
   )
 
   silent_between : KeptBetween gives (Silent p M Q s)
-  silent_between (event.Emit n q) r i j x h a = asked n q r i j h a
-  silent_between (event.Deliver cn n) r i j x h a = delivered cn n r i j h a
-  silent_between (event.Offer n agg octets) r i j x h a = quiet (event.Offer n agg octets) r i j tt h a
-  silent_between (event.Move n agg conv q) r i j x h a = quiet (event.Move n agg conv q) r i j tt h a
-  silent_between (event.Force n agg conv) r i j x h a = quiet (event.Force n agg conv) r i j tt h a
-  silent_between e r i j x h a = absurd x
+  silent_between (Plays (event.Emit n q)) r i j x h a = asked n q r i j h a
+  silent_between (Plays (event.Deliver cn n)) r i j x h a = delivered cn n r i j h a
+  silent_between e r i j x h a = quiet e r i j x h a
 
 -- P before the tick of the system, Q after it
 abbrev NowSilent : ℕ → (ℕ → Type 0) → (P Q : Machines → Type 0) → Side → Bool → WorldState → Type 0

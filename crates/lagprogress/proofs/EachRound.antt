@@ -2,17 +2,15 @@
 use Rattle.lagprogress.proofs.Common.{Bool, List, Some, ap, arith, false, inl, inr, map, refl, slice_get, subst, suc, sym, true, zero, ℕ, ◌+◌, ◌∙◌}
 use Rattle.lagprogress.proofs.Common.{◌≡◌, nat_tests, Party, Lacpdu, One, Side, Two, end_at, peer, Machines, receive_rows, RunsToRest, after_sending}
 use Rattle.lagprogress.proofs.Common.{count_down, Table, SystemPort, ProcessesLacpdu, Receive, SystemState, with_system_ports, with_table, Reply}
-use Rattle.lagprogress.proofs.Common.{Algorithms, WorldSteps, link_ends, ItemValue, LinkState, WorldState, half, port_at, end_is, KeptBySettling}
-use Rattle.lagprogress.proofs.Common.{OfEach, Step-each, Tick-each, asked_each, AtPort, settling_leaves, runs_keep, takes_keep, Clearing, HostRounds}
-use Rattle.lagprogress.proofs.Common.{IsHostRound, IsPlayed, NoneIsLeft, PlayedRounds, IsRound, Rounds, IsSteady}
-use Rattle.lagprogress.proofs.Unchanged.{events_keep}
+use Rattle.lagprogress.proofs.Common.{Algorithms, WorldSteps, link_ends, ItemValue, LinkState, WorldState, half, port_at, end_is, Plays}
+use Rattle.lagprogress.proofs.Common.{KeptBySettling, OfEach, Step-each, Tick-each, asked_each, AtPort, settling_leaves, runs_keep, takes_keep}
+use Rattle.lagprogress.proofs.Common.{Clearing, HostRounds, IsHostRound, IsPlayed, NoneIsLeft, PlayedRounds, IsRound, Rounds, IsSteady}
+use Rattle.lagprogress.proofs.Quieting.{calm_steady, calm_keeps, runs_calm, quiet_ports, quiet_ends}
 use Rattle.lagprogress.proofs.OneCable.{OnCable, cable, deliver_ends, emits, ticks}
 use Rattle.lagprogress.proofs.OneRound.{ticked}
 use Rattle.lagprogress.proofs.RoundEvents.{asked_half, came_half}
-use Rattle.lagprogress.proofs.Reaching.{runs_steady}
 use Rattle.lagprogress.proofs.HostRound.{KeptBetween, MadeByTick, holds_on, of_side}
 use Rattle.lagprogress.proofs.Linked.{peer_twice, each_side}
-use Rattle.lagprogress.proofs.Quieting.{quiet_ports, quiet_ends}
 use Rattle.lagsystem.specs.declared.drive.Reply.TheVariants as answer
 use Rattle.lagscript.specs.declared.event.Event.TheVariants as event
 
@@ -70,15 +68,9 @@ Pick P Q true = P
 Pick P Q false = Q
 
 pub each_between : (P : ℕ → Machines → Type 0) → RoundKeeps P → (s : Side) (gives : Algorithms) → KeptBetween gives (EachAt P s)
-each_between P k s gives (event.Emit n p) r i j b h a = asks_each P k s gives n p r i j h a
-each_between P k s gives (event.Deliver c n) r i j b h a = delivers_each P k s gives c n r i j h a
-each_between P k s gives (event.Offer n agg octets) r i j b h a =
-    subst (OfEach P) (sym (quiet_ports gives (event.Offer n agg octets) r i j tt h s)) a
-each_between P k s gives (event.Move n agg conv p) r i j b h a =
-    subst (OfEach P) (sym (quiet_ports gives (event.Move n agg conv p) r i j tt h s)) a
-each_between P k s gives (event.Force n agg conv) r i j b h a =
-    subst (OfEach P) (sym (quiet_ports gives (event.Force n agg conv) r i j tt h s)) a
-each_between P k s gives e r i j b h a = absurd b
+each_between P k s gives (Plays (event.Emit n p)) r i j b h a = asks_each P k s gives n p r i j h a
+each_between P k s gives (Plays (event.Deliver c n)) r i j b h a = delivers_each P k s gives c n r i j h a
+each_between P k s gives e r i j b h a = subst (OfEach P) (sym (quiet_ports gives e r i j b h s)) a
 
 -- a tick of system t makes Q of P at that system, and leaves the other's ports
 pub tick_makes : (P Q : ℕ → Machines → Type 0) → KeptBySettling Q
@@ -121,12 +113,9 @@ host_each P Q kp kq ticked s gives old new h a = holds_on gives s (λ x y j. Eac
 -- the ports that the cables join
 
 pub joins_kept : (gives : Algorithms) (links : List LinkState) → KeptBetween gives (λ j. map link_ends j.links ≡ map link_ends links)
-joins_kept gives links (event.Emit n p) r i j b h m = (emits gives n p r i j h).2.ends ∙ m
-joins_kept gives links (event.Deliver c n) r i j b h m = deliver_ends gives c n r i j h ∙ m
-joins_kept gives links (event.Offer n agg octets) r i j b h m = quiet_ends gives (event.Offer n agg octets) r i j tt h ∙ m
-joins_kept gives links (event.Move n agg conv p) r i j b h m = quiet_ends gives (event.Move n agg conv p) r i j tt h ∙ m
-joins_kept gives links (event.Force n agg conv) r i j b h m = quiet_ends gives (event.Force n agg conv) r i j tt h ∙ m
-joins_kept gives links e r i j b h m = absurd b
+joins_kept gives links (Plays (event.Emit n p)) r i j b h m = (emits gives n p r i j h).2.ends ∙ m
+joins_kept gives links (Plays (event.Deliver c n)) r i j b h m = deliver_ends gives c n r i j h ∙ m
+joins_kept gives links e r i j b h m = quiet_ends gives e r i j b h ∙ m
 
 pub joins_tick : (gives : Algorithms) (links : List LinkState) (s : Side) → MadeByTick gives s (λ j. map link_ends j.links ≡ map link_ends links)
     (λ j. map link_ends j.links ≡ map link_ends links)
@@ -150,13 +139,16 @@ module _ (E : Clearing) (gives : Algorithms) where
       let r = played_split k m n old h.0 (omega (arith, e)) h.1 in (r.0, r.1, (h.0, r.2, h.2))
 
   pub played_steady : (n : ℕ) (old new : WorldState) → IsSteady old → PlayedRounds E gives n old new → IsSteady new
-  played_steady n old new k h = played_on (λ m j. IsSteady j) old k (λ m i j q a. runs_steady gives q.events q.replies i j q.acts a) n new h
+  played_steady n old new k h = played_on (λ m j. IsSteady j) old k (λ m i j q a. runs_calm gives IsSteady (calm_steady gives) One true true q.events q.replies i j q.ticks q.acts a) n new h
 
   pub played_keep : (X : Type 0) (g : SystemState → X)
       → ((s : SystemState) (ports : List SystemPort) (t : Table) → g (with_table (with_system_ports s ports) t) ≡ g s)
+      → ((s : SystemState) (t : Table) → g (with_table s t) ≡ g s) → ((s : SystemState) (d : ℕ) → g (record s { max_delay = d }) ≡ g s)
       → (n : ℕ) (old new : WorldState) → PlayedRounds E gives n old new → (s : Side) → g (half s new).state ≡ g (half s old).state
-  played_keep X g kept n old new h = played_on (λ m j. (s : Side) → g (half s j).state ≡ g (half s old).state) old (λ s. refl)
-      (λ m i j q a s. events_keep X g kept gives q.events q.replies i j q.acts s ∙ a s) n new h
+  played_keep X g kept tables delays n old new h = played_on (λ m j. (s : Side) → g (half s j).state ≡ g (half s old).state) old (λ s. refl)
+      (λ m i j q a. runs_calm gives (λ k. (s : Side) → g (half s k).state ≡ g (half s old).state)
+      (λ e r i j c step b s. calm_keeps X g kept tables delays gives e r i j c step s ∙ b s) One true true q.events q.replies i j q.ticks q.acts a)
+      n new h
 
   pub played_join : (n : ℕ) (old new : WorldState) → PlayedRounds E gives n old new → map link_ends new.links ≡ map link_ends old.links
   played_join n old new h = played_on (λ m j. map link_ends j.links ≡ map link_ends old.links) old refl

@@ -1,31 +1,37 @@
 -- A port of a healthy cable is drained of a conversation that is held on it.
 use Rattle.lagprogress.proofs.Common.{Bool, Err, IsSome, List, None, Ok, Option, Result, Some, [], ap, arith, cond, eqb, false, inl, inr, length, ltb}
-use Rattle.lagprogress.proofs.Common.{refl, subst, suc, sym, true, zero, ℕ, ◌&&◌, ◌+◌, ◌<◌, ◌^◌, ◌∙◌, ◌∷◌, ◌≡◌, ◌≤◌, ◌⊎◌, nat_tests, none-some, Vec}
-use Rattle.lagprogress.proofs.Common.{AggId, Choice, is_selected, Lacpdu, One, Side, peer, Machines, is_due, Assignment, after_tick, marker_due}
-use Rattle.lagprogress.proofs.Common.{IsConversation, Table, assignment_of, next_identifier, SystemFault, Offer, Receive, Step, Tick, Transmit}
-use Rattle.lagprogress.proofs.Common.{GivesOrRefuses, system_force_result, system_move_result, number_of_conversation, TransmitsAt, Settling}
-use Rattle.lagprogress.proofs.Common.{CallPromise, SystemState, machines_of, ports_table, settling_parts, found_place, Event, Reply, Algorithms}
-use Rattle.lagprogress.proofs.Common.{WorldRuns, WorldSteps, side_of, ItemValue, WorldState, half, port_at, DrainingRounds, IsDrainingRound}
-use Rattle.lagprogress.proofs.Common.{IsNoMoveOf, AfterTick, AtSomeWorld, IsBetweenTicks, IsHostRound, TickOnce, NothingInFlight, OfPort, IsSteady}
+use Rattle.lagprogress.proofs.Common.{refl, subst, suc, sym, true, zero, ℕ, ◌&&◌, ◌+◌, ◌<◌, ◌==◌, ◌^◌, ◌∙◌, ◌∷◌, ◌≡◌, ◌≤◌, ◌⊎◌, cases_Bool, nat_tests}
+use Rattle.lagprogress.proofs.Common.{none-some, Vec, AggId, Choice, is_selected, Lacpdu, One, Side, peer, Machines, is_due, Assignment, after_tick}
+use Rattle.lagprogress.proofs.Common.{marker_due, IsConversation, Table, assignment_of, next_identifier, SystemFault, OffersIf, Offer, Receive, Step}
+use Rattle.lagprogress.proofs.Common.{Tick, Transmit, HostPromise, GivesOrRefuses, system_force_result, system_move_result, number_of_conversation}
+use Rattle.lagprogress.proofs.Common.{TransmitsAt, Set_max_delay, Settling, CallPromise, SystemState, machines_of, port_index, ports_table}
+use Rattle.lagprogress.proofs.Common.{settling_parts, found_place, Event, Reply, Algorithms, WorldSteps, side_of, ItemValue, WorldState, half}
+use Rattle.lagprogress.proofs.Common.{port_at, ForcesPort, HostEvent, HostSteps, Leaves, Offers, Plays, Probes, Sets, DrainingRounds, IsDrainingRound}
+use Rattle.lagprogress.proofs.Common.{IsNoMoveOf, AfterTick, AtSomeWorld, IsBetweenTicks, IsHostRound, IsQuiet, RunReplies, StepReplies, TickOnce}
+use Rattle.lagprogress.proofs.Common.{NothingInFlight, OfPort, IsSteady}
+use Rattle.lagprogress.proofs.Quieting.{IsCalm, calm_quiet, calm_steady, calm_keeps, quiet_cable, quiet_link, offered_half, moved_half, forced_half}
+use Rattle.lagprogress.proofs.Quieting.{Grown}
+use Rattle.lagprogress.proofs.HostSteady.{aside, caller, delay_keeps, offers_half, leaves_half, rests_half, gives_next, forces_half, probes_half}
+use Rattle.lagprogress.proofs.HostSteady.{Probed}
+use Rattle.lagsystem.specs.declared.drive.HostCall.TheVariants as host
+use Rattle.lagsystem.specs.declared.drive.HostReply.TheVariants as told
 use Rattle.lagprogress.proofs.Answering.{IsFine, Steady, fine_in_map, turned_by, sends_fine, settles_all, stays_on, went_flights, none_wanted}
-use Rattle.lagprogress.proofs.Answering.{not_wanted, none_due}
+use Rattle.lagprogress.proofs.Answering.{probes_fine, probes_beside, not_wanted, none_due}
 use Rattle.lagprogress.proofs.Climbing.{PartnerInSync, choice_along, partner_along, ticks_choice, ticks_partner}
-use Rattle.lagprogress.proofs.Unchanged.{calls_keep}
 use Rattle.lagprogress.proofs.Delivering.{deliver_link}
 use Rattle.lagprogress.proofs.Draining.{after_tick_on, comes_fine, elsewhere_fine, peer_answers}
 use Rattle.lagprogress.proofs.EndFacts.{Along, activity, both_along}
-use Rattle.lagprogress.proofs.Halves.{each_is_calls, keeps_steady}
-use Rattle.lagprogress.proofs.Holding.{Fine, Flights, Has, ticked_fine, IsMarker, asking, answering, has_on, offered_fine}
-use Rattle.lagprogress.proofs.Linked.{Fits, Link, asked_which, each_side, emit_any, peer_twice, EndPort, end_here}
-use Rattle.lagprogress.proofs.OneCable.{Arrives, Asks, OnCable, Went, asks, cable, came_off, delivers, emits, ticks, towards_there, Beside}
-use Rattle.lagprogress.proofs.OneCable.{port_there}
+use Rattle.lagprogress.proofs.Holding.{Fine, Flights, Has, ticked_fine, IsMarker, asking, answering, has_on, offered_fine, forced_fine}
+use Rattle.lagprogress.proofs.Linked.{Fits, Link, asked_which, each_side, emit_any, peer_twice, EndPort, end_here, other_side}
+use Rattle.lagprogress.proofs.OneCable.{Arrives, Asks, OnCable, Went, asks, cable, came_off, delivers, emits, ticks, towards_there, Beside, push}
+use Rattle.lagprogress.proofs.OneCable.{puts, port_there}
 use Rattle.lagprogress.proofs.OneRound.{join, one_of_both, ticked, Nothing}
-use Rattle.lagprogress.proofs.HostKnowing.{AtIt, FreshAt, beside, fits_fresh, knows_peer, stays_fresh, awake_peer, fits_before}
+use Rattle.lagprogress.proofs.Knowing.{AtIt, beside, awake_peer}
+use Rattle.lagprogress.proofs.HostKnowing.{FreshAt, fits_fresh, knows_peer, stays_fresh, fits_before}
 use Rattle.lagprogress.proofs.Claims.{IsNamed}
 use Rattle.lagprogress.proofs.HostRound.{left, fits_in, known_in, peer_holds, own_holds, none_ticked, Stages, of_side, MadeByTick, first_on}
 use Rattle.lagprogress.proofs.HostRound.{healthy_link, KeptWhere}
 use Rattle.lagsystem.specs.declared.drive.Reply.TheVariants as answer
-use Rattle.lagprogress.proofs.Quieting.{quiet_cable, quiet_link, offered_half, moved_half, forced_half, Grown}
 use Rattle.lagscript.specs.declared.event.Event.TheVariants as event
 
 -- identifiers
@@ -52,6 +58,9 @@ Rising s old new = (half s old).state.table.next ≤ (half s new).state.table.ne
 
 same_next : (s : Side) (old new : WorldState) → (half s new).state ≡ (half s old).state → Rising s old new
 same_next s old new e = subst (λ (t : SystemState). (half s old).state.table.next ≤ t.table.next) (sym e) (omega arith)
+
+same_table : (s : Side) (old new : WorldState) → (half s new).state.table ≡ (half s old).state.table → Rising s old new
+same_table s old new e = subst (λ (t : Table). (half s old).state.table.next ≤ t.next) (sym e) (omega arith)
 
 pub emit_next : (s : Side) (gives : Algorithms) (n p : ℕ) (r : Reply) (old new : WorldState) → WorldSteps gives old (event.Emit n p) r new
     → Rising s old new
@@ -100,11 +109,6 @@ tick_next s t gives n r old new named h =
     same_number : (a b : ℕ) → b ≡ a → a ≤ b
     same_number a b e = omega (arith, e)
 
-gives_next : (agg : AggId) (conv : ℕ) (what : Result Assignment SystemFault) (old : SystemState) (a : Result Unit SystemFault)
-    (new : SystemState) → GivesOrRefuses agg conv what old a new → old.table.next ≤ new.table.next
-gives_next agg conv (Ok state) old a new k = let same = k.1.0.next in omega (arith, same)
-gives_next agg conv (Err fault) old a new k = subst (λ (t : SystemState). old.table.next ≤ t.table.next) (sym k.1) (omega arith)
-
 move_next : (s : Side) (gives : Algorithms) (n : ℕ) (agg : AggId) (conv p : ℕ) (r : Reply) (old new : WorldState)
     → WorldSteps gives old (event.Move n agg conv p) r new → Rising s old new
 move_next s gives n agg conv p r old new h = elim (moved_half gives n agg conv p r old new h s) [
@@ -120,30 +124,35 @@ force_next s gives n agg conv r old new h = elim (forced_half gives n agg conv r
 ]
 
 -- the events of a round
-between_next : (s : Side) (gives : Algorithms) (e : Event) (r : Reply) (old new : WorldState) → IsBetweenTicks e → WorldSteps gives old e r new
+between_next : (s : Side) (gives : Algorithms) (e : HostEvent) (r : Reply) (old new : WorldState) → IsBetweenTicks e → StepReplies gives old e r new
     → Rising s old new
-between_next s gives (event.Emit n p) r old new b h = emit_next s gives n p r old new h
-between_next s gives (event.Deliver c n) r old new b h = deliver_next s gives c n r old new h
-between_next s gives (event.Offer n agg octets) r old new b h = offer_next s gives n agg octets r old new h
-between_next s gives (event.Move n agg conv p) r old new b h = move_next s gives n agg conv p r old new h
-between_next s gives (event.Force n agg conv) r old new b h = force_next s gives n agg conv r old new h
-between_next s gives e r old new b h = absurd b
+between_next s gives (Plays (event.Emit n p)) r old new b h = emit_next s gives n p r old new h
+between_next s gives (Plays (event.Deliver c n)) r old new b h = deliver_next s gives c n r old new h
+between_next s gives (Plays (event.Offer n agg octets)) r old new b h = offer_next s gives n agg octets r old new h
+between_next s gives (Plays (event.Move n agg conv p)) r old new b h = move_next s gives n agg conv p r old new h
+between_next s gives (Plays (event.Force n agg conv)) r old new b h = force_next s gives n agg conv r old new h
+between_next s gives (Plays e) r old new b h = absurd b
+between_next s gives (Sets t (Set_max_delay delay)) r old new b h =
+    same_table s old new (delay_keeps Table (λ z. z.table) (λ z d. refl) gives t delay old new h s)
+between_next s gives (Sets t setting) r old new b h = absurd b
+between_next s gives e r old new b h =
+    let x = aside gives e old new tt h in each_side (λ t. Rising t old new) (caller e) x.next (same_next (peer (caller e)) old new x.peers) s
 
-one_next : (s t : Side) (gives : Algorithms) (a b : Bool) (e : Event) (es : List Event) (r : Reply) (old new : WorldState)
-    → TickOnce t a b (e ∷ es) → WorldSteps gives old e r new → Rising s old new
+one_next : (s t : Side) (gives : Algorithms) (a b : Bool) (e : HostEvent) (es : List HostEvent) (r : Reply) (old new : WorldState)
+    → TickOnce t a b (e ∷ es) → StepReplies gives old e r new → Rising s old new
 one_next s t gives a b e es r old new (inl (k, due, more)) h =
-    tick_next s t gives k.0 r old new k.1 (subst (λ f. WorldSteps gives old f r new) k.2 h)
+    tick_next s t gives k.0 r old new k.1 (subst (λ f. StepReplies gives old f r new) k.2 h)
 one_next s t gives a b e es r old new (inr (inl (k, due, more))) h =
-    tick_next s (peer t) gives k.0 r old new k.1 (subst (λ f. WorldSteps gives old f r new) k.2 h)
+    tick_next s (peer t) gives k.0 r old new k.1 (subst (λ f. StepReplies gives old f r new) k.2 h)
 one_next s t gives a b e es r old new (inr (inr k)) h = between_next s gives e r old new k.0 h
 
-rest_ticks : (t : Side) (a b : Bool) (e : Event) (es : List Event) → TickOnce t a b (e ∷ es) → (c : Bool) × (d : Bool) × TickOnce t c d es
+rest_ticks : (t : Side) (a b : Bool) (e : HostEvent) (es : List HostEvent) → TickOnce t a b (e ∷ es) → (c : Bool) × (d : Bool) × TickOnce t c d es
 rest_ticks t a b e es (inl h) = (false, b, h.2)
 rest_ticks t a b e es (inr (inl h)) = (a, false, h.2)
 rest_ticks t a b e es (inr (inr h)) = (a, b, h.1)
 
-run_next : (s t : Side) (gives : Algorithms) (a b : Bool) (es : List Event) (rs : List Reply) (old new : WorldState) → TickOnce t a b es
-    → WorldRuns gives old es rs new → Rising s old new
+run_next : (s t : Side) (gives : Algorithms) (a b : Bool) (es : List HostEvent) (rs : List Reply) (old new : WorldState) → TickOnce t a b es
+    → RunReplies gives old es rs new → Rising s old new
 run_next s t gives a b [] [] old new h run = same_next s old new (ap (λ (j : WorldState). (half s j).state) run)
 run_next s t gives a b (e ∷ es) (r ∷ rs) old new h run =
     let o = rest_ticks t a b e es h in
@@ -158,8 +167,8 @@ run_next s t gives a b es rs old new h run = absurd run
 abbrev HasLeft : Side → WorldState → Type 0
 HasLeft s j = IsSome (next_identifier (half s j).state.table)
 
-some_left : (s t : Side) (P : WorldState → Type 0) (gives : Algorithms) (a b : Bool) (es : List Event) (rs : List Reply) (old new : WorldState)
-    → TickOnce t a b es → (run : WorldRuns gives old es rs new) → HasLeft s new → AtSomeWorld P gives es rs old new run
+some_left : (s t : Side) (P : WorldState → Type 0) (gives : Algorithms) (a b : Bool) (es : List HostEvent) (rs : List Reply) (old new : WorldState)
+    → TickOnce t a b es → (run : RunReplies gives old es rs new) → HasLeft s new → AtSomeWorld P gives es rs old new run
     → AtSomeWorld (λ j. P j × HasLeft s j) gives es rs old new run
 some_left s t P gives a b [] [] old new h run left y = (y, subst (HasLeft s) run left)
 some_left s t P gives a b (e ∷ es) (r ∷ rs) old new h run left (inl y) =
@@ -168,8 +177,8 @@ some_left s t P gives a b (e ∷ es) (r ∷ rs) old new h run left (inr y) =
     let o = rest_ticks t a b e es h in inr (some_left s t P gives o.0 o.1 es rs run.0 new o.2 run.2 left y)
 some_left s t P gives a b es rs old new h run left y = absurd run
 
-after_left : (s t : Side) (P : WorldState → Type 0) (gives : Algorithms) (a b : Bool) (es : List Event) (rs : List Reply) (old new : WorldState)
-    → TickOnce t a b es → (run : WorldRuns gives old es rs new) → HasLeft s new → AfterTick s P gives es rs old new run
+after_left : (s t : Side) (P : WorldState → Type 0) (gives : Algorithms) (a b : Bool) (es : List HostEvent) (rs : List Reply) (old new : WorldState)
+    → TickOnce t a b es → (run : RunReplies gives old es rs new) → HasLeft s new → AfterTick s P gives es rs old new run
     → AfterTick s (λ j. P j × HasLeft s j) gives es rs old new run
 after_left s t P gives a b [] rs old new h run left y = y
 after_left s t P gives a b (e ∷ es) [] old new h run left y = y
@@ -177,6 +186,11 @@ after_left s t P gives a b (e ∷ es) (r ∷ rs) old new h run left (inl y) =
     let o = rest_ticks t a b e es h in inl (y.0, some_left s t P gives o.0 o.1 es rs run.0 new o.2 run.2 left y.1)
 after_left s t P gives a b (e ∷ es) (r ∷ rs) old new h run left (inr y) =
     let o = rest_ticks t a b e es h in inr (after_left s t P gives o.0 o.1 es rs run.0 new o.2 run.2 left y)
+
+-- the event probes another port than this one of system s, or none
+abbrev IsNoProbe : Side → ℕ → HostEvent → Type 0
+IsNoProbe s n (Probes t port) = t ≡ s → port ≡ n → ⊥
+IsNoProbe s n e = Unit {0}
 
 -- another conversation is moved
 
@@ -200,7 +214,7 @@ module _ (at : Side → ℕ) (w : Side → Lacpdu) (named : (t : Side) → IsNam
 
   along : (kn : Side → ℕ) → 1 ≤ kn s → Along Y (w s) (w (peer s)) (kn s) 2
   along kn l = both_along PartnerInSync (λ p. p.choice ≡ c) (w s) (w (peer s)) (kn s) 2
-      (partner_along (w s) (w (peer s)) (kn s) 2 (omega arith) (awake_peer at w named awake s))
+      (partner_along (w s) (w (peer s)) (kn s) 2 (omega arith) (awake_peer w awake s))
       (choice_along (w s) (w (peer s)) (kn s) 2 c chosen (omega arith) l)
 
   -- what is fixed of the system
@@ -208,14 +222,13 @@ module _ (at : Side → ℕ) (w : Side → Lacpdu) (named : (t : Side) → IsNam
     pub own : (half s j).state.system.mac ≡ mac
     pub there : IsConversation (half s j).state.table agg conv
 
-  fixed : (e : Event) (r : Reply) (old new : WorldState) → WorldSteps gives old e r new → IsSteady old → IsFixed old → IsFixed new
-  fixed e r old new h steady f =
-      let now = keeps_steady gives e r old new h steady in
-      let k = each_is_calls gives e r old new h s in
-      let keys = calls_keep ℕ (λ t. length t.keys) (λ t a b. refl) (gives s) (half s old).state (half s new).state k.0 k.1 k.2 in
-      let cols = calls_keep ℕ (λ t. t.conversations) (λ t a b. refl) (gives s) (half s old).state (half s new).state k.0 k.1 k.2 in
+  fixed : (e : HostEvent) (r : Reply) (old new : WorldState) → IsCalm e → StepReplies gives old e r new → IsSteady old → IsFixed old → IsFixed new
+  fixed e r old new calm h steady f =
+      let now = calm_steady gives e r old new calm h steady in
+      let keys = calm_keeps ℕ (λ t. length t.keys) (λ t a b. refl) (λ t a. refl) (λ t d. refl) gives e r old new calm h s in
+      let cols = calm_keeps ℕ (λ t. t.conversations) (λ t a b. refl) (λ t a. refl) (λ t d. refl) gives e r old new calm h s in
       record {
-        own = calls_keep (List ℕ) (λ t. t.system.mac) (λ t a b. refl) (gives s) (half s old).state (half s new).state k.0 k.1 k.2 ∙ f.own;
+        own = calm_keeps (List ℕ) (λ t. t.system.mac) (λ t a b. refl) (λ t a. refl) (λ t d. refl) gives e r old new calm h s ∙ f.own;
         there = (
           f.there.0,
           subst (λ n. agg ≤ n) (sym ((now s).0.aggregators ∙ (keys ∙ sym (steady s).0.aggregators))) f.there.1,
@@ -233,15 +246,15 @@ module _ (at : Side → ℕ) (w : Side → Lacpdu) (named : (t : Side) → IsNam
     fine : FineIn m W (Flights s (at s) mac flying) (half s j).state.table
 
   -- another event of a round
-  made : {m : ℕ} {V : Type 0} {kn : Side → ℕ} {old new : WorldState} (W : Type 0) (e : Event) (r : Reply) → WorldSteps gives old e r new
+  made : {m : ℕ} {V : Type 0} {kn : Side → ℕ} {old new : WorldState} (W : Type 0) (e : HostEvent) (r : Reply) → IsCalm e → StepReplies gives old e r new
       → Mid m V kn old → Link 2 at w kn s Y new → (fl : Side → List ItemValue) (i : ℕ) → OnCable i at fl new.links
       → FineIn m W (Flights s (at s) mac fl) (half s new).state.table → Mid m W kn new
-  made {old = old} {new = new} W e r h d link fl i links fine = record {
+  made {old = old} {new = new} W e r calm h d link fl i links fine = record {
     link = link;
     flying = fl;
     index = i;
     links = links;
-    same = fixed e r old new h d.link.steady d.same;
+    same = fixed e r old new calm h d.link.steady d.same;
     fine = fine;
   }
 
@@ -277,7 +290,7 @@ module _ (at : Side → ℕ) (w : Side → Lacpdu) (named : (t : Side) → IsNam
 
     mid_beside : (m : ℕ) (W : Type 0) (e : Event) (r : Reply) (old new : WorldState) → WorldSteps gives old e r new → (d : Mid m W kn old)
         → Link 2 at w kn s Y new → Beside gives at d.flying old new → Mid m W kn new
-    mid_beside m W e r old new h d link b = made W e r h d link d.flying b.index b.links
+    mid_beside m W e r old new h d link b = made W (Plays e) r tt h d link d.flying b.index b.links
         (elsewhere_fine at w s mac agg conv (gives s) (half s old).state (half s new).state m W (Flights s (at s) mac d.flying)
         (b.calls s) (stays_on at w s mac agg conv c kn kn old new d.link link) d.fine)
 
@@ -295,10 +308,10 @@ module _ (at : Side → ℕ) (w : Side → Lacpdu) (named : (t : Side) → IsNam
         asked : (t : Side) (k : Asks gives t at d.flying old new) → Mid m W kn new
         asked t k = elim (one_of_both s t) [
           | inl e ↦ (let o = subst (λ u. Asks gives u at d.flying old new) e k in
-              made W (event.Emit n p) r h d link o.now o.index o.links
+              made W (Plays (event.Emit n p)) r tt h d link o.now o.index o.links
               (own_asked m W o.a old new d.flying o.now (placed kn old d.link s) d.same o.promise o.went d.fine))
           | inr e ↦ (let o = subst (λ u. Asks gives u at d.flying old new) e k in
-              made W (event.Emit n p) r h d link o.now o.index o.links (peer_asked m W old new d.flying o d.fine))
+              made W (Plays (event.Emit n p)) r tt h d link o.now o.index o.links (peer_asked m W old new d.flying o d.fine))
         ]
 
     mid_delivers : (m : ℕ) (W : Type 0) (cn n : ℕ) (r : Reply) (old new : WorldState) → WorldSteps gives old (event.Deliver cn n) r new
@@ -315,13 +328,13 @@ module _ (at : Side → ℕ) (w : Side → Lacpdu) (named : (t : Side) → IsNam
         came t k = elim (one_of_both s t) [
           | inl e ↦ (let o = subst (λ u. Arrives gives u at d.flying old new) e k in
               let z = placed kn old d.link s in
-              made W (event.Deliver cn n) r h d link o.now o.index o.links
+              made W (Plays (event.Deliver cn n)) r tt h d link o.now o.index o.links
               (comes_fine at w s mac agg conv gives d.flying old new z.index z.port m W z.place z.there z.is.1.0 d.same.own o
               (stays_on at w s mac agg conv c kn kn old new d.link link) d.fine))
           | inr e ↦ (let o = subst (λ u. Arrives gives u at d.flying old new) e k in
               let z = placed kn old d.link (peer s) in
               let still : (half s new).state ≡ (half s old).state = subst (λ u. (half u new).state ≡ (half u old).state) (peer_twice s) o.peers in
-              made W (event.Deliver cn n) r h d link o.now o.index o.links
+              made W (Plays (event.Deliver cn n)) r tt h d link o.now o.index o.links
               (subst (λ (y : SystemState). FineIn m W (Flights s (at s) mac o.now) y.table) (sym still)
               (fine_in_map at w s mac agg conv m W W (Flights s (at s) mac d.flying) (Flights s (at s) mac o.now) (half s old).state.table
               (λ x. x) (peer_answers at w s mac agg conv gives d.flying old new z.index z.port z.place z.there z.is.1.0 o) d.fine)))
@@ -349,53 +362,139 @@ module _ (at : Side → ℕ) (w : Side → Lacpdu) (named : (t : Side) → IsNam
     offered_frame m W F group octets (Ok port) old new h fine = subst (Fine (at s) m W F) (sym (h.2.0.states agg conv))
         (offered_fine (at s) m port W F (eqb group.0 agg && eqb (number_of_conversation old octets) conv) (assignment_of old.table agg conv) fine)
 
-    mid_offered : (m : ℕ) (W : Type 0) (n : ℕ) (group : AggId) (octets : Vec ℕ) (r : Reply) (old new : WorldState)
-        → WorldSteps gives old (event.Offer n group octets) r new → Mid m W kn old → Mid m W kn new
-    mid_offered m W n group octets r old new h d =
-        let e = event.Offer n group octets in
-        let g = quiet_cable gives e d.index at d.flying r old new tt h d.links in
-        made W e r h d (quiet_link gives e 2 at w kn s Y r old new tt h d.link).link g.flying d.index g.on
-        (elim (offered_half gives n group octets r old new h s) [
-          | inl same ↦ subst (λ (y : SystemState). FineIn m W (Flights s (at s) mac g.flying) y.table) (sym same) (grown m W old new d g)
-          | inr (a, step) ↦ offered_frame m W (Flights s (at s) mac g.flying) group octets.items a (half s old).state (half s new).state step
-              (grown m W old new d g)
-        ])
+    numbered_frame : (there known : Bool) (m : ℕ) (W : Type 0) (F : ℕ → Type 0) (group : AggId) (moved : ℕ) (a : Result ℕ SystemFault)
+        (old new : SystemState) → OffersIf there known (gives s) group moved old a new → FineIn m W F old.table → FineIn m W F new.table
+    numbered_frame true true m W F group moved (Ok port) old new h fine = subst (Fine (at s) m W F) (sym (h.1.0.states agg conv))
+        (offered_fine (at s) m port W F (eqb group.0 agg && eqb moved conv) (assignment_of old.table agg conv) fine)
+    numbered_frame true true m W F group moved (Err fault) old new h fine = subst (λ (t : SystemState). FineIn m W F t.table) (sym h.1) fine
+    numbered_frame true false m W F group moved a old new h fine = subst (λ (t : SystemState). FineIn m W F t.table) (sym h.1) fine
+    numbered_frame false known m W F group moved a old new h fine = subst (λ (t : SystemState). FineIn m W F t.table) (sym h.1) fine
 
-    mid_moved : (m : ℕ) (W : Type 0) (n : ℕ) (group : AggId) (moved p : ℕ) (r : Reply) (old new : WorldState)
-        → IsNoMoveOf s agg conv (event.Move n group moved p) → WorldSteps gives old (event.Move n group moved p) r new → Mid m W kn old
-        → Mid m W kn new
-    mid_moved m W n group moved p r old new other h d =
-        let e = event.Move n group moved p in
-        let g = quiet_cable gives e d.index at d.flying r old new tt h d.links in
-        made W e r h d (quiet_link gives e 2 at w kn s Y r old new tt h d.link).link g.flying d.index g.on
-        (elim (moved_half gives n group moved p r old new h s) [
-          | inl same ↦ subst (λ (y : SystemState). FineIn m W (Flights s (at s) mac g.flying) y.table) (sym same) (grown m W old new d g)
-          | inr (told, a, step) ↦ subst (Fine (at s) m W (Flights s (at s) mac g.flying))
-              (sym (moved_elsewhere group moved agg conv (system_move_result (half s old).state group moved p) a (half s old).state (half s new).state
-              (other told) step)) (grown m W old new d g)
-        ])
+    module _ (m : ℕ) (W : Type 0) (F : ℕ → Type 0) where
+      -- a call leaves the conversation if it is another system's, or if this one's leaves it
+      of_side_called : (t : Side) (old new : WorldState) → (half (peer t) new).state ≡ (half (peer t) old).state
+          → (t ≡ s → FineIn m W F (half s old).state.table → FineIn m W F (half s new).state.table)
+          → FineIn m W F (half s old).state.table → FineIn m W F (half s new).state.table
+      of_side_called t old new peers own fine = elim (one_of_both s t) [
+        | inl e ↦ own e fine
+        | inr e ↦ (let same = subst (λ u. (half u new).state ≡ (half u old).state) (peer_twice s)
+            (subst (λ u. (half (peer u) new).state ≡ (half (peer u) old).state) e peers) in
+            subst (λ (y : SystemState). FineIn m W F y.table) (sym same) fine)
+      ]
 
-    mid_forced : (m : ℕ) (W : Type 0) (n : ℕ) (group : AggId) (moved : ℕ) (r : Reply) (old new : WorldState)
-        → IsNoMoveOf s agg conv (event.Force n group moved) → WorldSteps gives old (event.Force n group moved) r new → Mid m W kn old
-        → Mid m W kn new
-    mid_forced m W n group moved r old new other h d =
-        let e = event.Force n group moved in
-        let g = quiet_cable gives e d.index at d.flying r old new tt h d.links in
-        made W e r h d (quiet_link gives e 2 at w kn s Y r old new tt h d.link).link g.flying d.index g.on
-        (elim (forced_half gives n group moved r old new h s) [
-          | inl same ↦ subst (λ (y : SystemState). FineIn m W (Flights s (at s) mac g.flying) y.table) (sym same) (grown m W old new d g)
-          | inr (told, a, step) ↦ subst (Fine (at s) m W (Flights s (at s) mac g.flying))
-              (sym (moved_elsewhere group moved agg conv (system_force_result (half s old).state group moved) a (half s old).state (half s new).state
-              (other told) step)) (grown m W old new d g)
-        ])
+      elsewhere : (group : AggId) (moved : ℕ) (what : Result Assignment SystemFault) (a : Result Unit SystemFault) (old new : SystemState)
+          → (group.0 ≡ agg → moved ≡ conv → ⊥) → GivesOrRefuses group moved what old a new → FineIn m W F old.table → FineIn m W F new.table
+      elsewhere group moved what a old new other h = subst (Fine (at s) m W F) (sym (moved_elsewhere group moved agg conv what a old new other h))
+
+      forces_fine : (port : ℕ) (a : Result ℕ SystemFault) (old new : SystemState) → IsConversation old.table agg conv
+          → HostPromise (gives s) old (host.ForcePort port) (told.ForcePort a) new → FineIn m W F old.table → FineIn m W F new.table
+      forces_fine port (Ok count) old new there p fine = subst (Fine (at s) m W F) (sym (p.2.forced agg conv there))
+          (forced_fine (at s) m port W F (assignment_of old.table agg conv) fine)
+      forces_fine port (Err fault) old new there p fine = subst (λ (t : SystemState). FineIn m W F t.table) (sym p.1.same) fine
+
+      -- a probe of another port, or of the other system
+      probed_beside : (port : ℕ) (a : Result (Option (List ℕ)) SystemFault) (old new : SystemState) → (port ≡ at s → ⊥)
+          → HostPromise (gives s) old (host.Probe port) (told.Probe a) new → FineIn m W F old.table → FineIn m W F new.table
+      probed_beside port (Ok a) old new other p fine = probes_beside at w s mac agg conv (port_index port old.system_ports) old a new m W F
+          (λ i z place there number. other (sym (found_place port old.system_ports i z place there) ∙ number)) p.0 fine
+      probed_beside port (Err fault) old new other p fine = subst (λ (t : SystemState). FineIn m W F t.table) (sym p.0.same) fine
+
+      quiet_fine : (e : HostEvent) (r : Reply) (old new : WorldState) → IsQuiet e → IsNoMoveOf s agg conv e → IsNoProbe s (at s) e
+          → IsConversation (half s old).state.table agg conv → StepReplies gives old e r new
+          → FineIn m W F (half s old).state.table → FineIn m W F (half s new).state.table
+      quiet_fine (Plays (event.Offer n group octets)) r old new q still far there h fine = elim (offered_half gives n group octets r old new h s) [
+        | inl same ↦ subst (λ (y : SystemState). FineIn m W F y.table) (sym same) fine
+        | inr (a, step) ↦ offered_frame m W F group octets.items a (half s old).state (half s new).state step fine
+      ]
+      quiet_fine (Plays (event.Move n group moved p)) r old new q still far there h fine = elim (moved_half gives n group moved p r old new h s) [
+        | inl same ↦ subst (λ (y : SystemState). FineIn m W F y.table) (sym same) fine
+        | inr (told, a, step) ↦ elsewhere group moved (system_move_result (half s old).state group moved p) a (half s old).state (half s new).state
+            (still told) step fine
+      ]
+      quiet_fine (Plays (event.Force n group moved)) r old new q still far there h fine = elim (forced_half gives n group moved r old new h s) [
+        | inl same ↦ subst (λ (y : SystemState). FineIn m W F y.table) (sym same) fine
+        | inr (told, a, step) ↦ elsewhere group moved (system_force_result (half s old).state group moved) a (half s old).state (half s new).state
+            (still told) step fine
+      ]
+      quiet_fine (Plays e) r old new q still far there h fine = absurd q
+      quiet_fine (Sets t (Set_max_delay delay)) r old new q still far there h fine =
+          subst (FineIn m W F) (sym (delay_keeps Table (λ z. z.table) (λ z d. refl) gives t delay old new h s)) fine
+      quiet_fine (Sets t setting) r old new q still far there h fine = absurd q
+      quiet_fine (Offers t group moved octets) r old new q still far there h fine = of_side_called t old new
+          (aside gives (Offers t group moved octets) old new tt h).peers
+          (λ e. let o = offers_half gives t group moved octets old new h in
+          let p = subst (λ u. HostPromise (gives u) (half u old).state (host.OfferConversation group moved) (told.OfferConversation o.0)
+          (half u new).state) e o.1 in
+          numbered_frame _ _ m W F group moved o.0 (half s old).state (half s new).state p.0) fine
+      quiet_fine (Leaves t group moved) r old new q still far there h fine = of_side_called t old new (aside gives (Leaves t group moved) old new tt h).peers
+          (λ e. let o = leaves_half gives t group moved old new h in
+          let p = subst (λ u. HostPromise (gives u) (half u old).state (host.LeaveConversation group moved) (told.LeaveConversation o.0)
+          (half u new).state) e o.1 in
+          elsewhere group moved _ o.0 (half s old).state (half s new).state (still e) p.0) fine
+      quiet_fine (HostEvent.Rests t group moved) r old new q still far there h fine = of_side_called t old new (aside gives (HostEvent.Rests t group moved) old new tt h).peers
+          (λ e. let o = rests_half gives t group moved old new h in
+          let p = subst (λ u. HostPromise (gives u) (half u old).state (host.Rest group moved) (told.Rest o.0) (half u new).state) e o.1 in
+          elsewhere group moved _ o.0 (half s old).state (half s new).state (still e) p.0) fine
+      quiet_fine (Probes t port) r old new q still far there h fine =
+          of_side_called t old new (aside gives (Probes t port) old new tt h).peers
+          (λ e. let o = probes_half gives t port old new h in
+          let p = subst (λ u. HostPromise (gives u) (half u old).state (host.Probe port) (told.Probe o.0) (half u new).state) e o.1 in
+          probed_beside port o.0 (half s old).state (half s new).state (far e) p) fine
+      quiet_fine (ForcesPort t port) r old new q still far there h fine =
+          of_side_called t old new (aside gives (ForcesPort t port) old new tt h).peers
+          (λ e. let o = forces_half gives t port old new h in
+          let p = subst (λ u. HostPromise (gives u) (half u old).state (host.ForcePort port) (told.ForcePort o.0) (half u new).state) e o.1 in
+          forces_fine port o.0 (half s old).state (half s new).state there p) fine
+
+    -- the port is probed
+    probed_cable : (a : Result (Option (List ℕ)) SystemFault) (i : ℕ) (fl : Side → List ItemValue) (old new : WorldState) → OnCable i at fl old.links
+        → Probed s (at s) a old.links new.links → (now : Side → List ItemValue) × OnCable i at now new.links × Went s a fl now
+    probed_cable (Ok (Some frame)) i fl old new on (item, is, e) =
+        (push (peer s) item fl, subst (OnCable i at (push (peer s) item fl)) (sym e) (puts s i at fl item old.links on), (item, is, refl))
+    probed_cable (Ok None) i fl old new on e = (fl, subst (OnCable i at fl) (sym e) on, refl)
+    probed_cable (Err fault) i fl old new on e = (fl, subst (OnCable i at fl) (sym e) on, refl)
+
+    mid_probed : (m : ℕ) (W : Type 0) (r : Reply) (old new : WorldState) → HostSteps gives old (Probes s (at s)) new → Mid m W kn old → Mid m W kn new
+    mid_probed m W r old new h d =
+        let o = probes_half gives s (at s) old new h in
+        let c = probed_cable o.0 d.index d.flying old new d.links o.2 in
+        made W (Probes s (at s)) r tt h d (quiet_link gives (Probes s (at s)) 2 at w kn s Y r old new tt h d.link).link c.0 d.index c.1
+        (by_answer o.0 o.1 c.0 c.2)
+      where
+        st : SystemState
+        st = (half s old).state
+
+        by_answer : (a : Result (Option (List ℕ)) SystemFault)
+            → HostPromise (gives s) (half s old).state (host.Probe (at s)) (told.Probe a) (half s new).state → (now : Side → List ItemValue)
+            → Went s a d.flying now → FineIn m W (Flights s (at s) mac now) (half s new).state.table
+        by_answer (Ok a) p now went = probes_fine at w s mac agg conv (port_index (at s) st.system_ports) st a (half s new).state d.flying now m W
+            (λ i z place there. found_place (at s) st.system_ports i z place there) d.same.own p.0 went d.fine
+        by_answer (Err fault) p now went = subst (λ (t : SystemState). FineIn m W (Flights s (at s) mac now) t.table) (sym p.0.same)
+            (subst (λ (f : Side → List ItemValue). FineIn m W (Flights s (at s) mac f) st.table) (sym went) d.fine)
+
+    mid_quiet : (m : ℕ) (W : Type 0) (e : HostEvent) (r : Reply) (i j : WorldState) → IsQuiet e → IsNoMoveOf s agg conv e → IsNoProbe s (at s) e
+        → StepReplies gives i e r j → Mid m W kn i → Mid m W kn j
+    mid_quiet m W e r i j b still far h d =
+        let g = quiet_cable gives e d.index at d.flying r i j b h d.links in
+        made W e r (calm_quiet e b) h d (quiet_link gives e 2 at w kn s Y r i j b h d.link).link g.flying d.index g.on
+        (quiet_fine m W (Flights s (at s) mac g.flying) e r i j b still far d.same.there h (grown m W i j d g))
+
+    mid_one_probed : (m : ℕ) (W : Type 0) (t : Side) (port : ℕ) (r : Reply) (i j : WorldState) → HostSteps gives i (Probes t port) j → Mid m W kn i
+        → Mid m W kn j
+    mid_one_probed m W t port r i j h d = elim (one_of_both s t) [
+      | inl e ↦ elim (cases_Bool (at s == port)) [
+        | inl b ↦ (let is : port ≡ at s = grind (arith, nat_tests) in mid_probed m W r i j
+            (subst (λ n. HostSteps gives i (Probes s n) j) is (subst (λ u. HostSteps gives i (Probes u port) j) e h)) d)
+        | inr b ↦ (let other : port ≡ at s → ⊥ = grind (arith, nat_tests) in mid_quiet m W (Probes t port) r i j tt tt (λ f. other) h d)
+      ]
+      | inr e ↦ mid_quiet m W (Probes t port) r i j tt tt (λ f. absurd (other_side s (sym e ∙ f))) h d
+    ]
 
     mid_between : (m : ℕ) (W : Type 0) → KeptWhere gives (IsNoMoveOf s agg conv) (Mid m W kn)
-    mid_between m W (event.Emit n p) r i j still b h d = mid_asked m W n p r i j h d
-    mid_between m W (event.Deliver cn n) r i j still b h d = mid_delivers m W cn n r i j h d
-    mid_between m W (event.Offer n group octets) r i j still b h d = mid_offered m W n group octets r i j h d
-    mid_between m W (event.Move n group moved p) r i j still b h d = mid_moved m W n group moved p r i j still h d
-    mid_between m W (event.Force n group moved) r i j still b h d = mid_forced m W n group moved r i j still h d
-    mid_between m W e r i j still b h d = absurd b
+    mid_between m W (Plays (event.Emit n p)) r i j still b h d = mid_asked m W n p r i j h d
+    mid_between m W (Plays (event.Deliver cn n)) r i j still b h d = mid_delivers m W cn n r i j h d
+    mid_between m W (Probes t port) r i j still b h d = mid_one_probed m W t port r i j h d
+    mid_between m W e r i j still b h d = mid_quiet m W e r i j b still tt h d
 
     -- where no marker is due and an identifier is left, it is not Wanted
     mid_drained : (m : ℕ) (W : Type 0) (j : WorldState) → marker_due (half s j).state.table (at s) ≡ None → HasLeft s j → Mid m W kn j → Mid m ⊥ kn j
@@ -423,7 +522,7 @@ module _ (at : Side → ℕ) (w : Side → Lacpdu) (named : (t : Side) → IsNam
         flying = d.flying;
         index = d.index;
         links = subst (OnCable d.index at d.flying) (sym k.links) d.links;
-        same = fixed (event.Tick n 1) r i j step d.link.steady d.same;
+        same = fixed (Plays (event.Tick n 1)) r i j tt step d.link.steady d.same;
         fine = settles_all at w s mac agg conv (m + 1) (Unit {0}) (Flights s (at s) mac d.flying) k.step.0 (half s j).state k.step.2
             (λ g x y. stays_on at w s mac agg conv c kn to i j d.link link g x
             (after_tick_on (at s) (assignment_of (half s i).state.table g x) (sym (k.step.1.1.states g x) ∙ y)))
@@ -441,7 +540,7 @@ module _ (at : Side → ℕ) (w : Side → Lacpdu) (named : (t : Side) → IsNam
         flying = d.flying;
         index = d.index;
         links = subst (OnCable d.index at d.flying) (sym k.links) d.links;
-        same = fixed (event.Tick n 1) r i j step d.link.steady d.same;
+        same = fixed (Plays (event.Tick n 1)) r i j tt step d.link.steady d.same;
         fine = subst (λ (y : SystemState). FineIn m W (Flights s (at s) mac d.flying) y.table) (sym still) d.fine;
       }
 
@@ -492,7 +591,7 @@ module _ (at : Side → ℕ) (w : Side → Lacpdu) (named : (t : Side) → IsNam
       kn = known_in g.known s
 
       long : (t : Side) → 2 ≤ g.known t
-      long t = knows_peer at w 2 0 0 old g (omega arith) t
+      long t = knows_peer at w 2 old g t
 
       fits : (a b : Bool) → Fits 2 w (kn a b)
       fits = fits_in 2 w g.known s (fits_before at w named awake 2 old g (omega arith)) (fits_fresh at w named awake 2 old g (omega arith))

@@ -3,9 +3,9 @@ use Rattle.lagprogress.proofs.Common.{Bool, List, None, Ok, Option, Result, Some
 use Rattle.lagprogress.proofs.Common.{subst, suc, sym, true, ℕ, ◌++◌, ◌==◌, ◌∙◌, ◌∷◌, ◌≡◌, ◌⊎◌, cases_Bool, true≢false, nat_tests, same_Some, AggId}
 use Rattle.lagprogress.proofs.Common.{Choice, Selected, is_selected, Lacpdu, One, Side, Two, peer, MuxState, CollectingDistributing, same_mux_state}
 use Rattle.lagprogress.proofs.Common.{SystemFault, Received, SystemPort, Data_frame, IsFrame, MuxIsSettled, collecting, selected_aggregator}
-use Rattle.lagprogress.proofs.Common.{machines_of, port_index, all-get, found_place, Event, Reply, Algorithms, WorldRuns, WorldSteps, side_of}
-use Rattle.lagprogress.proofs.Common.{link_ends, ItemValue, LinkState, WorldState, half, port_at, towards, AtPort, HandsUp, Sometime, IsBetweenTicks}
-use Rattle.lagprogress.proofs.Common.{TickOnce, NothingInFlight, OfPort}
+use Rattle.lagprogress.proofs.Common.{machines_of, port_index, all-get, found_place, Event, Reply, Algorithms, WorldSteps, side_of, link_ends}
+use Rattle.lagprogress.proofs.Common.{ItemValue, LinkState, WorldState, half, port_at, towards, HostEvent, Plays, AtPort, HandsUp, IsEventWhere}
+use Rattle.lagprogress.proofs.Common.{SometimePlayed, IsBetweenTicks, IsQuiet, RunReplies, StepReplies, TickOnce, NothingInFlight, OfPort}
 use Rattle.lagprogress.proofs.ArrivingLemmas.{deliver_hands_up}
 use Rattle.lagprogress.proofs.Climbing.{PartnerInSync, distributes_now, partner_along, ticks_partner}
 use Rattle.lagprogress.proofs.EachRound.{same_index}
@@ -16,7 +16,7 @@ use Rattle.lagprogress.proofs.OneCable.{port_there, push, put, stays_beside, tic
 use Rattle.lagprogress.proofs.OneRound.{one_of_both, ticked}
 use Rattle.lagsystem.specs.declared.received.Received.TheVariants as received
 use Rattle.lagprogress.proofs.HostRound.{between, left, own_holds, none_ticked, fits_in, peer_holds, KeptBetween, MadeByTick, known_in, of_side}
-use Rattle.lagprogress.proofs.Quieting.{quiet_cable, IsQuiet, Grown, quiet_ends}
+use Rattle.lagprogress.proofs.Quieting.{quiet_cable, Grown, quiet_ends}
 use Rattle.lagscript.specs.declared.event.Event.TheVariants as event
 
 -- a Deliver event of this cable brings its first item; any other leaves the cable to itself
@@ -70,21 +70,22 @@ collects_in m c e h = absurd (true≢false (sym h))
 -- at some event of a run of ticks and what comes between, or not yet
 
 until : (gives : Algorithms) (t : Side) (P : WorldState → Event → Reply → Type 0) (I : Bool → Bool → WorldState → Type 0)
-    → ((a b : Bool) (e : Event) (r : Reply) (i j : WorldState) → IsBetweenTicks e → WorldSteps gives i e r j → I a b i → P i e r ⊎ I a b j)
+    → ((a b : Bool) (e : HostEvent) (r : Reply) (i j : WorldState) → IsBetweenTicks e → StepReplies gives i e r j → I a b i
+    → IsEventWhere P i e r ⊎ I a b j)
     → ((b : Bool) → MadeByTick gives t (I true b) (I false b)) → ((a : Bool) → MadeByTick gives (peer t) (I a true) (I a false))
-    → (es : List Event) (rs : List Reply) (i j : WorldState) (a b : Bool) → TickOnce t a b es → (run : WorldRuns gives i es rs j) → I a b i
-    → Sometime P gives es rs i j run ⊎ I false false j
+    → (es : List HostEvent) (rs : List Reply) (i j : WorldState) (a b : Bool) → TickOnce t a b es → (run : RunReplies gives i es rs j) → I a b i
+    → SometimePlayed P gives es rs i j run ⊎ I false false j
 until gives t P I between own other [] [] i j a b h run m =
     inr (subst (λ x. I false false x) (sym run) (subst (λ x. I false x i) h.1 (subst (λ x. I x b i) h.0 m)))
 until gives t P I between own other (e ∷ es) (r ∷ rs) i j a b (inl (k, due, h)) run m =
     elim (until gives t P I between own other es rs run.0 j false b h run.2
-    (own b k.0 r i run.0 k.1 (subst (λ x. WorldSteps gives i x r run.0) k.2 run.1) (subst (λ x. I x b i) due m))) [
+    (own b k.0 r i run.0 k.1 (subst (λ x. StepReplies gives i x r run.0) k.2 run.1) (subst (λ x. I x b i) due m))) [
       | inl p ↦ inl (inr p)
       | inr n ↦ inr n
     ]
 until gives t P I between own other (e ∷ es) (r ∷ rs) i j a b (inr (inl (k, due, h))) run m =
     elim (until gives t P I between own other es rs run.0 j a false h run.2
-    (other a k.0 r i run.0 k.1 (subst (λ x. WorldSteps gives i x r run.0) k.2 run.1) (subst (λ x. I a x i) due m))) [
+    (other a k.0 r i run.0 k.1 (subst (λ x. StepReplies gives i x r run.0) k.2 run.1) (subst (λ x. I a x i) due m))) [
       | inl p ↦ inl (inr p)
       | inr n ↦ inr n
     ]
@@ -174,7 +175,7 @@ module _ (gives : Algorithms) (s : Side) (i : ℕ) (l : LinkState) (w : Side →
       joined : map link_ends new.links ≡ map link_ends start.links
       joined = (emits gives n p r old new h).2.ends ∙ f.joins
 
-  quiet_on : (e : Event) (r : Reply) (old new : WorldState) → IsQuiet e → WorldSteps gives old e r new → OnItsWay s l item start old
+  quiet_on : (e : HostEvent) (r : Reply) (old new : WorldState) → IsQuiet e → StepReplies gives old e r new → OnItsWay s l item start old
       → OnItsWay s l item start new
   quiet_on e r old new q h f = record {
     index = f.index;
@@ -232,7 +233,7 @@ module _ (gives : Algorithms) (s : Side) (i : ℕ) (l : LinkState) (w : Side →
   delivers_on a b k n r old new h (e, f) = elim (delivers_at gives k n f.index at f.flying r old new f.links h) [
     | inl (v, named, is, x) ↦ by_side v named is x (one_of_both s v)
     | inr x ↦ inr (
-      ends_on a b (event.Deliver k n) r old new tt h e,
+      ends_on a b (Plays (event.Deliver k n)) r old new tt h e,
       record { index = x.index; flying = f.flying; links = x.links; first = f.first; joins = joined },
     )
   ]
@@ -243,7 +244,7 @@ module _ (gives : Algorithms) (s : Side) (i : ℕ) (l : LinkState) (w : Side →
       by_side : (v : Side) → side_of n ≡ Some v → k ≡ suc f.index → Arrives gives v at f.flying old new → (v ≡ s) ⊎ (v ≡ peer s)
           → HandsUp (peer s) i item old (event.Deliver k n) r ⊎ Flies a b new
       by_side v named is x (inl back) = inr (
-        ends_on a b (event.Deliver k n) r old new tt h e,
+        ends_on a b (Plays (event.Deliver k n)) r old new tt h e,
         record {
           index = x.index;
           flying = x.now;
@@ -256,22 +257,17 @@ module _ (gives : Algorithms) (s : Side) (i : ℕ) (l : LinkState) (w : Side →
       by_side v named is x (inr far) = inl (subst (λ m. HandsUp (peer s) i item old (event.Deliver m n) r) (sym is)
           (hands_up (kn a b) n r old new (named ∙ ap (λ (t : Side). Some t) far) e f (subst (λ m. WorldSteps gives old (event.Deliver m n) r new) is h)))
 
-  between_on : (a b : Bool) (e : Event) (r : Reply) (old new : WorldState) → IsBetweenTicks e → WorldSteps gives old e r new → Flies a b old
-      → HandsUp (peer s) i item old e r ⊎ Flies a b new
-  between_on a b (event.Emit n p) r old new is h m =
-      inr (ends_on a b (event.Emit n p) r old new tt h m.0, asks_on n p r old new h m.1)
-  between_on a b (event.Deliver k n) r old new is h m = delivers_on a b k n r old new h m
-  between_on a b (event.Offer n agg octets) r old new is h m =
-      inr (ends_on a b (event.Offer n agg octets) r old new tt h m.0, quiet_on (event.Offer n agg octets) r old new tt h m.1)
-  between_on a b (event.Move n agg conv p) r old new is h m =
-      inr (ends_on a b (event.Move n agg conv p) r old new tt h m.0, quiet_on (event.Move n agg conv p) r old new tt h m.1)
-  between_on a b (event.Force n agg conv) r old new is h m =
-      inr (ends_on a b (event.Force n agg conv) r old new tt h m.0, quiet_on (event.Force n agg conv) r old new tt h m.1)
-  between_on a b e r old new is h m = absurd is
+  between_on : (a b : Bool) (e : HostEvent) (r : Reply) (old new : WorldState) → IsBetweenTicks e → StepReplies gives old e r new → Flies a b old
+      → IsEventWhere (HandsUp (peer s) i item) old e r ⊎ Flies a b new
+  between_on a b (Plays (event.Emit n p)) r old new is h m =
+      inr (ends_on a b (Plays (event.Emit n p)) r old new tt h m.0, asks_on n p r old new h m.1)
+  between_on a b (Plays (event.Deliver k n)) r old new is h m = delivers_on a b k n r old new h m
+  between_on a b e r old new is h m = inr (ends_on a b e r old new is h m.0, quiet_on e r old new is h m.1)
 
   -- a run in which each system ticks once and that leaves nothing on the cables hands it up
-  pub in_run : (es : List Event) (rs : List Reply) (old new : WorldState) → TickOnce One true true es → (run : WorldRuns gives old es rs new)
-      → NothingInFlight new → Ends c old → OnItsWay s l item start old → Sometime (HandsUp (peer s) i item) gives es rs old new run
+  pub in_run : (es : List HostEvent) (rs : List Reply) (old new : WorldState) → TickOnce One true true es → (run : RunReplies gives old es rs new)
+      → NothingInFlight new → Ends c old → OnItsWay s l item start old
+      → SometimePlayed (HandsUp (peer s) i item) gives es rs old new run
   in_run es rs old new turns run none e f = elim (until gives (peer s) (HandsUp (peer s) i item) Flies between_on own other es rs old new true true
       (of_side (peer s) es turns) run (none_ticked 2 at w c (peer s) (peer s) PartnerInSync old e, f)) [
         | inl p ↦ p

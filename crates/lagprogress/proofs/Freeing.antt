@@ -1,4 +1,5 @@
 -- No conversation that is not moved stays held on a port of a healthy cable of a bundle.
+use Rattle.lagprogress.proofs.HostKnowing.{host_signs}
 use Rattle.lagprogress.proofs.Common.{List, None, Option, Some, [], ap, arith, inl, inr, length, refl, subst, suc, sym, zero, ℕ, ◌++◌, ◌+◌, ◌-◌, ◌<◌}
 use Rattle.lagprogress.proofs.Common.{◌∙◌, ◌∷◌, ◌≡◌, ◌≤◌, ◌⊎◌, nat_tests, none-some, same_Some, AllByRecursion, all-append, One, Side, peer, value_of}
 use Rattle.lagprogress.proofs.Common.{Assignment, Flushing, On, Wanted, after_mark, after_release, after_tick, IsConversation, assignment_of}
@@ -43,8 +44,8 @@ fine_last p m l a h e = none-some p e
 was_there : (gives : Algorithms) (n : ℕ) (old new : WorldState) (s : Side) (g k : ℕ) → IsSteady old → HostRounds gives n old new
     → IsConversation (half s new).state.table g k → IsConversation (half s old).state.table g k
 was_there gives n old new s g k steady h is =
-    let keys = played_keep NoneIsLeft gives ℕ (λ t. length t.keys) (λ t a b. refl) n old new h s in
-    let cols = played_keep NoneIsLeft gives ℕ (λ t. t.conversations) (λ t a b. refl) n old new h s in
+    let keys = played_keep NoneIsLeft gives ℕ (λ t. length t.keys) (λ t a b. refl) (λ t a. refl) (λ t d. refl) n old new h s in
+    let cols = played_keep NoneIsLeft gives ℕ (λ t. t.conversations) (λ t a b. refl) (λ t a. refl) (λ t d. refl) n old new h s in
     let later = hosts_steady gives n old new steady h in
     let rows : (half s new).state.table.aggs ≡ (half s old).state.table.aggs =
     (later s).0.aggregators ∙ (keys ∙ sym (steady s).0.aggregators) in
@@ -61,7 +62,7 @@ module _ (Holds : LinkState → WorldState → Type 0) (Other : Side → ℕ →
       from mid (ups_of Holds Other first gives old b i l y n mid enough h) m late more
     where
       from : (j : WorldState)
-          → Up (λ t. port_at t l) (said old i l y) (named_of Holds Other first gives old b i l y) (awake_of Holds Other first gives old b i l y) j
+          → Up (λ t. port_at t l) (said old i l y) j
           → (k : ℕ) → 30 ≤ k → DrainingRounds s q r gives k j new
           → held_on (assignment_of (half s new).state.table q r) ≡ Some (port_at s l) → ⊥
       from j up k late rounds held =
@@ -74,7 +75,7 @@ module _ (Holds : LinkState → WorldState → Type 0) (Other : Side → ℕ →
           let chosen = (e.is.2 (omega arith)).0 in
           let st = (half s j).state in
           let choice = at_end (λ t. port_at t l) w 2 g.known s j e g.link.steady (λ p. p.choice ≡ c) refl in
-          let heard = told_now (λ t. port_at t l) w named awake up.0 j up.1 up.2 s in
+          let heard = told_now (λ t. port_at t l) w (host_signs (λ t. port_at t l) w) 0 up.0 j up.1 up.2 s in
           let steady = each_map (λ q p. AtPort (port_at s l) PartnerInSync q p × AtPort (port_at s l) (λ p. p.choice ≡ c) q p)
           (AtPort (port_at s l) (λ p. PartnerInSync p × (p.choice ≡ c))) (λ q p a f. (a.0 f, a.1 f)) st.system_ports
           (each_both (AtPort (port_at s l) PartnerInSync) (AtPort (port_at s l) (λ p. p.choice ≡ c)) st.system_ports heard choice) in

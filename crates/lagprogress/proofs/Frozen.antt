@@ -4,23 +4,23 @@ use Rattle.lagprogress.proofs.Common.{ℕ, ◌-◌, ◌∙◌, ◌≡◌, ◌≤
 use Rattle.lagprogress.proofs.Common.{Machines, receive_rows, RunsToRest, count_down, PortConfig, SystemFault, Received, SystemPort, Carries, IsFrame}
 use Rattle.lagprogress.proofs.Common.{OnlyPortChangesBy, ProcessesLacpdu, Receive, ReceivesAt, Step, ThenSettles, Tick, configured_numbers}
 use Rattle.lagprogress.proofs.Common.{none_enabled, CallPromise, SystemState, aggregators_value, port_index, port_numbers, processes_or_stays, rests}
-use Rattle.lagprogress.proofs.Common.{all-get, found_place, Event, Reply, Algorithms, WorldSteps, LinkState, WorldState, half, port_at, towards}
-use Rattle.lagprogress.proofs.Common.{OfEach, asked_each, AtPort, AllHeard, EndsHealthyCable, HostRounds, IsHostRound, IsHealthyAt, IsSteady}
+use Rattle.lagprogress.proofs.Common.{all-get, found_place, Reply, Algorithms, WorldSteps, LinkState, WorldState, half, port_at, towards, HostEvent}
+use Rattle.lagprogress.proofs.Common.{Plays, OfEach, asked_each, AtPort, AllHeard, EndsHealthyCable, HostRounds, IsHostRound, IsQuiet, StepReplies}
+use Rattle.lagprogress.proofs.Common.{IsHealthyAt, IsSteady}
+use Rattle.lagprogress.proofs.Quieting.{IsCalm, calm_quiet, calm_steady, calm_keeps, quiet_link, quiet_ports}
 use Rattle.lagprogress.proofs.Bundling.{Awake, said, Named, names}
 use Rattle.lagprogress.proofs.Choosing.{AllAsRead, AsRead, Chose, down_as_read, down_still, one_as_read, settles_choice, takes_as_read, zip_as_read}
 use Rattle.lagprogress.proofs.Climbing.{ticks_still}
-use Rattle.lagprogress.proofs.Unchanged.{calls_keep}
 use Rattle.lagprogress.proofs.Delivering.{deliver_link}
 use Rattle.lagprogress.proofs.EachRound.{EachAt, asks_each, delivers_each, hosts_on, tick_keeps}
 use Rattle.lagprogress.proofs.EndFacts.{nothing_along}
-use Rattle.lagprogress.proofs.Halves.{each_is_calls, keeps_steady}
+use Rattle.lagprogress.proofs.Halves.{keeps_steady}
 use Rattle.lagprogress.proofs.Linked.{EndIs, Fits, IsGood, Link, arrival, emit_any, each_side}
 use Rattle.lagprogress.proofs.OneCable.{Comes, alone, cable, towards_there, ticks}
 use Rattle.lagprogress.proofs.OneRound.{Nothing}
 use Rattle.lagprogress.proofs.RoundEvents.{asked_half, came_half}
 use Rattle.lagprogress.proofs.HostKnowing.{Fresh, fits_fresh, knows_peer, stays_fresh, fits_before}
 use Rattle.lagprogress.proofs.HostRound.{KeptBetween, MadeByTick, fits_in, holds_on, known_in, left, none_ticked, of_side, tick_one}
-use Rattle.lagprogress.proofs.Quieting.{quiet_link, quiet_ports, IsQuiet}
 use Rattle.slowpdu.specs.declared.pdu.Pdu.TheVariants as pdu
 use Rattle.lagsystem.specs.declared.drive.Reply.TheVariants as answer
 use Rattle.lagscript.specs.declared.event.Event.TheVariants as event
@@ -59,11 +59,10 @@ module _ (Holds : LinkState → WorldState → Type 0) (gives : Algorithms) (old
   AllChose start j = (t : Side) (k : ℕ) (x : SystemPort) → slice_get (half t start).state.system_ports k ≡ Some x
       → EachAt (Chose x.number x.port.choice) t j
 
-  config_kept : (e : Event) (r : Reply) (i j : WorldState) → WorldSteps gives i e r j → ((t : Side) → (half t i).state.ports ≡ (half t old).state.ports)
+  config_kept : (e : HostEvent) (r : Reply) (i j : WorldState) → IsCalm e → StepReplies gives i e r j → ((t : Side) → (half t i).state.ports ≡ (half t old).state.ports)
       → (t : Side) → (half t j).state.ports ≡ (half t old).state.ports
-  config_kept e r i j h s t =
-      let c = each_is_calls gives e r i j h t in
-      calls_keep (List PortConfig) (λ x. x.ports) (λ x a b. refl) (gives t) (half t i).state (half t j).state c.0 c.1 c.2 ∙ s t
+  config_kept e r i j c h s t =
+      calm_keeps (List PortConfig) (λ x. x.ports) (λ x a b. refl) (λ x a. refl) (λ x d. refl) gives e r i j c h t ∙ s t
 
   -- a port whose link is up ends a healthy cable
   pub on_cable : (t : Side) (j : WorldState) (k : ℕ) (z : SystemPort) → IsSteady old → Stands j → slice_get (half t j).state.system_ports k ≡ Some z
@@ -157,7 +156,7 @@ module _ (Holds : LinkState → WorldState → Type 0) (gives : Algorithms) (old
           (d.links x l y) h).link;
       stands = record {
         steady = keeps_steady gives (event.Emit n p) r i j h d.stands.steady;
-        config = config_kept (event.Emit n p) r i j h d.stands.config;
+        config = config_kept (Plays (event.Emit n p)) r i j tt h d.stands.config;
         alike = λ t k x e. asks_each (AtPort x.number (Alike x.port)) (alike_keeps x.number x.port) t gives n p r i j h (d.stands.alike t k x e);
       };
       chose = λ t k x e. elim (asked_half gives n p r i j h t) [
@@ -175,7 +174,7 @@ module _ (Holds : LinkState → WorldState → Type 0) (gives : Algorithms) (old
           (d.links x l y) h).link;
       stands = record {
         steady = keeps_steady gives (event.Deliver cn n) r i j h d.stands.steady;
-        config = config_kept (event.Deliver cn n) r i j h d.stands.config;
+        config = config_kept (Plays (event.Deliver cn n)) r i j tt h d.stands.config;
         alike = λ t k x e. delivers_each (AtPort x.number (Alike x.port)) (alike_keeps x.number x.port) t gives cn n r i j h (d.stands.alike t k x e);
       };
       chose = λ t k x e. elim (came_half gives cn n r i j h t) [
@@ -184,25 +183,22 @@ module _ (Holds : LinkState → WorldState → Type 0) (gives : Algorithms) (old
       ];
     }
 
-    offered : (kn : Known) (from : WorldState) (e : Event) (r : Reply) (i j : WorldState) → IsQuiet e → WorldSteps gives i e r j
+    offered : (kn : Known) (from : WorldState) (e : HostEvent) (r : Reply) (i j : WorldState) → IsQuiet e → StepReplies gives i e r j
         → Mid kn from i → Mid kn from j
     offered kn from e r i j q h d = record {
       links = λ x l y. (quiet_link gives e 1 (λ t. port_at t l) (said old x l y) (kn x l y) One Nothing r i j q h (d.links x l y)).link;
       stands = record {
-        steady = keeps_steady gives e r i j h d.stands.steady;
-        config = config_kept e r i j h d.stands.config;
+        steady = calm_steady gives e r i j (calm_quiet e q) h d.stands.steady;
+        config = config_kept e r i j (calm_quiet e q) h d.stands.config;
         alike = λ t k x there. subst (OfEach (AtPort x.number (Alike x.port))) (sym (quiet_ports gives e r i j q h t)) (d.stands.alike t k x there);
       };
       chose = λ t k x there. subst (OfEach (Chose x.number x.port.choice)) (sym (quiet_ports gives e r i j q h t)) (d.chose t k x there);
     }
 
     between : (kn : Known) (from : WorldState) → AllFit kn → KeptBetween gives (Mid kn from)
-    between kn from fits (event.Emit n p) r i j b h d = asked kn from n p r i j fits h d
-    between kn from fits (event.Deliver cn n) r i j b h d = delivered kn from cn n r i j fits h d
-    between kn from fits (event.Offer n agg octets) r i j b h d = offered kn from (event.Offer n agg octets) r i j tt h d
-    between kn from fits (event.Move n agg conv p) r i j b h d = offered kn from (event.Move n agg conv p) r i j tt h d
-    between kn from fits (event.Force n agg conv) r i j b h d = offered kn from (event.Force n agg conv) r i j tt h d
-    between kn from fits e r i j b h d = absurd b
+    between kn from fits (Plays (event.Emit n p)) r i j b h d = asked kn from n p r i j fits h d
+    between kn from fits (Plays (event.Deliver cn n)) r i j b h d = delivered kn from cn n r i j fits h d
+    between kn from fits e r i j b h d = offered kn from e r i j b h d
 
     -- a tick of system t
     tick_choice : (kn : Known) (i j : WorldState) (t : Side) (n : ℕ) (c : Choice)
@@ -244,7 +240,7 @@ module _ (Holds : LinkState → WorldState → Type 0) (gives : Algorithms) (old
               (d.links x l y)).link;
           stands = record {
             steady = keeps_steady gives (event.Tick n 1) r i j step d.stands.steady;
-            config = config_kept (event.Tick n 1) r i j step d.stands.config;
+            config = config_kept (Plays (event.Tick n 1)) r i j tt step d.stands.config;
             alike = λ u m x e. tick_keeps (AtPort x.number (Alike x.port)) (alike_keeps x.number x.port).settles (alike_ticks x.number x.port) u t
                 gives n r i j named step (d.stands.alike u m x e);
           };
@@ -270,7 +266,7 @@ module _ (Holds : LinkState → WorldState → Type 0) (gives : Algorithms) (old
         link x l y = (fresh x l y).link
 
         long : OfCables (λ x l y. (t : Side) → 2 ≤ (fresh x l y).known t)
-        long x l y t = knows_peer (λ u. port_at u l) (said old x l y) 1 0 0 i (fresh x l y) (omega arith) t
+        long x l y t = knows_peer (λ u. port_at u l) (said old x l y) 1 i (fresh x l y) t
 
         some_left : (a : Bool) (n : ℕ) → 2 ≤ n → 1 ≤ left a n
         some_left true n l = omega (arith, l)

@@ -1,4 +1,5 @@
 -- What a healthy round leaves of conversations that are held on a port whose cable is healthy: their markers are answered.
+use Rattle.lagsystem.specs.Forcing.{after_forcing}
 use Rattle.lagprogress.proofs.Common.{Bool, List, Some, ap, arith, cond, drop, eqb, false, inl, inr, length, ltb, refl, sym, true, ℕ, ◌+◌, ◌<◌, ◌∙◌}
 use Rattle.lagprogress.proofs.Common.{◌≡◌, ◌≤◌, ◌⊎◌, nat_tests, none-some, Marker, Information, Response, Pdu, no_fault, one_pdu, Side, peer}
 use Rattle.lagprogress.proofs.Common.{Assignment, Flushing, Free, On, Wanted, is_among, after_mark, after_release, after_tick, Carries, Data_frame}
@@ -86,6 +87,11 @@ ticked_fine p m W F (Flushing q id preferred age) h = by_age (ltb (age + 1) 30) 
 pub offered_fine : (p m q : ℕ) (W : Type 0) (F : ℕ → Type 0) (b : Bool) (a : Assignment) → Fine p m W F a → Fine p m W F (cond b (On q) a)
 offered_fine p m q W F true a h = tt
 offered_fine p m q W F false a h = h
+
+-- what is held on some port is forced
+
+pub forced_fine : (p m q : ℕ) (W : Type 0) (F : ℕ → Type 0) (a : Assignment) → Fine p m W F a → Fine p m W F (after_forcing q a)
+forced_fine p m q W F a h = grind (arith, nat_tests)
 
 -- frames
 

@@ -1,25 +1,27 @@
 -- Which runs are healthy rounds of hosts.
 use Rattle.lagprogress.proofs.Common.{Bool, Err, List, None, Ok, Option, Result, Some, [], ap, append_assoc, arith, cond, eqb, false, inl, inr, ltb}
 use Rattle.lagprogress.proofs.Common.{refl, slice_get, subst, suc, sym, true, zero, ℕ, ◌++◌, ◌+◌, ◌∙◌, ◌∷◌, ◌≡◌, cases_Bool, false≢true, nat_tests}
-use Rattle.lagprogress.proofs.Common.{none-some, same_Some, AllByRecursion, Pdu, pdu_in, all-append, One, Side, Two, peer, value_of, Machines}
-use Rattle.lagprogress.proofs.Common.{after_sending, is_due, Assignment, Flushing, Wanted, after_mark, marker_due, wants_marker, Table, assignment_of}
+use Rattle.lagprogress.proofs.Common.{none-some, same_Some, AllByRecursion, Pdu, pdu_in, One, Side, Two, peer, value_of, Machines, after_sending}
+use Rattle.lagprogress.proofs.Common.{is_due, Assignment, Flushing, Wanted, after_mark, marker_due, wants_marker, Table, assignment_of}
 use Rattle.lagprogress.proofs.Common.{count_conversations, next_identifier, SystemFault, SystemPort, Step, Transmit, SendsMarkerOf, TransmitsAt}
 use Rattle.lagprogress.proofs.Common.{TransmitsIf, SystemState, machines_of, port_index, all-get, found_place, ports_rise, Event, Reply}
-use Rattle.lagprogress.proofs.Common.{AfterTransmit, Algorithms, WorldEmits, WorldRuns, WorldSteps, sent_reply, side_of, payload_in, HalfState}
-use Rattle.lagprogress.proofs.Common.{LinkState, WorldState, half, is_accepted, port_at, with_half, half_there, OfEach, Tick-each, placed, AtPort}
-use Rattle.lagprogress.proofs.Common.{at_number, AskingInVainIsDraining, AsksInVain, AsksInVainAfterTick, DrainingRounds, IsNoMoveOf, NothingIsDue}
-use Rattle.lagprogress.proofs.Common.{RoundIsDraining, sent_nothing, AfterTick, AskingIsHostRound, Asks, AsksAfterTick, AsksIn, AtSomeWorld, Clearing}
-use Rattle.lagprogress.proofs.Common.{HostRounds, IsBetweenTicks, IsPlayed, IsTickOf, LoopIsHostRound, NoneIsLeft, RoundIsHostRound}
-use Rattle.lagprogress.proofs.Common.{RoundsAreHostRounds, TickOnce, AtEnd, IsDeliver, IsHealthyAt, OfPort, Rounds, asks_all, ticks_of_both, IsSteady}
+use Rattle.lagprogress.proofs.Common.{AfterTransmit, Algorithms, WorldEmits, WorldRuns, sent_reply, side_of, payload_in, HalfState, LinkState}
+use Rattle.lagprogress.proofs.Common.{WorldState, half, is_accepted, port_at, with_half, half_there, HostEvent, HostRuns, HostSteps, Plays, OfEach}
+use Rattle.lagprogress.proofs.Common.{Tick-each, placed, AtPort, at_number, AskingInVainIsDraining, AsksInVain, AsksInVainAfterTick, DrainingRounds}
+use Rattle.lagprogress.proofs.Common.{IsNoMoveOf, NothingIsDue, RoundIsDraining, sent_nothing, AfterTick, AskingIsHostRound, Asks, AsksAfterTick}
+use Rattle.lagprogress.proofs.Common.{AsksIn, AtSomeWorld, Clearing, EventsAreOfHosts, HostRounds, IsBetweenTicks, IsPlayed, IsTickOf}
+use Rattle.lagprogress.proofs.Common.{LoopIsHostRound, NoneIsLeft, RoundIsHostRound, RoundsAreHostRounds, RunReplies, StepReplies, TickOnce, AtEnd}
+use Rattle.lagprogress.proofs.Common.{IsDeliver, IsHealthyAt, OfPort, Rounds, asks_all, ticks_of_both, IsSteady}
 use Rattle.distributor.specs.Conversations.{sum_below}
-use Rattle.lagprogress.proofs.EachRound.{EachAt, asks_each, delivers_each, own_keeps, own_ticks, hosts_steady}
-use Rattle.lagprogress.proofs.Halves.{keeps_steady}
+use Rattle.lagprogress.proofs.Quieting.{IsCalm, calm_between, calm_tick, calm_steady, calm_place}
+use Rattle.std.specs.Prelude.{map}
+use Rattle.lagprogress.proofs.EachRound.{each_between, EachAt, own_keeps, own_ticks, hosts_steady}
+use Rattle.lagworld.specs.declared.reply.Reply.TheVariants as reply
 use Rattle.lagprogress.proofs.HostRound.{of_side, turned}
-use Rattle.lagprogress.proofs.Linked.{each_side, found, machines_there, place_kept}
+use Rattle.lagprogress.proofs.Linked.{each_side, found, machines_there}
 use Rattle.lagprogress.proofs.OneCable.{Emits, emits, ticks}
 use Rattle.lagprogress.proofs.OneRound.{IsAsk, all_ask, asks_twice, same_ports_then}
 use Rattle.lagprogress.proofs.Passing.{sends_due}
-use Rattle.lagprogress.proofs.Quieting.{quiet_ports}
 use Rattle.lagsystem.specs.declared.drive.Reply.TheVariants as answer
 use Rattle.lagscript.specs.declared.event.Event.TheVariants as event
 use Rattle.lagprogress.proofs.Lasting.{ends_at}
@@ -104,47 +106,38 @@ module _ (gives : Algorithms) (s : Side) (p : ℕ) where
     place : port_index p (half s j).state.system_ports ≡ Some index
     up : EachAt (AtPort p Up) s j
 
-  kept : (e : Event) (r : Reply) (i j : WorldState) → WorldSteps gives i e r j → EachAt (AtPort p Up) s j → Stays i → Stays j
-  kept e r i j h up x =
-      let steady = keeps_steady gives e r i j h x.steady in
-      record { steady = steady; index = x.index; place = place_kept gives e r i j h x.steady steady s p ∙ x.place; up = up }
+  kept : (e : HostEvent) (r : Reply) (i j : WorldState) → IsCalm e → StepReplies gives i e r j → EachAt (AtPort p Up) s j → Stays i → Stays j
+  kept e r i j c h up x =
+      let steady = calm_steady gives e r i j c h x.steady in
+      record { steady = steady; index = x.index; place = calm_place gives e r i j c h x.steady steady s p ∙ x.place; up = up }
 
-  between : (e : Event) (r : Reply) (i j : WorldState) → IsBetweenTicks e → WorldSteps gives i e r j → Stays i → Stays j
-  between (event.Emit n q) r i j b h x =
-      kept (event.Emit n q) r i j h (asks_each (AtPort p Up) (own_keeps (λ party up. up ≡ true) p) s gives n q r i j h x.up) x
-  between (event.Deliver c n) r i j b h x =
-      kept (event.Deliver c n) r i j h (delivers_each (AtPort p Up) (own_keeps (λ party up. up ≡ true) p) s gives c n r i j h x.up) x
-  between (event.Offer n agg octets) r i j b h x = kept (event.Offer n agg octets) r i j h
-      (subst (OfEach (AtPort p Up)) (sym (quiet_ports gives (event.Offer n agg octets) r i j tt h s)) x.up) x
-  between (event.Move n agg conv q) r i j b h x = kept (event.Move n agg conv q) r i j h
-      (subst (OfEach (AtPort p Up)) (sym (quiet_ports gives (event.Move n agg conv q) r i j tt h s)) x.up) x
-  between (event.Force n agg conv) r i j b h x = kept (event.Force n agg conv) r i j h
-      (subst (OfEach (AtPort p Up)) (sym (quiet_ports gives (event.Force n agg conv) r i j tt h s)) x.up) x
-  between e r i j b h x = absurd b
+  between : (e : HostEvent) (r : Reply) (i j : WorldState) → IsBetweenTicks e → StepReplies gives i e r j → Stays i → Stays j
+  between e r i j b h x =
+      kept e r i j (calm_between e b) h (each_between (AtPort p Up) (own_keeps (λ party up. up ≡ true) p) s gives e r i j b h x.up) x
 
-  ticked : (t : Side) (e : Event) (r : Reply) (i j : WorldState) → IsTickOf t e → WorldSteps gives i e r j → Stays i → Stays j
+  ticked : (t : Side) (e : HostEvent) (r : Reply) (i j : WorldState) → IsTickOf t e → StepReplies gives i e r j → Stays i → Stays j
   ticked t e r i j (n, named, is) h x =
-      let k = ticks gives n t r i j named (subst (λ f. WorldSteps gives i f r j) is h) in
-      kept e r i j h (each_side (λ u. EachAt (AtPort p Up) u i → EachAt (AtPort p Up) u j) t
+      let k = ticks gives n t r i j named (subst (λ f. StepReplies gives i f r j) is h) in
+      kept e r i j (calm_tick t e (n, named, is)) h (each_side (λ u. EachAt (AtPort p Up) u i → EachAt (AtPort p Up) u j) t
       (λ a. Tick-each (AtPort p Up) (AtPort p Up) (own_keeps (λ party up. up ≡ true) p).settles (own_ticks (λ party up. up ≡ true) p)
       (gives t) (half t i).state answer.Tick (half t j).state k.step a)
       (λ a. subst (λ (y : SystemState). OfEach (AtPort p Up) y.system_ports) (sym k.peers) a) s x.up) x
 
   -- each event of a round
-  stays : (a b : Bool) (e : Event) (es : List Event) (r : Reply) (i j : WorldState) → TickOnce s a b (e ∷ es) → WorldSteps gives i e r j
+  stays : (a b : Bool) (e : HostEvent) (es : List HostEvent) (r : Reply) (i j : WorldState) → TickOnce s a b (e ∷ es) → StepReplies gives i e r j
       → Stays i → Stays j
   stays a b e es r i j (inl h) step x = ticked s e r i j h.0 step x
   stays a b e es r i j (inr (inl h)) step x = ticked (peer s) e r i j h.0 step x
   stays a b e es r i j (inr (inr h)) step x = between e r i j h.0 step x
 
-  rest_of : (a b : Bool) (e : Event) (es : List Event) → TickOnce s a b (e ∷ es) → (c : Bool) × (d : Bool) × TickOnce s c d es
+  rest_of : (a b : Bool) (e : HostEvent) (es : List HostEvent) → TickOnce s a b (e ∷ es) → (c : Bool) × (d : Bool) × TickOnce s c d es
   rest_of a b e es (inl h) = (false, b, h.2)
   rest_of a b e es (inr (inl h)) = (a, false, h.2)
   rest_of a b e es (inr (inr h)) = (a, b, h.1)
 
-  asked : (e : Event) (r : Reply) (i j : WorldState) → Asks s p e → WorldSteps gives i e r j → Stays i → NoneDue j
+  asked : (e : HostEvent) (r : Reply) (i j : WorldState) → Asks s p e → StepReplies gives i e r j → Stays i → NoneDue j
   asked e r i j (n, named, is) h x =
-      let m = emits gives n p r i j (subst (λ f. WorldSteps gives i f r j) is h) in
+      let m = emits gives n p r i j (subst (λ f. StepReplies gives i f r j) is h) in
       let t : m.0 ≡ s = same_Some m.0 s (sym m.1 ∙ named) in
       let k = subst (λ u. Emits gives u p i j) t m.2 in
       let st = (half s i).state in
@@ -152,17 +145,18 @@ module _ (gives : Algorithms) (s : Side) (p : ℕ) where
       let up = all-get (λ (y : SystemPort). AtPort p Up y.number y.port) st.system_ports x.index z.0 z.1 x.up
       (found_place p st.system_ports x.index z.0 x.place z.1) in
       let now = asked_none (gives s) p x.index z.0 k.a st (half s j).state x.place z.1 up k.promise.step in
-      let steady = keeps_steady gives e r i j h x.steady in
+      let calm : IsCalm e = subst IsCalm (sym is) tt in
+      let steady = calm_steady gives e r i j calm h x.steady in
       subst (OfPort (λ q. is_due q ≡ false)) (sym (machines_there p (half s j).state x.index now.0
-      (place_kept gives e r i j h x.steady steady s p ∙ x.place) now.1)) now.2
+      (calm_place gives e r i j calm h x.steady steady s p ∙ x.place) now.1)) now.2
 
   -- neither an LACPDU nor a marker
   abbrev Drained : WorldState → Type 0
   Drained j = NoneDue j × (marker_due (half s j).state.table p ≡ None)
 
-  drained_now : (e : Event) (r : Reply) (i j : WorldState) → Asks s p e → WorldSteps gives i e r j → Stays i → NoneDue i → Drained j
+  drained_now : (e : HostEvent) (r : Reply) (i j : WorldState) → Asks s p e → StepReplies gives i e r j → Stays i → NoneDue i → Drained j
   drained_now e r i j (n, named, is) h x none =
-      let m = emits gives n p r i j (subst (λ f. WorldSteps gives i f r j) is h) in
+      let m = emits gives n p r i j (subst (λ f. StepReplies gives i f r j) is h) in
       let t : m.0 ≡ s = same_Some m.0 s (sym m.1 ∙ named) in
       let k = subst (λ u. Emits gives u p i j) t m.2 in
       let st = (half s i).state in
@@ -215,21 +209,21 @@ module _ (gives : Algorithms) (s : Side) (p : ℕ) where
             ∙ (ap (marker_due st.table) (sym number ∙ ap (λ (y : SystemPort). y.number) (sym is)) ∙ d.1),
       )
 
-  vain_now : (e : Event) (r : Reply) (i j : WorldState) → Asks s p e → sent_nothing r ≡ true → WorldSteps gives i e r j → Stays i → Drained j
+  vain_now : (e : HostEvent) (r : Reply) (i j : WorldState) → Asks s p e → sent_nothing r ≡ true → StepReplies gives i e r j → Stays i → Drained j
   vain_now e r i j (n, named, is) vain h x =
-      let step = subst (λ f. WorldSteps gives i f r j) is h in
+      let step = subst (λ f. StepReplies gives i f r j) is h in
       let v = value_of (side_of n) _ step.0 in
       let same : v.0 ≡ s = same_Some v.0 s (sym v.1 ∙ named) in
       let w = subst (λ t. WorldEmits gives t p i r (record j { acted = i.acted })) same v.2 in
       vain_by w.0 w.1 r i j w.2.answers.step w.3 vain x
 
-  at_first : (P : WorldState → Type 0) (es : List Event) (rs : List Reply) (i j : WorldState) (run : WorldRuns gives i es rs j) → P i
+  at_first : (P : WorldState → Type 0) (es : List HostEvent) (rs : List Reply) (i j : WorldState) (run : RunReplies gives i es rs j) → P i
       → AtSomeWorld P gives es rs i j run
   at_first P [] [] i j run y = y
   at_first P (e ∷ es) (r ∷ rs) i j run y = inl y
   at_first P es rs i j run y = absurd run
 
-  some_on : (es : List Event) (rs : List Reply) (i j : WorldState) (a b : Bool) → TickOnce s a b es → (run : WorldRuns gives i es rs j)
+  some_on : (es : List HostEvent) (rs : List Reply) (i j : WorldState) (a b : Bool) → TickOnce s a b es → (run : RunReplies gives i es rs j)
       → AsksIn s p es → Stays i → AtSomeWorld NoneDue gives es rs i j run
   some_on [] rs i j a b h run q x = absurd q
   some_on (e ∷ es) [] i j a b h run q x = absurd run
@@ -237,7 +231,7 @@ module _ (gives : Algorithms) (s : Side) (p : ℕ) where
   some_on (e ∷ es) (r ∷ rs) i j a b h run (inr q) x =
       let o = rest_of a b e es h in inr (some_on es rs run.0 j o.0 o.1 o.2 run.2 q (stays a b e es r i run.0 h run.1 x))
 
-  after_on : (es : List Event) (rs : List Reply) (i j : WorldState) (a b : Bool) → TickOnce s a b es → (run : WorldRuns gives i es rs j)
+  after_on : (es : List HostEvent) (rs : List Reply) (i j : WorldState) (a b : Bool) → TickOnce s a b es → (run : RunReplies gives i es rs j)
       → AsksAfterTick s p es → Stays i → AfterTick s NoneDue gives es rs i j run
   after_on [] rs i j a b h run q x = q
   after_on (e ∷ es) [] i j a b h run q x = absurd run
@@ -247,7 +241,7 @@ module _ (gives : Algorithms) (s : Side) (p : ℕ) where
       inr (after_on es rs run.0 j o.0 o.1 o.2 run.2 q (stays a b e es r i run.0 h run.1 x))
 
   -- if it is asked until it sends nothing
-  vain_on : (es : List Event) (rs : List Reply) (i j : WorldState) (a b : Bool) → TickOnce s a b es → (run : WorldRuns gives i es rs j)
+  vain_on : (es : List HostEvent) (rs : List Reply) (i j : WorldState) (a b : Bool) → TickOnce s a b es → (run : RunReplies gives i es rs j)
       → AsksInVain s p es rs → Stays i → AtSomeWorld Drained gives es rs i j run
   vain_on [] rs i j a b h run q x = absurd q
   vain_on (e ∷ es) [] i j a b h run q x = absurd q
@@ -255,7 +249,7 @@ module _ (gives : Algorithms) (s : Side) (p : ℕ) where
   vain_on (e ∷ es) (r ∷ rs) i j a b h run (inr q) x =
       let o = rest_of a b e es h in inr (vain_on es rs run.0 j o.0 o.1 o.2 run.2 q (stays a b e es r i run.0 h run.1 x))
 
-  vain_after : (es : List Event) (rs : List Reply) (i j : WorldState) (a b : Bool) → TickOnce s a b es → (run : WorldRuns gives i es rs j)
+  vain_after : (es : List HostEvent) (rs : List Reply) (i j : WorldState) (a b : Bool) → TickOnce s a b es → (run : RunReplies gives i es rs j)
       → AsksInVainAfterTick s p es rs → Stays i → AfterTick s Drained gives es rs i j run
   vain_after [] rs i j a b h run q x = q
   vain_after (e ∷ es) [] i j a b h run q x = absurd run
@@ -265,29 +259,29 @@ module _ (gives : Algorithms) (s : Side) (p : ℕ) where
       inr (vain_after es rs run.0 j o.0 o.1 o.2 run.2 q (stays a b e es r i run.0 h run.1 x))
 
   -- if it is asked twice in turn
-  twice_on : (n : ℕ) → side_of n ≡ Some s → (before later : List Event) (rs : List Reply) (i j : WorldState) (a b : Bool)
-      → TickOnce s a b (before ++ (event.Emit n p ∷ event.Emit n p ∷ later))
-      → (run : WorldRuns gives i (before ++ (event.Emit n p ∷ event.Emit n p ∷ later)) rs j) → Stays i
-      → AtSomeWorld Drained gives (before ++ (event.Emit n p ∷ event.Emit n p ∷ later)) rs i j run
+  twice_on : (n : ℕ) → side_of n ≡ Some s → (before later : List HostEvent) (rs : List Reply) (i j : WorldState) (a b : Bool)
+      → TickOnce s a b (before ++ (Plays (event.Emit n p) ∷ Plays (event.Emit n p) ∷ later))
+      → (run : RunReplies gives i (before ++ (Plays (event.Emit n p) ∷ Plays (event.Emit n p) ∷ later)) rs j) → Stays i
+      → AtSomeWorld Drained gives (before ++ (Plays (event.Emit n p) ∷ Plays (event.Emit n p) ∷ later)) rs i j run
   twice_on n named [] later [] i j a b h run x = absurd run
   twice_on n named [] later (r ∷ []) i j a b h run x = absurd run.2
   twice_on n named [] later (r ∷ q ∷ rs) i j a b h run x =
-      let e = event.Emit n p in
+      let e = Plays (event.Emit n p) in
       let o = rest_of a b e (e ∷ later) h in
       let then = stays a b e (e ∷ later) r i run.0 h run.1 x in
       inr (inr (at_first Drained later rs run.2.0 j run.2.2
       (drained_now e q run.0 run.2.0 (n, named, refl) run.2.1 then (asked e r i run.0 (n, named, refl) run.1 x))))
   twice_on n named (f ∷ before) later [] i j a b h run x = absurd run
   twice_on n named (f ∷ before) later (r ∷ rs) i j a b h run x =
-      let es = before ++ (event.Emit n p ∷ event.Emit n p ∷ later) in
+      let es = before ++ (Plays (event.Emit n p) ∷ Plays (event.Emit n p) ∷ later) in
       let o = rest_of a b f es h in
       inr (twice_on n named before later rs run.0 j o.0 o.1 o.2 run.2 (stays a b f es r i run.0 h run.1 x))
 
-  twice_in : (n : ℕ) → side_of n ≡ Some s → (before later es : List Event) → es ≡ before ++ (event.Emit n p ∷ event.Emit n p ∷ later)
-      → (rs : List Reply) (i j : WorldState) (a b : Bool) → TickOnce s a b es → (run : WorldRuns gives i es rs j) → Stays i
+  twice_in : (n : ℕ) → side_of n ≡ Some s → (before later es : List HostEvent) → es ≡ before ++ (Plays (event.Emit n p) ∷ Plays (event.Emit n p) ∷ later)
+      → (rs : List Reply) (i j : WorldState) (a b : Bool) → TickOnce s a b es → (run : RunReplies gives i es rs j) → Stays i
       → AtSomeWorld Drained gives es rs i j run
   twice_in n named before later es e = subst (λ fs. (rs : List Reply) (i j : WorldState) (a b : Bool) → TickOnce s a b fs
-      → (run : WorldRuns gives i fs rs j) → Stays i → AtSomeWorld Drained gives fs rs i j run) (sym e) (twice_on n named before later)
+      → (run : RunReplies gives i fs rs j) → Stays i → AtSomeWorld Drained gives fs rs i j run) (sym e) (twice_on n named before later)
 
 -- the port at an end of a healthy cable is there, and its link is up
 stays_first : (gives : Algorithms) (s : Side) (i : ℕ) (l : LinkState) (old : WorldState) → IsSteady old → IsHealthyAt i l old
@@ -303,8 +297,8 @@ stays_first gives s i l old steady y =
           (at_number (λ q. q.enabled ≡ true) 0 st.system_ports e.0 e.1 (ports_rise st (steady s).0.ports) e.3 e.4);
     }
 
-pub asking_is_played : (E : Clearing) (gives : Algorithms) (events : List Event) (replies : List Reply) (old new : WorldState) → IsSteady old
-    → TickOnce One true true events → WorldRuns gives old events replies new
+pub asking_is_played : (E : Clearing) (gives : Algorithms) (events : List HostEvent) (replies : List Reply) (old new : WorldState) → IsSteady old
+    → TickOnce One true true events → RunReplies gives old events replies new
     → ((s : Side) (i : ℕ) (l : LinkState) → IsHealthyAt i l old → AsksAfterTick s (port_at s l) events) → E events old new → IsPlayed E gives old new
 asking_is_played E gives events replies old new steady turns run asks empty = record {
   events = events;
@@ -316,12 +310,42 @@ asking_is_played E gives events replies old new steady turns run asks empty = re
   empties = empty;
 }
 
+-- a run of hosts has replies
+pub with_replies : (gives : Algorithms) (es : List HostEvent) (old new : WorldState) → HostRuns gives old es new
+    → (rs : List Reply) × RunReplies gives old es rs new
+with_replies gives [] old new h = ([], h)
+with_replies gives (e ∷ es) old new h =
+    let one = replied e h.1 in let more = with_replies gives es h.0 new h.2 in (one.0 ∷ more.0, (h.0, one.1, more.1))
+  where
+    replied : (e : HostEvent) → HostSteps gives old e h.0 → (r : Reply) × StepReplies gives old e r h.0
+    replied (Plays e) x = x
+    replied e x = (reply.Nothing, x)
+
+pub events_are_of_hosts : (gives : Algorithms) → EventsAreOfHosts gives
+events_are_of_hosts gives [] [] old new h = h
+events_are_of_hosts gives (e ∷ es) (r ∷ rs) old new h = (h.0, (r, h.1), events_are_of_hosts gives es rs h.0 new h.2)
+events_are_of_hosts gives es rs old new h = absurd h
+
+-- and a run of events is one, with its replies
+unfoldable pub as_played : (gives : Algorithms) (es : List Event) (rs : List Reply) (old new : WorldState) → WorldRuns gives old es rs new
+    → RunReplies gives old (map Plays es) rs new
+as_played gives [] [] old new h = h
+as_played gives (e ∷ es) (r ∷ rs) old new h = (h.0, h.1, as_played gives es rs h.0 new h.2)
+as_played gives es rs old new h = absurd h
+
+pub asking_is_one : (E : Clearing) (gives : Algorithms) (events : List HostEvent) (old new : WorldState) → IsSteady old
+    → TickOnce One true true events → HostRuns gives old events new
+    → ((s : Side) (i : ℕ) (l : LinkState) → IsHealthyAt i l old → AsksAfterTick s (port_at s l) events) → E events old new → IsPlayed E gives old new
+asking_is_one E gives events old new steady turns run =
+    let x = with_replies gives events old new run in asking_is_played E gives events x.0 old new steady turns x.1
+
 pub asking_is_host_round : (gives : Algorithms) → AskingIsHostRound gives
-asking_is_host_round gives = asking_is_played NoneIsLeft gives
+asking_is_host_round gives = asking_is_one NoneIsLeft gives
 
 -- a healthy round is one
 
-between_all : (es : List Event) (fs : List Event) → AllByRecursion IsAsk es → AllByRecursion IsDeliver fs → TickOnce One false false (es ++ fs)
+between_all : (es : List Event) (fs : List Event) → AllByRecursion IsAsk es → AllByRecursion IsDeliver fs
+    → TickOnce One false false (map Plays (es ++ fs))
 between_all [] [] a d = (refl, refl)
 between_all [] (event.Deliver c n ∷ fs) a d = inr (inr (tt, between_all [] fs tt d.1))
 between_all [] (f ∷ fs) a d = absurd d.0
@@ -329,125 +353,137 @@ between_all (event.Emit n p ∷ es) fs a d = inr (inr (tt, between_all es fs a.1
 between_all (e ∷ es) fs a d = absurd a.0
 
 pub round_ticks : (links : List LinkState) (delivers : List Event) → AllByRecursion IsDeliver delivers
-    → TickOnce One true true (ticks_of_both ++ (asks_all links ++ delivers))
+    → TickOnce One true true (map Plays (ticks_of_both ++ (asks_all links ++ delivers)))
 round_ticks links delivers arrives =
     inl ((1, refl, refl), refl, inr (inl ((2, refl, refl), refl, between_all (asks_all links) delivers (all_ask links) arrives)))
 
-of_side_after : (s : Side) (es : List Event) → TickOnce One false false es → TickOnce s false false es
+of_side_after : (s : Side) (es : List HostEvent) → TickOnce One false false es → TickOnce s false false es
 of_side_after One es h = h
 of_side_after Two es h = turned es false false h
 
-pub asks_behind : (s : Side) (p : ℕ) (es fs : List Event) → AsksIn s p fs → AsksIn s p (es ++ fs)
+pub asks_behind : (s : Side) (p : ℕ) (es fs : List HostEvent) → AsksIn s p fs → AsksIn s p (es ++ fs)
 asks_behind s p [] fs h = h
 asks_behind s p (e ∷ es) fs h = inr (asks_behind s p es fs h)
 
-pub asks_before : (s : Side) (p : ℕ) (es fs : List Event) → AsksIn s p es → AsksIn s p (es ++ fs)
+pub asks_before : (s : Side) (p : ℕ) (es fs : List HostEvent) → AsksIn s p es → AsksIn s p (es ++ fs)
 asks_before s p [] fs h = absurd h
 asks_before s p (e ∷ es) fs (inl h) = inl h
 asks_before s p (e ∷ es) fs (inr h) = inr (asks_before s p es fs h)
 
+plays_append : (es fs : List Event) → map Plays (es ++ fs) ≡ map Plays es ++ map Plays fs
+plays_append [] fs = refl
+plays_append (e ∷ es) fs = ap (λ xs. Plays e ∷ xs) (plays_append es fs)
+
 pub round_is_host_round : (gives : Algorithms) → RoundIsHostRound gives
 round_is_host_round gives old new steady h =
-    asking_is_host_round gives (ticks_of_both ++ (asks_all old.links ++ h.delivers)) h.replies old new steady
-    (round_ticks old.links h.delivers h.arrives) h.acts asks h.empties
+    let es = ticks_of_both ++ (asks_all old.links ++ h.delivers) in
+    asking_is_played NoneIsLeft gives (map Plays es) h.replies old new steady
+    (round_ticks old.links h.delivers h.arrives) (as_played gives es h.replies old new h.acts) asks h.empties
   where
-    one : IsTickOf One (event.Tick 1 1)
+    one : IsTickOf One (Plays (event.Tick 1 1))
     one = (1, refl, refl)
 
-    two : IsTickOf Two (event.Tick 2 1)
+    two : IsTickOf Two (Plays (event.Tick 2 1))
     two = (2, refl, refl)
 
     asks : (s : Side) (i : ℕ) (l : LinkState) → IsHealthyAt i l old
-        → AsksAfterTick s (port_at s l) (ticks_of_both ++ (asks_all old.links ++ h.delivers))
-    asks s i l y = each_side (λ t. AsksAfterTick t (port_at t l) (ticks_of_both ++ (asks_all old.links ++ h.delivers))) One
+        → AsksAfterTick s (port_at s l) (map Plays (ticks_of_both ++ (asks_all old.links ++ h.delivers)))
+    asks s i l y = each_side (λ t. AsksAfterTick t (port_at t l) (map Plays (ticks_of_both ++ (asks_all old.links ++ h.delivers)))) One
         (inl (one, inr (there One))) (inr (inl (two, there Two))) s
       where
-        there : (t : Side) → AsksIn t (port_at t l) (asks_all old.links ++ h.delivers)
+        there : (t : Side) → AsksIn t (port_at t l) (map Plays (asks_all old.links ++ h.delivers))
         there t =
             let o = asks_twice t i old.links l y.there in
-            asks_before t (port_at t l) (asks_all old.links) h.delivers (subst (AsksIn t (port_at t l)) (sym o.is)
-            (asks_behind t (port_at t l) o.before (event.Emit o.number (port_at t l) ∷ event.Emit o.number (port_at t l) ∷ o.later)
-            (inl (o.number, o.named, refl))))
+            let e = event.Emit o.number (port_at t l) in
+            subst (AsksIn t (port_at t l)) (sym (plays_append (asks_all old.links) h.delivers))
+            (asks_before t (port_at t l) (map Plays (asks_all old.links)) (map Plays h.delivers)
+            (subst (λ es. AsksIn t (port_at t l) (map Plays es)) (sym o.is)
+            (subst (AsksIn t (port_at t l)) (sym (plays_append o.before (e ∷ e ∷ o.later)))
+            (asks_behind t (port_at t l) (map Plays o.before) (map Plays (e ∷ e ∷ o.later)) (inl (o.number, o.named, refl))))))
 
 -- and each end has nothing due once it is asked twice
 
-at_map : (P Q : WorldState → Type 0) (gives : Algorithms) → ((j : WorldState) → P j → Q j) → (es : List Event) (rs : List Reply) (i j : WorldState)
-    (run : WorldRuns gives i es rs j) → AtSomeWorld P gives es rs i j run → AtSomeWorld Q gives es rs i j run
+at_map : (P Q : WorldState → Type 0) (gives : Algorithms) → ((j : WorldState) → P j → Q j) → (es : List HostEvent) (rs : List Reply) (i j : WorldState)
+    (run : RunReplies gives i es rs j) → AtSomeWorld P gives es rs i j run → AtSomeWorld Q gives es rs i j run
 at_map P Q gives k [] [] i j run y = k i y
 at_map P Q gives k (e ∷ es) (r ∷ rs) i j run (inl y) = inl (k i y)
 at_map P Q gives k (e ∷ es) (r ∷ rs) i j run (inr y) = inr (at_map P Q gives k es rs run.0 j run.2 y)
 at_map P Q gives k es rs i j run y = absurd run
 
-after_map : (s : Side) (P Q : WorldState → Type 0) (gives : Algorithms) → ((j : WorldState) → P j → Q j) → (es : List Event) (rs : List Reply)
-    (i j : WorldState) (run : WorldRuns gives i es rs j) → AfterTick s P gives es rs i j run → AfterTick s Q gives es rs i j run
+after_map : (s : Side) (P Q : WorldState → Type 0) (gives : Algorithms) → ((j : WorldState) → P j → Q j) → (es : List HostEvent) (rs : List Reply)
+    (i j : WorldState) (run : RunReplies gives i es rs j) → AfterTick s P gives es rs i j run → AfterTick s Q gives es rs i j run
 after_map s P Q gives k [] rs i j run y = y
 after_map s P Q gives k (e ∷ es) [] i j run y = y
 after_map s P Q gives k (e ∷ es) (r ∷ rs) i j run (inl y) = inl (y.0, at_map P Q gives k es rs run.0 j run.2 y.1)
 after_map s P Q gives k (e ∷ es) (r ∷ rs) i j run (inr y) = inr (after_map s P Q gives k es rs run.0 j run.2 y)
 
-asks_still : (t : Side) (g k : ℕ) (links : List LinkState) → AllByRecursion (IsNoMoveOf t g k) (asks_all links)
-asks_still t g k [] = tt
-asks_still t g k (l ∷ links) = (tt, (tt, (tt, (tt, asks_still t g k links))))
-
-delivers_still : (t : Side) (g k : ℕ) (es : List Event) → AllByRecursion IsDeliver es → AllByRecursion (IsNoMoveOf t g k) es
-delivers_still t g k [] h = tt
-delivers_still t g k (event.Deliver c n ∷ es) h = (tt, delivers_still t g k es h.1)
-delivers_still t g k (e ∷ es) h = absurd h.0
+plays_still : (t : Side) (g k : ℕ) (links : List LinkState) (es : List Event) → AllByRecursion IsDeliver es
+    → AllByRecursion (IsNoMoveOf t g k) (map Plays (asks_all links ++ es))
+plays_still t g k [] [] h = tt
+plays_still t g k [] (event.Deliver c n ∷ es) h = (tt, plays_still t g k [] es h.1)
+plays_still t g k [] (e ∷ es) h = absurd h.0
+plays_still t g k (l ∷ links) es h = (tt, (tt, (tt, (tt, plays_still t g k links es h))))
 
 pub round_is_draining : (gives : Algorithms) → RoundIsDraining gives
 round_is_draining gives t g k old new steady h = record {
   round = record {
-    events = ticks_of_both ++ (asks_all old.links ++ h.delivers);
+    events = map Plays events;
     replies = h.replies;
-    ticks = round_ticks old.links h.delivers h.arrives;
-    acts = h.acts;
+    ticks = turns;
+    acts = run;
     asked = λ s i l y. after_map s (NothingIsDue s l) (λ j. AtEnd (λ p. is_due p ≡ false) s l j) gives (λ j z. z.0)
-        (ticks_of_both ++ (asks_all old.links ++ h.delivers)) h.replies old new h.acts (drained s i l y);
+        (map Plays events) h.replies old new run (drained s i l y);
     empties = h.empties;
   };
-  still = (
-    tt,
-    (
-      tt,
-      all-append (IsNoMoveOf t g k) (asks_all old.links) h.delivers (asks_still t g k old.links)
-          (delivers_still t g k h.delivers h.arrives),
-    ),
-  );
+  still = (tt, (tt, plays_still t g k old.links h.delivers h.arrives));
   drained = drained;
 }
   where
+    events : List Event
+    events = ticks_of_both ++ (asks_all old.links ++ h.delivers)
+
+    turns : TickOnce One true true (map Plays events)
+    turns = round_ticks old.links h.delivers h.arrives
+
+    run : RunReplies gives old (map Plays events) h.replies new
+    run = as_played gives events h.replies old new h.acts
+
     -- at some world of the run after both ticks
     at_some : (s : Side) (i : ℕ) (l : LinkState) → IsHealthyAt i l old → (rs : List Reply) (mid : WorldState)
-        → (run : WorldRuns gives mid (asks_all old.links ++ h.delivers) rs new) → Stays gives s (port_at s l) mid
-        → AtSomeWorld (NothingIsDue s l) gives (asks_all old.links ++ h.delivers) rs mid new run
+        → (run : RunReplies gives mid (map Plays (asks_all old.links ++ h.delivers)) rs new) → Stays gives s (port_at s l) mid
+        → AtSomeWorld (NothingIsDue s l) gives (map Plays (asks_all old.links ++ h.delivers)) rs mid new run
     at_some s i l y rs mid run x =
         let o = asks_twice s i old.links l y.there in
         let e = event.Emit o.number (port_at s l) in
-        twice_in gives s (port_at s l) o.number o.named o.before (o.later ++ h.delivers) (asks_all old.links ++ h.delivers)
-        (ap (λ es. es ++ h.delivers) o.is ∙ append_assoc o.before (e ∷ e ∷ o.later) h.delivers) rs mid new false false
-        (of_side_after s (asks_all old.links ++ h.delivers) (between_all (asks_all old.links) h.delivers (all_ask old.links) h.arrives)) run x
+        twice_in gives s (port_at s l) o.number o.named (map Plays o.before) (map Plays (o.later ++ h.delivers))
+        (map Plays (asks_all old.links ++ h.delivers))
+        (ap (map Plays) (ap (λ es. es ++ h.delivers) o.is ∙ append_assoc o.before (e ∷ e ∷ o.later) h.delivers)
+        ∙ plays_append o.before (e ∷ e ∷ (o.later ++ h.delivers))) rs mid new false false
+        (of_side_after s (map Plays (asks_all old.links ++ h.delivers)) (between_all (asks_all old.links) h.delivers (all_ask old.links) h.arrives))
+        run x
 
     after : (s : Side) (i : ℕ) (l : LinkState) → IsHealthyAt i l old → (rs : List Reply)
-        → (run : WorldRuns gives old (ticks_of_both ++ (asks_all old.links ++ h.delivers)) rs new)
-        → AfterTick s (NothingIsDue s l) gives (ticks_of_both ++ (asks_all old.links ++ h.delivers)) rs old new run
+        → (run : RunReplies gives old (map Plays events) rs new) → AfterTick s (NothingIsDue s l) gives (map Plays events) rs old new run
     after s i l y [] run = absurd run
     after s i l y (r ∷ []) run = absurd run.2
     after s i l y (r ∷ q ∷ rs) run =
-        let es = asks_all old.links ++ h.delivers in
-        let turns = of_side s (ticks_of_both ++ es) (round_ticks old.links h.delivers h.arrives) in
-        let first = stays gives s (port_at s l) true true (event.Tick 1 1) (event.Tick 2 1 ∷ es) r old run.0 turns run.1 (stays_first gives s i l old steady y) in
-        let more = rest_of gives s (port_at s l) true true (event.Tick 1 1) (event.Tick 2 1 ∷ es) turns in
-        let second = stays gives s (port_at s l) more.0 more.1 (event.Tick 2 1) es q run.0 run.2.0 more.2 run.2.1 first in
+        let one = Plays (event.Tick 1 1) in
+        let two = Plays (event.Tick 2 1) in
+        let es = map Plays (asks_all old.links ++ h.delivers) in
+        let turned = of_side s (map Plays events) turns in
+        let first = stays gives s (port_at s l) true true one (two ∷ es) r old run.0 turned run.1 (stays_first gives s i l old steady y) in
+        let more = rest_of gives s (port_at s l) true true one (two ∷ es) turned in
+        let second = stays gives s (port_at s l) more.0 more.1 two es q run.0 run.2.0 more.2 run.2.1 first in
         by_side s (at_some s i l y rs run.2.0 run.2.2 second)
       where
-        by_side : (s : Side) → AtSomeWorld (NothingIsDue s l) gives (asks_all old.links ++ h.delivers) rs run.2.0 new run.2.2
-            → AfterTick s (NothingIsDue s l) gives (ticks_of_both ++ (asks_all old.links ++ h.delivers)) (r ∷ q ∷ rs) old new run
+        by_side : (s : Side) → AtSomeWorld (NothingIsDue s l) gives (map Plays (asks_all old.links ++ h.delivers)) rs run.2.0 new run.2.2
+            → AfterTick s (NothingIsDue s l) gives (map Plays events) (r ∷ q ∷ rs) old new run
         by_side One z = inl ((1, refl, refl), inr z)
         by_side Two z = inr (inl ((2, refl, refl), z))
 
     drained : (s : Side) (i : ℕ) (l : LinkState) → IsHealthyAt i l old
-        → AfterTick s (NothingIsDue s l) gives (ticks_of_both ++ (asks_all old.links ++ h.delivers)) h.replies old new h.acts
-    drained s i l y = after s i l y h.replies h.acts
+        → AfterTick s (NothingIsDue s l) gives (map Plays events) h.replies old new run
+    drained s i l y = after s i l y h.replies run
 
 pub rounds_are_host_rounds : (gives : Algorithms) → RoundsAreHostRounds gives
 rounds_are_host_rounds gives zero old new steady h = h
@@ -488,15 +524,16 @@ asking_in_vain_is_draining gives t g k events replies old new steady turns still
 
 -- as where both systems tick first
 
-all_between : (es : List Event) → AllByRecursion IsBetweenTicks es → TickOnce One false false es
+all_between : (es : List Event) → AllByRecursion (λ e. IsBetweenTicks (Plays e)) es → TickOnce One false false (map Plays es)
 all_between [] h = (refl, refl)
 all_between (e ∷ es) h = inr (inr (h.0, all_between es h.1))
 
-pub both_tick : (es : List Event) → AllByRecursion IsBetweenTicks es → TickOnce One true true (ticks_of_both ++ es)
+pub both_tick : (es : List Event) → AllByRecursion (λ e. IsBetweenTicks (Plays e)) es → TickOnce One true true (map Plays (ticks_of_both ++ es))
 both_tick es h = inl ((1, refl, refl), refl, inr (inl ((2, refl, refl), refl, all_between es h)))
 
 pub vain_after_ticks : (gives : Algorithms) (s : Side) (p : ℕ) (ts : List Reply) (es : List Event) (rs : List Reply) (old ticked : WorldState)
-    → WorldRuns gives old ticks_of_both ts ticked → AsksInVain s p es rs → AsksInVainAfterTick s p (ticks_of_both ++ es) (ts ++ rs)
+    → WorldRuns gives old ticks_of_both ts ticked → AsksInVain s p (map Plays es) rs
+    → AsksInVainAfterTick s p (map Plays (ticks_of_both ++ es)) (ts ++ rs)
 vain_after_ticks gives s p [] es rs old ticked run h = absurd run
 vain_after_ticks gives s p (r ∷ []) es rs old ticked run h = absurd run.2
 vain_after_ticks gives One p (r ∷ q ∷ []) es rs old ticked run h = inl ((1, refl, refl), inr h)
@@ -505,11 +542,11 @@ vain_after_ticks gives s p (r ∷ q ∷ x ∷ ts) es rs old ticked run h = absur
 
 -- the loop of two hosts is one
 
-between_then : (es fs : List Event) (a b : Bool) → AllByRecursion IsBetweenTicks es → TickOnce One a b fs → TickOnce One a b (es ++ fs)
+between_then : (es fs : List HostEvent) (a b : Bool) → AllByRecursion IsBetweenTicks es → TickOnce One a b fs → TickOnce One a b (es ++ fs)
 between_then [] fs a b h k = k
 between_then (e ∷ es) fs a b h k = inr (inr (h.0, between_then es fs a b h.1 k))
 
-asks_later : (s : Side) (p : ℕ) (es fs : List Event) → AsksAfterTick s p fs → AsksAfterTick s p (es ++ fs)
+asks_later : (s : Side) (p : ℕ) (es fs : List HostEvent) → AsksAfterTick s p fs → AsksAfterTick s p (es ++ fs)
 asks_later s p [] fs h = h
 asks_later s p (e ∷ es) fs h = inr (asks_later s p es fs h)
 
@@ -517,7 +554,7 @@ none_after : TickOnce One false false []
 none_after = (refl, refl)
 
 pub loop_is_host_round : (gives : Algorithms) → LoopIsHostRound gives
-loop_is_host_round gives old new steady h = asking_is_host_round gives (event.Tick 1 1 ∷ (h.first ++ rest)) h.replies old new steady
+loop_is_host_round gives old new steady h = asking_is_host_round gives (Plays (event.Tick 1 1) ∷ (h.first ++ rest)) old new steady
     (inl (
       one,
       refl,
@@ -531,21 +568,21 @@ loop_is_host_round gives old new steady h = asking_is_host_round gives (event.Ti
     ))
     h.acts asks h.empties
   where
-    rest : List Event
-    rest = event.Tick 2 1 ∷ (h.second ++ h.later)
+    rest : List HostEvent
+    rest = Plays (event.Tick 2 1) ∷ (h.second ++ h.later)
 
-    one : IsTickOf One (event.Tick 1 1)
+    one : IsTickOf One (Plays (event.Tick 1 1))
     one = (1, refl, refl)
 
-    two : IsTickOf Two (event.Tick 2 1)
+    two : IsTickOf Two (Plays (event.Tick 2 1))
     two = (2, refl, refl)
 
-    append_nil : (es : List Event) → es ++ [] ≡ es
+    append_nil : (es : List HostEvent) → es ++ [] ≡ es
     append_nil [] = refl
     append_nil (e ∷ es) = ap (λ xs. e ∷ xs) (append_nil es)
 
-    asks : (s : Side) (i : ℕ) (l : LinkState) → IsHealthyAt i l old → AsksAfterTick s (port_at s l) (event.Tick 1 1 ∷ (h.first ++ rest))
-    asks s i l y = each_side (λ t. AsksAfterTick t (port_at t l) (event.Tick 1 1 ∷ (h.first ++ rest))) One
+    asks : (s : Side) (i : ℕ) (l : LinkState) → IsHealthyAt i l old → AsksAfterTick s (port_at s l) (Plays (event.Tick 1 1) ∷ (h.first ++ rest))
+    asks s i l y = each_side (λ t. AsksAfterTick t (port_at t l) (Plays (event.Tick 1 1) ∷ (h.first ++ rest))) One
         (let e = ends_at i l old y One in
         inl (
           one,

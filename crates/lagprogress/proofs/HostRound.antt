@@ -1,22 +1,21 @@
--- What a healthy round of hosts leaves of a cable: an LACPDU of an end is nearer by a tick, or was heard.
+-- What a round of hosts leaves of a cable, by its stages.
 use Rattle.lagprogress.proofs.Common.{Bool, List, None, Some, [], ap, arith, false, inl, inr, refl, subst, sym, true, ℕ, ◌-◌, ◌∙◌, ◌∷◌, ◌≡◌, ◌≤◌, ◌⊎◌}
 use Rattle.lagprogress.proofs.Common.{nat_tests, same_Some, AllByRecursion, Lacpdu, One, Side, Two, peer, Machines, periodic_rows, receive_rows}
-use Rattle.lagprogress.proofs.Common.{AtRest, RunsToRest, after_sending, count_down, is_due, SystemState, machines_of, Event, Reply, Algorithms}
-use Rattle.lagprogress.proofs.Common.{WorldRuns, WorldSteps, side_of, ItemValue, WorldState, half, limit_towards, timeout_time, OfEach, Tick-each, no}
-use Rattle.lagprogress.proofs.Common.{counts, AtPort, mux_leaves, periodic_leaves, with_rest, Sounds, AfterTick, AtSomeWorld, Clearing}
-use Rattle.lagprogress.proofs.Common.{IsBetweenTicks, IsHostRound, IsPlayed, IsTickOf, TickOnce, IsHealthyAt, OfPort}
+use Rattle.lagprogress.proofs.Common.{AtRest, RunsToRest, after_sending, count_down, SystemState, machines_of, Reply, Algorithms, WorldSteps, side_of}
+use Rattle.lagprogress.proofs.Common.{WorldState, half, limit_towards, HostEvent, Plays, OfEach, Tick-each, no, counts, AtPort, mux_leaves}
+use Rattle.lagprogress.proofs.Common.{periodic_leaves, with_rest, AfterTick, AtSomeWorld, Clearing, IsBetweenTicks, IsPlayed, IsTickOf, RunReplies}
+use Rattle.lagprogress.proofs.Common.{StepReplies, TickOnce, IsHealthyAt, OfPort}
 use Rattle.lagsystem.specs.declared.drive.Reply.TheVariants as answer
 use Rattle.lagscript.specs.declared.event.Event.TheVariants as event
 use Rattle.lagprogress.proofs.Climbing.{known_still}
 use Rattle.lagprogress.proofs.Delivering.{deliver_link}
-use Rattle.lagprogress.proofs.EndFacts.{Along, CanSound, IsEnd, Learnt, nothing_along, sounds_along, takes_learnt, ticks_end, short_timeout, wait_of}
-use Rattle.lagprogress.proofs.EndFacts.{activity}
+use Rattle.lagprogress.proofs.EndFacts.{Along, IsEnd, Learnt, nothing_along, takes_learnt, ticks_end, wait_of, activity}
 use Rattle.lagprogress.proofs.Halves.{keeps_steady}
-use Rattle.lagprogress.proofs.Linked.{EndIs, Fits, Flying, Left, Link, each_map, each_side, emit_any, end_kept, end_here, of_end, other_ports}
-use Rattle.lagprogress.proofs.Linked.{other_side, at_end, end_with, peer_twice, place_kept, with_ports}
-use Rattle.lagprogress.proofs.OneCable.{OnCable, cable, port_there, ticks, towards_there}
-use Rattle.lagprogress.proofs.OneRound.{Asked, Nothing, Passes, ask_which, at_rest, beside_here, Later, join, sounds_pass, ticked}
-use Rattle.lagprogress.proofs.Quieting.{IsQuiet, quiet_link}
+use Rattle.lagprogress.proofs.Linked.{EndIs, Fits, Left, Link, each_map, each_side, emit_any, end_kept, end_here, other_ports, other_side, peer_twice}
+use Rattle.lagprogress.proofs.Linked.{place_kept}
+use Rattle.lagprogress.proofs.OneCable.{OnCable, cable, port_there, ticks}
+use Rattle.lagprogress.proofs.OneRound.{Nothing, ticked}
+use Rattle.lagprogress.proofs.Quieting.{quiet_link}
 
 -- numbers of both sides
 
@@ -35,29 +34,29 @@ two_other s a b = grind (arith, nat_tests)
 
 -- the events of a round, in the eyes of either system
 
-pub turned : (es : List Event) (a b : Bool) → TickOnce One a b es → TickOnce Two b a es
+pub turned : (es : List HostEvent) (a b : Bool) → TickOnce One a b es → TickOnce Two b a es
 turned [] a b h = (h.1, h.0)
 turned (e ∷ es) a b (inl h) = inr (inl (h.0, h.1, turned es false b h.2))
 turned (e ∷ es) a b (inr (inl h)) = inl (h.0, h.1, turned es a false h.2)
 turned (e ∷ es) a b (inr (inr h)) = inr (inr (h.0, turned es a b h.1))
 
-pub of_side : (s : Side) (es : List Event) → TickOnce One true true es → TickOnce s true true es
+pub of_side : (s : Side) (es : List HostEvent) → TickOnce One true true es → TickOnce s true true es
 of_side One es h = h
 of_side Two es h = turned es true true h
 
 -- a tick of one system is none of the other
-one_of : (s : Side) (e : Event) → IsTickOf s e → IsTickOf (peer s) e → ⊥
+one_of : (s : Side) (e : HostEvent) → IsTickOf s e → IsTickOf (peer s) e → ⊥
 one_of s e (n, named, is) (m, other, also) = other_side s (same_Some (peer s) s (sym other ∙ (ap side_of (number n m (sym also ∙ is)) ∙ named)))
   where
-    number : (n m : ℕ) → event.Tick m 1 ≡ event.Tick n 1 → m ≡ n
+    number : (n m : ℕ) → Plays (event.Tick m 1) ≡ Plays (event.Tick n 1) → m ≡ n
     number n m e = cc
 
-pub not_tick : (s : Side) (e : Event) → IsTickOf s e → IsBetweenTicks e → ⊥
+pub not_tick : (s : Side) (e : HostEvent) → IsTickOf s e → IsBetweenTicks e → ⊥
 not_tick s e (n, named, is) b = subst IsBetweenTicks is b
 
 -- a system that has ticked does not tick again
-ticked_once : (s : Side) (P : WorldState → Type 0) (gives : Algorithms) (b : Bool) (es : List Event) (rs : List Reply) (old new : WorldState)
-    (run : WorldRuns gives old es rs new) → TickOnce s false b es → AfterTick s P gives es rs old new run → ⊥
+ticked_once : (s : Side) (P : WorldState → Type 0) (gives : Algorithms) (b : Bool) (es : List HostEvent) (rs : List Reply) (old new : WorldState)
+    (run : RunReplies gives old es rs new) → TickOnce s false b es → AfterTick s P gives es rs old new run → ⊥
 ticked_once s P gives b [] rs old new run h a = a
 ticked_once s P gives b (e ∷ es) [] old new run h a = a
 ticked_once s P gives b (e ∷ es) (r ∷ rs) old new run (inl h) a = no h.1
@@ -70,16 +69,16 @@ ticked_once s P gives b (e ∷ es) (r ∷ rs) old new run (inr (inr h)) (inr a) 
 
 -- what each event between ticks keeps
 abbrev pub KeptBetween : Algorithms → (WorldState → Type 0) → Type 0
-KeptBetween gives M = (e : Event) (r : Reply) (i j : WorldState) → IsBetweenTicks e → WorldSteps gives i e r j → M i → M j
+KeptBetween gives M = (e : HostEvent) (r : Reply) (i j : WorldState) → IsBetweenTicks e → StepReplies gives i e r j → M i → M j
 
 -- what each event between ticks keeps that is so
-abbrev pub KeptWhere : Algorithms → (Event → Type 0) → (WorldState → Type 0) → Type 0
-KeptWhere gives Is M = (e : Event) (r : Reply) (i j : WorldState) → Is e → IsBetweenTicks e → WorldSteps gives i e r j → M i → M j
+abbrev pub KeptWhere : Algorithms → (HostEvent → Type 0) → (WorldState → Type 0) → Type 0
+KeptWhere gives Is M = (e : HostEvent) (r : Reply) (i j : WorldState) → Is e → IsBetweenTicks e → StepReplies gives i e r j → M i → M j
 
-abbrev pub Whatever : Event → Type 0
+abbrev pub Whatever : HostEvent → Type 0
 Whatever e = Unit {0}
 
-pub all_whatever : (es : List Event) → AllByRecursion Whatever es
+pub all_whatever : (es : List HostEvent) → AllByRecursion Whatever es
 all_whatever [] = tt
 all_whatever (e ∷ es) = (tt, all_whatever es)
 
@@ -89,7 +88,7 @@ MadeByTick gives s M N = (n : ℕ) (r : Reply) (i j : WorldState) → side_of n 
 
 -- A before the tick of s, B after it, and C once P held; each of them before the tick of the other system, if that has still to
 -- tick, or after it
-pub record Stages (gives : Algorithms) (Is : Event → Type 0) (s : Side) (A B C : Bool → WorldState → Type 0) (P : WorldState → Type 0) : Type 0 where
+pub record Stages (gives : Algorithms) (Is : HostEvent → Type 0) (s : Side) (A B C : Bool → WorldState → Type 0) (P : WorldState → Type 0) : Type 0 where
   pub first : (b : Bool) → KeptWhere gives Is (A b)
   pub second : (b : Bool) → KeptWhere gives Is (B b)
   pub third : (b : Bool) → KeptWhere gives Is (C b)
@@ -99,13 +98,13 @@ pub record Stages (gives : Algorithms) (Is : Event → Type 0) (s : Side) (A B C
   pub other_third : MadeByTick gives (peer s) (C true) (C false)
   pub rests : (b : Bool) (j : WorldState) → P j → B b j → C b j
 
-module _ (gives : Algorithms) (Is : Event → Type 0) (s : Side) (A B C : Bool → WorldState → Type 0) (P : WorldState → Type 0)
+module _ (gives : Algorithms) (Is : HostEvent → Type 0) (s : Side) (A B C : Bool → WorldState → Type 0) (P : WorldState → Type 0)
     (k : Stages gives Is s A B C P) where
-  tick_of : (t : Side) (M N : WorldState → Type 0) → MadeByTick gives t M N → (e : Event) (r : Reply) (i j : WorldState) → IsTickOf t e
-      → WorldSteps gives i e r j → M i → N j
-  tick_of t M N f e r i j (n, named, is) h m = f n r i j named (subst (λ x. WorldSteps gives i x r j) is h) m
+  tick_of : (t : Side) (M N : WorldState → Type 0) → MadeByTick gives t M N → (e : HostEvent) (r : Reply) (i j : WorldState) → IsTickOf t e
+      → StepReplies gives i e r j → M i → N j
+  tick_of t M N f e r i j (n, named, is) h m = f n r i j named (subst (λ x. StepReplies gives i x r j) is h) m
 
-  third_on : (es : List Event) (rs : List Reply) (i j : WorldState) (b : Bool) → AllByRecursion Is es → TickOnce s false b es → WorldRuns gives i es rs j → C b i
+  third_on : (es : List HostEvent) (rs : List Reply) (i j : WorldState) (b : Bool) → AllByRecursion Is es → TickOnce s false b es → RunReplies gives i es rs j → C b i
       → C false j
   third_on [] [] i j b all h run m = subst (λ x. C false x) (sym run) (subst (λ x. C x i) h.1 m)
   third_on (e ∷ es) (r ∷ rs) i j b all (inl h) run m = absurd (no h.1)
@@ -114,7 +113,7 @@ module _ (gives : Algorithms) (Is : Event → Type 0) (s : Side) (A B C : Bool �
   third_on (e ∷ es) (r ∷ rs) i j b all (inr (inr h)) run m = third_on es rs run.0 j b all.1 h.1 run.2 (k.third b e r i run.0 all.0 h.0 run.1 m)
   third_on es rs i j b all h run m = absurd run
 
-  second_on : (es : List Event) (rs : List Reply) (i j : WorldState) (b : Bool) → AllByRecursion Is es → TickOnce s false b es → (run : WorldRuns gives i es rs j)
+  second_on : (es : List HostEvent) (rs : List Reply) (i j : WorldState) (b : Bool) → AllByRecursion Is es → TickOnce s false b es → (run : RunReplies gives i es rs j)
       → AtSomeWorld P gives es rs i j run → B b i → C false j
   second_on [] [] i j b all h run a m = third_on [] [] i j b all h run (k.rests b i a m)
   second_on (e ∷ es) (r ∷ rs) i j b all h run (inl a) m = third_on (e ∷ es) (r ∷ rs) i j b all h run (k.rests b i a m)
@@ -124,7 +123,7 @@ module _ (gives : Algorithms) (Is : Event → Type 0) (s : Side) (A B C : Bool �
   second_on (e ∷ es) (r ∷ rs) i j b all (inr (inr h)) run (inr a) m = second_on es rs run.0 j b all.1 h.1 run.2 a (k.second b e r i run.0 all.0 h.0 run.1 m)
   second_on es rs i j b all h run a m = absurd run
 
-  pub first_on : (es : List Event) (rs : List Reply) (i j : WorldState) (b : Bool) → AllByRecursion Is es → TickOnce s true b es → (run : WorldRuns gives i es rs j)
+  pub first_on : (es : List HostEvent) (rs : List Reply) (i j : WorldState) (b : Bool) → AllByRecursion Is es → TickOnce s true b es → (run : RunReplies gives i es rs j)
       → AfterTick s P gives es rs i j run → A b i → C false j
   first_on [] rs i j b all h run a m = absurd a
   first_on (e ∷ es) [] i j b all h run a m = absurd a
@@ -139,13 +138,13 @@ module _ (gives : Algorithms) (Is : Event → Type 0) (s : Side) (A B C : Bool �
 -- what holds through a round, without the question what was due
 pub holds_on : (gives : Algorithms) (s : Side) (A : Bool → Bool → WorldState → Type 0) → ((a b : Bool) → KeptBetween gives (A a b))
     → ((b : Bool) → MadeByTick gives s (A true b) (A false b)) → ((a : Bool) → MadeByTick gives (peer s) (A a true) (A a false))
-    → (es : List Event) (rs : List Reply) (i j : WorldState) (a b : Bool) → TickOnce s a b es → WorldRuns gives i es rs j → A a b i → A false false j
+    → (es : List HostEvent) (rs : List Reply) (i j : WorldState) (a b : Bool) → TickOnce s a b es → RunReplies gives i es rs j → A a b i → A false false j
 holds_on gives s A kept own other [] [] i j a b h run m =
     subst (λ x. A false false x) (sym run) (subst (λ x. A false x i) h.1 (subst (λ x. A x b i) h.0 m))
 holds_on gives s A kept own other (e ∷ es) (r ∷ rs) i j a b (inl (t, due, h)) run m = holds_on gives s A kept own other es rs run.0 j false b h run.2
-    (own b t.0 r i run.0 t.1 (subst (λ x. WorldSteps gives i x r run.0) t.2 run.1) (subst (λ x. A x b i) due m))
+    (own b t.0 r i run.0 t.1 (subst (λ x. StepReplies gives i x r run.0) t.2 run.1) (subst (λ x. A x b i) due m))
 holds_on gives s A kept own other (e ∷ es) (r ∷ rs) i j a b (inr (inl (t, due, h))) run m = holds_on gives s A kept own other es rs run.0 j a false h run.2
-    (other a t.0 r i run.0 t.1 (subst (λ x. WorldSteps gives i x r run.0) t.2 run.1) (subst (λ x. A a x i) due m))
+    (other a t.0 r i run.0 t.1 (subst (λ x. StepReplies gives i x r run.0) t.2 run.1) (subst (λ x. A a x i) due m))
 holds_on gives s A kept own other (e ∷ es) (r ∷ rs) i j a b (inr (inr h)) run m =
     holds_on gives s A kept own other es rs run.0 j a b h.1 run.2 (kept a b e r i run.0 h.0 run.1 m)
 holds_on gives s A kept own other es rs i j a b h run m = absurd run
@@ -214,114 +213,14 @@ learnt_along v u c d most l there on = record {
 -- what each event between ticks keeps of a cable
 pub between : (gives : Algorithms) (d : ℕ) (at : Side → ℕ) (w : Side → Lacpdu) (c : Side → ℕ) (x : Side) (Y : Machines → Type 0)
     → Fits d w c → Along Y (w x) (w (peer x)) (c x) d → ((p : Machines) → Y p → Y (after_sending p)) → KeptBetween gives (Link d at w c x Y)
-between gives d at w c x Y fits along sends (event.Emit n p) r i j b h l = (emit_any gives n p d at w c x Y r i j fits along sends l h).link
-between gives d at w c x Y fits along sends (event.Deliver cn n) r i j b h l = (deliver_link gives cn n d at w c x Y r i j fits along l h).link
-between gives d at w c x Y fits along sends (event.Offer n agg octets) r i j b h l =
-    (quiet_link gives (event.Offer n agg octets) d at w c x Y r i j tt h l).link
-between gives d at w c x Y fits along sends (event.Move n agg conv p) r i j b h l =
-    (quiet_link gives (event.Move n agg conv p) d at w c x Y r i j tt h l).link
-between gives d at w c x Y fits along sends (event.Force n agg conv) r i j b h l =
-    (quiet_link gives (event.Force n agg conv) d at w c x Y r i j tt h l).link
-between gives d at w c x Y fits along sends e r i j b h l = absurd b
+between gives d at w c x Y fits along sends (Plays (event.Emit n p)) r i j b h l = (emit_any gives n p d at w c x Y r i j fits along sends l h).link
+between gives d at w c x Y fits along sends (Plays (event.Deliver cn n)) r i j b h l = (deliver_link gives cn n d at w c x Y r i j fits along l h).link
+between gives d at w c x Y fits along sends e r i j b h l = (quiet_link gives e d at w c x Y r i j b h l).link
 
-module _ (gives : Algorithms) (s : Side) (d : ℕ) (at : Side → ℕ) (w : Side → Lacpdu) where
-  -- Z holds of the end of s; or an LACPDU of it is on the cable; or the other end has heard one, and keeps it for so many ticks
-  abbrev pub Sent : (Side → ℕ) → ℕ → WorldState → Type 0
-  Sent c most j = ((l : Link d at w c s Nothing j) × Flying (l.flying (peer s))) ⊎ Link d at w c (peer s) (Learnt d (w (peer (peer s))) most) j
-
-  abbrev pub Midst : (Side → ℕ) → ℕ → (Machines → Type 0) → WorldState → Type 0
-  Midst c most Z j = Link d at w c s Z j ⊎ Sent c most j
-
-  pub learn_less : (c : Side → ℕ) (m k : ℕ) (j : WorldState) → k ≤ m → Link d at w c (peer s) (Learnt d (w (peer (peer s))) m) j
-      → Link d at w c (peer s) (Learnt d (w (peer (peer s))) k) j
-  learn_less c m k j l i = other_ports i (λ t p rest timed a. (a.0, λ f. lower_learnt d (w (peer (peer s))) m k p l (a.1 f)))
-
-  of_asked : (c : Side → ℕ) (most : ℕ) (Z : Machines → Type 0) (j : WorldState) → Asked d at w c s Z j → Midst c most Z j
-  of_asked c most Z j (inl k) = inl k
-  of_asked c most Z j (inr k) = inr (inl k)
-
-  -- each event between ticks keeps it
-  midst_between : (c : Side → ℕ) (most : ℕ) (Z : Machines → Type 0) → 1 ≤ d → most ≤ wait_of (w (peer s)) → Fits d w c
-      → Along Z (w s) (w (peer s)) (c s) d → KeptBetween gives (Midst c most Z)
-  midst_between c most Z there less fits along = each
-    where
-      learns : Along (Learnt d (w (peer (peer s))) most) (w (peer s)) (w (peer (peer s))) (c (peer s)) d
-      learns = learnt_along (w (peer s)) (w (peer (peer s))) (c (peer s)) d most less there (fits (peer s)).3
-
-      asked : (n p : ℕ) (r : Reply) (i j : WorldState) → WorldSteps gives i (event.Emit n p) r j → Midst c most Z i → Midst c most Z j
-      asked n p r i j h (inl l) = elim (ask_which gives n p s d at w c Z Z r i j fits along (λ q rest timed a y not. y) l h) [
-        | inl k ↦ inl k
-        | inr k ↦ of_asked c most Z j k
-      ]
-      asked n p r i j h (inr (inl l)) =
-          let e = emit_any gives n p d at w c s Nothing r i j fits (nothing_along (w s) (w (peer s)) (c s) d) (λ q y. y) l.0 h in
-          inr (inl (e.link, e.flying (peer s) l.1))
-      asked n p r i j h (inr (inr l)) = inr (inr (emit_any gives n p d at w c (peer s) (Learnt d (w (peer (peer s))) most) r i j fits
-          learns (λ q y. y) l h).link)
-
-      came : (cn n : ℕ) (r : Reply) (i j : WorldState) → WorldSteps gives i (event.Deliver cn n) r j → Midst c most Z i → Midst c most Z j
-      came cn n r i j h (inl l) = inl (deliver_link gives cn n d at w c s Z r i j fits along l h).link
-      came cn n r i j h (inr (inl l)) =
-          let e = deliver_link gives cn n d at w c s Nothing r i j fits (nothing_along (w s) (w (peer s)) (c s) d) l.0 h in
-          elim (e.flying (peer s) l.1) [
-            | inl f ↦ inr (inl (e.link, f))
-            | inr heard ↦ inr (inr (learn_less c (wait_of (w (peer s))) most j less
-                (join d at w c s (peer s) (Learnt d (w (peer (peer s))) (wait_of (w (peer s)))) j e.link (heard there))))
-          ]
-      came cn n r i j h (inr (inr l)) = inr (inr (deliver_link gives cn n d at w c (peer s) (Learnt d (w (peer (peer s))) most) r i j fits
-          learns l h).link)
-
-      quiet : (e : Event) (r : Reply) (i j : WorldState) → IsQuiet e → WorldSteps gives i e r j → Midst c most Z i → Midst c most Z j
-      quiet e r i j b h (inl l) = inl (quiet_link gives e d at w c s Z r i j b h l).link
-      quiet e r i j b h (inr (inl l)) =
-          let k = quiet_link gives e d at w c s Nothing r i j b h l.0 in inr (inl (k.link, k.flying (peer s) l.1))
-      quiet e r i j b h (inr (inr l)) = inr (inr (quiet_link gives e d at w c (peer s) (Learnt d (w (peer (peer s))) most) r i j b h l).link)
-
-      each : KeptBetween gives (Midst c most Z)
-      each (event.Emit n p) r i j b h m = asked n p r i j h m
-      each (event.Deliver cn n) r i j b h m = came cn n r i j h m
-      each (event.Offer n agg octets) r i j b h m = quiet (event.Offer n agg octets) r i j tt h m
-      each (event.Move n agg conv p) r i j b h m = quiet (event.Move n agg conv p) r i j tt h m
-      each (event.Force n agg conv) r i j b h m = quiet (event.Force n agg conv) r i j tt h m
-      each e r i j b h m = absurd b
-
-  -- the tick of s
-  own_tick : (c b : Side → ℕ) (most : ℕ) (X V : Machines → Type 0) → b s ≡ c s - 1 → b (peer s) ≡ c (peer s) → (2 ≤ d → 1 ≤ c s - 1)
-      → 1 ≤ d → most ≤ wait_of (w (peer s)) → Fits d w b → Along V (w s) (w (peer s)) (b s) d
-      → ((p q : Machines) → RunsToRest receive_rows (count_down p) q → AtRest periodic_rows p → IsEnd d (w s) (w (peer s)) (c s) p → X p → V q)
-      → MadeByTick gives s (Midst c most X) (Midst b most V)
-  own_tick c b most X V here other known there less fits along moves n r i j named h (inl l) = inl (tick_one gives n s d at w c b s X V r i j
-      named here other known along (λ p q run rest a f y. moves p q run rest a y) (λ p f y. absurd (other_side s f)) h l).link
-  own_tick c b most X V here other known there less fits along moves n r i j named h (inr (inl l)) =
-      let k = tick_one gives n s d at w c b s Nothing Nothing r i j named here other known (nothing_along (w s) (w (peer s)) (b s) d)
-      (λ p q run rest a f y. y) (λ p f y. y) h l.0 in
-      inr (inl (k.link, subst (λ (f : Side → List ItemValue). Flying (f (peer s))) (sym k.same) l.1))
-  own_tick c b most X V here other known there less fits along moves n r i j named h (inr (inr l)) =
-      let L = Learnt d (w (peer (peer s))) most in
-      inr (inr (tick_one gives n s d at w c b (peer s) L L r i j named here other known
-      (learnt_along (w (peer s)) (w (peer (peer s))) (b (peer s)) d most less there (fits (peer s)).3)
-      (λ p q run rest a f y. absurd (other_side s (sym f))) (λ p f y. y) h l).link)
-
-  -- the tick of the other system
-  other_tick : (c b : Side → ℕ) (most : ℕ) (Y : Machines → Type 0) → b (peer s) ≡ c (peer s) - 1 → b s ≡ c s → (2 ≤ d → 1 ≤ c (peer s) - 1)
-      → 1 ≤ d → 2 ≤ most → most ≤ wait_of (w (peer s)) → Fits d w b → Along Y (w s) (w (peer s)) (b s) d
-      → MadeByTick gives (peer s) (Midst c most Y) (Midst b (most - 1) Y)
-  other_tick c b most Y here own known there some less fits along n r i j named h m = by_case m
-    where
-      back : b (peer (peer s)) ≡ c (peer (peer s))
-      back = subst (λ t. b t ≡ c t) (sym (peer_twice s)) own
-
-      by_case : Midst c most Y i → Midst b (most - 1) Y j
-      by_case (inl l) = inl (tick_one gives n (peer s) d at w c b s Y Y r i j named here back known along
-          (λ p q run rest a f y. absurd (other_side s f)) (λ p f y. y) h l).link
-      by_case (inr (inl l)) =
-          let k = tick_one gives n (peer s) d at w c b s Nothing Nothing r i j named here back known (nothing_along (w s) (w (peer s)) (b s) d)
-          (λ p q run rest a f y. y) (λ p f y. y) h l.0 in
-          inr (inl (k.link, subst (λ (f : Side → List ItemValue). Flying (f (peer s))) (sym k.same) l.1))
-      by_case (inr (inr l)) = let u = w (peer (peer s)) in
-          inr (inr (tick_one gives n (peer s) d at w c b (peer s) (Learnt d u most) (Learnt d u (most - 1)) r i j named here back known
-          (learnt_along (w (peer s)) u (b (peer s)) d (most - 1) (omega (arith, less)) there (fits (peer s)).3)
-          (λ p q run rest a f y. ticks_learnt d u most p q some run y) (λ p f y. absurd (other_side (peer s) f)) h l).link)
+-- and for fewer ticks
+pub learn_less : (gives : Algorithms) (s : Side) (d : ℕ) (at : Side → ℕ) (w : Side → Lacpdu) (c : Side → ℕ) (m k : ℕ) (j : WorldState) → k ≤ m
+    → Link d at w c (peer s) (Learnt d (w (peer (peer s))) m) j → Link d at w c (peer s) (Learnt d (w (peer (peer s))) k) j
+learn_less gives s d at w c m k j l i = other_ports i (λ t p rest timed a. (a.0, λ f. lower_learnt d (w (peer (peer s))) m k p l (a.1 f)))
 
 -- what is known in a round, by the ticks that have still to come
 abbrev pub known_in : (Side → ℕ) → Side → Bool → Bool → Side → ℕ
@@ -369,128 +268,6 @@ healthy_link d at w c x Y j l = record {
       subst (λ n. OfPort (λ p. p.enabled ≡ true) (machines_of n (half s j).state)) (sym (port_there s at l.flying))
       (subst (OfPort (λ p. p.enabled ≡ true)) (sym e.found) e.is.1.0));
 }
-
-module _ (gives : Algorithms) (s : Side) (d : ℕ) (at : Side → ℕ) (w : Side → Lacpdu) (c : Side → ℕ) (there : 1 ≤ d) (fits : Fits d w c)
-    (then : Fits d w (ticked c)) where
-  abbrev W : ℕ
-  W = wait_of (w (peer s))
-
-  abbrev kn : Bool → Bool → Side → ℕ
-  kn = known_in c s
-
-  -- no LACPDU is due at the end of s
-  abbrev NoneDue : WorldState → Type 0
-  NoneDue j = OfPort (λ p. is_due p ≡ false) (machines_of (at s) (half s j).state)
-
-  waits_long : 2 ≤ W
-  waits_long = long (short_timeout (w (peer s)))
-    where
-      long : (b : Bool) → 2 ≤ timeout_time b
-      long true = omega arith
-      long false = omega arith
-
-  left_less : (b : Bool) (n : ℕ) → left b n ≤ n
-  left_less true n = omega arith
-  left_less false n = omega arith
-
-  module _ (X V Y Z : Machines → Type 0) (k : Passes X V Y Z (w s) (w (peer s)) (c s) (ticked c s) d)
-      (before : Along X (w s) (w (peer s)) (c s) d) where
-    abbrev A : Bool → WorldState → Type 0
-    A b = Midst gives s d at w (kn true b) (left b W) X
-
-    abbrev B : Bool → WorldState → Type 0
-    B b = Midst gives s d at w (kn false b) (left b W) Y
-
-    abbrev C : Bool → WorldState → Type 0
-    C b = Midst gives s d at w (kn false b) (left b W) Z
-
-    early : (b : Bool) → Along X (w s) (w (peer s)) (kn true b s) d
-    early b = subst (λ n. Along X (w s) (w (peer s)) n d) (sym (two_there s (c s) (left b (c (peer s))))) before
-
-    late : (M : Machines → Type 0) (b : Bool) → Along M (w s) (w (peer s)) (ticked c s) d → Along M (w s) (w (peer s)) (kn false b s) d
-    late M b a = subst (λ n. Along M (w s) (w (peer s)) n d) (sym (two_there s (c s - 1) (left b (c (peer s))))) a
-
-    own : (b : Bool) → MadeByTick gives s (A b) (B b)
-    own b n r i j named h m = elim (own_tick gives s d at w (kn true b) (kn false b) (left b W) X V
-        (two_there s (c s - 1) (left b (c (peer s))) ∙ ap (λ n. n - 1) (sym (two_there s (c s) (left b (c (peer s))))))
-        (two_other s (c s - 1) (left b (c (peer s))) ∙ sym (two_other s (c s) (left b (c (peer s)))))
-        (λ e. subst (λ n. 1 ≤ n - 1) (sym (two_there s (c s) (left b (c (peer s))))) ((then s).2 e))
-        there (left_less b W) (fits_in d w c s fits then false b) (late V b k.ticked)
-        (λ p q run rest a y. k.ticks p q run rest (subst (λ n. IsEnd d (w s) (w (peer s)) n p) (two_there s (c s) (left b (c (peer s)))) a) y)
-        n r i j named h m) [
-          | inl l ↦ inl (at_rest d at w (kn false b) s V Y j (λ p rest timed a y. k.rests p rest timed
-              (subst (λ n. IsEnd d (w s) (w (peer s)) n p) (two_there s (c s - 1) (left b (c (peer s)))) a) y) l)
-          | inr x ↦ inr x
-        ]
-
-    others : (a : Bool) (M : Machines → Type 0) → Along M (w s) (w (peer s)) (kn a false s) d
-        → MadeByTick gives (peer s) (Midst gives s d at w (kn a true) (left true W) M) (Midst gives s d at w (kn a false) (left false W) M)
-    others a M along = other_tick gives s d at w (kn a true) (kn a false) W M
-        (two_other s (left a (c s)) (c (peer s) - 1) ∙ ap (λ n. n - 1) (sym (two_other s (left a (c s)) (c (peer s)))))
-        (two_there s (left a (c s)) (c (peer s) - 1) ∙ sym (two_there s (left a (c s)) (c (peer s))))
-        (λ e. subst (λ n. 1 ≤ n - 1) (sym (two_other s (left a (c s)) (c (peer s)))) ((then (peer s)).2 e))
-        there waits_long (omega arith) (fits_in d w c s fits then a false) along
-
-    rests : (b : Bool) (j : WorldState) → NoneDue j → B b j → C b j
-    rests b j none (inr x) = inr x
-    rests b j none (inl l) =
-        let cc : Side → ℕ = kn false b in
-        let e = end_here at w d cc s Y j l s in
-        let not : is_due e.port.port ≡ false = subst (OfPort (λ p. is_due p ≡ false)) e.found none in
-        let now = of_end l s (λ p. is_due p ≡ false → EndIs d w cc s Z s p) (λ p rest timed a free. (
-          a.0,
-          λ f. k.asks p rest timed (subst (λ n. IsEnd d (w s) (w (peer s)) n p) (two_there s (c s - 1) (left b (c (peer s)))) a.0) (a.1 refl) free,
-        )) in
-        inl (with_ports l (each_side (λ t. OfEach (AtPort (at t) (EndIs d w cc s Z t)) (half t j).state.system_ports) s
-        (at_end at w d cc s j e l.steady (EndIs d w cc s Z s)
-        (end_with at w d cc s j e (λ p. is_due p ≡ false → EndIs d w cc s Z s p) now not))
-        (of_end l (peer s) (EndIs d w cc s Z (peer s)) (λ p rest timed a. (a.0, λ g. absurd (other_side s g))))))
-
-    stages : Stages gives Whatever s A B C NoneDue
-    stages = record {
-      first = λ b e r i j x. midst_between gives s d at w (kn true b) (left b W) X there (left_less b W) (fits_in d w c s fits then true b) (early b) e
-          r i j;
-      second = λ b e r i j x. midst_between gives s d at w (kn false b) (left b W) Y there (left_less b W) (fits_in d w c s fits then false b)
-          (late Y b k.waits) e r i j;
-      third = λ b e r i j x. midst_between gives s d at w (kn false b) (left b W) Z there (left_less b W) (fits_in d w c s fits then false b)
-          (late Z b k.asked) e r i j;
-      own = own;
-      other_first = others true X (early false);
-      other_second = others false Y (late Y false k.waits);
-      other_third = others false Z (late Z false k.asked);
-      rests = rests;
-    }
-
-    -- Z holds of the end of s after the round, or the other end has heard an LACPDU of it
-    pub host_passes : (old new : WorldState) → Link d at w c s X old → IsHostRound gives old new
-        → Link d at w (ticked c) s Z new ⊎ Link d at w (ticked c) (peer s) (Learnt d (w (peer (peer s))) (W - 1)) new
-    host_passes old new l h =
-        let asked = subst (λ n. AfterTick s (λ j. OfPort (λ p. is_due p ≡ false) (machines_of n (half s j).state)) gives h.events h.replies old new
-        h.acts) (port_there s at l.flying) (h.asked s l.index (cable at l.flying) (healthy_link d at w c s X old l)) in
-        let end = first_on gives Whatever s A B C NoneDue stages h.events h.replies old new true (all_whatever h.events) (of_side s h.events h.ticks) h.acts asked
-        (inl (none_ticked d at w c s s X old l)) in
-        landed end
-      where
-        landed : C false new → Link d at w (ticked c) s Z new ⊎ Link d at w (ticked c) (peer s) (Learnt d (w (peer (peer s))) (W - 1)) new
-        landed (inl i) = inl (all_ticked d at w c s s Z new i)
-        landed (inr (inl i)) = let empty = h.empties (peer s) i.0.index (cable at i.0.flying) i.0.links.there in
-            absurd (subst Flying (sym (towards_there (peer s) at i.0.flying) ∙ empty) i.1)
-        landed (inr (inr i)) = inr (all_ticked d at w c s (peer s) (Learnt d (w (peer (peer s))) (W - 1)) new i)
-
-  -- an LACPDU of the end of s is nearer, or the other end has heard one
-  pub host_nears : (fast : Bool) (most : ℕ) (old new : WorldState) → CanSound (w s) (w (peer s)) fast (ticked c s)
-      → CanSound (w s) (w (peer s)) fast (c s) → Link d at w c s (Sounds fast most) old → IsHostRound gives old new
-      → ((1 ≤ most - 1) × Link d at w (ticked c) s (Sounds fast (most - 1)) new)
-      ⊎ Link d at w (ticked c) (peer s) (Learnt d (w (peer (peer s))) (wait_of (w (peer s)) - 1)) new
-  host_nears fast most old new can was l h = elim (host_passes (Sounds fast most) (Sounds fast (most - 1)) (Sounds fast (most - 1))
-      (Later fast (most - 1)) (sounds_pass (w s) (w (peer s)) fast (c s) (ticked c s) d most was can)
-      (sounds_along (w s) (w (peer s)) fast (c s) d most was) old new l h) [
-        | inl z ↦ inl (
-          (beside_here d at w (ticked c) s (Later fast (most - 1)) new z).0,
-          at_rest d at w (ticked c) s (Later fast (most - 1)) (Sounds fast (most - 1)) new (λ p rest timed a y. y.1) z,
-        )
-        | inr k ↦ inr k
-      ]
 
 -- what a tick makes of a cable, with something beside it: the tick of x, and that of its peer
 

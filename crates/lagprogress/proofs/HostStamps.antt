@@ -1,8 +1,8 @@
 -- What the ends of a cable took last bears the present change counts, in healthy rounds of hosts.
 use Rattle.lagprogress.proofs.Common.{Bool, Err, List, Ok, Result, [], ap, inl, inr, is_some, slice_get, subst, sym, ℕ, ◌++◌, ◌∙◌, ◌∷◌, ◌≡◌, ◌≤◌, ◌⊎◌}
 use Rattle.lagprogress.proofs.Common.{none-some, same_Some, AllByRecursion, Lacpdu, all-append, Side, peer, Machines, SystemFault, Received, Carries}
-use Rattle.lagprogress.proofs.Common.{IsFrame, Receive, CallPromise, Event, Reply, Algorithms, WorldSteps, ItemValue, WorldState, change_count_in}
-use Rattle.lagprogress.proofs.Common.{half, history_at, towards}
+use Rattle.lagprogress.proofs.Common.{IsFrame, Receive, CallPromise, Reply, Algorithms, ItemValue, WorldState, change_count_in, half, history_at}
+use Rattle.lagprogress.proofs.Common.{towards, HostEvent, Plays, IsQuiet, StepReplies}
 use Rattle.slowpdu.specs.declared.pdu.Pdu.TheVariants as pdu
 use Rattle.lagsystem.specs.declared.drive.Reply.TheVariants as answer
 use Rattle.lagscript.specs.declared.event.Event.TheVariants as event
@@ -10,7 +10,7 @@ use Rattle.lagprogress.proofs.HostRound.{KeptBetween, MadeByTick}
 use Rattle.lagprogress.proofs.Linked.{Link, end_here}
 use Rattle.lagprogress.proofs.OneCable.{Arrives, IsStamped, OnCable, alone, cable, logged, port_there, ticks, towards_there}
 use Rattle.lagprogress.proofs.Passing.{receives_lacpdu}
-use Rattle.lagprogress.proofs.Quieting.{IsQuiet, quiet_cable, quiet_logs}
+use Rattle.lagprogress.proofs.Quieting.{quiet_cable, quiet_logs}
 use Rattle.lagprogress.proofs.Stamps.{Stamped, Took, stamps_ask, stamps_deliver, took_in, took_same}
 
 -- what is on one cable
@@ -32,7 +32,7 @@ module _ (gives : Algorithms) (b : ℕ) (at k : Side → ℕ) (kept : Side → B
   grown t fl now (inr e) a = subst (AllByRecursion (IsStamped (k (peer t)))) (sym e.2)
       (all-append (IsStamped (k (peer t))) (fl t) (e.0 ∷ []) a ((λ x c. absurd (e.1 x c)), tt))
 
-  quiet_stamped : (e : Event) (r : Reply) (i j : WorldState) → IsQuiet e → WorldSteps gives i e r j → St i → St j
+  quiet_stamped : (e : HostEvent) (r : Reply) (i j : WorldState) → IsQuiet e → StepReplies gives i e r j → St i → St j
   quiet_stamped e r i j q h l =
       let g = quiet_cable gives e l.index at l.flying r i j q h l.links in
       let logs = quiet_logs gives e r i j q h in
@@ -46,12 +46,9 @@ module _ (gives : Algorithms) (b : ℕ) (at k : Side → ℕ) (kept : Side → B
       }
 
   pub stamped_between : KeptBetween gives St
-  stamped_between (event.Emit n p) r i j x h l = (stamps_ask gives n p b at k kept r i j l h).world
-  stamped_between (event.Deliver cn n) r i j x h l = (stamps_deliver gives cn n b at k kept r i j l h).world
-  stamped_between (event.Offer n agg octets) r i j x h l = quiet_stamped (event.Offer n agg octets) r i j tt h l
-  stamped_between (event.Move n agg conv p) r i j x h l = quiet_stamped (event.Move n agg conv p) r i j tt h l
-  stamped_between (event.Force n agg conv) r i j x h l = quiet_stamped (event.Force n agg conv) r i j tt h l
-  stamped_between e r i j x h l = absurd x
+  stamped_between (Plays (event.Emit n p)) r i j x h l = (stamps_ask gives n p b at k kept r i j l h).world
+  stamped_between (Plays (event.Deliver cn n)) r i j x h l = (stamps_deliver gives cn n b at k kept r i j l h).world
+  stamped_between e r i j x h l = quiet_stamped e r i j x h l
 
   pub stamped_tick : (s : Side) → MadeByTick gives s St St
   stamped_tick s n r i j numbered h l =
@@ -70,23 +67,14 @@ module _ (gives : Algorithms) (b : ℕ) (at k : Side → ℕ) (kept : Side → B
   Took-it t j = Stamped b at k kept j × Took at k kept t j
 
   pub took_between : 1 ≤ b → (t : Side) → KeptBetween gives (Took-it t)
-  took_between some t (event.Emit n p) r i j x h (l, y) =
+  took_between some t (Plays (event.Emit n p)) r i j x h (l, y) =
       let s = stamps_ask gives n p b at k kept r i j l h in (s.world, s.took some t y)
-  took_between some t (event.Deliver cn n) r i j x h (l, y) =
+  took_between some t (Plays (event.Deliver cn n)) r i j x h (l, y) =
       let s = stamps_deliver gives cn n b at k kept r i j l h in (s.world, s.took some t y)
-  took_between some t (event.Offer n agg octets) r i j x h (l, y) = (
-    quiet_stamped (event.Offer n agg octets) r i j tt h l,
-    took_same at k kept t i j (quiet_logs gives (event.Offer n agg octets) r i j tt h t) y,
+  took_between some t e r i j x h (l, y) = (
+    quiet_stamped e r i j x h l,
+    took_same at k kept t i j (quiet_logs gives e r i j x h t) y,
   )
-  took_between some t (event.Move n agg conv p) r i j x h (l, y) = (
-    quiet_stamped (event.Move n agg conv p) r i j tt h l,
-    took_same at k kept t i j (quiet_logs gives (event.Move n agg conv p) r i j tt h t) y,
-  )
-  took_between some t (event.Force n agg conv) r i j x h (l, y) = (
-    quiet_stamped (event.Force n agg conv) r i j tt h l,
-    took_same at k kept t i j (quiet_logs gives (event.Force n agg conv) r i j tt h t) y,
-  )
-  took_between some t e r i j x h m = absurd x
 
   pub took_tick : (t s : Side) → MadeByTick gives s (Took-it t) (Took-it t)
   took_tick t s n r i j numbered h (l, y) =

@@ -1,12 +1,14 @@
 -- What calls and settings of hosts leave of both systems.
-use Rattle.lagprogress.proofs.Common.{Bool, Err, List, None, Ok, Option, Result, Some, [], ap, false, inl, inr, refl, subst, sym, true, ℕ, ◌∙◌, ◌∷◌}
-use Rattle.lagprogress.proofs.Common.{◌≡◌, ◌⊎◌, none-some, same_Some, AggId, Lacpdu, One, Side, Two, peer, next_identifier, HostCall, HostReply}
-use Rattle.lagprogress.proofs.Common.{Answer, SystemFault, Call, Carries, IsFrame, Step, call_of, HostPromise, SendsMarkerOf, IsSound, SystemState}
-use Rattle.lagprogress.proofs.Common.{port_index, IsOther, TableAlone, host_alone, Step-sound, Algorithms, transmitted_item, with_item_sent}
-use Rattle.lagprogress.proofs.Common.{forced_if_accepted, HalfState, ItemValue, LinkState, WorldState, half, put_on_port, with_half, start_sound}
-use Rattle.lagprogress.proofs.Common.{hosts_keep_headline, PortsAreTimed, Step-each, calls_each, TimedAt, setting_timed, timed_kept, timed_settles}
-use Rattle.lagprogress.proofs.Common.{EachHostReachedIsSteady, EachHostRunKeepsSteady}
-use Rattle.lagsystem.specs.Probing.{ProbesAt, ProbesIf}
+use Rattle.lagprogress.proofs.Common.{Bool, Err, List, None, Ok, Option, Result, Some, [], ap, arith, false, inl, inr, refl, subst, sym, true, ℕ, ◌∙◌}
+use Rattle.lagprogress.proofs.Common.{◌∷◌, ◌≡◌, ◌≤◌, ◌⊎◌, none-some, same_Some, AggId, Lacpdu, One, Side, Two, peer, Assignment, Table}
+use Rattle.lagprogress.proofs.Common.{next_identifier, HostCall, HostReply, Answer, SystemFault, OffersIf, Call, Carries, IsFrame, Step, call_of}
+use Rattle.lagprogress.proofs.Common.{HostPromise, GivesOrRefuses, ProbesAt, ProbesIf, SendsMarkerOf, Set_max_delay, SettingPromise, IsSound}
+use Rattle.lagprogress.proofs.Common.{SystemState, port_index, with_table, IsOther, TableAlone, host_alone, Step-sound, Algorithms, transmitted_item}
+use Rattle.lagprogress.proofs.Common.{with_item_sent, forced_if_accepted, HalfState, ItemValue, LinkState, WorldState, half, put_on_port, with_half}
+use Rattle.lagprogress.proofs.Common.{start_sound, AfterNumberedOffer, AfterProbe, CountsHeldIfOk, ForcesPort, HalfTells, HostEvent, HostRuns}
+use Rattle.lagprogress.proofs.Common.{HostSteps, Leaves, Offers, Plays, Probes, Rests, Sets, numbered_item, hosts_keep_headline, PortsAreTimed}
+use Rattle.lagprogress.proofs.Common.{Step-each, calls_each, TimedAt, setting_timed, timed_kept, timed_settles, EachHostReachedIsSteady}
+use Rattle.lagprogress.proofs.Common.{EachHostRunKeepsSteady}
 use Rattle.slowpdu.specs.declared.pdu.Pdu.TheVariants as pdu
 use Rattle.lagsystem.specs.declared.drive.HostCall.TheVariants as host
 use Rattle.lagsystem.specs.declared.drive.HostReply.TheVariants as told
@@ -16,14 +18,11 @@ use Rattle.lagsystem.proofs.ProbingLemmas.{probes_sound}
 use Rattle.lagsystem.proofs.SettingsKeep.{setting_sound}
 use Rattle.lagworld.specs.Asking.{with_sent_in}
 use Rattle.lagworld.proofs.OneSystem.{after_call}
-use Rattle.laghosts.specs.HostEvents.{AfterNumberedOffer, AfterProbe, CountsHeldIfOk, ForcesPort, HalfTells, HostEvent, HostRuns, HostSteps, Leaves}
-use Rattle.laghosts.specs.HostEvents.{Offers, Plays, Probes, Rests, Sets, numbered_item}
 use Rattle.laghosts.proofs.HostHappens.{offered_joint}
 use Rattle.lagprogress.proofs.Halves.{each_is_calls, start_steady}
 use Rattle.lagbeside.proofs.HostWaits.{forces_port}
 use Rattle.lagprogress.proofs.Linked.{each_side}
 use Rattle.lagprogress.proofs.Passing.{marker_carries_none}
-use Rattle.lagprogress.proofs.Quieting.{Quietly, SendsPlain}
 
 -- ---- one system
 
@@ -38,6 +37,49 @@ host_sound gives old (host.ForcePort port) (told.ForcePort answer) new h s =
     forces_port gives IsSound (λ i j call a step x. Step-sound gives i call a j step x) port old answer new h.1 s
 host_sound gives old call answer new h s = absurd h
 
+-- no identifier comes back
+
+same_next : (old new : SystemState) → new ≡ old → old.table.next ≤ new.table.next
+same_next old new e = subst (λ (t : SystemState). old.table.next ≤ t.table.next) (sym e) (omega arith)
+
+pub gives_next : (agg : AggId) (conv : ℕ) (what : Result Assignment SystemFault) (old : SystemState) (a : Result Unit SystemFault)
+    (new : SystemState) → GivesOrRefuses agg conv what old a new → old.table.next ≤ new.table.next
+gives_next agg conv (Ok state) old a new k = let same = k.1.0.next in omega (arith, same)
+gives_next agg conv (Err fault) old a new k = same_next old new k.1
+
+offers_on : (there known : Bool) (gives : ℕ → ℕ → ℕ → Type 0) (agg : AggId) (conv : ℕ) (old : SystemState) (a : Result ℕ SystemFault)
+    (new : SystemState) → OffersIf there known gives agg conv old a new → old.table.next ≤ new.table.next
+offers_on true true gives agg conv old (Ok port) new h = let same = h.1.0.next in omega (arith, same)
+offers_on true true gives agg conv old (Err fault) new h = same_next old new h.1
+offers_on true false gives agg conv old a new h = same_next old new h.1
+offers_on false known gives agg conv old a new h = same_next old new h.1
+
+probes_on : (o : Option ℕ) (old : SystemState) (a : Option (List ℕ)) (new : SystemState) → ProbesAt o old a new
+    → old.table.next ≤ new.table.next
+probes_on None old a new h = absurd h
+probes_on (Some i) old a new h = by_up h.0.port.enabled h.2
+  where
+    by_marker : (o : Option ℕ) → SendsMarkerOf o h.0.number h.0.mac old a new → old.table.next ≤ new.table.next
+    by_marker None m = same_next old new m.1
+    by_marker (Some id) m = let more = m.4.next in omega (arith, more)
+
+    by_up : (up : Bool) → ProbesIf up h.0 old a new → old.table.next ≤ new.table.next
+    by_up false m = same_next old new m.1
+    by_up true m = by_marker (next_identifier old.table) m
+
+host_next : (gives : ℕ → ℕ → ℕ → Type 0) (old : SystemState) (call : HostCall) (answer : HostReply) (new : SystemState)
+    → HostPromise gives old call answer new → IsOther call → old.table.next ≤ new.table.next
+host_next gives old (host.OfferConversation agg conv) (told.OfferConversation answer) new h o = offers_on _ _ gives agg conv old answer new h.0
+host_next gives old (host.LeaveConversation agg conv) (told.LeaveConversation answer) new h o = gives_next agg conv _ old answer new h.0
+host_next gives old (host.Probe port) (told.Probe (Ok answer)) new h o =
+    probes_on (port_index port old.system_ports) old answer new h.0
+host_next gives old (host.Probe port) (told.Probe (Err fault)) new h o = same_next old new h.0.same
+host_next gives old (host.Rest agg conv) (told.Rest answer) new h o = gives_next agg conv _ old answer new h.0
+host_next gives old (host.ForcePort port) (told.ForcePort (Ok count)) new h o = let same = h.2.next in omega (arith, same)
+host_next gives old (host.ForcePort port) (told.ForcePort (Err fault)) new h o = same_next old new h.1.same
+host_next gives old (host.Call call) answer new h o = absurd o
+host_next gives old call answer new h o = absurd h
+
 -- sound, with timers within their bounds
 abbrev pub IsTimely : SystemState → Type 0
 IsTimely s = IsSound s × PortsAreTimed s
@@ -49,10 +91,24 @@ call_timely gives old new call a h k =
 
 -- ---- the five calls
 
+-- system s has sent an item on port p that bears no LACPDU
+pub record SendsPlain (s : Side) (old new : WorldState) : Type 0 where
+  pub port : ℕ
+  pub item : ItemValue
+  pub plain : (x : Lacpdu) → IsFrame item.octets (Carries (pdu.Lacpdu x)) → ⊥
+  pub sent : new.links ≡ put_on_port s port item old.links
+
+-- no port has changed, and nothing was sent, or that
+pub record Quietly (s : Side) (old new : WorldState) : Type 0 where
+  pub same : (t : Side) → (half t new).state.system_ports ≡ (half t old).state.system_ports
+  pub links : (new.links ≡ old.links) ⊎ SendsPlain s old new
+  pub logs : (t : Side) → (half t new).histories ≡ (half t old).histories
+
 -- A call of system s leaves its ports and histories, and the peer; it keeps it sound, and sends nothing that bears an LACPDU.
 pub record IsBeside (s : Side) (old new : WorldState) : Type 0 where
   pub alone : TableAlone (half s old).state (half s new).state
   pub sound : IsSound (half s old).state → IsSound (half s new).state
+  pub next : (half s old).state.table.next ≤ (half s new).state.table.next
   pub peers : (half (peer s) new).state ≡ (half (peer s) old).state
   pub links : (new.links ≡ old.links) ⊎ SendsPlain s old new
   pub logs : (t : Side) → (half t new).histories ≡ (half t old).histories
@@ -99,6 +155,8 @@ built gives s call a mid h ls old new x is state logs puts y =
     record {
       alone = subst (TableAlone (half s old).state) (sym own) (host_alone gives (half s old).state call a mid.state x.answers is);
       sound = λ k. subst IsSound (sym own) (host_sound gives (half s old).state call a mid.state x.answers k);
+      next = subst (λ (t : SystemState). (half s old).state.table.next ≤ t.table.next) (sym own)
+          (host_next gives (half s old).state call a mid.state x.answers is);
       peers = ap (λ (j : WorldState). (half (peer s) j).state) y ∙ peer_there s h ls old;
       links = elim puts [
         | inl e ↦ inl (links ∙ e)
@@ -175,18 +233,104 @@ IsAside (Rests s agg conv) = Unit {0}
 IsAside (ForcesPort s port) = Unit {0}
 IsAside _ = ⊥
 
-pub aside : (gives : Algorithms) (e : HostEvent) (old new : WorldState) → IsAside e → HostSteps gives old e new → (s : Side) × IsBeside s old new
-aside gives (Offers s agg conv octets) old new is x =
-    (s, offer_beside (gives s) s agg conv octets x.0 x.1 old new (λ v c. x.2 c.0.1) x.3 x.4)
-aside gives (Leaves s agg conv) old new is x = (
-  s,
-  built (gives s) s (host.LeaveConversation agg conv) (told.LeaveConversation x.0) x.1 x.1
-      old.links old new x.2 tt refl refl (inl refl) (x.3 ∙ same_links s x.1 old),
-)
-aside gives (Probes s port) old new is x = (s, probe_beside (gives s) s port x.0 x.1 old new x.2 x.3)
-aside gives (Rests s agg conv) old new is x = (s, rest_beside (gives s) s agg conv x.0 x.1 old new x.2 x.3)
-aside gives (ForcesPort s port) old new is x = (s, force_beside (gives s) s port x.0 x.1 x.2 old new x.3 x.4 x.5)
+-- the system that is called
+abbrev pub caller : HostEvent → Side
+caller (Offers s agg conv octets) = s
+caller (Leaves s agg conv) = s
+caller (Probes s port) = s
+caller (Rests s agg conv) = s
+caller (ForcesPort s port) = s
+caller e = One
+
+pub aside : (gives : Algorithms) (e : HostEvent) (old new : WorldState) → IsAside e → HostSteps gives old e new → IsBeside (caller e) old new
+aside gives (Offers s agg conv octets) old new is x = offer_beside (gives s) s agg conv octets x.0 x.1 old new (λ v c. x.2 c.0.1) x.3 x.4
+aside gives (Leaves s agg conv) old new is x = built (gives s) s (host.LeaveConversation agg conv) (told.LeaveConversation x.0) x.1 x.1
+    old.links old new x.2 tt refl refl (inl refl) (x.3 ∙ same_links s x.1 old)
+aside gives (Probes s port) old new is x = probe_beside (gives s) s port x.0 x.1 old new x.2 x.3
+aside gives (Rests s agg conv) old new is x = rest_beside (gives s) s agg conv x.0 x.1 old new x.2 x.3
+aside gives (ForcesPort s port) old new is x = force_beside (gives s) s port x.0 x.1 x.2 old new x.3 x.4 x.5
 aside gives e old new is x = absurd is
+
+-- what the system that is called promises
+
+pub offers_half : (gives : Algorithms) (s : Side) (agg : AggId) (conv : ℕ) (octets : List ℕ) (old new : WorldState)
+    → HostSteps gives old (Offers s agg conv octets) new → (a : Result ℕ SystemFault)
+    × HostPromise (gives s) (half s old).state (host.OfferConversation agg conv) (told.OfferConversation a) (half s new).state
+offers_half gives s agg conv octets old new (a, mid, slow, x, y) =
+    (a, subst (HostPromise (gives s) (half s old).state (host.OfferConversation agg conv) (told.OfferConversation a)) (sym (own a y)) x.answers)
+  where
+    own : (a : Result ℕ SystemFault) → AfterNumberedOffer s agg conv octets a (with_half s mid old) new → (half s new).state ≡ mid.state
+    own (Ok port) y = ap (λ (j : WorldState). (half s j).state) (y ∙ offered_joint s agg conv octets port mid old)
+        ∙ state_there s (with_sent_in agg.0 conv mid) (put_on_port s port (numbered_item s agg conv octets mid) old.links) old
+    own (Err fault) y = ap (λ (j : WorldState). (half s j).state) (y ∙ same_links s mid old) ∙ state_there s mid old.links old
+
+pub leaves_half : (gives : Algorithms) (s : Side) (agg : AggId) (conv : ℕ) (old new : WorldState)
+    → HostSteps gives old (Leaves s agg conv) new → (a : Result Unit SystemFault)
+    × HostPromise (gives s) (half s old).state (host.LeaveConversation agg conv) (told.LeaveConversation a) (half s new).state
+leaves_half gives s agg conv old new (a, mid, x, y) = (
+  a,
+  subst (HostPromise (gives s) (half s old).state (host.LeaveConversation agg conv) (told.LeaveConversation a))
+      (sym (ap (λ (j : WorldState). (half s j).state) (y ∙ same_links s mid old) ∙ state_there s mid old.links old)) x.answers,
+)
+
+pub rests_half : (gives : Algorithms) (s : Side) (agg : AggId) (conv : ℕ) (old new : WorldState)
+    → HostSteps gives old (Rests s agg conv) new → (a : Result Unit SystemFault)
+    × HostPromise (gives s) (half s old).state (host.Rest agg conv) (told.Rest a) (half s new).state
+rests_half gives s agg conv old new (a, mid, x, y) =
+    (a, subst (HostPromise (gives s) (half s old).state (host.Rest agg conv) (told.Rest a)) (sym (own a y)) x.answers)
+  where
+    own : (a : Result Unit SystemFault) → new ≡ with_half s (forced_if_accepted a agg conv mid) old → (half s new).state ≡ mid.state
+    own (Ok done) y = let h = forced_if_accepted (Ok done) agg conv mid in
+        ap (λ (j : WorldState). (half s j).state) (y ∙ same_links s h old) ∙ state_there s h old.links old
+    own (Err fault) y = ap (λ (j : WorldState). (half s j).state) (y ∙ same_links s mid old) ∙ state_there s mid old.links old
+
+pub forces_half : (gives : Algorithms) (s : Side) (port : ℕ) (old new : WorldState) → HostSteps gives old (ForcesPort s port) new
+    → (a : Result ℕ SystemFault) × HostPromise (gives s) (half s old).state (host.ForcePort port) (told.ForcePort a) (half s new).state
+forces_half gives s port old new (a, mid, last, x, c, y) = (
+  a,
+  subst (HostPromise (gives s) (half s old).state (host.ForcePort port) (told.ForcePort a))
+      (sym (ap (λ (j : WorldState). (half s j).state) (y ∙ same_links s last old) ∙ (state_there s last old.links old ∙ counted a c))) x.answers,
+)
+  where
+    counted : (a : Result ℕ SystemFault) → CountsHeldIfOk a port (half s old).state mid last → last.state ≡ mid.state
+    counted (Ok count) c = c.state
+    counted (Err fault) c = ap (λ (h : HalfState). h.state) c
+
+-- what a probe with this answer makes of the cables
+abbrev pub Probed : Side → ℕ → Result (Option (List ℕ)) SystemFault → List LinkState → List LinkState → Type 0
+Probed s port (Ok (Some frame)) old new = (item : ItemValue) × (item.octets ≡ frame) × (new ≡ put_on_port s port item old)
+Probed s port a old new = new ≡ old
+
+pub probes_half : (gives : Algorithms) (s : Side) (port : ℕ) (old new : WorldState) → HostSteps gives old (Probes s port) new
+    → (a : Result (Option (List ℕ)) SystemFault) × HostPromise (gives s) (half s old).state (host.Probe port) (told.Probe a) (half s new).state
+    × Probed s port a old.links new.links
+probes_half gives s port old new (a, mid, x, y) = by_answer a x y
+  where
+    by_answer : (a : Result (Option (List ℕ)) SystemFault) → HalfTells (gives s) (host.Probe port) (told.Probe a) (half s old) mid
+        → AfterProbe s port a (with_half s mid old) new → (a : Result (Option (List ℕ)) SystemFault)
+        × HostPromise (gives s) (half s old).state (host.Probe port) (told.Probe a) (half s new).state × Probed s port a old.links new.links
+    by_answer (Ok (Some frame)) x y =
+        let item = transmitted_item s port frame (half s (with_half s mid old)) in
+        let e = y ∙ sent_joint s port item mid old in (
+          Ok (Some frame),
+          subst (HostPromise (gives s) (half s old).state (host.Probe port) (told.Probe (Ok (Some frame))))
+              (sym (ap (λ (j : WorldState). (half s j).state) e ∙ state_there s mid (put_on_port s port item old.links) old)) x.answers,
+          (item, refl, ap (λ (j : WorldState). j.links) e),
+        )
+    by_answer (Ok None) x y =
+        let e = y ∙ same_links s mid old in (
+          Ok None,
+          subst (HostPromise (gives s) (half s old).state (host.Probe port) (told.Probe (Ok None)))
+              (sym (ap (λ (j : WorldState). (half s j).state) e ∙ state_there s mid old.links old)) x.answers,
+          ap (λ (j : WorldState). j.links) e,
+        )
+    by_answer (Err fault) x y =
+        let e = y ∙ same_links s mid old in (
+          Err fault,
+          subst (HostPromise (gives s) (half s old).state (host.Probe port) (told.Probe (Err fault)))
+              (sym (ap (λ (j : WorldState). (half s j).state) e ∙ state_there s mid old.links old)) x.answers,
+          ap (λ (j : WorldState). j.links) e,
+        )
 
 -- it leaves the cables quietly
 pub beside_quietly : (s : Side) (old new : WorldState) → IsBeside s old new → Quietly s old new
@@ -197,9 +341,53 @@ beside_quietly s old new b = record {
   logs = b.logs;
 }
 
+-- so does CollectorMaxDelay, when it is set
+delay_beside : (s : Side) (mid : HalfState) (old new : WorldState) → mid.state.system_ports ≡ (half s old).state.system_ports
+    → mid.histories ≡ (half s old).histories → new ≡ with_half s mid old → Quietly s old new
+delay_beside s mid old new ports logs y =
+    let e = y ∙ same_links s mid old in
+    record {
+      same = each_side (λ t. (half t new).state.system_ports ≡ (half t old).state.system_ports) s
+          (ap (λ (j : WorldState). (half s j).state.system_ports) e
+          ∙ (ap (λ (x : SystemState). x.system_ports) (state_there s mid old.links old) ∙ ports))
+          (ap (λ (j : WorldState). (half (peer s) j).state.system_ports) e
+          ∙ ap (λ (x : SystemState). x.system_ports) (peer_there s mid old.links old));
+      links = inl (ap (λ (j : WorldState). j.links) e);
+      logs = λ t. ap (λ (j : WorldState). (half t j).histories) e ∙ logs_there s mid old.links old logs t;
+    }
+
+delayed : (s : Side) (delay : ℕ) (a : Result Unit SystemFault) (old : SystemState) (new : SystemState)
+    → SettingPromise old (Set_max_delay delay) a new → new ≡ record old { max_delay = delay }
+delayed s delay (Ok done) old new x = x.step
+delayed s delay (Err fault) old new x = absurd x.step
+
+pub delay_quietly : (gives : Algorithms) (s : Side) (delay : ℕ) (old new : WorldState) → HostSteps gives old (Sets s (Set_max_delay delay)) new
+    → Quietly s old new
+delay_quietly gives s delay old new x = delay_beside s x.1 old new
+    (ap (λ (y : SystemState). y.system_ports) (delayed s delay x.0 (half s old).state x.1.state x.2.answers))
+    (ap (λ (k : HalfState). k.histories) x.2.same) x.3
+
+-- what they change of neither system
+module _ (X : Type 0) (g : SystemState → X) where
+  pub aside_keeps : ((s : SystemState) (t : Table) → g (with_table s t) ≡ g s) → (gives : Algorithms) (e : HostEvent) (old new : WorldState)
+      → IsAside e → HostSteps gives old e new → (t : Side) → g (half t new).state ≡ g (half t old).state
+  aside_keeps tables gives e old new is x =
+      let b = aside gives e old new is x in
+      each_side (λ u. g (half u new).state ≡ g (half u old).state) (caller e)
+      (ap g b.alone ∙ tables (half (caller e) old).state (half (caller e) new).state.table) (ap g b.peers)
+
+  pub delay_keeps : ((s : SystemState) (d : ℕ) → g (record s { max_delay = d }) ≡ g s) → (gives : Algorithms) (s : Side) (delay : ℕ) (old new : WorldState)
+      → HostSteps gives old (Sets s (Set_max_delay delay)) new → (t : Side) → g (half t new).state ≡ g (half t old).state
+  delay_keeps delays gives s delay old new x =
+      let e = x.3 ∙ same_links s x.1 old in
+      each_side (λ u. g (half u new).state ≡ g (half u old).state) s
+      (ap (λ (j : WorldState). g (half s j).state) e ∙ (ap g (state_there s x.1 old.links old)
+      ∙ (ap g (delayed s delay x.0 (half s old).state x.1.state x.2.answers) ∙ delays (half s old).state delay)))
+      (ap (λ (j : WorldState). g (half (peer s) j).state) e ∙ ap g (peer_there s x.1 old.links old))
+
 -- ---- both systems
 
-abbrev AreTimely : WorldState → Type 0
+abbrev pub AreTimely : WorldState → Type 0
 AreTimely j = (s : Side) → IsTimely (half s j).state
 
 beside_timely : (s : Side) (old new : WorldState) → IsBeside s old new → AreTimely old → AreTimely new
@@ -214,7 +402,7 @@ setting_timely s mid old new f y k =
     (subst IsTimely (sym (ap (λ (j : WorldState). (half s j).state) e ∙ state_there s mid old.links old)) (f (k s)))
     (subst IsTimely (sym (ap (λ (j : WorldState). (half (peer s) j).state) e ∙ peer_there s mid old.links old)) (k (peer s)))
 
-step_timely : (gives : Algorithms) (e : HostEvent) (old new : WorldState) → HostSteps gives old e new → AreTimely old → AreTimely new
+pub step_timely : (gives : Algorithms) (e : HostEvent) (old new : WorldState) → HostSteps gives old e new → AreTimely old → AreTimely new
 step_timely gives (Plays e) old new x k = λ s.
     (let g = each_is_calls gives e x.0 old new x.1 s in
     calls_each (gives s) IsTimely (call_timely (gives s)) (half s old).state (half s new).state g.0 g.1 g.2 (k s))
@@ -222,14 +410,7 @@ step_timely gives (Sets s setting) old new x k = setting_timely s x.1 old new (�
   setting_sound (half s old).state setting x.0 x.1.state x.2.answers.step t.0,
   setting_timed (half s old).state x.1.state setting x.0 x.2.answers.step t.1,
 )) x.3 k
-step_timely gives (Offers s agg conv octets) old new x k =
-    let b = aside gives (Offers s agg conv octets) old new tt x in beside_timely b.0 old new b.1 k
-step_timely gives (Leaves s agg conv) old new x k =
-    let b = aside gives (Leaves s agg conv) old new tt x in beside_timely b.0 old new b.1 k
-step_timely gives (Probes s port) old new x k = let b = aside gives (Probes s port) old new tt x in beside_timely b.0 old new b.1 k
-step_timely gives (Rests s agg conv) old new x k = let b = aside gives (Rests s agg conv) old new tt x in beside_timely b.0 old new b.1 k
-step_timely gives (ForcesPort s port) old new x k =
-    let b = aside gives (ForcesPort s port) old new tt x in beside_timely b.0 old new b.1 k
+step_timely gives e old new x k = beside_timely (caller e) old new (aside gives e old new tt x) k
 
 run_timely : (gives : Algorithms) (es : List HostEvent) (old new : WorldState) → HostRuns gives old es new → AreTimely old → AreTimely new
 run_timely gives [] old new h k = subst AreTimely (sym h) k

@@ -2,10 +2,10 @@
 use Rattle.lagprogress.proofs.Common.{Bool, List, Some, [], ap, arith, false, inl, inr, refl, slice_get, subst, sym, true, ℕ, ◌-◌, ◌∙◌, ◌∷◌, ◌≡◌, ◌≤◌}
 use Rattle.lagprogress.proofs.Common.{◌⊎◌, cases_Bool, same_Some, AllByRecursion, Lacpdu, Side, peer, Machines, partner_synchronized, periodic_rows}
 use Rattle.lagprogress.proofs.Common.{receive_rows, AtRest, RunsToRest, after_sending, count_down, is_due, SystemPort, Carries, IsFrame}
-use Rattle.lagprogress.proofs.Common.{OnlyPortChangesBy, ProcessesLacpdu, ThenSettles, SystemState, machines_of, found_place, Event, Reply}
-use Rattle.lagprogress.proofs.Common.{Algorithms, WorldSteps, side_of, ItemValue, WorldState, half, towards, timeout_time, KeptBySettling, OfEach}
-use Rattle.lagprogress.proofs.Common.{Tick-each, counts, AtPort, Sounds, AfterTick, Clearing, IsBetweenTicks, IsHostRound, IsPlayed, NothingInFlight}
-use Rattle.lagprogress.proofs.Common.{OfPort}
+use Rattle.lagprogress.proofs.Common.{OnlyPortChangesBy, ProcessesLacpdu, ThenSettles, SystemState, machines_of, found_place, Reply, Algorithms}
+use Rattle.lagprogress.proofs.Common.{WorldSteps, side_of, ItemValue, WorldState, half, towards, HostEvent, Plays, timeout_time, KeptBySettling}
+use Rattle.lagprogress.proofs.Common.{OfEach, Tick-each, counts, AtPort, Sounds, AfterTick, Clearing, IsBetweenTicks, IsHostRound, IsPlayed, IsQuiet}
+use Rattle.lagprogress.proofs.Common.{StepReplies, NothingInFlight, OfPort}
 use Rattle.slowpdu.specs.declared.pdu.Pdu.TheVariants as pdu
 use Rattle.lagsystem.specs.declared.drive.Reply.TheVariants as answer
 use Rattle.lagscript.specs.declared.event.Event.TheVariants as event
@@ -22,7 +22,7 @@ use Rattle.lagprogress.proofs.Linked.{put_there}
 use Rattle.lagprogress.proofs.OneCable.{Arrives, alone, cable, port_there, put, response, ticks, towards_there}
 use Rattle.lagprogress.proofs.OneRound.{Later, beside_here, sounds_pass, Nothing, Passes, ask_idle, ask_peer, one_of_both, at_rest, forget, join}
 use Rattle.lagprogress.proofs.OneRound.{ticked}
-use Rattle.lagprogress.proofs.Quieting.{IsQuiet, quiet_link, quiet_ports}
+use Rattle.lagprogress.proofs.Quieting.{quiet_link, quiet_ports}
 use Rattle.lagprogress.proofs.Telling.{Bears, SaysIt, Tells, arrive_peer, ask_on, came_to, deliver_on, due_on, sync_settles, tells_map, tells_push}
 
 -- what is on the cable of the same ports
@@ -78,7 +78,7 @@ module _ (gives : Algorithms) (d : ℕ) (at : Side → ℕ) (w : Side → Lacpdu
 
   module _ (X : Machines → Type 0) (keeps : KeptBySettling (AtPort (at (peer s)) X)) (sends : (p : Machines) → X p → X (after_sending p))
       (takes : (p : Machines) → partner_synchronized p ≡ true → X p) where
-    quiet_on : (c : Side → ℕ) (e : Event) (r : Reply) (i j : WorldState) → IsQuiet e → WorldSteps gives i e r j → OnWay c X i → OnWay c X j
+    quiet_on : (c : Side → ℕ) (e : HostEvent) (r : Reply) (i j : WorldState) → IsQuiet e → StepReplies gives i e r j → OnWay c X i → OnWay c X j
     quiet_on c e r i j b h (l, m) =
         let k = quiet_link gives e d at w c s Wakes r i j b h l in
         let same = quiet_ports gives e r i j b h in
@@ -97,12 +97,9 @@ module _ (gives : Algorithms) (d : ℕ) (at : Side → ℕ) (w : Side → Lacpdu
         )
 
     pub on_between : (c : Side → ℕ) → Fits d w c → KeptBetween gives (OnWay c X)
-    on_between c fits (event.Emit n p) r i j b h m = ask_on gives d at w c s X there fits keeps sends takes n p r i j h m
-    on_between c fits (event.Deliver cn n) r i j b h m = deliver_on gives d at w c s X there fits keeps sends takes cn n r i j h m
-    on_between c fits (event.Offer n agg octets) r i j b h m = quiet_on c (event.Offer n agg octets) r i j tt h m
-    on_between c fits (event.Move n agg conv p) r i j b h m = quiet_on c (event.Move n agg conv p) r i j tt h m
-    on_between c fits (event.Force n agg conv) r i j b h m = quiet_on c (event.Force n agg conv) r i j tt h m
-    on_between c fits e r i j b h m = absurd b
+    on_between c fits (Plays (event.Emit n p)) r i j b h m = ask_on gives d at w c s X there fits keeps sends takes n p r i j h m
+    on_between c fits (Plays (event.Deliver cn n)) r i j b h m = deliver_on gives d at w c s X there fits keeps sends takes cn n r i j h m
+    on_between c fits e r i j b h m = quiet_on c e r i j b h m
 
     -- the tick of s
     pub on_own : (c b : Side → ℕ) → b s ≡ c s - 1 → b (peer s) ≡ c (peer s) → (2 ≤ d → 1 ≤ c s - 1) → MadeByTick gives s (OnWay c X) (OnWay b X)
@@ -221,7 +218,7 @@ module _ (gives : Algorithms) (d : ℕ) (at : Side → ℕ) (w : Side → Lacpdu
                           (λ a. (a.0, inr (v1, carries))) (subst (λ xs. Tells u v xs (PeerIs Any i)) k.first tells)))
                     ]),
               ),
-              x.hears c i j l k v1 carries (x.first (event.Deliver cn n) r i j tt h da) da,
+              x.hears c i j l k v1 carries (x.first (Plays (event.Deliver cn n)) r i j tt h da) da,
             )
 
     -- A Deliver event: an LACPDU still flies, or the peer has heard one, and is told.
@@ -245,7 +242,7 @@ module _ (gives : Algorithms) (d : ℕ) (at : Side → ℕ) (w : Side → Lacpdu
         ]
       where
         db : D j
-        db = x.first (event.Deliver cn n) r i j tt h da
+        db = x.first (Plays (event.Deliver cn n)) r i j tt h da
 
         came : (now : Link d at w c s Wakes j) → (Flying (now.flying (peer s)) → HasHeard c j) → (k : Arrives gives (peer s) at l.flying i j)
             → now.flying ≡ k.now → HasHeard c j
@@ -291,23 +288,23 @@ module _ (gives : Algorithms) (d : ℕ) (at : Side → ℕ) (w : Side → Lacpdu
       where
         asked : (n p : ℕ) (r : Reply) (i j : WorldState) → WorldSteps gives i (event.Emit n p) r j → Turn c most Z i → Turn c most Z j
         asked n p r i j h (inl ((l, o), da)) =
-            let db = x.first (event.Emit n p) r i j tt h da in
+            let db = x.first (Plays (event.Emit n p)) r i j tt h da in
             elim (ask_sends c Z fits along n p r i j l o h) [
-              | inl k ↦ inl ((k, woken_between c fits (event.Emit n p) r i j tt h o), db)
+              | inl k ↦ inl ((k, woken_between c fits (Plays (event.Emit n p)) r i j tt h o), db)
               | inr k ↦ inr (inl (k, db))
             ]
         asked n p r i j h (inr (inl ((o, f), da))) =
-            let db = x.first (event.Emit n p) r i j tt h da in
-            let after = any_between c fits (event.Emit n p) r i j tt h o in
+            let db = x.first (Plays (event.Emit n p)) r i j tt h da in
+            let after = any_between c fits (Plays (event.Emit n p)) r i j tt h o in
             let e = emit_any gives n p d at w c s Wakes r i j fits (along_wakes (c s)) (λ q y. y) o.0 h in
             inr (inl ((after, subst Flying (sym (same_flying d d at w w c c s s Wakes Wakes j e.link after.0 (peer s))) (e.flying (peer s) f)), db))
-        asked n p r i j h (inr (inr m)) = inr (inr (told_between c most less fits (event.Emit n p) r i j tt h m))
+        asked n p r i j h (inr (inr m)) = inr (inr (told_between c most less fits (Plays (event.Emit n p)) r i j tt h m))
 
         came : (cn n : ℕ) (r : Reply) (i j : WorldState) → WorldSteps gives i (event.Deliver cn n) r j → Turn c most Z i → Turn c most Z j
         came cn n r i j h (inl ((l, o), da)) =
             inl (
-              ((deliver_link gives cn n d at w c s Z r i j fits along l h).link, woken_between c fits (event.Deliver cn n) r i j tt h o),
-              x.first (event.Deliver cn n) r i j tt h da,
+              ((deliver_link gives cn n d at w c s Z r i j fits along l h).link, woken_between c fits (Plays (event.Deliver cn n)) r i j tt h o),
+              x.first (Plays (event.Deliver cn n)) r i j tt h da,
             )
         came cn n r i j h (inr (inl ((o, f), da))) = elim (hears_on c fits cn n r i j h o f da) [
           | inl k ↦ inr (inl k)
@@ -321,9 +318,9 @@ module _ (gives : Algorithms) (d : ℕ) (at : Side → ℕ) (w : Side → Lacpdu
             k.1,
           ))
         ]
-        came cn n r i j h (inr (inr m)) = inr (inr (told_between c most less fits (event.Deliver cn n) r i j tt h m))
+        came cn n r i j h (inr (inr m)) = inr (inr (told_between c most less fits (Plays (event.Deliver cn n)) r i j tt h m))
 
-        quiet : (e : Event) (r : Reply) (i j : WorldState) → IsQuiet e → IsBetweenTicks e → WorldSteps gives i e r j → Turn c most Z i → Turn c most Z j
+        quiet : (e : HostEvent) (r : Reply) (i j : WorldState) → IsQuiet e → IsBetweenTicks e → StepReplies gives i e r j → Turn c most Z i → Turn c most Z j
         quiet e r i j b t h (inl ((l, o), da)) =
             inl (((quiet_link gives e d at w c s Z r i j b h l).link, woken_between c fits e r i j t h o), x.first e r i j t h da)
         quiet e r i j b t h (inr (inl ((o, f), da))) =
@@ -336,12 +333,9 @@ module _ (gives : Algorithms) (d : ℕ) (at : Side → ℕ) (w : Side → Lacpdu
         quiet e r i j b t h (inr (inr m)) = inr (inr (told_between c most less fits e r i j t h m))
 
         each : KeptBetween gives (Turn c most Z)
-        each (event.Emit n p) r i j b h m = asked n p r i j h m
-        each (event.Deliver cn n) r i j b h m = came cn n r i j h m
-        each (event.Offer n agg octets) r i j b h m = quiet (event.Offer n agg octets) r i j tt tt h m
-        each (event.Move n agg conv p) r i j b h m = quiet (event.Move n agg conv p) r i j tt tt h m
-        each (event.Force n agg conv) r i j b h m = quiet (event.Force n agg conv) r i j tt tt h m
-        each e r i j b h m = absurd b
+        each (Plays (event.Emit n p)) r i j b h m = asked n p r i j h m
+        each (Plays (event.Deliver cn n)) r i j b h m = came cn n r i j h m
+        each e r i j b h m = quiet e r i j b b h m
 
     bare : (c : Side → ℕ) (i : WorldState) (o : OnWay c Any i) → Flying (o.0.flying (peer s)) → Flying ((forget d at w c s s Wakes i o.0).flying (peer s))
     bare c i o f =

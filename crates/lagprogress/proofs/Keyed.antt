@@ -1,13 +1,15 @@
 -- The ports of a key that are one group are in one aggregator.
 use Rattle.lagprogress.proofs.Common.{List, Some, ap, arith, refl, slice_get, subst, sym, true, ℕ, ◌∙◌, ◌≡◌, ◌≢◌, ◌≤◌, false≢true, none-some, AggId}
-use Rattle.lagprogress.proofs.Common.{Key, Choice, Selected, Unselected, is_selected, Side, Machines, group-test, HostCall, HostReply, Answer}
+use Rattle.lagprogress.proofs.Common.{Key, Choice, Selected, Unselected, is_selected, One, Side, Machines, group-test, HostCall, HostReply, Answer}
 use Rattle.lagprogress.proofs.Common.{SystemPort, Call, Step, call_of, HostPromise, HostRun, OccupantsAgree, occupied, IsSound, PortsAgree}
 use Rattle.lagprogress.proofs.Common.{SystemState, with_table, selection_view, first_unselected, TableAlone, agrees_beside, host_alone, all-get}
-use Rattle.lagprogress.proofs.Common.{found_place, ports_rise, Step-sound, agrees, Algorithms, LinkState, WorldState, half, port_at, AtPort}
-use Rattle.lagprogress.proofs.Common.{at_number, BothAreActive, EachLinkComesUp, EndsOfEachKnow, IsBundle, OneIsActive, Distributes, HostRounds}
-use Rattle.lagprogress.proofs.Common.{IsHealthyAt, known_if_both_active, known_if_one_is, up_if_both_active, up_if_one_is, AreOneGroup}
-use Rattle.lagprogress.proofs.Common.{AreInOneAggregator, CallsKeepGroupsWhole, EachKeyIsInOneAggregator, FirstGroupsAreWhole, GroupsAreWhole}
-use Rattle.lagprogress.proofs.Common.{ReachedGroupsAreWhole}
+use Rattle.lagprogress.proofs.Common.{found_place, ports_rise, Step-sound, agrees, Reply, Algorithms, LinkState, WorldState, half, port_at, HostEvent}
+use Rattle.lagprogress.proofs.Common.{Plays, AtPort, at_number, calls_each, BothAreActive, EachLinkComesUp, EndsOfEachKnow, IsBundle, OneIsActive}
+use Rattle.lagprogress.proofs.Common.{Distributes, HostRounds, StepReplies, IsHealthyAt, known_if_both_active, known_if_one_is, up_if_both_active}
+use Rattle.lagprogress.proofs.Common.{up_if_one_is, AreOneGroup, IsSteady, AreInOneAggregator, CallsKeepGroupsWhole, EachKeyIsInOneAggregator}
+use Rattle.lagprogress.proofs.Common.{FirstGroupsAreWhole, GroupsAreWhole, ReachedGroupsAreWhole}
+use Rattle.lagprogress.proofs.Quieting.{IsCalm, calm_steady, runs_calm, quiet_ports}
+use Rattle.lagprogress.proofs.Halves.{each_is_calls, both_first, start_steady}
 use Rattle.lagsystem.specs.declared.drive.HostCall.TheVariants as host
 use Rattle.lagsystem.specs.declared.drive.HostReply.TheVariants as told
 use Rattle.lagsystem.proofs.OccupantSteps.{Step-placed}
@@ -15,7 +17,6 @@ use Rattle.std.specs.Prelude.{[], ◌∷◌}
 use Rattle.lagprogress.proofs.Bundling.{heard_holds, each_active_link_comes_up_by_hosts, each_link_comes_up_by_hosts}
 use Rattle.lagprogress.proofs.EachRound.{hosts_on}
 use Rattle.lagprogress.proofs.Grouping.{InOne, first_in_one, in_one_of, step_in_one, whole_of}
-use Rattle.lagprogress.proofs.Halves.{both_first, start_steady}
 use Rattle.lagprogress.proofs.HostKnowing.{active_ends_know_by_hosts, ends_know_by_hosts}
 use Rattle.lagprogress.proofs.Lasting.{still_heard}
 use Rattle.lagprogress.proofs.Linked.{events_each}
@@ -82,10 +83,19 @@ reached_whole gives configs es rs start new made first run s =
     ((start_steady configs start made first s).0, first_in_one (half s start).state (both_first configs start first s)) in
     whole_of (half s new).state (agrees (half s new).state w.0) w.0.occupants w.1
 
-rounds_whole : (gives : Algorithms) (n : ℕ) (old new : WorldState) → HostRounds gives n old new → (s : Side) → Whole (half s old).state
-    → Whole (half s new).state
-rounds_whole gives n old new h s w = hosts_on gives (λ m j. Whole (half s j).state) old w
-    (λ m i j q a. events_each gives s Whole (call_whole (gives s)) q.events q.replies i j q.acts a) n new h
+one_whole : (gives : Algorithms) (s : Side) (e : HostEvent) (r : Reply) (i j : WorldState) → IsCalm e → StepReplies gives i e r j → IsSteady i
+    → InOne (half s i).state.system_ports → InOne (half s j).state.system_ports
+one_whole gives s (Plays e) r i j c h k w =
+    let g = each_is_calls gives e r i j h s in
+    (calls_each (gives s) Whole (call_whole (gives s)) (half s i).state (half s j).state g.0 g.1 g.2 ((k s).0, w)).1
+one_whole gives s e r i j c h k w = subst InOne (sym (quiet_ports gives e r i j c h s)) w
+
+rounds_whole : (gives : Algorithms) (n : ℕ) (old new : WorldState) → HostRounds gives n old new → IsSteady old → (s : Side)
+    → InOne (half s old).state.system_ports → InOne (half s new).state.system_ports
+rounds_whole gives n old new h steady s w = (hosts_on gives (λ m j. IsSteady j × InOne (half s j).state.system_ports) old (steady, w)
+    (λ m i j q. runs_calm gives (λ k. IsSteady k × InOne (half s k).state.system_ports)
+    (λ e r i j c step a. (calm_steady gives e r i j c step a.0, one_whole gives s e r i j c step a.0 a.1)) One true true q.events q.replies i j q.ticks
+    q.acts) n new h).1
 
 -- a bundle
 
@@ -119,14 +129,14 @@ module _ (Holds : LinkState → WorldState → Type 0) (knowing least : ℕ) (gi
 
     pub together : (key : Key) → GroupsAreWhole (half s old).state → AreOneGroup s key old → AreInOneAggregator s key new
     together key whole g i k x y at bt on up is its =
-        let w = rounds_whole gives n old new h s ((b.steady s).0, in_one_of (half s old).state whole) in
+        let w = rounds_whole gives n old new h b.steady s (in_one_of (half s old).state whole) in
         let a = up_selected i x at on in
         let c = up_selected k y bt up in
         let knows = λ (m : ℕ) (l : LinkState) (z : IsHealthyAt m l old) (t : Side). know n m l old new b.cabling b.steady z
         (heard_holds Holds old b.cabling b.heard m l z) (omega (arith, enough, many)) h t in
         let group = one_group old new b.steady last Holds b.heard knows s key g k y bt up its in
         let pair = (group-test (selection_view y) (selection_view x)).0 (group.group i x at (is ∙ sym its) (selected_chosen a.0 x.port.choice a.1)) in
-        let same : a.0.0 ≡ c.0.0 = w.1 a.0.0 c.0.0 i k x y at bt (ap occupied a.1) (ap occupied c.1) (is ∙ sym its) pair
+        let same : a.0.0 ≡ c.0.0 = w a.0.0 c.0.0 i k x y at bt (ap occupied a.1) (ap occupied c.1) (is ∙ sym its) pair
         (one_group old new b.steady last Holds b.heard knows s key g i x at on is).together in
         (c.0, subst (λ (z : AggId). x.port.choice ≡ Selected z) (same_aggregator a.0 c.0 same) a.1, c.1)
 

@@ -49,12 +49,12 @@ pub played_before : (E : Clearing) (gives : Algorithms) (n : ℕ) (old new : Wor
     → IsAsBefore s old new
 played_before E gives n old new steady h s =
     let now = played_steady E gives n old new steady h in
-    let ports = played_keep E gives (List PortConfig) (λ t. t.ports) (λ t a b. refl) n old new h s in
+    let ports = played_keep E gives (List PortConfig) (λ t. t.ports) (λ t a b. refl) (λ t a. refl) (λ t d. refl) n old new h s in
     let numbers : port_numbers (half s new).state.system_ports ≡ port_numbers (half s old).state.system_ports =
     (now s).0.ports.same ∙ (ap configured_numbers ports ∙ sym (steady s).0.ports.same) in
     record {
-      keys = played_keep E gives (List Key) (λ t. t.keys) (λ t a b. refl) n old new h s;
-      limit = played_keep E gives (Option ℕ) (λ t. t.max_links) (λ t a b. refl) n old new h s;
+      keys = played_keep E gives (List Key) (λ t. t.keys) (λ t a b. refl) (λ t a. refl) (λ t d. refl) n old new h s;
+      limit = played_keep E gives (Option ℕ) (λ t. t.max_links) (λ t a b. refl) (λ t a. refl) (λ t d. refl) n old new h s;
       numbers = numbers;
       alike = λ k x y e f. all-get (λ (z : SystemPort). AtPort x.number (Alike x.port) z.number z.port) (half s new).state.system_ports k y f
           (played_alike E gives n old new steady h s k x e)

@@ -1,7 +1,7 @@
 -- An LACPDU that was on the cable when a late round began is heard in it.
 use Rattle.lagprogress.proofs.Common.{Bool, List, Some, [], arith, false, inl, inr, length, map, refl, subst, suc, sym, true, ℕ, ◌-◌, ◌∙◌, ◌∷◌, ◌≡◌}
-use Rattle.lagprogress.proofs.Common.{◌≤◌, ◌⊎◌, Lacpdu, Side, peer, Event, Reply, Algorithms, WorldSteps, side_of, link_ends, ItemValue, WorldState}
-use Rattle.lagprogress.proofs.Common.{half, KeptBySettling, AtPort, ArriveIn, IsArrivalAt, IsLateRound}
+use Rattle.lagprogress.proofs.Common.{◌≤◌, ◌⊎◌, Lacpdu, Side, peer, Reply, Algorithms, WorldSteps, side_of, link_ends, ItemValue, WorldState, half}
+use Rattle.lagprogress.proofs.Common.{HostEvent, Plays, KeptBySettling, AtPort, StepReplies, ArriveIn, IsArrivalAt, IsLateRound}
 use Rattle.lagscript.specs.declared.event.Event.TheVariants as event
 use Rattle.lagprogress.proofs.Claims.{IsNamed, Wakeful, wakeful_along}
 use Rattle.lagprogress.proofs.EachRound.{joins_kept, joins_tick}
@@ -53,8 +53,8 @@ module _ (gives : Algorithms) (d : ℕ) (at : Side → ℕ) (w : Side → Lacpdu
   way_between a b = on_between gives d at w s there named (Any gives d at w s there named) settles (λ p y. y) (λ p y. tt) (kn a b) (fit a b)
 
   -- the first item came: it is no LACPDU, or was heard
-  arrival_on : (a b : Bool) (e : Event) (r : Reply) (i j : WorldState) → map link_ends i.links ≡ map link_ends old.links → IsArrivalAt (peer s) x e
-      → WorldSteps gives i e r j → (o : Way a b i) → D i
+  arrival_on : (a b : Bool) (e : HostEvent) (r : Reply) (i j : WorldState) → map link_ends i.links ≡ map link_ends old.links → IsArrivalAt (peer s) x e
+      → StepReplies gives i e r j → (o : Way a b i) → D i
       → (o.0.flying (peer s) ≡ [])
       ⊎ (((item : ItemValue) × (rest : List ItemValue) × IsPlain item × (o.0.flying (peer s) ≡ item ∷ rest)
       × ((after : Way a b j) × (after.0.flying (peer s) ≡ rest)))
@@ -63,7 +63,7 @@ module _ (gives : Algorithms) (d : ℕ) (at : Side → ℕ) (w : Side → Lacpdu
       elim (comes_in gives n x (peer s) at o.0.flying r i j numbered here step) [ inl y ↦ inl y.0 | inr k ↦ inr (came k) ]
     where
       step : WorldSteps gives i (event.Deliver (suc x) n) r j
-      step = subst (λ y. WorldSteps gives i y r j) is h
+      step = subst (λ y. StepReplies gives i y r j) is h
 
       here : OnCable x at o.0.flying i.links
       here = subst (λ y. OnCable y at o.0.flying i.links) (stays_there x o.0.index at was o.0.flying old i stood o.0.links joins) o.0.links
@@ -75,7 +75,7 @@ module _ (gives : Algorithms) (d : ℕ) (at : Side → ℕ) (w : Side → Lacpdu
           let m = arrives_moves gives (suc x) n (peer s) d at w (kn a b) s (Wakeful (w s) (w (peer s))) r i j (fit a b)
           (wakeful_along (w s) (w (peer s)) (kn a b s) d there) o.0 step k in
           elim (peer_hears gives d at w s there named D E extra (kn a b) (fit a b) (suc x) n r i j step o da m.0 k m.1) [
-            | inl none ↦ (let after = way_between a b (event.Deliver (suc x) n) r i j tt step o in
+            | inl none ↦ (let after = way_between a b (Plays (event.Deliver (suc x) n)) r i j tt step o in
                 inl (
                   k.item,
                   k.rest,
@@ -125,7 +125,7 @@ module _ (gives : Algorithms) (d : ℕ) (at : Side → ℕ) (w : Side → Lacpdu
       at_x : (o : Way a b i) → IsArrivalAt (peer s) o.0.index e → IsArrivalAt (peer s) x e
       at_x o come = subst (λ y. IsArrivalAt (peer s) y e) (stays_there x o.0.index at was o.0.flying old i stood o.0.links joins) come
 
-  comes : (k : ℕ) (a b : Bool) (e : Event) (r : Reply) (i j : WorldState) → IsArrivalAt (peer s) x e → WorldSteps gives i e r j
+  comes : (k : ℕ) (a b : Bool) (e : HostEvent) (r : Reply) (i j : WorldState) → IsArrivalAt (peer s) x e → StepReplies gives i e r j
       → State (suc k) a b i → State k a b j
   comes k a b e r i j come h (joins, m) = (
     joins_kept gives old.links e r i j (between_at come) h joins,

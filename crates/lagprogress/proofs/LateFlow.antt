@@ -1,9 +1,9 @@
 -- What a run leaves of the items that were on a cable, by the number of them that arrive.
 use Rattle.lagprogress.proofs.Common.{Bool, List, None, Option, Result, Some, [], ap, arith, false, inl, inr, length, map, refl, slice_get, subst}
 use Rattle.lagprogress.proofs.Common.{suc, sym, true, zero, ℕ, ◌++◌, ◌==◌, ◌∙◌, ◌∷◌, ◌≡◌, ◌⊎◌, cases_Bool, nat_tests, same_Some, AllByRecursion}
-use Rattle.lagprogress.proofs.Common.{all-append, One, Side, end_at, peer, value_of, SystemFault, Received, Receive, CallPromise, SystemState, Event}
-use Rattle.lagprogress.proofs.Common.{Reply, Algorithms, DeliversFrom, WorldRuns, WorldSteps, side_of, link_ends, ItemValue, LinkState, WorldState}
-use Rattle.lagprogress.proofs.Common.{half, towards, end_is, IsBetweenTicks, TickOnce, ArriveIn, IsArrivalAt}
+use Rattle.lagprogress.proofs.Common.{all-append, One, Side, end_at, peer, value_of, SystemFault, Received, Receive, CallPromise, SystemState, Reply}
+use Rattle.lagprogress.proofs.Common.{Algorithms, DeliversFrom, WorldSteps, side_of, link_ends, ItemValue, LinkState, WorldState, half, towards}
+use Rattle.lagprogress.proofs.Common.{end_is, HostEvent, Plays, IsBetweenTicks, IsQuiet, RunReplies, StepReplies, TickOnce, ArriveIn, IsArrivalAt}
 use Rattle.lagsystem.specs.declared.drive.Reply.TheVariants as answer
 use Rattle.lagscript.specs.declared.event.Event.TheVariants as event
 use Rattle.lagprogress.proofs.Delivering.{responds_none}
@@ -12,7 +12,7 @@ use Rattle.lagprogress.proofs.HostRound.{KeptBetween, MadeByTick, not_tick}
 use Rattle.lagprogress.proofs.Linked.{Flying, HasLacpdu, asked_which, each_side, peer_twice, push_there, put_other, put_there}
 use Rattle.lagprogress.proofs.OneCable.{Arrives, Asks, Back, Comes, Gains, OnCable, Stays, arrived, asks, cable, came, came_off, passed_by, put}
 use Rattle.lagprogress.proofs.OneCable.{response, sent_frame, ticks, stays_beside, towards_there}
-use Rattle.lagprogress.proofs.Quieting.{IsQuiet, quiet_cable}
+use Rattle.lagprogress.proofs.Quieting.{quiet_cable}
 use Rattle.lagprogress.proofs.Telling.{back_other, went_other}
 
 -- the first so many items
@@ -123,7 +123,7 @@ Adds P xs ys = (item : ItemValue) × P item × (ys ≡ xs ++ item ∷ [])
 
 -- what an event between ticks does to the items towards the end of t: it leaves them, adds one that bears no LACPDU, takes the first,
 -- or asks the other end
-pub record Flows (gives : Algorithms) (t : Side) (x : ℕ) (at : Side → ℕ) (fl : Side → List ItemValue) (e : Event) (old new : WorldState)
+pub record Flows (gives : Algorithms) (t : Side) (x : ℕ) (at : Side → ℕ) (fl : Side → List ItemValue) (e : HostEvent) (old new : WorldState)
     : Type 0 where
   pub index : ℕ
   pub now : Side → List ItemValue
@@ -133,10 +133,10 @@ pub record Flows (gives : Algorithms) (t : Side) (x : ℕ) (at : Side → ℕ) (
 
 module _ (gives : Algorithms) (t : Side) (x : ℕ) (at : Side → ℕ) (fl : Side → List ItemValue) (r : Reply) (old new : WorldState)
     (c : OnCable x at fl old.links) where
-  asked_flows : (n p : ℕ) → WorldSteps gives old (event.Emit n p) r new → Flows gives t x at fl (event.Emit n p) old new
+  asked_flows : (n p : ℕ) → WorldSteps gives old (event.Emit n p) r new → Flows gives t x at fl (Plays (event.Emit n p)) old new
   asked_flows n p h = elim (asked_which gives n p x at fl r old new c h) [
     | inl (s, named, is) ↦ each_side (λ u. side_of n ≡ Some u → WorldSteps gives old (event.Emit n (at u)) r new
-        → Flows gives t x at fl (event.Emit n p) old new) t
+        → Flows gives t x at fl (Plays (event.Emit n p)) old new) t
         (λ told step. (let a = asks gives n t x at fl r old new told c step in
         record { index = a.index; now = a.now; on = a.links; moves = inl (went_other t a.a fl a.now a.went) }))
         (λ told step. (let a = asks gives n (peer t) x at fl r old new told c step in
@@ -154,7 +154,7 @@ module _ (gives : Algorithms) (t : Side) (x : ℕ) (at : Side → ℕ) (fl : Sid
     | inr (item, is, e) ↦ inr (item, λ q. responds_none (gives s) (at s) octets a i j k item.octets is q.0 q.1, e)
   ]
 
-  arrives_flows : (e : Event) (s : Side) → IsArrivalAt s x e → Arrives gives s at fl old new → Flows gives t x at fl e old new
+  arrives_flows : (e : HostEvent) (s : Side) → IsArrivalAt s x e → Arrives gives s at fl old new → Flows gives t x at fl e old new
   arrives_flows e s come k = each_side (λ u. IsArrivalAt u x e → Arrives gives u at fl old new → Flows gives t x at fl e old new) t
       (λ come k. record {
         index = k.index;
@@ -180,12 +180,12 @@ module _ (gives : Algorithms) (t : Side) (x : ℕ) (at : Side → ℕ) (fl : Sid
             | inr (item, plain, e) ↦ inr (inl (item, plain, e ∙ ap (λ xs. xs ++ item ∷ []) left))
           ]
 
-  came_flows : (cn n : ℕ) → WorldSteps gives old (event.Deliver cn n) r new → Flows gives t x at fl (event.Deliver cn n) old new
+  came_flows : (cn n : ℕ) → WorldSteps gives old (event.Deliver cn n) r new → Flows gives t x at fl (Plays (event.Deliver cn n)) old new
   came_flows cn n h = elim (came_off gives cn n r old new h) [
     | inl m ↦ elim (cases_Bool (m.index == x)) [
       | inl b ↦ (let same : m.index ≡ x = grind (arith, nat_tests) in
           let is : m.link ≡ cable at fl = same_Some m.link (cable at fl) (sym m.there ∙ (ap (slice_get old.links) same ∙ c.there)) in
-          arrives_flows (event.Deliver cn n) m.side (n, m.named, ap (λ q. event.Deliver q n) (m.numbered ∙ ap (λ k. suc k) same))
+          arrives_flows (Plays (event.Deliver cn n)) m.side (n, m.named, ap (λ q. Plays (event.Deliver q n)) (m.numbered ∙ ap (λ k. suc k) same))
           (arrived gives m.side x at fl m.link old new c is (subst (λ k. Comes gives m.side k m.link old new) same m.comes)))
       | inr f ↦ (let other : m.index ≡ x → ⊥ = grind (arith, nat_tests) in
           let b = passed_by gives m.side x m.index at fl m.link old new c m.there other m.comes in
@@ -194,7 +194,7 @@ module _ (gives : Algorithms) (t : Side) (x : ℕ) (at : Side → ℕ) (fl : Sid
     | inr m ↦ (let b = stays_beside gives x at fl old new c m in record { index = b.index; now = fl; on = b.links; moves = inl refl })
   ]
 
-  quiet_flows : (e : Event) → IsQuiet e → WorldSteps gives old e r new → Flows gives t x at fl e old new
+  quiet_flows : (e : HostEvent) → IsQuiet e → StepReplies gives old e r new → Flows gives t x at fl e old new
   quiet_flows e q h =
       let g = quiet_cable gives e x at fl r old new q h c in
       record {
@@ -204,16 +204,13 @@ module _ (gives : Algorithms) (t : Side) (x : ℕ) (at : Side → ℕ) (fl : Sid
         moves = elim (g.grew t) [ inl e ↦ inl e | inr (item, plain, e) ↦ inr (inl (item, λ q. plain q.0 q.1, e)) ];
       }
 
-  pub flows : (e : Event) → IsBetweenTicks e → WorldSteps gives old e r new → Flows gives t x at fl e old new
-  flows (event.Emit n p) b h = asked_flows n p h
-  flows (event.Deliver cn n) b h = came_flows cn n h
-  flows (event.Offer n agg octets) b h = quiet_flows (event.Offer n agg octets) tt h
-  flows (event.Move n agg conv p) b h = quiet_flows (event.Move n agg conv p) tt h
-  flows (event.Force n agg conv) b h = quiet_flows (event.Force n agg conv) tt h
-  flows e b h = absurd b
+  pub flows : (e : HostEvent) → IsBetweenTicks e → StepReplies gives old e r new → Flows gives t x at fl e old new
+  flows (Plays (event.Emit n p)) b h = asked_flows n p h
+  flows (Plays (event.Deliver cn n)) b h = came_flows cn n h
+  flows e b h = quiet_flows e b h
 
 -- one of the first k items is an LACPDU still, or the first of them came
-pub flying_flows : {gives : Algorithms} {t : Side} {x : ℕ} {at : Side → ℕ} {fl : Side → List ItemValue} {e : Event} {old new : WorldState}
+pub flying_flows : {gives : Algorithms} {t : Side} {x : ℕ} {at : Side → ℕ} {fl : Side → List ItemValue} {e : HostEvent} {old new : WorldState}
     (k : ℕ) (f : Flows gives t x at fl e old new) → FlyingIn k (fl t)
     → FlyingIn k (f.now t) ⊎ ((item : ItemValue) × IsArrivalAt t x e × (fl t ≡ item ∷ f.now t))
 flying_flows {gives} {t} {x} {at} {fl} k f h = elim f.moves [
@@ -238,26 +235,26 @@ stays_there x y at fl now old new c d e =
 
 -- a run in which so many items towards the end of t are still to arrive
 
-pub between_at : {t : Side} {x : ℕ} {e : Event} → IsArrivalAt t x e → IsBetweenTicks e
+pub between_at : {t : Side} {x : ℕ} {e : HostEvent} → IsArrivalAt t x e → IsBetweenTicks e
 between_at come = subst IsBetweenTicks (sym come.2) tt
 
 module _ (gives : Algorithms) (s t : Side) (x : ℕ) (A : ℕ → Bool → Bool → WorldState → Type 0)
     (kept : (k : ℕ) (a b : Bool) → KeptBetween gives (A k a b))
-    (comes : (k : ℕ) (a b : Bool) (e : Event) (r : Reply) (i j : WorldState) → IsArrivalAt t x e → WorldSteps gives i e r j → A (suc k) a b i
+    (comes : (k : ℕ) (a b : Bool) (e : HostEvent) (r : Reply) (i j : WorldState) → IsArrivalAt t x e → StepReplies gives i e r j → A (suc k) a b i
     → A k a b j)
     (own : (k : ℕ) (b : Bool) → MadeByTick gives s (A k true b) (A k false b))
     (other : (k : ℕ) (a : Bool) → MadeByTick gives (peer s) (A k a true) (A k a false)) where
   -- an event that need not be an arrival
-  step_on : (e : Event) (es : List Event) (r : Reply) (i j : WorldState) (k : ℕ) (a b : Bool) → TickOnce s a b (e ∷ es) → WorldSteps gives i e r j
+  step_on : (e : HostEvent) (es : List HostEvent) (r : Reply) (i j : WorldState) (k : ℕ) (a b : Bool) → TickOnce s a b (e ∷ es) → StepReplies gives i e r j
       → A k a b i → (c : Bool) × (d : Bool) × TickOnce s c d es × A k c d j
   step_on e es r i j k a b (inl (m, due, h)) step y =
-      (false, b, h, own k b m.0 r i j m.1 (subst (λ x. WorldSteps gives i x r j) m.2 step) (subst (λ x. A k x b i) due y))
+      (false, b, h, own k b m.0 r i j m.1 (subst (λ x. StepReplies gives i x r j) m.2 step) (subst (λ x. A k x b i) due y))
   step_on e es r i j k a b (inr (inl (m, due, h))) step y =
-      (a, false, h, other k a m.0 r i j m.1 (subst (λ x. WorldSteps gives i x r j) m.2 step) (subst (λ x. A k a x i) due y))
+      (a, false, h, other k a m.0 r i j m.1 (subst (λ x. StepReplies gives i x r j) m.2 step) (subst (λ x. A k a x i) due y))
   step_on e es r i j k a b (inr (inr h)) step y = (a, b, h.1, kept k a b e r i j h.0 step y)
 
-  pub counted_on : (es : List Event) (rs : List Reply) (i j : WorldState) (k : ℕ) (a b : Bool) → TickOnce s a b es → ArriveIn k t x es
-      → WorldRuns gives i es rs j → A k a b i → A 0 false false j
+  pub counted_on : (es : List HostEvent) (rs : List Reply) (i j : WorldState) (k : ℕ) (a b : Bool) → TickOnce s a b es → ArriveIn k t x es
+      → RunReplies gives i es rs j → A k a b i → A 0 false false j
   counted_on [] [] i j zero a b h come run y =
       subst (λ x. A 0 false false x) (sym run) (subst (λ x. A 0 false x i) h.1 (subst (λ x. A 0 x b i) h.0 y))
   counted_on [] [] i j (suc k) a b h come run y = absurd come
@@ -308,12 +305,12 @@ module _ (gives : Algorithms) (s t : Side) (x : ℕ) (at : Side → ℕ) (P : It
         },
       )
 
-  comes_past : (k : ℕ) (a b : Bool) (e : Event) (r : Reply) (i j : WorldState) → IsArrivalAt t x e → WorldSteps gives i e r j → A (suc k) a b i
+  comes_past : (k : ℕ) (a b : Bool) (e : HostEvent) (r : Reply) (i j : WorldState) → IsArrivalAt t x e → StepReplies gives i e r j → A (suc k) a b i
       → A k a b j
   comes_past k a b e r i j come h (m, p) = (kept a b e r i j (between_at come) h m, past)
     where
       past : Past t x at P k j
-      past = elim (comes_in gives come.0 x t at p.flying r i j come.1 p.on (subst (λ y. WorldSteps gives i y r j) come.2 h)) [
+      past = elim (comes_in gives come.0 x t at p.flying r i j come.1 p.on (subst (λ y. StepReplies gives i y r j) come.2 h)) [
         | inl (none, stays) ↦ record {
           flying = p.flying;
           on = subst (OnCable x at p.flying) (sym stays.links) p.on;
@@ -340,8 +337,8 @@ module _ (gives : Algorithms) (s t : Side) (x : ℕ) (at : Side → ℕ) (P : It
     record { flying = p.flying; on = subst (OnCable x at p.flying) (sym (ticks gives n (peer s) r i j named h).links) p.on; items = p.items },
   )
 
-  pub cleared_on : (es : List Event) (rs : List Reply) (fl : Side → List ItemValue) (i j : WorldState) → OnCable x at fl i.links
-      → TickOnce s true true es → ArriveIn (length (fl t)) t x es → WorldRuns gives i es rs j → M true true i
+  pub cleared_on : (es : List HostEvent) (rs : List Reply) (fl : Side → List ItemValue) (i j : WorldState) → OnCable x at fl i.links
+      → TickOnce s true true es → ArriveIn (length (fl t)) t x es → RunReplies gives i es rs j → M true true i
       → M false false j × Past t x at P 0 j
   cleared_on es rs fl i j c h come run m = counted_on gives s t x A kept_past comes_past own_past other_past es rs i j (length (fl t)) true true
       h come run (m, record { flying = fl; on = c; items = beyond_first P (fl t) })

@@ -1,23 +1,23 @@
 -- Which events are a late round.
 use Rattle.lagprogress.proofs.Common.{Bool, List, [], ap, false, inl, inr, length, refl, subst, suc, sym, true, zero, ℕ, ◌++◌, ◌∙◌, ◌∷◌, ◌≡◌, One}
-use Rattle.lagprogress.proofs.Common.{Side, peer, Event, Reply, Algorithms, WorldRuns, WorldSteps, ItemValue, WorldState, port_at, towards, IsTickOf}
-use Rattle.lagprogress.proofs.Common.{TickOnce, ArriveIn, AskingIsLateRound, HostRoundIsLateRound, OldArrive}
+use Rattle.lagprogress.proofs.Common.{Side, peer, Reply, Algorithms, ItemValue, WorldState, port_at, towards, HostEvent, IsTickOf, RunReplies}
+use Rattle.lagprogress.proofs.Common.{StepReplies, TickOnce, ArriveIn, AskingIsLateRound, HostRoundIsLateRound, OldArrive}
 use Rattle.lagprogress.proofs.EachRound.{joins_kept}
-use Rattle.lagprogress.proofs.HostLoops.{asking_is_played}
+use Rattle.lagprogress.proofs.HostLoops.{asking_is_one}
 use Rattle.lagprogress.proofs.LateFlow.{flows, gain_at, stays_there}
 use Rattle.lagprogress.proofs.OneCable.{OnCable, cable, sent_frame, ticks, towards_there}
 use Rattle.lagprogress.proofs.Starting.{healthy_cable}
 
 pub asking_is_late_round : (gives : Algorithms) → AskingIsLateRound gives
-asking_is_late_round gives = asking_is_played OldArrive gives
+asking_is_late_round gives = asking_is_one OldArrive gives
 
 -- a run in the end of which nothing is on the cable: what was on it has arrived
 
-arrive_later : (k : ℕ) (t : Side) (x : ℕ) (e : Event) (es : List Event) → ArriveIn k t x es → ArriveIn k t x (e ∷ es)
+arrive_later : (k : ℕ) (t : Side) (x : ℕ) (e : HostEvent) (es : List HostEvent) → ArriveIn k t x es → ArriveIn k t x (e ∷ es)
 arrive_later zero t x e es h = tt
 arrive_later (suc k) t x e es h = inr h
 
-arrive_fewer : (k : ℕ) (t : Side) (x : ℕ) (es : List Event) → ArriveIn (suc k) t x es → ArriveIn k t x es
+arrive_fewer : (k : ℕ) (t : Side) (x : ℕ) (es : List HostEvent) → ArriveIn (suc k) t x es → ArriveIn k t x es
 arrive_fewer zero t x es h = tt
 arrive_fewer (suc k) t x [] h = absurd h
 arrive_fewer (suc k) t x (e ∷ es) (inl h) = inl (h.0, arrive_fewer k t x es h.1)
@@ -29,20 +29,20 @@ one_longer (y ∷ ys) x = ap (λ n. suc n) (one_longer ys x)
 
 module _ (gives : Algorithms) (t : Side) (x : ℕ) (at : Side → ℕ) (j : WorldState)
     (none : (fl : Side → List ItemValue) → OnCable x at fl j.links → fl t ≡ []) where
-  must_arrive : (es : List Event) (rs : List Reply) (i : WorldState) (fl : Side → List ItemValue) (a b : Bool) → OnCable x at fl i.links
-      → TickOnce One a b es → WorldRuns gives i es rs j → ArriveIn (length (fl t)) t x es
+  must_arrive : (es : List HostEvent) (rs : List Reply) (i : WorldState) (fl : Side → List ItemValue) (a b : Bool) → OnCable x at fl i.links
+      → TickOnce One a b es → RunReplies gives i es rs j → ArriveIn (length (fl t)) t x es
   must_arrive [] [] i fl a b c h run =
       subst (λ xs. ArriveIn (length xs) t x []) (sym (none fl (subst (λ (y : WorldState). OnCable x at fl y.links) (sym run) c))) tt
   must_arrive (e ∷ es) (r ∷ rs) i fl a b c (inl (m, due, h)) run = arrive_later (length (fl t)) t x e es
       (must_arrive es rs run.0 fl false b (ticked One m run.1) h run.2)
     where
-      ticked : (s : Side) → IsTickOf s e → WorldSteps gives i e r run.0 → OnCable x at fl run.0.links
-      ticked s m step = subst (OnCable x at fl) (sym (ticks gives m.0 s r i run.0 m.1 (subst (λ y. WorldSteps gives i y r run.0) m.2 step)).links) c
+      ticked : (s : Side) → IsTickOf s e → StepReplies gives i e r run.0 → OnCable x at fl run.0.links
+      ticked s m step = subst (OnCable x at fl) (sym (ticks gives m.0 s r i run.0 m.1 (subst (λ y. StepReplies gives i y r run.0) m.2 step)).links) c
   must_arrive (e ∷ es) (r ∷ rs) i fl a b c (inr (inl (m, due, h))) run = arrive_later (length (fl t)) t x e es
       (must_arrive es rs run.0 fl a false (ticked (peer One) m run.1) h run.2)
     where
-      ticked : (s : Side) → IsTickOf s e → WorldSteps gives i e r run.0 → OnCable x at fl run.0.links
-      ticked s m step = subst (OnCable x at fl) (sym (ticks gives m.0 s r i run.0 m.1 (subst (λ y. WorldSteps gives i y r run.0) m.2 step)).links) c
+      ticked : (s : Side) → IsTickOf s e → StepReplies gives i e r run.0 → OnCable x at fl run.0.links
+      ticked s m step = subst (OnCable x at fl) (sym (ticks gives m.0 s r i run.0 m.1 (subst (λ y. StepReplies gives i y r run.0) m.2 step)).links) c
   must_arrive (e ∷ es) (r ∷ rs) i fl a b c (inr (inr h)) run =
       let f = flows gives t x at fl r i run.0 c e h.0 run.1 in
       let same = stays_there x f.index at fl f.now i run.0 c f.on (joins_kept gives i.links e r i run.0 h.0 run.1 refl) in

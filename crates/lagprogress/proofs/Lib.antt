@@ -13,6 +13,7 @@ mod Claims
 mod Telling
 mod Starting
 mod Lapsing
+mod Knowing
 mod HostKnowing
 mod Climbing
 mod Quieting

@@ -148,7 +148,7 @@ module _ (Holds : LinkState → WorldState → Type 0) (t : Side) (gives : Algor
       (rounds_alike gives n old new b.steady h s was.0 was.1 was.3) (number ∙ sym before) in
       let own : e.1.port.party.system ≡ st.system = own_system st e.0 e.1 (now s).0 e.3 in
       let other : f.1.port.party.system ≡ (half (peer s) new).state.system = own_system (half (peer s) new).state f.0 f.1 (now (peer s)).0 f.3 in
-      let kept = played_keep NoneIsLeft gives SystemId (λ z. z.system) (λ z ports table. refl) n old new h in
+      let kept = played_keep NoneIsLeft gives SystemId (λ z. z.system) (λ z ports table. refl) (λ z table. refl) (λ z d. refl) n old new h in
       record {
         place = e.0;
         port = e.1;

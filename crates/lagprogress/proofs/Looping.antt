@@ -3,14 +3,15 @@ use Rattle.lagprogress.proofs.Common.{List, None, Option, Some, [], ap, arith, i
 use Rattle.lagprogress.proofs.Common.{sym, true, zero, ℕ, ◌++◌, ◌+◌, ◌<◌, ◌∙◌, ◌∷◌, ◌≡◌, ◌≤◌, false≢true, same_Some, slice_get_within, AllByRecursion}
 use Rattle.lagprogress.proofs.Common.{all-append, One, Side, Two, WorldSetup, end_at, Event, WorldFault, Reply, Algorithms, WorldRuns, WorldSteps}
 use Rattle.lagprogress.proofs.Common.{cause, cause_or_no_memory, has_system, world_setup, ends_of_cable, ports_joined, LinkState, WorldState, port_at}
-use Rattle.lagprogress.proofs.Common.{end_is, AsksInVain, DrainingRounds, IsDrainingRound, IsNoMoveOf, sent_nothing, IsBetweenTicks, Delivers}
+use Rattle.lagprogress.proofs.Common.{end_is, Plays, AsksInVain, DrainingRounds, IsDrainingRound, IsNoMoveOf, sent_nothing, IsBetweenTicks, Delivers}
 use Rattle.lagprogress.proofs.Common.{IsOutOfMemoryOrSpent, RefusesDelivery, RunsAll, AsksEnds, AsksOrDelivers, AsksPort, DeliversAndAsks}
 use Rattle.lagprogress.proofs.Common.{EmptiesCables, PlaysBetween, PlaysHostPart, PlaysHostRound, StopsBetween, IsDeliver, ticks_of_both, IsSteady}
+use Rattle.lagprogress.proofs.HostLoops.{as_played, asking_in_vain_is_draining, both_tick, draining_are_host, vain_after_ticks}
+use Rattle.std.specs.Prelude.{map}
 use Rattle.lagprogress.proofs.EachRound.{hosts_steady}
 use Rattle.lagprogress.proofs.Linked.{each_side}
 use Rattle.lagprogress.proofs.Played.{as_many, some_within, below_or_same, cable_at, refused_event, runs_append}
 use Rattle.lagscript.specs.declared.event.Event.TheVariants as event
-use Rattle.lagprogress.proofs.HostLoops.{asking_in_vain_is_draining, both_tick, draining_are_host, vain_after_ticks}
 
 -- events between ticks
 
@@ -26,13 +27,13 @@ plays_both gives old mid new a b = record {
   acts = runs_append gives a.events b.events a.replies b.replies old mid new a.acts b.acts;
 }
 
-are_between : (es : List Event) → AllByRecursion AsksOrDelivers es → AllByRecursion IsBetweenTicks es
+are_between : (es : List Event) → AllByRecursion AsksOrDelivers es → AllByRecursion (λ e. IsBetweenTicks (Plays e)) es
 are_between [] h = tt
 are_between (event.Emit n p ∷ es) h = (tt, are_between es h.1)
 are_between (event.Deliver c n ∷ es) h = (tt, are_between es h.1)
 are_between (e ∷ es) h = absurd h.0
 
-move_none : (s : Side) (g k : ℕ) (es : List Event) → AllByRecursion AsksOrDelivers es → AllByRecursion (IsNoMoveOf s g k) es
+move_none : (s : Side) (g k : ℕ) (es : List Event) → AllByRecursion AsksOrDelivers es → AllByRecursion (IsNoMoveOf s g k) (map Plays es)
 move_none s g k [] h = tt
 move_none s g k (event.Emit n p ∷ es) h = (tt, move_none s g k es h.1)
 move_none s g k (event.Deliver c n ∷ es) h = (tt, move_none s g k es h.1)
@@ -63,12 +64,13 @@ pub asks_more : (gives : Algorithms) (number p : ℕ) (r : Reply) (old mid new :
 asks_more gives number p r old mid new a x = plays_both gives old mid new a (asked_once gives number p r mid new x)
 
 vain_behind : (gives : Algorithms) (s : Side) (p : ℕ) (es fs : List Event) (rs qs : List Reply) (i j : WorldState) → WorldRuns gives i es rs j
-    → AsksInVain s p fs qs → AsksInVain s p (es ++ fs) (rs ++ qs)
+    → AsksInVain s p (map Plays fs) qs → AsksInVain s p (map Plays (es ++ fs)) (rs ++ qs)
 vain_behind gives s p [] fs [] qs i j run h = h
 vain_behind gives s p (e ∷ es) fs (r ∷ rs) qs i j run h = inr (vain_behind gives s p es fs rs qs run.0 j run.2 h)
 vain_behind gives s p es fs rs qs i j run h = absurd run
 
-vain_before : (s : Side) (p : ℕ) (es fs : List Event) (rs qs : List Reply) → AsksInVain s p es rs → AsksInVain s p (es ++ fs) (rs ++ qs)
+vain_before : (s : Side) (p : ℕ) (es fs : List Event) (rs qs : List Reply) → AsksInVain s p (map Plays es) rs
+    → AsksInVain s p (map Plays (es ++ fs)) (rs ++ qs)
 vain_before s p [] fs rs qs h = absurd h
 vain_before s p (e ∷ es) fs [] qs h = absurd h
 vain_before s p (e ∷ es) fs (r ∷ rs) qs (inl h) = inl h
@@ -132,7 +134,7 @@ asks_one_more gives n one two old mid between new a fixed h b c = record {
   asks = λ s i p l e. elim (below_or_same i n l) [
     | inl less ↦ vain_before s p a.played.events later a.played.replies replies (a.asks s i p less e)
     | inr same ↦ vain_behind gives s p a.played.events later a.played.replies replies old mid a.played.acts
-        (each_side (λ t. (q : ℕ) → end_at (world_setup old).cables t (suc n) ≡ Some q → AsksInVain t q later replies) One first second s p
+        (each_side (λ t. (q : ℕ) → end_at (world_setup old).cables t (suc n) ≡ Some q → AsksInVain t q (map Plays later) replies) One first second s p
         (subst (λ k. end_at (world_setup old).cables s (suc k) ≡ Some p) same e))
   ];
 }
@@ -143,18 +145,18 @@ asks_one_more gives n one two old mid between new a fixed h b c = record {
     replies : List Reply
     replies = b.played.replies ++ c.played.replies
 
-    first : (q : ℕ) → end_at (world_setup old).cables One (suc n) ≡ Some q → AsksInVain One q later replies
+    first : (q : ℕ) → end_at (world_setup old).cables One (suc n) ≡ Some q → AsksInVain One q (map Plays later) replies
     first q e =
         let k = cable_at n one two old mid fixed h in
         let at : one ≡ q = sym (ap first_port k.2) ∙ same_Some k.0.one q (sym (end_is One old.links n k.0 k.1) ∙ e) in
-        subst (λ m. AsksInVain One m later replies) at (vain_before One one b.played.events c.played.events b.played.replies c.played.replies
+        subst (λ m. AsksInVain One m (map Plays later) replies) at (vain_before One one b.played.events c.played.events b.played.replies c.played.replies
         (b.asks One refl))
 
-    second : (q : ℕ) → end_at (world_setup old).cables Two (suc n) ≡ Some q → AsksInVain Two q later replies
+    second : (q : ℕ) → end_at (world_setup old).cables Two (suc n) ≡ Some q → AsksInVain Two q (map Plays later) replies
     second q e =
         let k = cable_at n one two old mid fixed h in
         let at : two ≡ q = sym (ap third_port k.2) ∙ same_Some k.0.two q (sym (end_is Two old.links n k.0 k.1) ∙ e) in
-        subst (λ m. AsksInVain Two m later replies) at (vain_behind gives Two two b.played.events c.played.events b.played.replies c.played.replies
+        subst (λ m. AsksInVain Two m (map Plays later) replies) at (vain_behind gives Two two b.played.events c.played.events b.played.replies c.played.replies
         mid between b.played.acts (c.asks Two refl))
 
 -- so they are, whatever the count is
@@ -217,12 +219,33 @@ host_round_drains gives old new h steady s g k =
     let rs = a.played.replies ++ b.replies in
     let between = all-append AsksOrDelivers a.played.events b.events a.played.between b.between in
     let run = runs_append gives a.played.events b.events a.played.replies b.replies h.ticked h.asked new a.played.acts b.acts in
-    asking_in_vain_is_draining gives s g k (ticks_of_both ++ es) (t.replies ++ rs) old new steady (both_tick es (are_between es between))
-    (tt, (tt, move_none s g k es between)) (runs_append gives ticks_of_both es t.replies rs old h.ticked new t.acts run)
+    asking_in_vain_is_draining gives s g k (map Plays (ticks_of_both ++ es)) (t.replies ++ rs) old new steady
+    (both_tick es (are_between es between)) (tt, (tt, move_none s g k es between))
+    (as_played gives (ticks_of_both ++ es) (t.replies ++ rs) old new (runs_append gives ticks_of_both es t.replies rs old h.ticked new t.acts run))
     (λ u i l at. vain_after_ticks gives u (port_at u l) t.replies es rs old h.ticked t.acts
     (vain_before u (port_at u l) a.played.events b.events a.played.replies b.replies (a.asks u i (port_at u l)
     (slice_get_within old.links i l at.there)
     (ap (λ (x : WorldSetup). end_at x.cables u (suc i)) h.fixed ∙ end_is u old.links i l at.there)))) h.later.empties
+
+-- and is played by events
+
+abbrev pub RunsEvents : Algorithms → WorldState → WorldState → Type 0
+RunsEvents gives old new = (es : List Event) × RunsAll gives es old new
+
+pub runs_none : (gives : Algorithms) (j : WorldState) → RunsEvents gives j j
+runs_none gives j = ([], record { replies = []; acts = refl })
+
+pub round_runs : (gives : Algorithms) (old mid new : WorldState) → RunsEvents gives old mid → PlaysHostRound gives mid new → RunsEvents gives old new
+round_runs gives old mid new a h =
+    let t = h.ticks in
+    let b = plays_both gives h.ticked h.asked new h.asks.played (plays_until_empty gives (length mid.links) h.asked new h.later) in (
+      a.0 ++ (ticks_of_both ++ b.events),
+      record {
+        replies = a.1.replies ++ (t.replies ++ b.replies);
+        acts = runs_append gives a.0 (ticks_of_both ++ b.events) a.1.replies (t.replies ++ b.replies) old mid new a.1.acts
+            (runs_append gives ticks_of_both b.events t.replies b.replies mid h.ticked new t.acts b.acts);
+      },
+    )
 
 -- it is refused
 

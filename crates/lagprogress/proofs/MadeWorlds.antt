@@ -1,10 +1,11 @@
 -- A world that events lead to from one that was made is a bundle, if its links are up as it wants them.
 use Rattle.lagprogress.proofs.Common.{Bool, List, None, Option, Some, [], ap, arith, false, if◌then◌else◌, map, refl, subst, suc, sym, true, zero, ℕ}
 use Rattle.lagprogress.proofs.Common.{◌++◌, ◌+◌, ◌-◌, ◌∙◌, ◌∷◌, ◌≡◌, none-some, SystemId, same_system, system-itself, One, Side, Two, WorldSetup}
-use Rattle.lagprogress.proofs.Common.{Config, config_value, Event, Reply, Algorithms, WorldRuns, AreFirst, LinkState, WorldState, half, start_sound}
-use Rattle.lagprogress.proofs.Common.{hosts_keep_headline, no, EachLinkAgrees, EachLinkComesUp, HostReachedIsBundle, IsBundle, ReachedIsApart}
-use Rattle.lagprogress.proofs.Common.{ReachedIsBundle, SystemsDiffer, CarriersAreUp, NothingIsHeld, DrainingRounds, NothingIsHeldByHosts, HostRounds}
-use Rattle.lagprogress.proofs.Common.{EachAgrees, EachDistributes, IsReached, IsReady, LeadsTo, NothingStaysHeld, Rounds, IsSteady}
+use Rattle.lagprogress.proofs.Common.{Config, config_value, Algorithms, AreFirst, LinkState, WorldState, half, start_sound, hosts_keep_headline, no}
+use Rattle.lagprogress.proofs.Common.{EachLinkAgrees, EachLinkComesUp, HostReachedIsBundle, IsBundle, ReachedIsApart, ReachedIsBundle, SystemsDiffer}
+use Rattle.lagprogress.proofs.Common.{CarriersAreUp, NothingIsHeld, DrainingRounds, NothingIsHeldByHosts, HostRounds, EachAgrees, EachDistributes}
+use Rattle.lagprogress.proofs.Common.{IsReached, IsReady, LeadsTo, NothingStaysHeld, Rounds, IsSteady}
+use Rattle.lagprogress.proofs.Looping.{RunsEvents}
 use Rattle.lagscript.specs.declared.config.BadWorld.TheVariants.{SameSystem}
 use Rattle.cables.specs.declared.item.Item.{Item}
 use Rattle.lagscript.specs.Configs.{refusal_of_all}
@@ -68,15 +69,7 @@ host_reached_is_bundle Holds gives config es start new accepted i first runs few
       },
     )
 
--- draining rounds are events, and the last of them are such rounds
-
-draining_run : (gives : Algorithms) (s : Side) (g k n : ℕ) (old new : WorldState) → DrainingRounds s g k gives n old new
-    → (es : List Event) × (rs : List Reply) × WorldRuns gives old es rs new
-draining_run gives s g k zero old new h = ([], [], h)
-draining_run gives s g k (suc n) old new h =
-    let run = draining_run gives s g k n old h.0 h.1 in
-    let q = h.2.round in
-    (run.0 ++ q.events, run.1 ++ q.replies, runs_append gives run.0 q.events run.1 q.replies old h.0 new run.2 q.acts)
+-- the last of draining rounds are such rounds
 
 draining_splits : (gives : Algorithms) (s : Side) (g k i m n : ℕ) (old new : WorldState) → n ≡ i + m → DrainingRounds s g k gives n old new
     → (mid : WorldState) × DrainingRounds s g k gives m old mid × DrainingRounds s g k gives i mid new
@@ -111,22 +104,20 @@ module _ {C : Type 0} (items : C → List Item) (limit : C → Option ℕ) where
 
   -- that ask until nothing is due
 
-  carriers_later : (gives : Algorithms) (s : Side) (g k n : ℕ) (old new : WorldState) → IsReached items limit gives old
-      → DrainingRounds s g k gives n old new → CarriersAreUp (half s new).state
-  carriers_later gives s g k n old new r h =
-      let run = draining_run gives s g k n old new h in
-      each_reached_has_carriers_up gives r.config.systems (r.events ++ run.0) (r.replies ++ run.1) r.start new r.starts r.made.systems
-      (runs_append gives r.events run.0 r.replies run.1 r.start old new r.runs run.2) s
+  carriers_later : (gives : Algorithms) (old new : WorldState) → IsReached items limit gives old → RunsEvents gives old new → (s : Side)
+      → CarriersAreUp (half s new).state
+  carriers_later gives old new r (es, run) = each_reached_has_carriers_up gives r.config.systems (r.events ++ es) (r.replies ++ run.replies) r.start
+      new r.starts r.made.systems (runs_append gives r.events es r.replies run.replies r.start old new r.runs run.acts)
 
   pub free_by_hosts : (Holds : LinkState → WorldState → Type 0) (least : ℕ) (gives : Algorithms) → NothingIsHeldByHosts Holds least gives
-      → (n : ℕ) (old new : WorldState) → (IsSteady old → (s : Side) (g k : ℕ) → DrainingRounds s g k gives n old new)
+      → (n : ℕ) (old new : WorldState) → RunsEvents gives old new → (IsSteady old → (s : Side) (g k : ℕ) → DrainingRounds s g k gives n old new)
       → LeadsTo items limit NothingStaysHeld Holds (least + 30) gives n old new
-  free_by_hosts Holds least gives by n old new h r ready enough s left g k =
+  free_by_hosts Holds least gives by n old new run h r ready enough s left g k =
       let b = (is_bundle Holds gives old r ready).1 in
       let all = h b.steady s g k in
       let cut = draining_splits gives s g k 30 (n - 30) n old new (omega (arith, enough)) all in
       by (n - 30) 30 old cut.0 new s g k b (omega (arith, enough)) (draining_are_host gives s g k (n - 30) old cut.0 cut.1) (omega arith) cut.2 left
-      (carriers_later gives s g k n old new r all)
+      (carriers_later gives old new r run s)
 
   -- and in healthy rounds
 

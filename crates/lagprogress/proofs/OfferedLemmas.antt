@@ -1,12 +1,14 @@
 -- A frame that a bundle is offered after its links came up arrives within one round.
-use Rattle.lagprogress.proofs.Common.{List, Some, [], ap, arith, map, refl, slice_get, subst, suc, sym, true, zero, ℕ, ◌++◌, ◌+◌, ◌∙◌, ◌∷◌, ◌≡◌, ◌≤◌}
-use Rattle.lagprogress.proofs.Common.{Vec, AggId, Lacpdu, One, Side, peer, Machines, receive_rows, count_down, SystemPort, Data_frame, IsFrame}
-use Rattle.lagprogress.proofs.Common.{SystemState, all-get, Event, Reply, Algorithms, WorldRuns, WorldSteps, side_of, link_ends, ItemValue, LinkState}
-use Rattle.lagprogress.proofs.Common.{WorldState, accepts_at, half, is_accepted, link_at, port_at, put_on_port, towards, put_ends, OfEach, Step-each}
-use Rattle.lagprogress.proofs.Common.{first_each, AtPort, runs_keep, takes_keep, Arrives, DisabledAreUnsynchronized, EachFrameArrives}
-use Rattle.lagprogress.proofs.Common.{EachFrameArrivesByHosts, EachReachedHasUnsynchronized, GetsPort, HandsUp, Sometime, TakesFrame, BothAreActive}
-use Rattle.lagprogress.proofs.Common.{EndsHealthyCable, IsBundle, OneIsActive, HostRounds, IsHostRound, TickOnce, IsRound, NothingInFlight, Rounds}
-use Rattle.lagprogress.proofs.Common.{asks_all, ticks_of_both, up_if_both_active, up_if_one_is}
+use Rattle.lagprogress.proofs.Common.{List, Some, [], ap, arith, inl, inr, map, refl, slice_get, subst, suc, sym, true, zero, ℕ, ◌++◌, ◌+◌, ◌∙◌, ◌∷◌}
+use Rattle.lagprogress.proofs.Common.{◌≡◌, ◌≤◌, Vec, AggId, Lacpdu, One, Side, peer, Machines, receive_rows, count_down, SystemPort, Data_frame}
+use Rattle.lagprogress.proofs.Common.{IsFrame, SystemState, all-get, Event, Reply, Algorithms, WorldRuns, WorldSteps, side_of, link_ends, ItemValue}
+use Rattle.lagprogress.proofs.Common.{LinkState, WorldState, accepts_at, half, is_accepted, link_at, port_at, put_on_port, towards, put_ends}
+use Rattle.lagprogress.proofs.Common.{HostEvent, Plays, OfEach, Step-each, first_each, AtPort, runs_keep, takes_keep, Arrives}
+use Rattle.lagprogress.proofs.Common.{DisabledAreUnsynchronized, EachFrameArrives, EachFrameArrivesByHosts, EachReachedHasUnsynchronized, GetsPort}
+use Rattle.lagprogress.proofs.Common.{HandsUp, Sometime, SometimePlayed, TakesFrame, BothAreActive, EndsHealthyCable, IsBundle, OneIsActive}
+use Rattle.lagprogress.proofs.Common.{HostRounds, IsHostRound, RunReplies, TickOnce, IsRound, NothingInFlight, Rounds, asks_all, ticks_of_both}
+use Rattle.lagprogress.proofs.Common.{up_if_both_active, up_if_one_is}
+use Rattle.lagprogress.proofs.HostLoops.{as_played, rounds_are_host_rounds, round_ticks}
 use Rattle.lagprogress.proofs.ArrivingLemmas.{is_data, offer_gets_port}
 use Rattle.lagprogress.proofs.Bundling.{Meets, Nowhere, awake_of, both_active, one_active, said, ups_of, named_of}
 use Rattle.lagprogress.proofs.Carrying.{Lapses, LapsesAt, distributes_up, lapse_first, lapse_kept, lapse_settles, receive_lapses}
@@ -17,9 +19,8 @@ use Rattle.lagprogress.proofs.Halves.{both_first, keeps_steady}
 use Rattle.lagprogress.proofs.Linked.{EndIs, IsGood, Link, place_kept, push_there, events_each}
 use Rattle.lagprogress.proofs.OneCable.{OnCable, cable, placed, port_there, push, push_each, puts, takes_all, towards_there}
 use Rattle.lagprogress.proofs.OneRound.{join}
-use Rattle.lagprogress.proofs.HostKnowing.{fits_fresh, fits_before}
+use Rattle.lagprogress.proofs.HostKnowing.{host_signs, fits_fresh, fits_before}
 use Rattle.lagprogress.proofs.ComingUp.{told_now}
-use Rattle.lagprogress.proofs.HostLoops.{rounds_are_host_rounds, round_ticks}
 use Rattle.lagscript.specs.declared.event.Event.TheVariants as event
 use Rattle.lagworld.specs.declared.reply.Reply.TheVariants as reply
 use Rattle.lagprogress.proofs.Lasting.{all_by_place, as_before, still_heard}
@@ -75,6 +76,16 @@ accepted : (s : Side) (p i : ℕ) (at : Side → ℕ) (fl : Side → List ItemVa
 accepted s p i at fl links c e = ap (λ q. is_accepted s q links) (sym e) ∙ (ap (λ o. accepts_at s (link_at o links)) (placed s i at fl links c)
     ∙ (ap (accepts_at s) c.there ∙ takes_all s at fl))
 
+-- what comes at an event of hosts that play events comes at one of those
+sometime_played : (P : WorldState → Event → Reply → Type 0) (gives : Algorithms) (es : List Event) (rs : List Reply) (old new : WorldState)
+    (run : WorldRuns gives old es rs new) → SometimePlayed P gives (map Plays es) rs old new (as_played gives es rs old new run)
+    → Sometime P gives es rs old new run
+unfolding as_played
+sometime_played P gives [] [] old new run h = absurd h
+sometime_played P gives (e ∷ es) (r ∷ rs) old new run (inl h) = inl h
+sometime_played P gives (e ∷ es) (r ∷ rs) old new run (inr h) = inr (sometime_played P gives es rs run.0 new run.2 h)
+sometime_played P gives es rs old new run h = absurd run
+
 -- after a round nothing flies
 none_flies : (gives : Algorithms) (n : ℕ) (old new : WorldState) → 1 ≤ n → HostRounds gives n old new → NothingInFlight new
 none_flies gives zero old new l h = absurd (omega (arith, l))
@@ -101,8 +112,8 @@ module _ (Holds : LinkState → WorldState → Type 0) (first : ℕ) (gives : Al
     pub there : slice_get sent.links index ≡ Some link
     pub joins : port_at s link ≡ got.port
     pub flies : towards (peer s) link ≡ got.item ∷ []
-    pub arrives : (es : List Event) (rs : List Reply) (new : WorldState) → TickOnce One true true es → (run : WorldRuns gives sent es rs new)
-        → NothingInFlight new → Sometime (HandsUp (peer s) index got.item) gives es rs sent new run
+    pub arrives : (es : List HostEvent) (rs : List Reply) (new : WorldState) → TickOnce One true true es → (run : RunReplies gives sent es rs new)
+        → NothingInFlight new → SometimePlayed (HandsUp (peer s) index got.item) gives es rs sent new run
 
   pub frame_sent : (n number : ℕ) (s : Side) (agg : AggId) (octets : Vec ℕ) (r : Reply) (mid sent : WorldState)
       → DisabledAreUnsynchronized (half s old).state → 1 ≤ n → first + 31 ≤ n → HostRounds gives n old mid
@@ -121,7 +132,7 @@ module _ (Holds : LinkState → WorldState → Type 0) (first : ℕ) (gives : Al
       let awake = awake_of Holds Nowhere first gives old m i l y in
       let top = ups_of Holds Nowhere first gives old m i l y n mid enough h in
       let fresh = top.2.fresh in
-      let heard = told_now at w named awake top.0 mid top.1 top.2 (peer s) in
+      let heard = told_now at w (host_signs at w) 0 top.0 mid top.1 top.2 (peer s) in
       let start = join 2 at w fresh.known One (peer s) PartnerInSync mid fresh.link heard in
       let plain = subst (λ o. IsFrame o Data_frame) (sym g.frame) (is_data octets.items takes.may.1) in
       let o = offer_link gives number s 2 at w fresh.known (peer s) PartnerInSync agg octets r mid sent g (sym it.joins) plain step start in
@@ -147,10 +158,10 @@ module _ (Holds : LinkState → WorldState → Type 0) (first : ℕ) (gives : Al
             es rs sent new turns run none o.0 way;
       }
 
-  frame_arrives : (s : Side) (agg : AggId) (octets : List ℕ) (mid : WorldState) (r : Reply) (es : List Event) (rs : List Reply)
-      (sent new : WorldState) (run : WorldRuns gives sent es rs new) → TickOnce One true true es → NothingInFlight new
-      → Sent s agg octets mid r sent → Arrives gives s agg octets mid r es rs sent new run
-  frame_arrives s agg octets mid r es rs sent new run turns none x = record {
+  frame_arrives : (s : Side) (agg : AggId) (octets : List ℕ) (mid : WorldState) (r : Reply) (sent : WorldState)
+      (At : (WorldState → Event → Reply → Type 0) → Type 0) (x : Sent s agg octets mid r sent) → At (HandsUp (peer s) x.index x.got.item)
+      → Arrives s agg octets mid r sent At
+  frame_arrives s agg octets mid r sent At x up = record {
     port = x.got.port;
     serial = x.got.serial;
     distributes = x.got.distributes;
@@ -162,26 +173,32 @@ module _ (Holds : LinkState → WorldState → Type 0) (first : ℕ) (gives : Al
     item = x.got.item;
     frame = x.got.frame;
     flies = x.flies;
-    up = x.arrives es rs new turns run none;
+    up = up;
   }
 
   pub arrives_by_hosts : (n number : ℕ) (s : Side) (agg : AggId) (octets : Vec ℕ) (r : Reply) (mid sent new : WorldState)
       → DisabledAreUnsynchronized (half s old).state → first + 31 ≤ n → HostRounds gives n old mid → side_of number ≡ Some s
       → TakesFrame agg octets.items (half s mid).state → WorldSteps gives mid (event.Offer number agg octets) r sent
-      → (q : IsHostRound gives sent new) → Arrives gives s agg octets.items mid r q.events q.replies sent new q.acts
+      → (q : IsHostRound gives sent new)
+      → Arrives s agg octets.items mid r sent (λ P. SometimePlayed P gives q.events q.replies sent new q.acts)
   arrives_by_hosts n number s agg octets r mid sent new quiet enough h named takes step q =
-      frame_arrives s agg octets.items mid r q.events q.replies sent new q.acts q.ticks q.empties
-      (frame_sent n number s agg octets r mid sent quiet (omega (arith, enough)) enough h named takes step)
+      let x = frame_sent n number s agg octets r mid sent quiet (omega (arith, enough)) enough h named takes step in
+      frame_arrives s agg octets.items mid r sent (λ P. SometimePlayed P gives q.events q.replies sent new q.acts) x
+      (x.arrives q.events q.replies new q.ticks q.acts q.empties)
 
   pub arrives : (n number : ℕ) (s : Side) (agg : AggId) (octets : Vec ℕ) (r : Reply) (mid sent new : WorldState)
       → DisabledAreUnsynchronized (half s old).state → first + 31 ≤ n → Rounds gives n old mid → side_of number ≡ Some s
       → TakesFrame agg octets.items (half s mid).state → WorldSteps gives mid (event.Offer number agg octets) r sent
       → (q : IsRound gives sent new)
-      → Arrives gives s agg octets.items mid r (ticks_of_both ++ (asks_all sent.links ++ q.delivers)) q.replies sent new q.acts
+      → Arrives s agg octets.items mid r sent
+      (λ P. Sometime P gives (ticks_of_both ++ (asks_all sent.links ++ q.delivers)) q.replies sent new q.acts)
   arrives n number s agg octets r mid sent new quiet enough h named takes step q =
-      frame_arrives s agg octets.items mid r (ticks_of_both ++ (asks_all sent.links ++ q.delivers)) q.replies sent new q.acts
-      (round_ticks sent.links q.delivers q.arrives) q.empties (frame_sent n number s agg octets r mid sent quiet (omega (arith, enough)) enough
-      (rounds_are_host_rounds gives n old mid b.steady h) named takes step)
+      let x = frame_sent n number s agg octets r mid sent quiet (omega (arith, enough)) enough
+      (rounds_are_host_rounds gives n old mid b.steady h) named takes step in
+      let es = ticks_of_both ++ (asks_all sent.links ++ q.delivers) in
+      frame_arrives s agg octets.items mid r sent (λ P. Sometime P gives es q.replies sent new q.acts) x
+      (sometime_played (HandsUp (peer s) x.index x.got.item) gives es q.replies sent new q.acts (x.arrives (map Plays es) q.replies new
+      (round_ticks sent.links q.delivers q.arrives) (as_played gives es q.replies sent new q.acts) q.empties))
 
 pub each_frame_arrives_by_hosts : (gives : Algorithms) → EachFrameArrivesByHosts OneIsActive up_if_one_is gives
 each_frame_arrives_by_hosts gives n number s agg octets r old mid sent new b quiet enough h named takes step q =

@@ -8,12 +8,13 @@ use Rattle.lagprogress.proofs.Common.{up_if_both_active, up_if_one_is, IsSteady}
 use Rattle.lagprogress.proofs.Bundling.{agree_up, both_meet, both_wake, heard_holds, one_meet, one_wakes, Named, names}
 use Rattle.lagprogress.proofs.Choosing.{Chose}
 use Rattle.lagprogress.proofs.Climbing.{Down, Ripe, Rising, climbed, down_settles, down_takes, down_ticks, rising_first}
-use Rattle.lagprogress.proofs.ComingUp.{Up, comes_up, climb_first, climb_on, distributes, synced_of}
+use Rattle.lagprogress.proofs.ComingUp.{Up, climb_on, distributes, host_comes_up, rises_first, up_synced}
 use Rattle.lagprogress.proofs.EachRound.{EachAt, RoundKeeps, host_each, hosts_on, hosts_split, hosts_steady, played_keep}
 use Rattle.lagprogress.proofs.EndFacts.{Synced, activity}
 use Rattle.lagprogress.proofs.Frozen.{AllChose, AllFresh, Stands, choice_rounds, on_cable}
 use Rattle.lagprogress.proofs.OneRound.{Nothing}
-use Rattle.lagprogress.proofs.HostKnowing.{AtIt, Fresh, FreshAt, stays_fresh}
+use Rattle.lagprogress.proofs.Knowing.{AtIt}
+use Rattle.lagprogress.proofs.HostKnowing.{host_chain, host_signs, Fresh, FreshAt, stays_fresh}
 use Rattle.lagprogress.proofs.Starting.{said_by}
 use Rattle.lagprogress.proofs.Claims.{IsNamed}
 use Rattle.lagprogress.proofs.Linked.{at_end, end_here, end_with}
@@ -25,8 +26,8 @@ climb_one : (at : Side → ℕ) (w : Side → Lacpdu) → ((t : Side) → IsName
     (gives : Algorithms) (mid top : WorldState) → FreshAt at w 1 mid → AtIt at w s (λ p. is_selected p.choice ≡ true) mid
     → HostRounds gives 20 mid top → AtIt at w s (Rising 0) top
 climb_one at w named awake s gives mid top g chosen h =
-    (hosts_on gives (λ n j. FreshAt at w 1 j × AtIt at w s (Rising (20 - n)) j) mid (g, climb_first at w named awake mid g s chosen)
-    (λ n i j r f. (stays_fresh at w named awake gives 1 i j (omega arith) r f.0, climb_on at w named awake s gives n i j f.0 r f.1)) 20 top h).1
+    (hosts_on gives (λ n j. FreshAt at w 1 j × AtIt at w s (Rising (20 - n)) j) mid (g, rises_first at w g.known mid g.link s chosen)
+    (λ n i j r f. (stays_fresh at w named awake gives 1 i j (omega arith) r f.0, climb_on at w (host_signs at w) NoneIsLeft gives 0 (host_chain at w gives) named awake s n i j f.0 r f.1)) 20 top h).1
 
 -- a SELECTED port whose link is down
 
@@ -73,7 +74,7 @@ module _ (Holds : LinkState → WorldState → Type 0) (first : ℕ) (gives : Al
     stands : Stands Holds gives old heard wake mid
     stands = record {
       steady = hosts_steady gives first old mid steady h;
-      config = played_keep NoneIsLeft gives (List PortConfig) (λ t. t.ports) (λ t a b. refl) first old mid h;
+      config = played_keep NoneIsLeft gives (List PortConfig) (λ t. t.ports) (λ t a b. refl) (λ t a. refl) (λ t d. refl) first old mid h;
       alike = λ t k x e. rounds_alike gives first old mid steady h t k x e;
     }
 
@@ -149,14 +150,14 @@ module _ (Holds : LinkState → WorldState → Type 0) (first : ℕ) (gives : Al
 
   ups : (i : ℕ) (l : LinkState) (y : IsHealthyAt i l old) (n : ℕ) (new : WorldState) → first + 31 ≤ n → HostRounds gives n old new
       → ((s : Side) → AtEnd (λ p. selected p ≡ true) s l new)
-      → Up (λ s. port_at s l) (said_by l old (ends_at i l old y)) (named i l y) (wake i l y) new
+      → Up (λ s. port_at s l) (said_by l old (ends_at i l old y)) new
   ups i l y n new enough h sel =
       let at : Side → ℕ = λ s. port_at s l in
       let w = said_by l old (ends_at i l old y) in
       let m = n - first in
       let cut = hosts_split gives m first n old new (omega (arith, enough)) h in
       let up = hosts_split gives (m - 20) 20 m cut.0 new (omega (arith, enough)) cut.2 in
-      comes_up at w (named i l y) (wake i l y) gives (m - 20) cut.0 up.0 new (fresh cut.0 cut.1 i l y)
+      host_comes_up at w (named i l y) (wake i l y) gives (m - 20) cut.0 up.0 new (fresh cut.0 cut.1 i l y)
       (λ s. was_chosen cut.0 cut.1 i l y m new cut.2 s (sel s)) (ready cut.0 cut.1 up.0 up.1 i l y) (omega (arith, enough)) up.1 up.2
 
   pub pairs_distribute : (i : ℕ) (l : LinkState) (y : IsHealthyAt i l old) (n : ℕ) (new : WorldState) → first + 31 ≤ n → HostRounds gives n old new
@@ -164,13 +165,13 @@ module _ (Holds : LinkState → WorldState → Type 0) (first : ℕ) (gives : Al
       → (s : Side) → AtEnd Distributes s l new
   pairs_distribute i l y n new enough h sel =
       distributes (λ s. port_at s l) (said_by l old (ends_at i l old y)) new
-      (synced_of (λ s. port_at s l) (said_by l old (ends_at i l old y)) (named i l y) (wake i l y) new (ups i l y n new enough h sel))
+      (up_synced (λ s. port_at s l) (said_by l old (ends_at i l old y)) new (ups i l y n new enough h sel))
 
   pub pairs_agree : IsWorldSound old → (i : ℕ) (l : LinkState) (y : IsHealthyAt i l old) (n : ℕ) (new : WorldState) → first + 31 ≤ n
       → HostRounds gives n old new
       → ((s : Side) → AtEnd (λ p. selected p ≡ true) s l new) → agreement_at new (suc i) ≡ Some Same
   pairs_agree sound i l y n new enough h sel = agree_up NoneIsLeft gives n old new sound h i l y
-      (synced_of (λ s. port_at s l) (said_by l old (ends_at i l old y)) (named i l y) (wake i l y) new (ups i l y n new enough h sel))
+      (up_synced (λ s. port_at s l) (said_by l old (ends_at i l old y)) new (ups i l y n new enough h sel))
 
 pub selected_pairs_come_up_by_hosts : (gives : Algorithms) → SelectedPairsComeUp HostRounds OneIsActive up_if_one_is gives
 selected_pairs_come_up_by_hosts gives n i l old new cabling steady heard y enough h sel = pairs_distribute OneIsActive 621 gives old cabling steady heard

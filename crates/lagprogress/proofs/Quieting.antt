@@ -1,37 +1,21 @@
--- A frame that is offered, or a conversation that is moved or forced, leaves the ports, and what their LACPDUs say.
-use Rattle.lagprogress.proofs.Common.{Err, List, Ok, Result, Some, [], ap, arith, inl, inr, map, refl, subst, sym, ℕ, ◌++◌, ◌==◌, ◌∙◌, ◌∷◌, ◌≡◌, ◌⊎◌}
-use Rattle.lagprogress.proofs.Common.{cases_Bool, nat_tests, Vec, AggId, Lacpdu, One, Side, Two, peer, value_of, Machines, SystemFault, Carries}
-use Rattle.lagprogress.proofs.Common.{Force, IsFrame, Move_conversation, Offer, Step, system_force_result, system_move_result, SystemState}
-use Rattle.lagprogress.proofs.Common.{port_index, becomes_slots, offers_slots, Event, Reply, AfterOffer, Algorithms, InHalf, WorldSteps, offered_item}
-use Rattle.lagprogress.proofs.Common.{side_of, with_frame_counted, HalfForces, HalfMoves, forced_if_accepted, link_ends, HalfState, ItemValue}
-use Rattle.lagprogress.proofs.Common.{WorldState, half, put_on_port, with_half, put_ends, half_there, OfEach, AtPort, IsSteady}
+-- What moves no port (`IsQuiet`) leaves the ports, and what their LACPDUs say.
+use Rattle.lagprogress.proofs.Common.{Bool, Err, List, Ok, Result, Some, [], ap, arith, false, inl, inr, map, refl, subst, sym, ℕ, ◌++◌, ◌==◌, ◌∙◌}
+use Rattle.lagprogress.proofs.Common.{◌∷◌, ◌≡◌, ◌⊎◌, cases_Bool, nat_tests, Vec, AllByRecursion, AggId, Lacpdu, One, Side, Two, peer, value_of}
+use Rattle.lagprogress.proofs.Common.{Machines, Table, SystemFault, SystemPort, Carries, Force, IsFrame, Move_conversation, Offer, Step}
+use Rattle.lagprogress.proofs.Common.{system_force_result, system_move_result, Set_max_delay, SystemState, port_index, with_system_ports, with_table}
+use Rattle.lagprogress.proofs.Common.{becomes_slots, offers_slots, Reply, AfterOffer, Algorithms, InHalf, WorldSteps, offered_item, side_of}
+use Rattle.lagprogress.proofs.Common.{with_frame_counted, HalfForces, HalfMoves, forced_if_accepted, link_ends, HalfState, ItemValue, WorldState}
+use Rattle.lagprogress.proofs.Common.{half, put_on_port, with_half, put_ends, half_there, HostEvent, HostSteps, Plays, Sets, OfEach, AtPort}
+use Rattle.lagprogress.proofs.Common.{IsBetweenTicks, IsQuiet, IsTickOf, RunReplies, StepReplies, TickOnce, IsSteady}
+use Rattle.lagprogress.proofs.HostSteady.{Quietly, SendsPlain, aside, caller, beside_quietly, delay_quietly, delay_keeps, aside_keeps, step_timely}
+use Rattle.lagprogress.proofs.Halves.{each_is_calls, keeps_steady}
+use Rattle.lagprogress.proofs.Unchanged.{calls_keep}
 use Rattle.lagprogress.proofs.ArrivingLemmas.{is_data, same_ports}
-use Rattle.lagprogress.proofs.Halves.{keeps_steady}
 use Rattle.lagprogress.proofs.Linked.{EndIs, Flying, HasLacpdu, IsGood, Link, has_on, each_side, place_kept, push_other, push_there, pushed}
 use Rattle.lagprogress.proofs.OneCable.{OnCable, half_logs, push, push_each, put_beside, puts}
 use Rattle.slowpdu.specs.declared.pdu.Pdu.TheVariants as pdu
 use Rattle.lagsystem.specs.declared.drive.Reply.TheVariants as answer
 use Rattle.lagscript.specs.declared.event.Event.TheVariants as event
-
--- the event offers a frame, or moves or forces a conversation
-abbrev pub IsQuiet : Event → Type 0
-IsQuiet (event.Offer n agg octets) = Unit {0}
-IsQuiet (event.Move n agg conv p) = Unit {0}
-IsQuiet (event.Force n agg conv) = Unit {0}
-IsQuiet _ = ⊥
-
--- system s has sent an item on port p that bears no LACPDU
-pub record SendsPlain (s : Side) (old new : WorldState) : Type 0 where
-  pub port : ℕ
-  pub item : ItemValue
-  pub plain : (x : Lacpdu) → IsFrame item.octets (Carries (pdu.Lacpdu x)) → ⊥
-  pub sent : new.links ≡ put_on_port s port item old.links
-
--- no port has changed, and nothing was sent, or that
-pub record Quietly (s : Side) (old new : WorldState) : Type 0 where
-  pub same : (t : Side) → (half t new).state.system_ports ≡ (half t old).state.system_ports
-  pub links : (new.links ≡ old.links) ⊎ SendsPlain s old new
-  pub logs : (t : Side) → (half t new).histories ≡ (half t old).histories
 
 one_half : (s t : Side) (h : HalfState) (j : WorldState) → h.state.system_ports ≡ (half s j).state.system_ports
     → (half t (with_half s h j)).state.system_ports ≡ (half t j).state.system_ports
@@ -84,16 +68,16 @@ forced_logs : (a : Result Unit SystemFault) (agg : AggId) (conv : ℕ) (h : Half
 forced_logs (Ok done) agg conv h = refl
 forced_logs (Err fault) agg conv h = refl
 
-pub quietly : (gives : Algorithms) (e : Event) (r : Reply) (old new : WorldState) → IsQuiet e → WorldSteps gives old e r new
+pub quietly : (gives : Algorithms) (e : HostEvent) (r : Reply) (old new : WorldState) → IsQuiet e → StepReplies gives old e r new
     → (s : Side) × Quietly s old new
-quietly gives (event.Offer n agg octets) r old new q h =
+quietly gives (Plays (event.Offer n agg octets)) r old new q h =
     let v = value_of (side_of n) _ h.0 in
     let w = v.2 in (
       v.0,
       offered gives v.0 agg octets.items w.0 old new w.1 r w.2.answers.step
           (ap (λ (k : HalfState). k.histories) w.2.same) w.3,
     )
-quietly gives (event.Move n agg conv p) r old new q h =
+quietly gives (Plays (event.Move n agg conv p)) r old new q h =
     let v = value_of (side_of n) _ h.0 in
     let now = record new { acted = old.acted } in
     let m = v.2.0 in
@@ -107,7 +91,7 @@ quietly gives (event.Move n agg conv p) r old new q h =
             ∙ half_logs v.0 (half v.0 now) old (ap (λ (k : HalfState). k.histories) m.1.same) t;
       },
     )
-quietly gives (event.Force n agg conv) r old new q h =
+quietly gives (Plays (event.Force n agg conv)) r old new q h =
     let v = value_of (side_of n) _ h.0 in
     let now = record new { acted = old.acted } in
     let m = v.2.0 in
@@ -123,7 +107,79 @@ quietly gives (event.Force n agg conv) r old new q h =
             ∙ half_logs v.0 (half v.0 now) old (logs ∙ ap (λ (k : HalfState). k.histories) m.2.same) t;
       },
     )
-quietly gives e r old new q h = absurd q
+quietly gives (Plays e) r old new q h = absurd q
+quietly gives (Sets s (Set_max_delay delay)) r old new q h = (s, delay_quietly gives s delay old new h)
+quietly gives (Sets s setting) r old new q h = absurd q
+quietly gives e r old new q h = (caller e, beside_quietly (caller e) old new (aside gives e old new tt h))
+
+pub quiet_ports : (gives : Algorithms) (e : HostEvent) (r : Reply) (old new : WorldState) → IsQuiet e → StepReplies gives old e r new → (t : Side)
+    → (half t new).state.system_ports ≡ (half t old).state.system_ports
+quiet_ports gives e r old new q h = (quietly gives e r old new q h).1.same
+
+pub quiet_logs : (gives : Algorithms) (e : HostEvent) (r : Reply) (old new : WorldState) → IsQuiet e → StepReplies gives old e r new → (t : Side)
+    → (half t new).histories ≡ (half t old).histories
+quiet_logs gives e r old new q h = (quietly gives e r old new q h).1.logs
+
+-- what a round may have of events, calls and settings: the systems stay steady, the ports where they are, and what is configured
+
+abbrev pub IsCalm : HostEvent → Type 0
+IsCalm (Plays e) = Unit {0}
+IsCalm e = IsQuiet e
+
+pub calm_quiet : (e : HostEvent) → IsQuiet e → IsCalm e
+calm_quiet (Plays e) q = tt
+calm_quiet e q = q
+
+pub calm_between : (e : HostEvent) → IsBetweenTicks e → IsCalm e
+calm_between (Plays e) b = tt
+calm_between e b = b
+
+pub calm_tick : (s : Side) (e : HostEvent) → IsTickOf s e → IsCalm e
+calm_tick s e m = subst IsCalm (sym m.2) tt
+
+as_step : (gives : Algorithms) (e : HostEvent) (r : Reply) (old new : WorldState) → StepReplies gives old e r new → HostSteps gives old e new
+as_step gives (Plays e) r old new h = (r, h)
+as_step gives e r old new h = h
+
+pub calm_steady : (gives : Algorithms) (e : HostEvent) (r : Reply) (old new : WorldState) → IsCalm e → StepReplies gives old e r new
+    → IsSteady old → IsSteady new
+calm_steady gives (Plays e) r old new c h k = keeps_steady gives e r old new h k
+calm_steady gives e r old new c h k = λ s.
+    (let t = step_timely gives e old new (as_step gives e r old new h) (λ u. ((k u).0, (k u).1)) s in (
+      t.0,
+      t.1,
+      subst (λ ports. AllByRecursion (λ (x : SystemPort). x.held ≡ false) ports) (sym (quiet_ports gives e r old new c h s)) (k s).2,
+    ))
+
+pub calm_place : (gives : Algorithms) (e : HostEvent) (r : Reply) (old new : WorldState) → IsCalm e → StepReplies gives old e r new
+    → IsSteady old → IsSteady new → (s : Side) (n : ℕ) → port_index n (half s new).state.system_ports ≡ port_index n (half s old).state.system_ports
+calm_place gives (Plays e) r old new c h a b s n = place_kept gives e r old new h a b s n
+calm_place gives e r old new c h a b s n = ap (port_index n) (quiet_ports gives e r old new c h s)
+
+module _ (X : Type 0) (g : SystemState → X)
+    (kept : (s : SystemState) (ports : List SystemPort) (t : Table) → g (with_table (with_system_ports s ports) t) ≡ g s)
+    (tables : (s : SystemState) (t : Table) → g (with_table s t) ≡ g s) (delays : (s : SystemState) (d : ℕ) → g (record s { max_delay = d }) ≡ g s) where
+  pub calm_keeps : (gives : Algorithms) (e : HostEvent) (r : Reply) (old new : WorldState) → IsCalm e → StepReplies gives old e r new → (t : Side)
+      → g (half t new).state ≡ g (half t old).state
+  calm_keeps gives (Plays e) r old new c h t =
+      let k = each_is_calls gives e r old new h t in
+      calls_keep X g kept (gives t) (half t old).state (half t new).state k.0 k.1 k.2
+  calm_keeps gives (Sets s (Set_max_delay delay)) r old new c h t = delay_keeps X g delays gives s delay old new h t
+  calm_keeps gives (Sets s setting) r old new c h t = absurd c
+  calm_keeps gives e r old new c h t = aside_keeps X g tables gives e old new tt h t
+
+-- a run of a round keeps what each of its events does
+pub runs_calm : (gives : Algorithms) (M : WorldState → Type 0)
+    → ((e : HostEvent) (r : Reply) (i j : WorldState) → IsCalm e → StepReplies gives i e r j → M i → M j) → (s : Side) (a b : Bool)
+    (es : List HostEvent) (rs : List Reply) (old new : WorldState) → TickOnce s a b es → RunReplies gives old es rs new → M old → M new
+runs_calm gives M k s a b [] [] old new h run m = subst M (sym run) m
+runs_calm gives M k s a b (e ∷ es) (r ∷ rs) old new (inl h) run m =
+    runs_calm gives M k s false b es rs run.0 new h.2 run.2 (k e r old run.0 (calm_tick s e h.0) run.1 m)
+runs_calm gives M k s a b (e ∷ es) (r ∷ rs) old new (inr (inl h)) run m =
+    runs_calm gives M k s a false es rs run.0 new h.2 run.2 (k e r old run.0 (calm_tick (peer s) e h.0) run.1 m)
+runs_calm gives M k s a b (e ∷ es) (r ∷ rs) old new (inr (inr h)) run m =
+    runs_calm gives M k s a b es rs run.0 new h.1 run.2 (k e r old run.0 (calm_between e h.0) run.1 m)
+runs_calm gives M k s a b es rs old new h run m = absurd run
 
 -- what it leaves of a cable
 
@@ -134,8 +190,8 @@ pub record Quieted (d : ℕ) (at : Side → ℕ) (w : Side → Lacpdu) (c : Side
   pub grew : (t : Side) → (link.flying t ≡ fl t)
       ⊎ ((item : ItemValue) × ((x : Lacpdu) → IsFrame item.octets (Carries (pdu.Lacpdu x)) → ⊥) × (link.flying t ≡ fl t ++ item ∷ []))
 
-pub quiet_link : (gives : Algorithms) (e : Event) (d : ℕ) (at : Side → ℕ) (w : Side → Lacpdu) (c : Side → ℕ) (x : Side)
-    (Y : Machines → Type 0) (r : Reply) (old new : WorldState) → IsQuiet e → WorldSteps gives old e r new → (l : Link d at w c x Y old)
+pub quiet_link : (gives : Algorithms) (e : HostEvent) (d : ℕ) (at : Side → ℕ) (w : Side → Lacpdu) (c : Side → ℕ) (x : Side)
+    (Y : Machines → Type 0) (r : Reply) (old new : WorldState) → IsQuiet e → StepReplies gives old e r new → (l : Link d at w c x Y old)
     → Quieted d at w c x Y l.flying new
 quiet_link gives e d at w c x Y r old new q h l = by_links k.links
   where
@@ -146,13 +202,13 @@ quiet_link gives e d at w c x Y r old new q h l = by_links k.links
     k = (quietly gives e r old new q h).1
 
     steady : IsSteady new
-    steady = keeps_steady gives e r old new h l.steady
+    steady = calm_steady gives e r old new (calm_quiet e q) h l.steady
 
     ports : (t : Side) → OfEach (AtPort (at t) (EndIs d w c x Y t)) (half t new).state.system_ports
     ports t = subst (OfEach (AtPort (at t) (EndIs d w c x Y t))) (sym (k.same t)) (l.ports t)
 
     place : (t : Side) → (i : ℕ) × (port_index (at t) (half t new).state.system_ports ≡ Some i)
-    place t = ((l.place t).0, place_kept gives e r old new h l.steady steady t (at t) ∙ (l.place t).1)
+    place t = ((l.place t).0, ap (port_index (at t)) (k.same t) ∙ (l.place t).1)
 
     same_items : OnCable l.index at l.flying new.links → Quieted d at w c x Y l.flying new
     same_items on = record {
@@ -185,14 +241,6 @@ quiet_link gives e d at w c x Y r old new q h l = by_links k.links
           same_items (subst (OnCable l.index at l.flying) (sym m.sent) (put_beside s m.port l.index at l.flying m.item old.links other l.links)))
     ]
 
-pub quiet_ports : (gives : Algorithms) (e : Event) (r : Reply) (old new : WorldState) → IsQuiet e → WorldSteps gives old e r new → (t : Side)
-    → (half t new).state.system_ports ≡ (half t old).state.system_ports
-quiet_ports gives e r old new q h = (quietly gives e r old new q h).1.same
-
-pub quiet_logs : (gives : Algorithms) (e : Event) (r : Reply) (old new : WorldState) → IsQuiet e → WorldSteps gives old e r new → (t : Side)
-    → (half t new).histories ≡ (half t old).histories
-quiet_logs gives e r old new q h = (quietly gives e r old new q h).1.logs
-
 -- what becomes of any cable
 pub record Grown (i : ℕ) (at : Side → ℕ) (fl : Side → List ItemValue) (new : WorldState) : Type 0 where
   pub flying : Side → List ItemValue
@@ -200,8 +248,8 @@ pub record Grown (i : ℕ) (at : Side → ℕ) (fl : Side → List ItemValue) (n
   pub grew : (t : Side) → (flying t ≡ fl t)
       ⊎ ((item : ItemValue) × ((x : Lacpdu) → IsFrame item.octets (Carries (pdu.Lacpdu x)) → ⊥) × (flying t ≡ fl t ++ item ∷ []))
 
-pub quiet_cable : (gives : Algorithms) (e : Event) (i : ℕ) (at : Side → ℕ) (fl : Side → List ItemValue) (r : Reply) (old new : WorldState)
-    → IsQuiet e → WorldSteps gives old e r new → OnCable i at fl old.links → Grown i at fl new
+pub quiet_cable : (gives : Algorithms) (e : HostEvent) (i : ℕ) (at : Side → ℕ) (fl : Side → List ItemValue) (r : Reply) (old new : WorldState)
+    → IsQuiet e → StepReplies gives old e r new → OnCable i at fl old.links → Grown i at fl new
 quiet_cable gives e i at fl r old new q h c = by_links k.links
   where
     s : Side
@@ -228,7 +276,7 @@ quiet_cable gives e i at fl r old new q h c = by_links k.links
           same_items (subst (OnCable i at fl) (sym m.sent) (put_beside s m.port i at fl m.item old.links other c)))
     ]
 
-pub quiet_ends : (gives : Algorithms) (e : Event) (r : Reply) (old new : WorldState) → IsQuiet e → WorldSteps gives old e r new
+pub quiet_ends : (gives : Algorithms) (e : HostEvent) (r : Reply) (old new : WorldState) → IsQuiet e → StepReplies gives old e r new
     → map link_ends new.links ≡ map link_ends old.links
 quiet_ends gives e r old new q h = by_links k.links
   where

@@ -151,7 +151,7 @@ played_lasted E gives n old new steady h = record {
   now = played_steady E gives n old new steady h;
   before = played_before E gives n old new steady h;
   alike = played_alike E gives n old new steady h;
-  system = played_keep E gives SystemId (λ z. z.system) (λ z ports table. refl) n old new h;
+  system = played_keep E gives SystemId (λ z. z.system) (λ z ports table. refl) (λ z table. refl) (λ z d. refl) n old new h;
   sleeps = still_sleeps E gives n old new steady h;
 }
 

@@ -23,7 +23,8 @@ use Rattle.lagworld.specs.Sound.{IsStart}
 use Rattle.lagworld.specs.State.{ItemValue, LinkState, WorldState, half, is_accepted, port_at, put_on_port, towards, with_towards}
 use Rattle.lagprogress.specs.Bundle.{IsBundle}
 use Rattle.lagprogress.specs.Freed.{held_on}
-use Rattle.lagprogress.specs.HostRounds.{HostRounds, IsHostRound}
+use Rattle.laghosts.specs.HostEvents.{HostEvent, Plays}
+use Rattle.lagprogress.specs.HostRounds.{HostRounds, IsHostRound, RunReplies}
 use Rattle.lagprogress.specs.Passing.{EndIsUp}
 use Rattle.lagprogress.specs.Rounds.{AtEnd, IsRound, Rounds, asks_all, ticks_of_both}
 
@@ -89,10 +90,23 @@ Sometime P gives (e ∷ es) (r ∷ rs) old new run = P old e r ⊎ Sometime P gi
 Sometime P gives [] (r ∷ rs) old new run = ⊥
 Sometime P gives (e ∷ es) [] old new run = ⊥
 
+-- it is an event, of which this holds
+abbrev pub IsEventWhere : (P : WorldState → Event → Reply → Type 0) → WorldState → HostEvent → Reply → Type 0
+IsEventWhere P j (Plays e) r = P j e r
+IsEventWhere P j e r = ⊥
+
+-- so it is at some event of a run of hosts
+abbrev pub SometimePlayed : (P : WorldState → Event → Reply → Type 0) (gives : Algorithms) (es : List HostEvent) (rs : List Reply)
+    (old new : WorldState) → RunReplies gives old es rs new → Type 0
+SometimePlayed P gives [] [] old new run = ⊥
+SometimePlayed P gives (e ∷ es) (r ∷ rs) old new run = IsEventWhere P old e r ⊎ SometimePlayed P gives es rs run.0 new run.2
+SometimePlayed P gives [] (r ∷ rs) old new run = ⊥
+SometimePlayed P gives (e ∷ es) [] old new run = ⊥
+
 -- The frame that system s was offered got a port that distributes in the aggregator, its cable accepted it and has nothing else
--- on it in that direction, and in the run that follows it is handed up at the other end.
-pub record Arrives (gives : Algorithms) (s : Side) (agg : AggId) (octets : List ℕ) (old : WorldState) (r : Reply) (es : List Event)
-    (rs : List Reply) (sent new : WorldState) (run : WorldRuns gives sent es rs new) : Type 0 where
+-- on it in that direction, and at some event of the run that follows it is handed up at the other end.
+pub record Arrives (s : Side) (agg : AggId) (octets : List ℕ) (old : WorldState) (r : Reply) (sent : WorldState)
+    (AtSomeEvent : (WorldState → Event → Reply → Type 0) → Type 0) : Type 0 where
   pub port : ℕ
   pub serial : ℕ
   pub distributes : is_among (distributing agg (half s old).state.system_ports) port ≡ true
@@ -104,7 +118,7 @@ pub record Arrives (gives : Algorithms) (s : Side) (agg : AggId) (octets : List 
   pub item : ItemValue
   pub frame : item.octets ≡ octets
   pub flies : towards (peer s) link ≡ item ∷ []
-  pub up : Sometime (HandsUp (peer s) index item) gives es rs sent new run
+  pub up : AtSomeEvent (HandsUp (peer s) index item)
 
 -- each recorded partner of a port in PORT_DISABLED has Synchronization FALSE (6.4.12)
 abbrev pub DisabledAreUnsynchronized : SystemState → Type 0
@@ -122,12 +136,13 @@ EachFrameArrives Holds least gives = (n number : ℕ) (s : Side) (agg : AggId) (
     → IsBundle Holds old → DisabledAreUnsynchronized (half s old).state → least ≤ n → Rounds gives n old mid
     → side_of number ≡ Some s → TakesFrame agg octets.items (half s mid).state
     → WorldSteps gives mid (event.Offer number agg octets) r sent → (q : IsRound gives sent new)
-    → Arrives gives s agg octets.items mid r (ticks_of_both ++ (asks_all sent.links ++ q.delivers)) q.replies sent new q.acts
+    → Arrives s agg octets.items mid r sent
+    (λ P. Sometime P gives (ticks_of_both ++ (asks_all sent.links ++ q.delivers)) q.replies sent new q.acts)
 
--- And so it does by healthy rounds of hosts, whatever else is offered in them.
+-- And so it does by healthy rounds of hosts, whatever else is offered or called in them.
 abbrev pub EachFrameArrivesByHosts : (LinkState → WorldState → Type 0) → ℕ → Algorithms → Type 0
 EachFrameArrivesByHosts Holds least gives = (n number : ℕ) (s : Side) (agg : AggId) (octets : Vec ℕ) (r : Reply)
     (old mid sent new : WorldState) → IsBundle Holds old → DisabledAreUnsynchronized (half s old).state → least ≤ n
     → HostRounds gives n old mid → side_of number ≡ Some s → TakesFrame agg octets.items (half s mid).state
     → WorldSteps gives mid (event.Offer number agg octets) r sent → (q : IsHostRound gives sent new)
-    → Arrives gives s agg octets.items mid r q.events q.replies sent new q.acts
+    → Arrives s agg octets.items mid r sent (λ P. SometimePlayed P gives q.events q.replies sent new q.acts)

@@ -4,23 +4,25 @@ use Rattle.std.specs.List.{AllByRecursion}
 use Rattle.distributor.specs.Changes.{marker_due}
 use Rattle.lagmodel.specs.World.{One, Side}
 use Rattle.portmachines.specs.Transmit.{is_due}
-use Rattle.lagscript.specs.declared.event.Event.{Event}
 use Rattle.lagscript.specs.declared.event.Event.TheVariants as event
 use Rattle.lagworld.specs.declared.reply.Reply.{Reply}
 use Rattle.lagworld.specs.declared.reply.Reply.TheVariants as reply
-use Rattle.lagworld.specs.Events.{Algorithms, WorldRuns, side_of}
+use Rattle.lagworld.specs.Events.{Algorithms, side_of}
+use Rattle.laghosts.specs.HostEvents.{HostEvent, Leaves, Plays, Rests}
 use Rattle.lagworld.specs.State.{LinkState, WorldState, half, port_at}
 use Rattle.lagprogress.specs.Bundle.{IsBundle}
 use Rattle.lagprogress.specs.CutOff.{IsBundleBesideCutOffs}
 use Rattle.lagprogress.specs.Freed.{CarriersAreUp, HasIdentifierLeft, IsNotHeld, IsNotHeldOn}
-use Rattle.lagprogress.specs.HostRounds.{AfterTick, Asks, HostRounds, IsHostRound, IsTickOf, TickOnce}
+use Rattle.lagprogress.specs.HostRounds.{AfterTick, Asks, HostRounds, IsHostRound, IsTickOf, RunReplies, TickOnce}
 use Rattle.lagprogress.specs.Rounds.{AtEnd, IsHealthyAt, IsRound, NothingInFlight}
 use Rattle.lagprogress.specs.Steady.{IsSteady}
 
--- the event neither moves nor forces conversation k of aggregator g of system s
-abbrev pub IsNoMoveOf : Side → (g k : ℕ) → Event → Type 0
-IsNoMoveOf s g k (event.Move n agg conv p) = side_of n ≡ Some s → agg.0 ≡ g → conv ≡ k → ⊥
-IsNoMoveOf s g k (event.Force n agg conv) = side_of n ≡ Some s → agg.0 ≡ g → conv ≡ k → ⊥
+-- the event neither moves nor forces conversation k of aggregator g of system s, and lets it neither leave its port nor rest
+abbrev pub IsNoMoveOf : Side → (g k : ℕ) → HostEvent → Type 0
+IsNoMoveOf s g k (Plays (event.Move n agg conv p)) = side_of n ≡ Some s → agg.0 ≡ g → conv ≡ k → ⊥
+IsNoMoveOf s g k (Plays (event.Force n agg conv)) = side_of n ≡ Some s → agg.0 ≡ g → conv ≡ k → ⊥
+IsNoMoveOf s g k (Leaves t agg conv) = t ≡ s → agg.0 ≡ g → conv ≡ k → ⊥
+IsNoMoveOf s g k (Rests t agg conv) = t ≡ s → agg.0 ≡ g → conv ≡ k → ⊥
 IsNoMoveOf s g k e = Unit {0}
 
 -- no LACPDU and no marker is due at the end of the cable at system s
@@ -74,22 +76,22 @@ sent_nothing (reply.Marker id accepted) = false
 sent_nothing r = true
 
 -- one of these events asks this port of system s, and its reply is that nothing was sent
-abbrev pub AsksInVain : Side → ℕ → List Event → List Reply → Type 0
+abbrev pub AsksInVain : Side → ℕ → List HostEvent → List Reply → Type 0
 AsksInVain s p [] rs = ⊥
 AsksInVain s p (e ∷ es) [] = ⊥
 AsksInVain s p (e ∷ es) (r ∷ rs) = (Asks s p e × (sent_nothing r ≡ true)) ⊎ AsksInVain s p es rs
 
 -- one of these events after a tick of system s does
-abbrev pub AsksInVainAfterTick : Side → ℕ → List Event → List Reply → Type 0
+abbrev pub AsksInVainAfterTick : Side → ℕ → List HostEvent → List Reply → Type 0
 AsksInVainAfterTick s p [] rs = ⊥
 AsksInVainAfterTick s p (e ∷ es) [] = ⊥
 AsksInVainAfterTick s p (e ∷ es) (r ∷ rs) = (IsTickOf s e × AsksInVain s p es rs) ⊎ AsksInVainAfterTick s p es rs
 
 -- And the loop of hosts is one: each system ticks once, each end of a healthy cable is asked after that until it sends nothing, and nothing
--- is on any cable in the end, whatever else is asked, delivered, offered, moved or forced, and in what order. The conversation is neither moved nor forced,
--- and the world is steady.
+-- is on any cable in the end, whatever else they are, and in what order. The conversation is neither moved nor forced, and the world is
+-- steady.
 abbrev pub AskingInVainIsDraining : Algorithms → Type 0
-AskingInVainIsDraining gives = (t : Side) (g k : ℕ) (events : List Event) (replies : List Reply) (old new : WorldState) → IsSteady old
-    → TickOnce One true true events → AllByRecursion (IsNoMoveOf t g k) events → WorldRuns gives old events replies new
+AskingInVainIsDraining gives = (t : Side) (g k : ℕ) (events : List HostEvent) (replies : List Reply) (old new : WorldState) → IsSteady old
+    → TickOnce One true true events → AllByRecursion (IsNoMoveOf t g k) events → RunReplies gives old events replies new
     → ((s : Side) (i : ℕ) (l : LinkState) → IsHealthyAt i l old → AsksInVainAfterTick s (port_at s l) events replies)
     → NothingInFlight new → IsDrainingRound t g k gives old new

@@ -1,5 +1,6 @@
--- A healthy round of a world as hosts play it: in any order, each system ticks once, is asked, and is offered frames (profile).
-use Rattle.std.specs.Prelude.{◌≡◌, ◌⊎◌, ℕ, zero, suc, Bool, true, false, List, [], ◌∷◌, ◌++◌, Some, slice_get}
+-- A healthy round of a world as hosts play it: in any order, each system ticks once, is asked, is offered frames, and is called as hosts
+-- with a data plane do (profile).
+use Rattle.std.specs.Prelude.{◌≡◌, ◌⊎◌, ℕ, zero, suc, Bool, true, false, List, [], ◌∷◌, ◌++◌, map, Some, slice_get}
 use Rattle.std.specs.List.{AllByRecursion}
 use Rattle.lagsystem.specs.declared.system_ports.SystemPort.{SystemPort}
 use Rattle.lagmodel.specs.World.{Side, One, Two, peer}
@@ -7,57 +8,79 @@ use Rattle.portmachines.specs.Transmit.{is_due}
 use Rattle.lagscript.specs.declared.event.Event.{Event}
 use Rattle.lagscript.specs.declared.event.Event.TheVariants as event
 use Rattle.lagworld.specs.declared.reply.Reply.{Reply}
-use Rattle.lagworld.specs.Events.{Algorithms, WorldRuns, side_of}
+use Rattle.lagworld.specs.Events.{Algorithms, WorldRuns, WorldSteps, side_of}
 use Rattle.lagworld.specs.State.{LinkState, WorldState, port_at}
+use Rattle.lagsystem.specs.Settings.{Set_max_delay}
+use Rattle.laghosts.specs.HostEvents.{HostEvent, HostRuns, HostSteps, Plays, Sets}
 use Rattle.lagprogress.specs.Rounds.{AtEnd, IsHealthyAt, IsRound, NothingInFlight, Rounds}
 use Rattle.lagprogress.specs.Steady.{IsSteady}
 
 -- the event is one tick of system s
-abbrev pub IsTickOf : Side → Event → Type 0
-IsTickOf s e = (n : ℕ) × (side_of n ≡ Some s) × (e ≡ event.Tick n 1)
+abbrev pub IsTickOf : Side → HostEvent → Type 0
+IsTickOf s e = (n : ℕ) × (side_of n ≡ Some s) × (e ≡ Plays (event.Tick n 1))
 
--- what hosts do between ticks: a port is asked, something on a cable arrives, a frame is offered, a conversation is moved or forced
-abbrev pub IsBetweenTicks : Event → Type 0
-IsBetweenTicks (event.Emit n p) = Unit {0}
-IsBetweenTicks (event.Deliver c n) = Unit {0}
-IsBetweenTicks (event.Offer n agg octets) = Unit {0}
-IsBetweenTicks (event.Move n agg conv p) = Unit {0}
-IsBetweenTicks (event.Force n agg conv) = Unit {0}
-IsBetweenTicks _ = ⊥
+-- It moves no port: a frame is offered, by itself or by the number of its conversation; a conversation is moved, leaves its port, rests or
+-- is forced; what is held on a port is forced; a port is probed; CollectorMaxDelay is set.
+abbrev pub IsQuiet : HostEvent → Type 0
+IsQuiet (Plays (event.Offer n agg octets)) = Unit {0}
+IsQuiet (Plays (event.Move n agg conv p)) = Unit {0}
+IsQuiet (Plays (event.Force n agg conv)) = Unit {0}
+IsQuiet (Plays e) = ⊥
+IsQuiet (Sets s (Set_max_delay max_delay)) = Unit {0}
+IsQuiet (Sets s setting) = ⊥
+IsQuiet e = Unit {0}
+
+-- what hosts do between ticks: a port is asked, something on a cable arrives, or it moves no port
+abbrev pub IsBetweenTicks : HostEvent → Type 0
+IsBetweenTicks (Plays (event.Emit n p)) = Unit {0}
+IsBetweenTicks (Plays (event.Deliver c n)) = Unit {0}
+IsBetweenTicks e = IsQuiet e
 
 -- each event is a tick of system s or of its peer, or comes between ticks; and each of the two ticks once, if it has still to tick
-abbrev pub TickOnce : Side → (own other : Bool) → List Event → Type 0
+abbrev pub TickOnce : Side → (own other : Bool) → List HostEvent → Type 0
 TickOnce s own other [] = (own ≡ false) × (other ≡ false)
 TickOnce s own other (e ∷ es) =
     (IsTickOf s e × (own ≡ true) × TickOnce s false other es)
     ⊎ ((IsTickOf (peer s) e × (other ≡ true) × TickOnce s own false es) ⊎ (IsBetweenTicks e × TickOnce s own other es))
 
+-- From old, the event, call or setting of a host may lead to new; r is the reply to an event, and of no account else.
+abbrev pub StepReplies : Algorithms → WorldState → HostEvent → Reply → WorldState → Type 0
+StepReplies gives old (Plays e) r new = WorldSteps gives old e r new
+StepReplies gives old e r new = HostSteps gives old e new
+
+-- so one after another
+abbrev pub RunReplies : Algorithms → WorldState → List HostEvent → List Reply → WorldState → Type 0
+RunReplies gives old [] [] new = new ≡ old
+RunReplies gives old (e ∷ es) (r ∷ rs) new = (mid : WorldState) × StepReplies gives old e r mid × RunReplies gives mid es rs new
+RunReplies gives old [] (r ∷ rs) new = ⊥
+RunReplies gives old (e ∷ es) [] new = ⊥
+
 -- at some world of the run this holds
-abbrev pub AtSomeWorld : (P : WorldState → Type 0) (gives : Algorithms) (es : List Event) (rs : List Reply) (old new : WorldState)
-    → WorldRuns gives old es rs new → Type 0
+abbrev pub AtSomeWorld : (P : WorldState → Type 0) (gives : Algorithms) (es : List HostEvent) (rs : List Reply) (old new : WorldState)
+    → RunReplies gives old es rs new → Type 0
 AtSomeWorld P gives [] [] old new run = P old
 AtSomeWorld P gives (e ∷ es) (r ∷ rs) old new run = P old ⊎ AtSomeWorld P gives es rs run.0 new run.2
 AtSomeWorld P gives [] (r ∷ rs) old new run = ⊥
 AtSomeWorld P gives (e ∷ es) [] old new run = ⊥
 
 -- at some world after a tick of system s
-abbrev pub AfterTick : (s : Side) (P : WorldState → Type 0) (gives : Algorithms) (es : List Event) (rs : List Reply) (old new : WorldState)
-    → WorldRuns gives old es rs new → Type 0
+abbrev pub AfterTick : (s : Side) (P : WorldState → Type 0) (gives : Algorithms) (es : List HostEvent) (rs : List Reply) (old new : WorldState)
+    → RunReplies gives old es rs new → Type 0
 AfterTick s P gives (e ∷ es) (r ∷ rs) old new run = (IsTickOf s e × AtSomeWorld P gives es rs run.0 new run.2) ⊎ AfterTick s P gives es rs run.0 new run.2
 AfterTick s P gives [] rs old new run = ⊥
 AfterTick s P gives (e ∷ es) [] old new run = ⊥
 
 -- what becomes of what is on the cables in a round: the events, and the worlds before and after them
 abbrev pub Clearing : Type 1
-Clearing = List Event → WorldState → WorldState → Type 0
+Clearing = List HostEvent → WorldState → WorldState → Type 0
 
 -- These events act, each system ticks once among them, at each end of a healthy cable no LACPDU is due at some time after its system's
 -- tick, and the cables are cleared so far.
 pub record IsPlayed (Clears : Clearing) (gives : Algorithms) (old new : WorldState) : Type 0 where
-  pub events : List Event
+  pub events : List HostEvent
   pub replies : List Reply
   pub ticks : TickOnce One true true events
-  pub acts : WorldRuns gives old events replies new
+  pub acts : RunReplies gives old events replies new
   pub asked : (s : Side) (i : ℕ) (l : LinkState) → IsHealthyAt i l old
       → AfterTick s (λ j. AtEnd (λ p. is_due p ≡ false) s l j) gives events replies old new acts
   pub empties : Clears events old new
@@ -80,41 +103,45 @@ abbrev pub HostRounds : Algorithms → ℕ → WorldState → WorldState → Typ
 HostRounds gives n old new = PlayedRounds NoneIsLeft gives n old new
 
 -- an Emit event asks this port of system s
-abbrev pub Asks : Side → ℕ → Event → Type 0
-Asks s p e = (n : ℕ) × (side_of n ≡ Some s) × (e ≡ event.Emit n p)
+abbrev pub Asks : Side → ℕ → HostEvent → Type 0
+Asks s p e = (n : ℕ) × (side_of n ≡ Some s) × (e ≡ Plays (event.Emit n p))
 
 -- one of the events does
-abbrev pub AsksIn : Side → ℕ → List Event → Type 0
+abbrev pub AsksIn : Side → ℕ → List HostEvent → Type 0
 AsksIn s p [] = ⊥
 AsksIn s p (e ∷ es) = Asks s p e ⊎ AsksIn s p es
 
 -- one of the events after a tick of system s does
-abbrev pub AsksAfterTick : Side → ℕ → List Event → Type 0
+abbrev pub AsksAfterTick : Side → ℕ → List HostEvent → Type 0
 AsksAfterTick s p [] = ⊥
 AsksAfterTick s p (e ∷ es) = (IsTickOf s e × AsksIn s p es) ⊎ AsksAfterTick s p es
 
 -- These events are a healthy round of hosts if each end of a healthy cable is asked after its system's tick, once at least, and
--- nothing is on any cable in the end: whatever else is asked, delivered, offered, moved or forced, and in what order. The world is steady.
+-- nothing is on any cable in the end: whatever else they are, and in what order. The world is steady.
 abbrev pub AskingIsHostRound : Algorithms → Type 0
-AskingIsHostRound gives = (events : List Event) (replies : List Reply) (old new : WorldState) → IsSteady old → TickOnce One true true events
-    → WorldRuns gives old events replies new
+AskingIsHostRound gives = (events : List HostEvent) (old new : WorldState) → IsSteady old → TickOnce One true true events
+    → HostRuns gives old events new
     → ((s : Side) (i : ℕ) (l : LinkState) → IsHealthyAt i l old → AsksAfterTick s (port_at s l) events) → NothingInFlight new
     → IsHostRound gives old new
 
+-- A list of events that acts is a run of hosts, so what is said of runs of hosts holds of events.
+abbrev pub EventsAreOfHosts : Algorithms → Type 0
+EventsAreOfHosts gives = (events : List Event) (replies : List Reply) (old new : WorldState) → WorldRuns gives old events replies new
+    → HostRuns gives old (map Plays events) new
+
 -- The loop of two hosts: each system ticks, and then asks each of its ports, until nothing is due or once at the least; then what
--- is on the cables arrives, and ports are asked again after each arrival, or not. Frames may be offered, conversations moved or forced, and
--- items arrive, at any time after the first tick. In the end nothing is on any cable.
+-- is on the cables arrives, and ports are asked again after each arrival, or not. Items may arrive, and what moves no port may be
+-- called, at any time after the first tick. In the end nothing is on any cable.
 pub record IsHostLoop (gives : Algorithms) (old new : WorldState) : Type 0 where
-  pub first : List Event
-  pub second : List Event
-  pub later : List Event
-  pub replies : List Reply
+  pub first : List HostEvent
+  pub second : List HostEvent
+  pub later : List HostEvent
   pub between_first : AllByRecursion IsBetweenTicks first
   pub between_second : AllByRecursion IsBetweenTicks second
   pub between_later : AllByRecursion IsBetweenTicks later
   pub asks_one : (k : ℕ) (x : SystemPort) → slice_get old.one.state.system_ports k ≡ Some x → AsksIn One x.number first
   pub asks_two : (k : ℕ) (x : SystemPort) → slice_get old.two.state.system_ports k ≡ Some x → AsksIn Two x.number second
-  pub acts : WorldRuns gives old (event.Tick 1 1 ∷ (first ++ (event.Tick 2 1 ∷ (second ++ later)))) replies new
+  pub acts : HostRuns gives old (Plays (event.Tick 1 1) ∷ (first ++ (Plays (event.Tick 2 1) ∷ (second ++ later)))) new
   pub empties : NothingInFlight new
 
 abbrev pub LoopIsHostRound : Algorithms → Type 0

@@ -1,10 +1,9 @@
 -- A healthy round of a world whose hosts tick by clocks of their own, and whose frames take up to a tick to arrive (profile).
 use Rattle.std.specs.Prelude.{◌≡◌, ◌⊎◌, ℕ, zero, suc, List, [], ◌∷◌, length, Some, true}
 use Rattle.lagmodel.specs.World.{IsCabling, One, Side}
-use Rattle.lagscript.specs.declared.event.Event.{Event}
 use Rattle.lagscript.specs.declared.event.Event.TheVariants as event
-use Rattle.lagworld.specs.declared.reply.Reply.{Reply}
-use Rattle.lagworld.specs.Events.{Algorithms, WorldRuns, side_of}
+use Rattle.lagworld.specs.Events.{Algorithms, side_of}
+use Rattle.laghosts.specs.HostEvents.{HostEvent, HostRuns, Plays}
 use Rattle.lagworld.specs.ModelWorld.{world_setup}
 use Rattle.lagworld.specs.State.{LinkState, WorldState, port_at, towards}
 use Rattle.lagprogress.specs.HostRounds.{AsksAfterTick, Clearing, IsHostRound, IsPlayed, PlayedRounds, TickOnce}
@@ -12,11 +11,11 @@ use Rattle.lagprogress.specs.Rounds.{IsHealthyAt}
 use Rattle.lagprogress.specs.Steady.{IsSteady}
 
 -- the event is that the first item on the cable at index i towards system s arrives, if there is one
-abbrev pub IsArrivalAt : Side → ℕ → Event → Type 0
-IsArrivalAt s i e = (n : ℕ) × (side_of n ≡ Some s) × (e ≡ event.Deliver (suc i) n)
+abbrev pub IsArrivalAt : Side → ℕ → HostEvent → Type 0
+IsArrivalAt s i e = (n : ℕ) × (side_of n ≡ Some s) × (e ≡ Plays (event.Deliver (suc i) n))
 
 -- so many of the events are, or more
-abbrev pub ArriveIn : ℕ → Side → ℕ → List Event → Type 0
+abbrev pub ArriveIn : ℕ → Side → ℕ → List HostEvent → Type 0
 ArriveIn zero s i es = Unit {0}
 ArriveIn (suc k) s i [] = ⊥
 ArriveIn (suc k) s i (e ∷ es) = (IsArrivalAt s i e × ArriveIn k s i es) ⊎ ArriveIn (suc k) s i es
@@ -35,10 +34,10 @@ abbrev pub LateRounds : Algorithms → ℕ → WorldState → WorldState → Typ
 LateRounds gives n old new = PlayedRounds OldArrive gives n old new
 
 -- These events are such a round if each end of a healthy cable is asked after its system's tick, once at least, and what was on it
--- arrives, whatever else is asked, delivered, offered, moved or forced, and in what order. The world is steady.
+-- arrives, whatever else they are, and in what order. The world is steady.
 abbrev pub AskingIsLateRound : Algorithms → Type 0
-AskingIsLateRound gives = (events : List Event) (replies : List Reply) (old new : WorldState) → IsSteady old → TickOnce One true true events
-    → WorldRuns gives old events replies new
+AskingIsLateRound gives = (events : List HostEvent) (old new : WorldState) → IsSteady old → TickOnce One true true events
+    → HostRuns gives old events new
     → ((s : Side) (i : ℕ) (l : LinkState) → IsHealthyAt i l old → AsksAfterTick s (port_at s l) events) → OldArrive events old new
     → IsLateRound gives old new
 

@@ -1,5 +1,5 @@
 -- Healthy rounds of hosts that are played, whole or in part (profile).
-use Rattle.std.specs.Prelude.{◌≡◌, ◌⊎◌, ◌<◌, ℕ, zero, suc, List, Some, length}
+use Rattle.std.specs.Prelude.{◌≡◌, ◌⊎◌, ◌<◌, ℕ, zero, suc, List, Some, length, map}
 use Rattle.std.specs.List.{AllByRecursion}
 use Rattle.lagmodel.specs.World.{Side, end_at}
 use Rattle.lagscript.specs.declared.event.Event.{Event}
@@ -8,6 +8,7 @@ use Rattle.lagworld.specs.declared.fault.WorldFault.{WorldFault}
 use Rattle.lagworld.specs.declared.reply.Reply.{Reply}
 use Rattle.lagworld.specs.Events.{Algorithms, WorldRuns, side_of}
 use Rattle.lagworld.specs.ModelWorld.{world_setup}
+use Rattle.laghosts.specs.HostEvents.{Plays}
 use Rattle.lagworld.specs.Sound.{RefusesFor}
 use Rattle.lagworld.specs.State.{WorldState}
 use Rattle.lagprogress.specs.HostFreed.{AsksInVain}
@@ -39,13 +40,13 @@ pub record StopsBetween (gives : Algorithms) (fault : WorldFault) (old new : Wor
 -- so they do, and ask port p of the system with this number until it sends nothing
 pub record AsksPort (gives : Algorithms) (number p : ℕ) (old new : WorldState) : Type 0 where
   pub played : PlaysBetween gives old new
-  pub asks : (s : Side) → side_of number ≡ Some s → AsksInVain s p played.events played.replies
+  pub asks : (s : Side) → side_of number ≡ Some s → AsksInVain s p (map Plays played.events) played.replies
 
 -- so they do, and ask both ends of the first `count` cables until they send nothing
 pub record AsksEnds (gives : Algorithms) (count : ℕ) (old new : WorldState) : Type 0 where
   pub played : PlaysBetween gives old new
   pub asks : (s : Side) (i p : ℕ) → i < count → end_at (world_setup old).cables s (suc i) ≡ Some p
-      → AsksInVain s p played.events played.replies
+      → AsksInVain s p (map Plays played.events) played.replies
 
 -- so many times, items arrive, and then both ends of the first `count` cables are asked until they send nothing
 abbrev pub DeliversAndAsks : Algorithms → (count times : ℕ) → WorldState → WorldState → Type 0

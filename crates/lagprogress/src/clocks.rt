@@ -3,13 +3,13 @@
 ghost use Rattle.lagworld.specs.Sound.{both_algorithms};
 ghost use Rattle.lagprogress.specs.LateRounds.{AskingIsLateRound, HostRoundIsLateRound};
 
-// promise: events as in the first row are a late round (`IsLateRound`) if what was on each healthy cable before has arrived, whatever is on
-//    it in the end; each healthy round of hosts is one
+// promise: events and calls as in the first row are a late round (`IsLateRound`) if what was on each healthy cable before has arrived,
+//    whatever is on it in the end; each healthy round of hosts is one
 // contract: `clocks_play_rounds` (`asking`, `host`)
-// premises: steady; the events acted; no port has two cables
-/// Which events are a late round: each system ticks once, and every other event is Emit, Deliver, Offer, Move or Force, in any order; each end
-/// of a healthy cable is asked at least once after the tick of its system; and what was on each healthy cable before has arrived, while
-/// frames may be on it in the end. The timers of both systems are within their bounds, and no port is held (6.4.16; profile).
+// premises: steady; the events acted, the calls kept their contracts; no port has two cables
+/// Which events are a late round: each system ticks once, and every other event or call is as `hosts_play_rounds` has it, in any order; each
+/// end of a healthy cable is asked at least once after the tick of its system; and what was on each healthy cable before has arrived,
+/// while frames may be on it in the end. The timers of both systems are within their bounds, and no port is held (6.4.16; profile).
 pub fn clocks_play_rounds<F: Fn(u16, usize) -> usize>()
     ensures asking { (one two : F) → AskingIsLateRound (both_algorithms (F.post one) (F.post two)) }
     ensures host { (one two : F) → HostRoundIsLateRound (both_algorithms (F.post one) (F.post two)) }
@@ -22,7 +22,7 @@ ghost use Rattle.lagprogress.specs.LateRounds.{LateRounds, late_known_if_both_ac
 // contract: `ends_come_to_know_by_clocks`, `each_link_comes_up_by_clocks`, `each_link_agrees_by_clocks`
 // premises: those of the same laws by rounds of hosts
 /// The ends of each healthy cable come to know each other in late rounds: from 323 (32.3 s) on if both are active, from 624 (62.4 s) on if
-/// one is, whatever was before them, as in `ends_of_each_cable_come_to_know` (6.4.12, 6.4.13).
+/// one is, whatever was before them, and whatever is offered or called in them, as in `ends_of_each_cable_come_to_know` (6.4.12, 6.4.13).
 pub fn ends_come_to_know_by_clocks<F: Fn(u16, usize) -> usize>()
     ensures both { (one two : F) → EndsOfEachKnow LateRounds BothAreActive late_known_if_both_active (both_algorithms (F.post one) (F.post two)) }
     ensures one { (one two : F) → EndsOfEachKnow LateRounds OneIsActive late_known_if_one_is (both_algorithms (F.post one) (F.post two)) }
@@ -32,8 +32,8 @@ ghost use Rattle.lagprogress.specs.Bundle.{EachLinkAgrees, EachLinkComesUp};
 ghost use Rattle.lagprogress.specs.LateRounds.{late_up_if_both_active, late_up_if_one_is};
 
 /// The links of a bundle, as in `each_link_comes_up`, come up in late rounds: after 356 (35.6 s) or more if both ends of each healthy
-/// cable are active, after 657 (65.7 s) if one is, both ends of each distribute, whatever was before them, and whatever is offered,
-/// moved or forced in them (6.4.12 to 6.4.16; profile).
+/// cable are active, after 657 (65.7 s) if one is, both ends of each distribute, whatever was before them, and whatever is offered or
+/// called in them (6.4.12 to 6.4.16; profile).
 pub fn each_link_comes_up_by_clocks<F: Fn(u16, usize) -> usize>()
     ensures both { (one two : F) → EachLinkComesUp LateRounds BothAreActive late_up_if_both_active (both_algorithms (F.post one) (F.post two)) }
     ensures one { (one two : F) → EachLinkComesUp LateRounds OneIsActive late_up_if_one_is (both_algorithms (F.post one) (F.post two)) }
@@ -41,7 +41,7 @@ pub fn each_link_comes_up_by_clocks<F: Fn(u16, usize) -> usize>()
 
 /// The links of a bundle in a sound world, as in `each_link_agrees`, agree in late rounds: after 356 (35.6 s) or more if both ends of each
 /// healthy cable are active, after 657 (65.7 s) if one is, the agreement of each is `Same`, whatever was before them, and whatever is
-/// offered, moved or forced in them (6.3.6, 6.4.12 to 6.4.16; profile).
+/// offered or called in them (6.3.6, 6.4.12 to 6.4.16; profile).
 pub fn each_link_agrees_by_clocks<F: Fn(u16, usize) -> usize>()
     ensures both { (one two : F) → EachLinkAgrees LateRounds BothAreActive late_up_if_both_active (both_algorithms (F.post one) (F.post two)) }
     ensures one { (one two : F) → EachLinkAgrees LateRounds OneIsActive late_up_if_one_is (both_algorithms (F.post one) (F.post two)) }

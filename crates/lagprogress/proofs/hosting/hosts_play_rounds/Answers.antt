@@ -1,4 +1,4 @@
-use Rattle.lagprogress.proofs.HostLoops.{asking_is_host_round, loop_is_host_round, round_is_host_round, rounds_are_host_rounds}
+use Rattle.lagprogress.proofs.HostLoops.{asking_is_host_round, events_are_of_hosts, loop_is_host_round, round_is_host_round, rounds_are_host_rounds}
 use Rattle.lagprogress.proofs.hosting.hosts_play_rounds.Goals as goal
 
 pub returns-clause-asking : goal.returns-clause-asking
@@ -12,3 +12,6 @@ returns-clause-rounds g c = λ one two. rounds_are_host_rounds _
 
 pub returns-clause-host_loop : goal.returns-clause-host_loop
 returns-clause-host_loop g c = λ one two. loop_is_host_round _
+
+pub returns-clause-events : goal.returns-clause-events
+returns-clause-events g c = λ one two. events_are_of_hosts _

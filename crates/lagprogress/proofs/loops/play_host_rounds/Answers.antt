@@ -1,10 +1,10 @@
-use Rattle.lagprogress.proofs.Common.{arith, subst, ℕ, ◌∙◌, ◌≡◌, ◌≤◌, One, Side, Algorithms, WorldState, BothAreActive, OneIsActive, DrainingRounds}
-use Rattle.lagprogress.proofs.Common.{HostRounds, up_if_both_active, up_if_one_is, IsSteady}
+use Rattle.lagprogress.proofs.Common.{arith, refl, subst, ℕ, ◌∙◌, ◌≡◌, ◌≤◌, One, Side, Algorithms, WorldState, BothAreActive, OneIsActive}
+use Rattle.lagprogress.proofs.Common.{DrainingRounds, HostRounds, up_if_both_active, up_if_one_is, IsSteady}
 use Rattle.lagprogress.proofs.Bundling.{each_active_link_agrees_by_hosts, each_active_link_comes_up_by_hosts, each_link_agrees_by_hosts}
 use Rattle.lagprogress.proofs.Bundling.{each_link_comes_up_by_hosts}
 use Rattle.lagprogress.proofs.Freeing.{none_is_held_where_active_by_hosts, nothing_is_held_by_hosts}
 use Rattle.lagprogress.proofs.HostLoops.{draining_are_host}
-use Rattle.lagprogress.proofs.Looping.{one_draining_round_more}
+use Rattle.lagprogress.proofs.Looping.{one_draining_round_more, round_runs, runs_none}
 use Rattle.lagprogress.proofs.MadeWorlds.{agree, distribute, free_by_hosts}
 use Rattle.lagprogress.proofs.Played.{on_err}
 use Rattle.lagprogress.proofs.loops.play_host_rounds.Goals as goal
@@ -15,11 +15,16 @@ play_host_round-requires-clause-one g c = rw c.loop-done.invariant.one c.require
 pub play_host_round-requires-clause-two : goal.play_host_round-requires-clause-two
 play_host_round-requires-clause-two g c = rw c.loop-done.invariant.two c.requires.two
 
+pub loop-done-init : goal.loop-done-init
+loop-done-init g c = record { within = omega arith; played = λ steady s agg conv. refl; events = runs_none _ _; fixed = refl; one = refl; two = refl }
+
 pub loop-done-preserved : goal.loop-done-preserved
 loop-done-preserved g c = record {
   within = omega (arith, c.loop-done-test.true);
   played = one_draining_round_more _ c.loop-done.done _ _ _ c.loop-done.invariant.played
       (rw (c.loop-done.invariant.one, c.loop-done.invariant.two) at c.in_ok-play_host_round.ensures.drains);
+  events = round_runs _ _ _ _ c.loop-done.invariant.events
+      (rw (c.loop-done.invariant.one, c.loop-done.invariant.two) at c.in_ok-play_host_round.ensures.plays);
   fixed = c.play_host_round.ensures.fixed ∙ c.loop-done.invariant.fixed;
   one = c.play_host_round.ensures.algorithm_one ∙ c.loop-done.invariant.one;
   two = c.play_host_round.ensures.algorithm_two ∙ c.loop-done.invariant.two;
@@ -73,9 +78,9 @@ returns-clause-agrees_one g c = agree g.C.Cable.items g.C.Cable.limit OneIsActiv
     (all_played _ c.args.count c.loop-done.done _ _ c.loop-done-test.false c.loop-done.invariant.within c.loop-done.invariant.played)
 
 pub returns-clause-frees_both : goal.returns-clause-frees_both
-returns-clause-frees_both g c = free_by_hosts g.C.Cable.items g.C.Cable.limit BothAreActive up_if_both_active _ (none_is_held_where_active_by_hosts _) c.args.count _ _
+returns-clause-frees_both g c = free_by_hosts g.C.Cable.items g.C.Cable.limit BothAreActive up_if_both_active _ (none_is_held_where_active_by_hosts _) c.args.count _ _ c.loop-done.invariant.events
     (all_drain _ c.args.count c.loop-done.done _ _ c.loop-done-test.false c.loop-done.invariant.within c.loop-done.invariant.played)
 
 pub returns-clause-frees_one : goal.returns-clause-frees_one
-returns-clause-frees_one g c = free_by_hosts g.C.Cable.items g.C.Cable.limit OneIsActive up_if_one_is _ (nothing_is_held_by_hosts _) c.args.count _ _
+returns-clause-frees_one g c = free_by_hosts g.C.Cable.items g.C.Cable.limit OneIsActive up_if_one_is _ (nothing_is_held_by_hosts _) c.args.count _ _ c.loop-done.invariant.events
     (all_drain _ c.args.count c.loop-done.done _ _ c.loop-done-test.false c.loop-done.invariant.within c.loop-done.invariant.played)

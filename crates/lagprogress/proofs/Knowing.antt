@@ -1,0 +1,639 @@
+-- How the ends of a cable come to know each other, by rounds of any kind.
+use Rattle.lagprogress.proofs.Common.{Bool, arith, false, inl, inr, refl, subst, suc, sym, true, zero, ℕ, ◌+◌, ◌-◌, ◌∙◌, ◌≡◌, ◌≤◌, ◌⊎◌, cases_Bool}
+use Rattle.lagprogress.proofs.Common.{Lacpdu, One, Side, Two, peer, Machines, periodic_rows, AtRest, machines_of, Algorithms, LinkState, WorldState}
+use Rattle.lagprogress.proofs.Common.{half, port_at, IsTimed, timeout_time, OfEach, no, AtPort, Sounds, silence_of, sounds_first, Clearing, IsPlayed}
+use Rattle.lagprogress.proofs.Common.{PlayedRounds, EndKnows, Knows, AtEnd, OfPort}
+use Rattle.lagprogress.proofs.Claims.{IsNamed, Wakeful, can_wake}
+use Rattle.lagprogress.proofs.EndFacts.{CanSound, IsEnd, Learnt, activity, calm, less_known, short_timeout, wait_of}
+use Rattle.lagprogress.proofs.HostRound.{host_keeps, two, two_other, two_there}
+use Rattle.lagprogress.proofs.Lapsing.{Lasting, begins_lasting, lasting_now}
+use Rattle.lagprogress.proofs.Linked.{EndIs, Fits, Link, each_map, each_side, end_here, of_end, other_ports, peer_twice, with_ports}
+use Rattle.lagprogress.proofs.OneRound.{Nothing, at_rest, forget, ticked}
+use Rattle.lagprogress.proofs.Telling.{Wakes}
+
+pub two_less : (s : Side) (c : Side → ℕ) (a b : ℕ) → a ≤ c s → b ≤ c (peer s) → (u : Side) → two s a b u ≤ c u
+two_less One c a b l m One = l
+two_less One c a b l m Two = m
+two_less Two c a b l m One = m
+two_less Two c a b l m Two = l
+
+pub awake_peer : (w : Side → Lacpdu) → ((s : Side) → (activity (w s) ≡ true) ⊎ (activity (w (peer s)) ≡ true)) → (s : Side)
+    → (activity (w (peer s)) ≡ true) ⊎ (activity (w s) ≡ true)
+awake_peer w awake s = elim (awake s) [ inl a ↦ inr a | inr a ↦ inl a ]
+
+module _ (at : Side → ℕ) (w : Side → Lacpdu) where
+  -- the port at an end has Short Timeout recorded, once it knows its partner
+  abbrev pub mode : Side → Bool
+  mode s = short_timeout (w (peer s))
+
+  -- what is left of current_while after the round in which an LACPDU came, at the least: it may have come before the tick
+  abbrev pub wait : Side → ℕ
+  wait s = wait_of (w s) - 1
+
+  abbrev pub AtIt : Side → (Machines → Type 0) → WorldState → Type 0
+  AtIt s P j = OfEach (AtPort (at s) P) (half s j).state.system_ports
+
+  pub lower : (c b : Side → ℕ) (x : Side) (Y : Machines → Type 0) (j : WorldState) → ((s : Side) → b s ≤ c s) → Link 1 at w c x Y j → Link 1 at w b x Y j
+  lower c b x Y j less l =
+      other_ports l (λ s p rest timed a. (less_known 1 (w s) (w (peer s)) (c s) (b s) p (less s) a.0, a.1))
+
+  pub beside : (d : ℕ) (c : Side → ℕ) (x : Side) (Y : Machines → Type 0) (j : WorldState) → Link d at w c x Y j → AtIt x Y j
+  beside d c x Y j l = of_end l x Y (λ p rest timed a. a.1 refl)
+
+  -- the end of s knows its partner since just now
+  pub learns : (d : ℕ) (c : Side → ℕ) (s : Side) (b : ℕ) (j : WorldState) → b ≤ c (peer s) → Link d at w c s (Learnt d (w (peer s)) (wait s)) j
+      → Link d at w (two s (wait s) b) s Nothing j
+  learns d c s b j less l =
+      let P : Side → Machines → Type 0 = EndIs d w c s (Learnt d (w (peer s)) (wait s)) in
+      let Q : Side → Machines → Type 0 = EndIs d w (two s (wait s) b) s Nothing in
+      other_ports l (each_side (λ u. (p : Machines) → AtRest periodic_rows p → IsTimed p → P u p → Q u p) s
+      (λ p rest timed a. (
+        subst (λ n. IsEnd d (w s) (w (peer s)) n p) (sym (two_there s (wait s) b)) (a.0.0, (a.1 refl).0, a.0.2),
+        λ f. tt,
+      ))
+      (λ p rest timed a. (
+        less_known d (w (peer s)) (w (peer (peer s))) (c (peer s)) (two s (wait s) b (peer s)) p
+            (subst (λ n. n ≤ c (peer s)) (sym (two_other s (wait s) b)) less) a.0,
+        λ f. tt,
+      )))
+
+  pub sounds_now : (d : ℕ) (c : Side → ℕ) (x : Side) (Y : Machines → Type 0) (s : Side) (fast : Bool) (j : WorldState)
+      → CanSound (w s) (w (peer s)) fast (c s) → Link d at w c x Y j → AtIt s (Sounds fast (silence_of fast)) j
+  sounds_now d c x Y s fast j can l = of_end l s (Sounds fast (silence_of fast))
+      (λ p rest timed a. sounds_first fast p rest timed (calm d (w s) (w (peer s)) fast (c s) p can a.0))
+
+  pub can_known : (s : Side) (c : ℕ) → 1 ≤ c → (activity (w s) ≡ true) ⊎ (activity (w (peer s)) ≡ true)
+      → CanSound (w s) (w (peer s)) (mode s) c
+  can_known s c l (inl a) = (inl a, λ e. (l, e))
+  can_known s c l (inr a) = (inr (l, a), λ e. (l, e))
+
+  pub silence_less : (b : Bool) → silence_of b + 1 ≤ timeout_time b - 1
+  silence_less true = omega arith
+  silence_less false = omega arith
+
+  pub some_silence : (b : Bool) → 1 ≤ silence_of b
+  some_silence true = omega arith
+  some_silence false = omega arith
+
+  pub ends_of : (d : ℕ) (c : Side → ℕ) (x : Side) (Y : Machines → Type 0) (s : Side) (j : WorldState) → Link d at w c x Y j
+      → AtIt s (IsEnd d (w s) (w (peer s)) (c s)) j
+  ends_of d c x Y s j l = of_end l s (IsEnd d (w s) (w (peer s)) (c s)) (λ p rest timed a. a.0)
+
+  one_less_two : 2 ≤ 1 → ⊥
+  one_less_two l = omega (arith, l)
+
+  -- what is known fits, as long as it is kept
+  pub fits_first : (c : Side → ℕ) → ((s : Side) → c s ≤ wait s) → Fits 1 w c
+  fits_first c l s = (let m = l s in omega (arith, m), λ _. omega arith, λ e. absurd (one_less_two e), λ e. absurd (one_less_two e))
+
+  pub fits_ticked : (c : Side → ℕ) → ((s : Side) → c s ≤ wait s) → Fits 1 w (ticked c)
+  fits_ticked c l = fits_first (ticked c) (λ s. let m = l s in omega (arith, m))
+
+  abbrev pub Able : (Side → ℕ) → Type 0
+  Able c = (s : Side) → CanSound (w s) (w (peer s)) (mode s) (c s) × CanSound (w s) (w (peer s)) (mode s) (c s - 1)
+
+  -- an end that may sound is wakeful
+  pub wakes_now : (d : ℕ) (c : Side → ℕ) (x : Side) (Y : Machines → Type 0) (s : Side) (fast : Bool) (j : WorldState)
+      → CanSound (w s) (w (peer s)) fast (c s) → Link d at w c x Y j → AtIt s (Wakeful (w s) (w (peer s))) j
+  wakes_now d c x Y s fast j can l = of_end l s (Wakeful (w s) (w (peer s)))
+      (λ p rest timed a. can_wake d (w s) (w (peer s)) fast (c s) p can a.0)
+
+-- what shows in a world how far its ends are: what is so of the cable between rounds, in how many rounds the other end of one hears it,
+-- in how many if it goes to EXPIRED first, that the other is told that it is synchronized, and that an end took the present change count
+pub record Signs : Type 1 where
+  pub Rest : WorldState → Type 0
+  pub Ahead : Side → Bool → ℕ → WorldState → Type 0
+  pub Awaited : Side → ℕ → WorldState → Type 0
+  pub Told : Side → WorldState → Type 0
+  pub Took : Side → WorldState → Type 0
+
+module _ (at : Side → ℕ) (w : Side → Lacpdu) (z : Signs) where
+  -- what is so once the other end has heard an LACPDU of the end of s
+  pub record Hears (d : ℕ) (c : Side → ℕ) (s : Side) (j : WorldState) : Type 0 where
+    pub link : Link d at w (ticked c) (peer s) (Learnt d (w (peer (peer s))) (wait at w (peer s))) j
+    pub wakes : Wakes at w s j
+    pub told : z.Told s j
+    pub took : z.Took (peer s) j
+
+  -- What rounds of a kind make of these signs. An LACPDU is heard in so many rounds, and e more in which it is on the cable.
+  pub record Chain (E : Clearing) (gives : Algorithms) (e : ℕ) : Type 0 where
+    pub few : e ≤ 1
+    pub rests : (old new : WorldState) → IsPlayed E gives old new → z.Rest old → z.Rest new
+    pub ahead : (d : ℕ) (c : Side → ℕ) (s : Side) (fast : Bool) (j : WorldState) → CanSound (w s) (w (peer s)) fast (c s)
+        → Link d at w c One Nothing j → z.Ahead s fast (silence_of fast + e) j
+    pub nears : (d : ℕ) (s : Side) → 1 ≤ d → (activity (w s) ≡ true) ⊎ IsNamed (w (peer s)) → (c : Side → ℕ) → Fits d w c → Fits d w (ticked c)
+        → (fast : Bool) (m : ℕ) (old new : WorldState) → CanSound (w s) (w (peer s)) fast (ticked c s) → CanSound (w s) (w (peer s)) fast (c s)
+        → Link d at w c One Nothing old → Wakes at w s old → z.Rest old → z.Ahead s fast m old → IsPlayed E gives old new
+        → ((1 ≤ m - 1) × z.Ahead s fast (m - 1) new) ⊎ Hears d c s new
+    pub tells : (d : ℕ) (s : Side) → 1 ≤ d → (activity (w s) ≡ true) ⊎ IsNamed (w (peer s)) → (c : Side → ℕ) → Fits d w c → Fits d w (ticked c)
+        → (old new : WorldState) → Link d at w c One Nothing old → Wakes at w s old → z.Rest old → IsPlayed E gives old new → 2 ≤ c (peer s)
+        → z.Told s old → Wakes at w s new × z.Told s new
+    pub takes : (d : ℕ) (c : Side → ℕ) (t : Side) (old new : WorldState) → Link d at w c One Nothing old → z.Rest old → IsPlayed E gives old new
+        → z.Took t old → z.Took t new
+    pub begins : (s : Side) (j : WorldState) → AtIt at w s (Lasting (w (peer s)) 300) j → z.Awaited s (300 + e) j
+    pub awaits : (s : Side) → activity (w (peer s)) ≡ true → IsNamed (w (peer s)) → Fits 1 w (λ _. 0) → Fits 1 w (ticked (λ _. 0)) → (m : ℕ)
+        (old new : WorldState) → 1 ≤ m → Link 1 at w (λ _. 0) One Nothing old → Wakes at w s old → z.Rest old → z.Awaited s m old
+        → IsPlayed E gives old new → ((1 ≤ m - 1) × Wakes at w s new × z.Awaited s (m - 1) new) ⊎ Hears 1 (λ _. 0) s new
+
+  -- Each end is heard in so many rounds, and the other end knows it for longer, or the rounds are still few.
+  pub record Going (d most n : ℕ) (j : WorldState) : Type 0 where
+    pub known : Side → ℕ
+    pub next : Side → ℕ
+    pub link : Link d at w known One Nothing j
+    pub rest : z.Rest j
+    pub fits : (s : Side) → known s ≤ wait at w s
+    pub later : (s : Side) → 1 ≤ next s
+    pub longer : (s : Side) → (next s + 1 ≤ known (peer s)) ⊎ (n + next s ≤ most)
+    pub ahead : (s : Side) → z.Ahead s (mode at w s) (next s) j
+    pub told : (s : Side) → 1 ≤ known (peer s) → z.Told s j
+    pub took : (s : Side) → 1 ≤ known s → z.Took s j
+
+  -- the rounds are no longer few
+  abbrev pub Met : ℕ → WorldState → Type 0
+  Met d j = Going d 0 0 j
+
+  known_long : (d most n : ℕ) (j : WorldState) (g : Going d most n j) → most ≤ n → (s : Side) → g.next s + 1 ≤ g.known (peer s)
+  known_long d most n j g l s = elim (g.longer s) [ inl m ↦ m | inr m ↦ (let o = g.later s in absurd (omega (arith, l, m, o))) ]
+
+  pub knows_peer : (d most n : ℕ) (j : WorldState) (g : Going d most n j) → most ≤ n → (s : Side) → 2 ≤ g.known s
+  knows_peer d most n j g l s =
+      let m = known_long d most n j g l (peer s) in
+      let o = g.later (peer s) in
+      subst (λ t. 2 ≤ g.known t) (peer_twice s) (omega (arith, m, o))
+
+  settled : (d most n : ℕ) (j : WorldState) → most ≤ n → Going d most n j → Met d j
+  settled d most n j l g = record {
+    known = g.known;
+    next = g.next;
+    link = g.link;
+    rest = g.rest;
+    fits = g.fits;
+    later = g.later;
+    longer = λ s. inl (known_long d most n j g l s);
+    ahead = g.ahead;
+    told = g.told;
+    took = g.took;
+  }
+
+  -- both ends know each other, and so they go on
+  module _ (named : (t : Side) → IsNamed (w t)) (awake : (s : Side) → (activity (w s) ≡ true) ⊎ (activity (w (peer s)) ≡ true)) where
+    pub fits_fresh : (d : ℕ) (j : WorldState) (g : Met d j) → 1 ≤ d → Fits d w (ticked g.known)
+    fits_fresh d j g there s = (
+      (let l = g.fits s in omega (arith, l)),
+      λ _. there,
+      λ _. (let l = knows_peer d 0 0 j g (omega arith) s in omega (arith, l)),
+      λ _. awake_peer w awake s,
+    )
+
+    pub fits_before : (d : ℕ) (j : WorldState) (g : Met d j) → 1 ≤ d → Fits d w g.known
+    fits_before d j g there s = (
+      (let l = g.fits s in omega (arith, l)),
+      λ _. there,
+      λ _. (let l = knows_peer d 0 0 j g (omega arith) s in omega (arith, l)),
+      λ _. awake_peer w awake s,
+    )
+
+    pub able_fresh : (d : ℕ) (j : WorldState) (g : Met d j) → Able at w g.known
+    able_fresh d j g s = let l = knows_peer d 0 0 j g (omega arith) s in
+        (can_known at w s (g.known s) (omega (arith, l)) (awake s), can_known at w s (g.known s - 1) (omega (arith, l)) (awake s))
+
+  -- both ends know each other: as a contract has it
+  pub met_knows : (l : LinkState) → ((s : Side) → port_at s l ≡ at s) → (j : WorldState) → Met 1 j → (s : Side) → EndKnows s l j
+  met_knows l joins j g s =
+      let one = end_here at w 1 g.known One Nothing j g.link s in
+      let other = end_here at w 1 g.known One Nothing j g.link (peer s) in
+      let r = (one.is.1.1 (let m = knows_peer 1 0 0 j g (omega arith) s in omega (arith, m))).0 in
+      let knows : Knows one.port.port other.port.port = record {
+        current = r.current;
+        party = r.party ∙ sym other.is.0.0;
+        active = r.active ∙ sym other.is.0.1;
+        short = r.short ∙ sym other.is.0.2;
+        present = r.present;
+        heard = r.heard;
+      } in
+      subst (λ n. OfPort (λ p. AtEnd (λ q. Knows p q) (peer s) l j) (machines_of n (half s j).state)) (sym (joins s))
+      (subst (OfPort (λ p. AtEnd (λ q. Knows p q) (peer s) l j)) (sym one.found)
+      (subst (λ n. OfPort (λ q. Knows one.port.port q) (machines_of n (half (peer s) j).state)) (sym (joins (peer s)))
+      (subst (OfPort (λ q. Knows one.port.port q)) (sym other.found) knows)))
+
+  module _ (E : Clearing) (gives : Algorithms) (e : ℕ) (k : Chain E gives e) where
+    abbrev Round : WorldState → WorldState → Type 0
+    Round old new = IsPlayed E gives old new
+
+    -- the rounds in which the other end hears one that may sound
+    abbrev gap : Bool → ℕ
+    gap b = silence_of b + e
+
+    gap_less : (b : Bool) → gap b + 1 ≤ timeout_time b - 1
+    gap_less true = let few = k.few in omega (arith, few)
+    gap_less false = let few = k.few in omega (arith, few)
+
+    -- what one round makes of one direction
+    record Went (d most n : ℕ) (s : Side) (j : WorldState) : Type 0 where
+      next : ℕ
+      known : ℕ
+      fits : known ≤ wait at w (peer s)
+      later : 1 ≤ next
+      longer : (next + 1 ≤ known) ⊎ (n + next ≤ most)
+      ahead : z.Ahead s (mode at w s) next j
+      told : 1 ≤ known → z.Told s j
+      took : 1 ≤ known → z.Took (peer s) j
+      peer : AtIt at w (peer s) (IsEnd d (w (peer s)) (w (peer (peer s))) known) j
+
+    module _ (named : (t : Side) → IsNamed (w t)) where
+      went : (d most n : ℕ) (old new : WorldState) (g : Going d most n old) (there : 1 ≤ d) (fit : Fits d w g.known)
+          (then : Fits d w (ticked g.known)) → Able at w g.known → Round old new → Link d at w (ticked g.known) One Nothing new → (s : Side)
+          → Went d most (n + 1) s new
+      went d most n old new g there fit then can h base s = elim (k.nears d s there (inr (named (peer s))) g.known fit then
+          (mode at w s) (g.next s) old new (can s).1 (can s).0 g.link awake g.rest (g.ahead s) h) [
+            | inl q ↦ record {
+              next = g.next s - 1;
+              known = g.known (peer s) - 1;
+              fits = let l = g.fits (peer s) in omega (arith, l);
+              later = q.0;
+              longer = elim (g.longer s) [
+                | inl l ↦ (let m = q.0 in inl (omega (arith, l, m)))
+                | inr l ↦ (let m = q.0 in inr (omega (arith, l, m)))
+              ];
+              ahead = q.1;
+              told = λ i. (k.tells d s there (inr (named (peer s))) g.known fit then old new g.link awake g.rest h (omega (arith, i))
+                  (g.told s (omega (arith, i)))).1;
+              took = λ i. k.takes d g.known (peer s) old new g.link g.rest h (g.took (peer s) (omega (arith, i)));
+              peer = ends_of at w d (ticked g.known) One Nothing (peer s) new base;
+            }
+            | inr q ↦ (let known = learns at w d (ticked g.known) (peer s) 0 new (omega arith) q.link in
+                let some = some_silence at w (mode at w s) in
+                record {
+                  next = gap (mode at w s);
+                  known = wait at w (peer s);
+                  fits = omega arith;
+                  later = omega (arith, some);
+                  longer = inl (gap_less (mode at w s));
+                  ahead = k.ahead d (ticked g.known) s (mode at w s) new (can s).1 base;
+                  told = λ i. q.told;
+                  took = λ i. q.took;
+                  peer = subst (λ m. AtIt at w (peer s) (IsEnd d (w (peer s)) (w (peer (peer s))) m) new) (two_there (peer s) (wait at w (peer s)) 0)
+                      (ends_of at w d (two (peer s) (wait at w (peer s)) 0) (peer s) Nothing (peer s) new known);
+                })
+          ]
+        where
+          awake : AtIt at w s (Wakeful (w s) (w (peer s))) old
+          awake = wakes_now at w d g.known One Nothing s (mode at w s) old (can s).0 g.link
+
+      goes : (d most n : ℕ) (old new : WorldState) (g : Going d most n old) → 1 ≤ d → Fits d w g.known → Fits d w (ticked g.known)
+          → Able at w g.known → Round old new → Going d most (n + 1) new
+      goes d most n old new g there fit then can h =
+          let base = host_keeps gives One d at w g.known old new fit then g.link h in
+          let r = went d most n old new g there fit then can h base in
+          let own : (u : Side) → AtIt at w u (IsEnd d (w u) (w (peer u)) (r (peer u)).known) new =
+          λ u. subst (λ t. AtIt at w t (IsEnd d (w t) (w (peer t)) (r (peer u)).known) new) (peer_twice u) (r (peer u)).peer in
+          record {
+            known = λ u. (r (peer u)).known;
+            next = λ s. (r s).next;
+            link = with_ports base (λ u. each_map (AtPort (at u) (IsEnd d (w u) (w (peer u)) (r (peer u)).known))
+                (AtPort (at u) (EndIs d w (λ v. (r (peer v)).known) One Nothing u)) (λ m p a i. (a i, λ f. tt))
+                (half u new).state.system_ports (own u));
+            rest = k.rests old new h g.rest;
+            fits = λ u. subst (λ t. (r (peer u)).known ≤ wait at w t) (peer_twice u) (r (peer u)).fits;
+            later = λ s. (r s).later;
+            longer = λ s. subst (λ t. ((r s).next + 1 ≤ (r t).known) ⊎ (n + 1 + (r s).next ≤ most)) (sym (peer_twice s)) (r s).longer;
+            ahead = λ s. (r s).ahead;
+            told = λ s i. (r s).told (subst (λ t. 1 ≤ (r t).known) (peer_twice s) i);
+            took = λ u i. subst (λ t. z.Took t new) (peer_twice u) ((r (peer u)).took i);
+          }
+
+    pub stays_met : ((t : Side) → IsNamed (w t)) → ((s : Side) → (activity (w s) ≡ true) ⊎ (activity (w (peer s)) ≡ true)) → (d : ℕ)
+        (old new : WorldState) → 1 ≤ d → Round old new → Met d old → Met d new
+    stays_met named awake d old new there h g = settled d 0 1 new (omega arith) (goes named d 0 0 old new g there
+        (fits_before named awake d old g there) (fits_fresh named awake d old g there) (able_fresh named awake d old g) h)
+
+    -- both ends are active and have Long Timeout
+
+    abbrev Lasts : ℕ → WorldState → Type 0
+    Lasts n j = Going 1 (310 + e) n j
+
+    lasts : ((t : Side) → IsNamed (w t)) → (n : ℕ) (old new : WorldState) → ((s : Side) → activity (w s) ≡ true)
+        → ((s : Side) → mode at w s ≡ false) → Round old new → Lasts n old → Lasts (n + 1) new
+    lasts named n old new active long h g = goes named 1 (310 + e) n old new g (omega arith) (fits_first at w g.known g.fits)
+        (fits_ticked at w g.known g.fits)
+        (λ s. ((inl (active s), λ i. absurd (no (sym (long s) ∙ i))), (inl (active s), λ i. absurd (no (sym (long s) ∙ i))))) h
+
+    lasts_first : (j : WorldState) → ((s : Side) → activity (w s) ≡ true) → ((s : Side) → mode at w s ≡ false)
+        → Link 1 at w (λ _. 0) One Nothing j → z.Rest j → Lasts 1 j
+    lasts_first j active long l rest = record {
+      known = λ _. 0;
+      next = λ _. 309 + e;
+      link = l;
+      rest = rest;
+      fits = λ s. omega arith;
+      later = λ s. omega arith;
+      longer = λ s. inr (omega arith);
+      ahead = λ s. subst (λ b. z.Ahead s b (309 + e) j) (sym (long s))
+          (k.ahead 1 (λ _. 0) s false j (inl (active s), λ i. absurd (no i)) l);
+      told = λ s i. absurd (omega (arith, i));
+      took = λ s i. absurd (omega (arith, i));
+    }
+
+    -- The end of s is active and has Short Timeout, or the other end has Long Timeout: first the other end hears it, and then
+    -- it hears the other end.
+
+    abbrev Calls : Side → ℕ → WorldState → Type 0
+    Calls s n j = (m : ℕ) × (1 ≤ m) × (n + m ≤ 310 + e) × Link 1 at w (λ _. 0) One Nothing j × z.Rest j × z.Ahead s false m j
+
+    called : (s : Side) → activity (w s) ≡ true → (j : WorldState) → Link 1 at w (λ _. 0) One Nothing j → z.Rest j → Calls s 1 j
+    called s active j l rest =
+        (309 + e, omega arith, omega arith, l, rest, k.ahead 1 (λ _. 0) s false j (inl active, λ i. absurd (no i)) l)
+
+    fit_none : Fits 1 w (λ _. 0)
+    fit_none = fits_first at w (λ _. 0) (λ t. omega arith)
+
+    then_none : Fits 1 w (ticked (λ _. 0))
+    then_none = fits_ticked at w (λ _. 0) (λ t. omega arith)
+
+    -- it still calls, or the other end has just heard it
+    calls_on : (s : Side) (active : activity (w s) ≡ true) (n : ℕ) (old new : WorldState) → Round old new
+        → Calls s n old → Calls s (n + 1) new ⊎ Hears 1 (λ _. 0) s new
+    calls_on s active n old new h (m, some, soon, link, rest, ahead) =
+        elim (k.nears 1 s (omega arith) (inl active) (λ _. 0) fit_none then_none false m old new
+        (inl active, λ i. absurd (no i)) (inl active, λ i. absurd (no i)) link
+        (wakes_now at w 1 (λ _. 0) One Nothing s false old (inl active, λ i. absurd (no i)) link) rest ahead h) [
+          | inl q ↦ (let more = q.0 in
+              inl (
+                m - 1,
+                more,
+                omega (arith, soon, more),
+                lower at w (ticked (λ _. 0)) (λ _. 0) One Nothing new (λ _. omega arith)
+                    (host_keeps gives One 1 at w (λ _. 0) old new fit_none then_none link h),
+                k.rests old new h rest,
+                q.1,
+              ))
+          | inr q ↦ inr q
+        ]
+
+    abbrev Answers : Side → ℕ → ℕ → WorldState → Type 0
+    Answers s most n j = (m : ℕ) × (b : ℕ) × (1 ≤ m) × (n + m ≤ most + gap (mode at w (peer s)))
+        × (wait at w (peer s) + m ≤ b + gap (mode at w (peer s))) × (b ≤ wait at w (peer s)) × Link 1 at w (two s 0 b) One Nothing j
+        × z.Rest j × z.Ahead (peer s) (mode at w (peer s)) m j × Wakes at w s j × z.Told s j × z.Took (peer s) j
+
+    abbrev Comes : Side → ℕ → WorldState → Type 0
+    Comes s n j = Calls s n j ⊎ (Answers s (310 + e) n j ⊎ Met 1 j)
+
+    module _ (named : (t : Side) → IsNamed (w t)) (s : Side) (awake : (u : Side) → (activity (w u) ≡ true) ⊎ (activity (w (peer u)) ≡ true))
+        (room : gap (mode at w s) + gap (mode at w (peer s)) + 2 ≤ wait at w (peer s)) where
+      able : (b : ℕ) → 1 ≤ b → CanSound (w (peer s)) (w (peer (peer s))) (mode at w (peer s)) b
+      able b l = can_known at w (peer s) b l (awake (peer s))
+
+      -- the other end has just heard it
+      hears : (most n : ℕ) (new : WorldState) → n ≤ most → Hears 1 (λ _. 0) s new → z.Rest new → Answers s most n new
+      hears most n new l q rest =
+          let known = learns at w 1 (ticked (λ _. 0)) (peer s) 0 new (omega arith) q.link in
+          let b = wait at w (peer s) in
+          let pair = two (peer s) b 0 in
+          let link = forget 1 at w (two s 0 b) (peer s) One Nothing new (lower at w pair (two s 0 b) (peer s) Nothing new
+          (two_less s pair 0 b (omega arith) (subst (λ n. b ≤ n) (sym (two_there (peer s) b 0)) (omega arith))) known) in
+          let fast = mode at w (peer s) in
+          let some = some_silence at w fast in (
+            gap fast,
+            b,
+            omega (arith, some),
+            omega (arith, l),
+            omega arith,
+            omega arith,
+            link,
+            rest,
+            k.ahead 1 (two s 0 b) (peer s) fast new
+                (subst (CanSound (w (peer s)) (w (peer (peer s))) fast) (sym (two_other s 0 b)) (able b (omega (arith, room)))) link,
+            q.wakes,
+            q.told,
+            q.took,
+          )
+
+      meets : (b m : ℕ) (j : WorldState) → 1 ≤ m → wait at w (peer s) + m ≤ b + gap (mode at w (peer s)) → b ≤ wait at w (peer s)
+          → Link 1 at w (two s (wait at w s) (b - 1)) s Nothing j → z.Rest j → ((u : Side) → z.Told u j)
+          → ((u : Side) → z.Took u j) → Met 1 j
+      meets b m j some enough less l rest told took =
+          let c = two s (wait at w s) (b - 1) in
+          let own : gap (mode at w s) + 1 ≤ c (peer s) =
+          subst (λ n. gap (mode at w s) + 1 ≤ n) (sym (two_other s (wait at w s) (b - 1))) (omega (arith, room, some, enough)) in
+          let theirs : gap (mode at w (peer s)) + 1 ≤ c (peer (peer s)) =
+          subst (λ t. gap (short_timeout (w t)) + 1 ≤ c t) (sym (peer_twice s))
+          (subst (λ n. gap (short_timeout (w s)) + 1 ≤ n) (sym (two_there s (wait at w s) (b - 1))) (gap_less (short_timeout (w s)))) in
+          let longer = each_side (λ u. gap (mode at w u) + 1 ≤ c (peer u)) s own theirs in
+          let big : (u : Side) → 1 ≤ c u = λ u. subst (λ t. 1 ≤ c t) (peer_twice u) (let m = longer (peer u) in omega (arith, m)) in
+          record {
+            known = c;
+            next = λ u. gap (mode at w u);
+            link = forget 1 at w c s One Nothing j l;
+            rest = rest;
+            fits = two_less s (wait at w) (wait at w s) (b - 1) (omega arith) (omega (arith, less));
+            later = λ u. (let some = some_silence at w (mode at w u) in omega (arith, some));
+            longer = λ u. inl (longer u);
+            ahead = λ u. k.ahead 1 c u (mode at w u) j (can_known at w u (c u) (big u) (awake u)) (forget 1 at w c s One Nothing j l);
+            told = λ u i. told u;
+            took = λ u i. took u;
+          }
+
+      answers : (most n : ℕ) (old new : WorldState) → Round old new → Answers s most n old → Answers s most (n + 1) new ⊎ Met 1 new
+      answers most n old new h (m, b, some, soon, enough, less, link, rest, ahead, wakes, told, took) =
+          let now = k.rests old new h rest in
+          let base = host_keeps gives One 1 at w (two s 0 b) old new fit then link h in
+          let still = k.tells 1 s (omega arith) (inr (named (peer s))) (two s 0 b) fit then old new link wakes rest h
+          (subst (λ m. 2 ≤ m) (sym (two_other s 0 b)) (omega (arith, room, some, enough))) told in
+          let kept_it = k.takes 1 (two s 0 b) (peer s) old new link rest h took in
+          elim (k.nears 1 (peer s) (omega arith) (inr (named (peer (peer s)))) (two s 0 b) fit then
+          (mode at w (peer s)) m old new
+          (subst (λ m. CanSound (w (peer s)) (w (peer (peer s))) (mode at w (peer s)) (m - 1)) (sym (two_other s 0 b))
+          (able (b - 1) (omega (arith, room, some, enough)))) can link
+          (wakes_now at w 1 (two s 0 b) One Nothing (peer s) (mode at w (peer s)) old can link) rest ahead h) [
+            | inl q ↦ (let more = q.0 in
+                inl (
+                  m - 1,
+                  b - 1,
+                  more,
+                  omega (arith, soon, more),
+                  omega (arith, enough, more, room),
+                  omega (arith, less),
+                  lower at w (ticked (two s 0 b)) (two s 0 (b - 1)) One Nothing new
+                      (two_less s (ticked (two s 0 b)) 0 (b - 1) (omega arith)
+                      (subst (λ n. b - 1 ≤ n - 1) (sym (two_other s 0 b)) (omega arith))) base,
+                  now,
+                  q.1,
+                  still.0,
+                  still.1,
+                  kept_it,
+                ))
+            | inr q ↦ inr (meets b m new some enough less (learns at w 1 (ticked (two s 0 b)) s (b - 1) new
+                (subst (λ n. b - 1 ≤ n - 1) (sym (two_other s 0 b)) (omega arith))
+                (subst (λ t. Link 1 at w (ticked (two s 0 b)) t (Learnt 1 (w (peer t)) (wait at w t)) new) (peer_twice s) q.link))
+                now
+                (each_side (λ u. z.Told u new) s still.1 q.told)
+                (each_side (λ u. z.Took u new) s (subst (λ t. z.Took t new) (peer_twice s) q.took) kept_it))
+          ]
+        where
+          least : (t : Side) → two s 0 b t ≤ wait at w t
+          least = two_less s (wait at w) 0 b (omega arith) less
+
+          fit : Fits 1 w (two s 0 b)
+          fit = fits_first at w (two s 0 b) least
+
+          then : Fits 1 w (ticked (two s 0 b))
+          then = fits_ticked at w (two s 0 b) least
+
+          can : CanSound (w (peer s)) (w (peer (peer s))) (mode at w (peer s)) (two s 0 b (peer s))
+          can = subst (CanSound (w (peer s)) (w (peer (peer s))) (mode at w (peer s))) (sym (two_other s 0 b))
+              (able b (omega (arith, room, some, enough)))
+
+      answered : (most n : ℕ) (j : WorldState) → most + gap (mode at w (peer s)) ≤ n → Answers s most n j → Met 1 j
+      answered most n j l a = let m = a.2 in let o = a.3 in absurd (omega (arith, l, m, o))
+
+    module _ (named : (t : Side) → IsNamed (w t)) (s : Side) (active : activity (w s) ≡ true)
+        (room : gap (mode at w s) + gap (mode at w (peer s)) + 2 ≤ wait at w (peer s)) where
+      some_awake : (u : Side) → (activity (w u) ≡ true) ⊎ (activity (w (peer u)) ≡ true)
+      some_awake = each_side (λ u. (activity (w u) ≡ true) ⊎ (activity (w (peer u)) ≡ true)) s (inl active)
+          (inr (subst (λ t. activity (w t) ≡ true) (sym (peer_twice s)) active))
+
+      comes : (n : ℕ) (old new : WorldState) → Round old new → Comes s n old → Comes s (n + 1) new
+      comes n old new h (inl c) = elim (calls_on s active n old new h c) [
+        | inl m ↦ inl m
+        | inr q ↦ inr (inl (hears named s some_awake room (310 + e) (n + 1) new (let l = c.2 in let o = c.1 in omega (arith, l, o)) q
+            (k.rests old new h c.4)))
+      ]
+      comes n old new h (inr (inl a)) = inr (answers named s some_awake room (310 + e) n old new h a)
+      comes n old new h (inr (inr f)) = inr (inr (stays_met named some_awake 1 old new (omega arith) h f))
+
+      came : (n : ℕ) (j : WorldState) → 310 + e + gap (mode at w (peer s)) ≤ n → Comes s n j → Met 1 j
+      came n j l (inl c) = let m = c.1 in let o = c.2 in absurd (omega (arith, l, m, o))
+      came n j l (inr (inl a)) = answered named s some_awake room (310 + e) n j l a
+      came n j l (inr (inr f)) = f
+
+    -- one end is active
+
+    -- The end of s has heard its partner, which is active; then it sounds, since it goes to EXPIRED if it hears nothing more.
+    abbrev Waits : Side → ℕ → WorldState → Type 0
+    Waits s n j = (m : ℕ) × (1 ≤ m) × (n + m ≤ 610 + e + e) × Link 1 at w (λ _. 0) One Nothing j × z.Rest j × Wakes at w s j × z.Awaited s m j
+
+    abbrev Slowly : Side → ℕ → WorldState → Type 0
+    Slowly s n j = Calls (peer s) n j ⊎ (Waits s n j ⊎ (Answers s (610 + e + e) n j ⊎ Met 1 j))
+
+    left_some : (b : Bool) → 1 ≤ timeout_time b - 1
+    left_some true = omega arith
+    left_some false = omega arith
+
+    module _ (named : (t : Side) → IsNamed (w t)) (s : Side) (active : activity (w (peer s)) ≡ true) (long : short_timeout (w (peer s)) ≡ false)
+        (room : gap (mode at w s) + gap (mode at w (peer s)) + 2 ≤ wait at w (peer s)) where
+      awake_one : (u : Side) → (activity (w u) ≡ true) ⊎ (activity (w (peer u)) ≡ true)
+      awake_one = each_side (λ u. (activity (w u) ≡ true) ⊎ (activity (w (peer u)) ≡ true)) s (inr active) (inl active)
+
+      -- the end of s has just heard its partner
+      begins : (n : ℕ) (j : WorldState) → n ≤ 310 + e → Link 1 at w (λ _. 0) s (Learnt 1 (w (peer s)) (wait at w s)) j → z.Rest j → Waits s n j
+      begins n j l link rest =
+          let y = at_rest 1 at w (λ _. 0) s (Learnt 1 (w (peer s)) (wait at w s)) (Lasting (w (peer s)) 300) j
+          (λ p rest timed a y. (let some = left_some (short_timeout (w s)) in
+          let r = y.0.1 some in
+          begins_lasting (w (peer s)) p active long y.0.0 rest timed (r.0, omega (arith, some, r.1)))) link in (
+            300 + e,
+            omega arith,
+            omega (arith, l),
+            forget 1 at w (λ _. 0) s One (Lasting (w (peer s)) 300) j y,
+            rest,
+            of_end y s (Wakeful (w s) (w (peer s))) (λ p rest timed a. inr (active, λ same. lasting_now (w (peer s)) 300 p active (a.1 refl))),
+            k.begins s j (of_end y s (Lasting (w (peer s)) 300) (λ p rest timed a. a.1 refl)),
+          )
+
+      slowly : (n : ℕ) (old new : WorldState) → Round old new → Slowly s n old → Slowly s (n + 1) new
+      slowly n old new h (inl c) = elim (calls_on (peer s) active n old new h c) [
+        | inl m ↦ inl m
+        | inr q ↦ (let l = c.2 in
+            let m = c.1 in
+            inr (inl (begins (n + 1) new (omega (arith, l, m)) (lower at w (ticked (λ _. 0)) (λ _. 0) s
+            (Learnt 1 (w (peer s)) (wait at w s)) new (λ _. omega arith)
+            (subst (λ t. Link 1 at w (ticked (λ _. 0)) t (Learnt 1 (w (peer t)) (wait at w t)) new) (peer_twice s) q.link))
+            (k.rests old new h c.4))))
+      ]
+      slowly n old new h (inr (inl (m, some, soon, link, rest, wakes, awaited))) =
+          elim (k.awaits s active (named (peer s)) fit_none then_none m old new some link wakes rest awaited h) [
+            | inl q ↦ (let more = q.0 in
+                inr (inl (
+                  m - 1,
+                  more,
+                  omega (arith, soon, some),
+                  lower at w (ticked (λ _. 0)) (λ _. 0) One Nothing new (λ _. omega arith)
+                      (host_keeps gives One 1 at w (λ _. 0) old new fit_none then_none link h),
+                  k.rests old new h rest,
+                  q.1,
+                  q.2,
+                )))
+            | inr q ↦ inr (inr (inl (hears named s awake_one room (610 + e + e) (n + 1) new (omega (arith, soon, some)) q (k.rests old new h rest))))
+          ]
+      slowly n old new h (inr (inr (inl a))) = inr (inr (answers named s awake_one room (610 + e + e) n old new h a))
+      slowly n old new h (inr (inr (inr f))) = inr (inr (inr (stays_met named awake_one 1 old new (omega arith) h f)))
+
+      ended : (n : ℕ) (j : WorldState) → 610 + e + e + gap (mode at w (peer s)) ≤ n → Slowly s n j → Met 1 j
+      ended n j l (inl c) = let m = c.1 in let o = c.2 in absurd (omega (arith, l, m, o))
+      ended n j l (inr (inl c)) = let m = c.1 in let o = c.2 in absurd (omega (arith, l, m, o))
+      ended n j l (inr (inr (inl a))) = answered named s awake_one room (610 + e + e) n j l a
+      ended n j l (inr (inr (inr f))) = f
+
+    -- so many rounds
+
+    along : (S : ℕ → WorldState → Type 0) (start : WorldState) → ((new : WorldState) → Round start new → S 1 new)
+        → ((n : ℕ) (old new : WorldState) → Round old new → S n old → S (n + 1) new)
+        → (n : ℕ) (new : WorldState) → 1 ≤ n → PlayedRounds E gives n start new → S n new
+    along S start first next zero new l h = absurd (omega (arith, l))
+    along S start first next (suc zero) new l h = first new (subst (λ j. Round j new) h.1 h.2)
+    along S start first next (suc (suc n)) new l h =
+        subst (λ m. S m new) (omega arith) (next (suc n) h.0 new h.2 (along S start first next (suc n) h.0 (omega arith) h.1))
+
+    room_for : (b : Bool) → gap b + gap true + 2 ≤ timeout_time b - 1
+    room_for true = let few = k.few in omega (arith, few)
+    room_for false = let few = k.few in omega (arith, few)
+
+    module _ (named : (t : Side) → IsNamed (w t)) (n : ℕ) (old new : WorldState)
+        (first : (j : WorldState) → Round old j → Link 1 at w (λ _. 0) One Nothing j × z.Rest j) (h : PlayedRounds E gives n old new) where
+      comes_to_meet : (s : Side) → activity (w s) ≡ true → gap (mode at w s) + gap (mode at w (peer s)) + 2 ≤ wait at w (peer s)
+          → 310 + e + gap (mode at w (peer s)) ≤ n → Met 1 new
+      comes_to_meet s active room enough = came named s active room n new enough (along (λ m j. Comes s m j) old
+          (λ j r. let f = first j r in inl (called s active j f.0 f.1)) (λ m i j r c. comes named s active room m i j r c) n new
+          (omega (arith, enough)) h)
+
+      meets_short : (s : Side) → activity (w s) ≡ true → short_timeout (w s) ≡ true → 321 + e + e ≤ n → Met 1 new
+      meets_short s active short enough =
+          let quick : mode at w (peer s) ≡ true = subst (λ t. short_timeout (w t) ≡ true) (sym (peer_twice s)) short in
+          comes_to_meet s active (subst (λ b. gap (mode at w s) + gap b + 2 ≤ wait at w (peer s)) (sym quick) (room_for (mode at w s)))
+          (subst (λ b. 310 + e + gap b ≤ n) (sym quick) (omega (arith, enough)))
+
+      meets_long : ((s : Side) → activity (w s) ≡ true) → ((s : Side) → mode at w s ≡ false) → 321 + e + e ≤ n → Met 1 new
+      meets_long active long enough = settled 1 (310 + e) n new (omega (arith, enough)) (along (λ m j. Lasts m j) old
+          (λ j r. let f = first j r in lasts_first j active long f.0 f.1) (λ m i j r c. lasts named m i j active long r c) n new
+          (omega (arith, enough)) h)
+
+      pub both_meet : ((s : Side) → activity (w s) ≡ true) → 321 + e + e ≤ n → Met 1 new
+      both_meet active enough = elim (cases_Bool (short_timeout (w One))) [
+        | inl one ↦ meets_short One (active One) one enough
+        | inr one ↦ elim (cases_Bool (short_timeout (w Two))) [
+          | inl two ↦ meets_short Two (active Two) two enough
+          | inr two ↦ meets_long active (each_side (λ s. mode at w s ≡ false) One two one) enough
+        ]
+      ]
+
+      other : (u : Side) → short_timeout (w u) ≡ true → activity (w (peer u)) ≡ true → short_timeout (w (peer u)) ≡ false
+          → 621 + e + e + e ≤ n → Met 1 new
+      other u short on long enough =
+          let quick : mode at w (peer u) ≡ true = subst (λ t. short_timeout (w t) ≡ true) (sym (peer_twice u)) short in
+          let room = subst (λ b. gap (mode at w u) + gap b + 2 ≤ wait at w (peer u)) (sym quick) (room_for (mode at w u)) in
+          ended named u on long room n new (subst (λ b. 610 + e + e + gap b ≤ n) (sym quick) (omega (arith, enough)))
+          (along (λ m j. Slowly u m j) old (λ j r. let f = first j r in inl (called (peer u) on j f.0 f.1))
+          (λ m i j r c. slowly named u on long room m i j r c) n new (omega (arith, enough)) h)
+
+      pub one_meets : (s : Side) → activity (w s) ≡ true → 621 + e + e + e ≤ n → Met 1 new
+      one_meets s active enough = elim (cases_Bool (short_timeout (w s))) [
+        | inl short ↦ meets_short s active short (omega (arith, enough))
+        | inr long ↦ elim (cases_Bool (short_timeout (w (peer s)))) [
+          | inl short ↦ other (peer s) short (subst (λ t. activity (w t) ≡ true) (sym (peer_twice s)) active)
+              (subst (λ t. short_timeout (w t) ≡ false) (sym (peer_twice s)) long) enough
+          | inr wide ↦ (let slow : mode at w (peer s) ≡ false = subst (λ t. short_timeout (w t) ≡ false) (sym (peer_twice s)) long in
+              let few = k.few in
+              let room : gap (mode at w s) + gap (mode at w (peer s)) + 2 ≤ wait at w (peer s) = rw (wide, slow) (omega (arith, few)) in
+              comes_to_meet s active room (subst (λ b. 310 + e + gap b ≤ n) (sym slow) (omega (arith, enough, few))))
+        ]
+      ]
