@@ -12,7 +12,7 @@ CFLAGS ?= -O2
 PYTHON ?= python3
 PKG_CONFIG ?= pkg-config
 HEADER := crates/lagffi/include/lag.h
-EXAMPLES := $(filter-out no_libc minimal,$(patsubst examples/c/%.c,%,$(wildcard examples/c/*.c)))
+EXAMPLES := $(filter-out no_libc,$(patsubst examples/c/%.c,%,$(wildcard examples/c/*.c)))
 # What the daemon wants besides: the package of each, for Debian.
 WANTED := pkg-config clang bpftool libbpf-dev libinih-dev libmnl-dev libcap-ng-dev
 
@@ -52,6 +52,10 @@ examples: $(addprefix out/bin/,$(EXAMPLES))
 
 out/bin/%: examples/c/%.c out/lib/liblag.so.0 | out/bin
 	$(CC) $(CFLAGS) -Iout/lib -o $@ $< out/lib/liblag.a
+
+# The library by -DNIW_POOL is of this program alone.
+out/bin/pool: examples/c/pool.c c/lag.c $(HEADER) | out/bin
+	$(CC) $(CFLAGS) -DNIW_POOL -I$(dir $(HEADER)) -o $@ examples/c/pool.c c/lag.c
 
 out/bin:
 	mkdir -p $@
