@@ -2,6 +2,7 @@
 #
 #     make          the C library, the programs of examples/c, and the daemon where what it wants is here
 #     make check    runs the tests that want no toolchain: 'N passed, M failed'
+#     make install  as root: the daemon, its unit, its user and the examples of its files, below PREFIX, /usr/local; `make uninstall` takes them away
 #     make clean
 #
 # out/lib has lag.h, liblag.a and liblag.so.0, which Python takes from there; out/bin has the programs. LAG_FOLDER names a folder that has these files of
@@ -12,7 +13,7 @@ CFLAGS ?= -O2
 PYTHON ?= python3
 PKG_CONFIG ?= pkg-config
 HEADER := crates/lagffi/include/lag.h
-EXAMPLES := $(filter-out no_libc minimal,$(patsubst examples/c/%.c,%,$(wildcard examples/c/*.c)))
+EXAMPLES := $(filter-out no_libc,$(patsubst examples/c/%.c,%,$(wildcard examples/c/*.c)))
 # What the daemon wants besides: the package of each, for Debian.
 WANTED := pkg-config clang bpftool libbpf-dev libinih-dev libmnl-dev libcap-ng-dev
 
@@ -53,6 +54,10 @@ examples: $(addprefix out/bin/,$(EXAMPLES))
 out/bin/%: examples/c/%.c out/lib/liblag.so.0 | out/bin
 	$(CC) $(CFLAGS) -Iout/lib -o $@ $< out/lib/liblag.a
 
+# The library by -DNIW_POOL is of this program alone.
+out/bin/pool: examples/c/pool.c c/lag.c $(HEADER) | out/bin
+	$(CC) $(CFLAGS) -DNIW_POOL -I$(dir $(HEADER)) -o $@ examples/c/pool.c c/lag.c
+
 out/bin:
 	mkdir -p $@
 
@@ -66,7 +71,29 @@ no-daemon:
 check: all
 	CC="$(CC)" $(PYTHON) tools/maintain/clone-tests
 
+# What the package lagd has; a link that is up stays as it is until its service is started anew. DESTDIR is for who packs.
+PREFIX ?= /usr/local
+UNIT := $(DESTDIR)$(PREFIX)/lib/systemd/system/lagd@.service
+USERS := $(DESTDIR)$(PREFIX)/lib/sysusers.d/lagd.conf
+
+install:
+	test -e out/bin/lagd || { echo "out/bin has no lagd: make builds it" >&2; exit 1; }
+	install -D -m 755 out/bin/lagd $(DESTDIR)$(PREFIX)/sbin/lagd
+	install -D -m 644 lagd/lagd.sysusers $(USERS)
+	install -D -m 644 lagd/lagd@.service $(UNIT)
+	sed -i 's,/usr/sbin/lagd,$(PREFIX)/sbin/lagd,' $(UNIT)
+	install -d $(DESTDIR)/etc/lagd $(DESTDIR)$(PREFIX)/share/doc/lagd/examples
+	install -m 644 lagd/carry.conf lagd/boot/* $(DESTDIR)$(PREFIX)/share/doc/lagd/examples
+ifeq ($(DESTDIR),)
+	! command -v systemd-sysusers >/dev/null || systemd-sysusers $(USERS)
+	test ! -d /run/systemd/system || systemctl daemon-reload
+endif
+
+# The files in /etc/lagd and the user stay.
+uninstall:
+	rm -rf $(DESTDIR)$(PREFIX)/sbin/lagd $(UNIT) $(USERS) $(DESTDIR)$(PREFIX)/share/doc/lagd
+
 clean:
 	rm -rf out/lib out/bin lagd/out
 
-.PHONY: FORCE all library examples daemon no-daemon check clean
+.PHONY: FORCE all library examples daemon no-daemon check install uninstall clean

@@ -140,6 +140,7 @@ static void balance(void) {
     for (unsigned i = 0; i < ROWS; i++) carried[i] = (struct niw_carried){.port = row[i], .load = 1};
     for (;;) {
         struct niw_move move = niw_next_move(ports, count, carried, ROWS);
+        if (move.status != NIW_OK) printf("not balanced: %s\n", niw_status_text(move.status)); /* no memory, on a big-endian processor alone: try again later */
         if (!move.is || niw_move_conversation(&here, active, move.conversation, move.port) != NIW_OK) break;
         carried[move.conversation].port = move.port;
     }

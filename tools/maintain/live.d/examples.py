@@ -27,12 +27,13 @@ def check_example(folder: str, libraries: list[str]) -> None:
 
 
 def check_programs(folder: str, libraries: list[str]) -> None:
-    """Each program of examples/c that has a text beside it prints that text; what it measures goes to standard error."""
+    """Each program of examples/c that has a text beside it prints that text; what it measures goes to standard error. pool.c has a library of its own."""
     for text in sorted(glob.glob(f"{EXAMPLES}/*.txt")):
         name = os.path.basename(text).removesuffix(".txt")
         with open(text, encoding="utf-8") as it:
             wanted = it.read()
-        told = ran(build(os.path.join(folder, name), [os.path.join(EXAMPLES, f"{name}.c")], libraries, *STRICT))
+        linked = ["-DNIW_POOL", library.PORTABLE] if name == "pool" else libraries
+        told = ran(build(os.path.join(folder, name), [os.path.join(EXAMPLES, f"{name}.c")], linked, *STRICT))
         check(told.returncode == 0 and told.stdout == wanted, f"examples/c/{name}.c prints what stands beside it", told.stdout + told.stderr)
 
 
