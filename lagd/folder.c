@@ -6,7 +6,7 @@
 #include <sys/stat.h>
 #include <unistd.h>
 
-#include "daemon.h"
+#include "lagd.h"
 
 struct folder_private {
     int opened;
@@ -30,8 +30,7 @@ unsigned long network_namespace(void) {
 
 /* Opens the folder, and makes it where it is missing. One of another user, one that others may write, and a symbolic link to one are
  * refused: whoever has it could put a link or a socket of his own in it. */
-void open_folder(struct lagd *lagd, const char *folder) {
-    struct folder_private *own = lagd->folder;
+void open_folder(struct folder_private *own, const char *folder) {
     struct stat found;
     bool made = mkdir(folder, 0755) == 0;
     if (!made && errno != EEXIST) stop(REFUSED, folder, strerror(errno));

@@ -5,7 +5,7 @@
 #include <sys/uio.h>
 #include <unistd.h>
 
-#include "daemon.h"
+#include "tap.h"
 
 /* The most segments of a packet that is cut at once: more than one of a usual stream has. */
 #define MOST_AT_ONCE 128
@@ -41,39 +41,39 @@ struct host_private *make_host_private(void) {
 
 /* The device is gone, or it is in another namespace, where interfaces of others have the numbers of our members: first of all nothing
  * is passed on any more. Then the peers are told, and the daemon ends, so that whoever started it starts it again, with a new device. */
-void lose_device(struct lagd *lagd) {
-    struct host_private *own = lagd->host;
-    if (lagd->broken) return;
-    lagd->broken = true;
-    lagd->plane.passing->end(lagd);
-    forget_tap(lagd->tap);
-    drop_stored(lagd, "tap", 0);
-    if (own->tap >= 0) await_no_more(lagd->epoll_file, own->tap);
-    (void)say(lagd, LOG_ERR | ABOUT_CARRIER, "carry %s: the device was deleted, or moved to another namespace; the peers are told, and the "
-        "daemon ends", lagd->settings.carry);
+void lose_device(struct plane *plane) {
+    struct tap_plane *tap = plane->tap;
+    struct host_private *own = tap->host;
+    if (tap->process->broken) return;
+    tap->process->broken = true;
+    plane->passing->end(tap);
+    forget_tap(tap->device);
+    drop_stored(tap->process->store, "tap", 0);
+    if (own->tap >= 0) await_no_more(tap->process->epoll_file, own->tap);
+    (void)say(tap->process, LOG_ERR | ABOUT_CARRIER, "carry %s: the device was deleted, or moved to another namespace; the peers are told, and the "
+        "daemon ends", tap->settings->carry);
 }
 
 /* Whether packets wait to be cut. */
-bool is_cutting(struct lagd *lagd) {
-    return lagd->host->count > 0 && !lagd->broken;
+bool is_cutting(struct tap_plane *tap) {
+    return tap->host->count > 0 && !tap->process->broken;
 }
 
 /* Takes segments of a packet from this one on, so many at most; answers how many. */
-static unsigned cut_segments(struct lagd *lagd, const struct cut *cut, uint32_t from, unsigned most) {
-    struct host_private *own = lagd->host;
+static unsigned cut_segments(struct tap_plane *tap, const struct cut *cut, uint32_t from, unsigned most) {
+    struct host_private *own = tap->host;
     unsigned taken = 0;
-    for (; taken < most && from + taken < cut->count && !lagd->broken; taken++) {
+    for (; taken < most && from + taken < cut->count && !tap->process->broken; taken++) {
         uint8_t *packet = room_at(own->segments, taken % BATCH);
-        if (taken > 0 && taken % BATCH == 0) flush_data(lagd);
-        accept_from_host(lagd, packet, put_segment(cut, from + taken, packet));
+        if (taken > 0 && taken % BATCH == 0) flush_data(tap);
+        accept_from_host(tap, packet, put_segment(cut, from + taken, packet));
     }
-    flush_data(lagd);
+    flush_data(tap);
     return taken;
 }
 
 /* Puts a packet behind those that wait; answers whether there was room. */
-static bool put_uncut(struct lagd *lagd, const uint8_t *packet, size_t length, uint16_t number) {
-    struct host_private *own = lagd->host;
+static bool put_uncut(struct host_private *own, const uint8_t *packet, size_t length, uint16_t number) {
     unsigned place = (own->first + own->count) % MOST_WAITING;
     struct uncut *uncut = &own->waiting[place];
     uint8_t *room = room_at(own->rooms, place);
@@ -87,36 +87,36 @@ static bool put_uncut(struct lagd *lagd, const uint8_t *packet, size_t length, u
 }
 
 /* Has a packet wait. Where there is no room for it, it is lost. */
-static unsigned wait_uncut(struct lagd *lagd, const uint8_t *packet, size_t length, uint16_t number) {
-    if (put_uncut(lagd, packet, length, number)) return 1;
-    lagd->carry.counts[FROM_HOST]++;
-    lagd->carry.counts[QUEUE_FULL]++;
+static unsigned wait_uncut(struct tap_plane *tap, const uint8_t *packet, size_t length, uint16_t number) {
+    if (put_uncut(tap->host, packet, length, number)) return 1;
+    tap->carry->counts[FROM_HOST]++;
+    tap->carry->counts[QUEUE_FULL]++;
     return 1;
 }
 
 /* Takes a packet whose segments and checksum the host left to a card, but one of more segments than are cut at once; answers how many frames it
  * has. A packet that cannot be cut has no octets. */
-static unsigned accept_whole(struct lagd *lagd, uint8_t *packet, size_t length) {
+static unsigned accept_whole(struct tap_plane *tap, uint8_t *packet, size_t length) {
     struct cut cut;
     if (has_segments(packet)) {
-        lagd->carry.counts[SEGMENTED]++;
-        if (read_cut(packet, length, &cut)) return cut_segments(lagd, &cut, 0, cut.count);
+        tap->carry->counts[SEGMENTED]++;
+        if (read_cut(packet, length, &cut)) return cut_segments(tap, &cut, 0, cut.count);
         length = 0;
     }
     finish_sum(packet, length);
-    accept_from_host(lagd, packet, length);
+    accept_from_host(tap, packet, length);
     return 1;
 }
 
 /* Takes of the packets that wait, the oldest ones first, so many segments at most. */
-static void cut_waiting(struct lagd *lagd, unsigned most) {
-    struct host_private *own = lagd->host;
-    for (unsigned taken = 0; taken < most && is_cutting(lagd);) {
+static void cut_waiting(struct tap_plane *tap, unsigned most) {
+    struct host_private *own = tap->host;
+    for (unsigned taken = 0; taken < most && is_cutting(tap);) {
         struct uncut *uncut = &own->waiting[own->first];
         unsigned now;
-        if (uncut->cut.count > 0 && uncut->next == 0) lagd->carry.counts[SEGMENTED]++;
-        now = uncut->cut.count > 0 ? cut_segments(lagd, &uncut->cut, uncut->next, most - taken)
-                                   : accept_whole(lagd, room_at(own->rooms, own->first), uncut->length);
+        if (uncut->cut.count > 0 && uncut->next == 0) tap->carry->counts[SEGMENTED]++;
+        now = uncut->cut.count > 0 ? cut_segments(tap, &uncut->cut, uncut->next, most - taken)
+                                   : accept_whole(tap, room_at(own->rooms, own->first), uncut->length);
         uncut->next += now;
         taken += now;
         if (uncut->next < uncut->cut.count) continue;
@@ -134,116 +134,118 @@ static bool is_long(const uint8_t *packet, size_t length) {
 
 /* Takes a packet of a host that leaves segments and checksums to a card: one of many segments waits, and those of its conversation behind it;
  * answers how many frames it has. */
-static unsigned accept_in_turn(struct lagd *lagd, uint8_t *packet, size_t length) {
+static unsigned accept_in_turn(struct tap_plane *tap, uint8_t *packet, size_t length) {
     size_t head = head_octets();
     struct niw_number number;
-    if (length < head + ETH_HLEN || (!is_cutting(lagd) && !is_long(packet, length))) return accept_whole(lagd, packet, length);
-    number = conversation_of(lagd, packet + head, length - head);
-    if (number.status != NIW_OK || (lagd->host->of_one[number.number % CONVERSATIONS] == 0 && !is_long(packet, length)))
-        return accept_whole(lagd, packet, length);
-    return wait_uncut(lagd, packet, length, (uint16_t)(number.number % CONVERSATIONS));
+    if (length < head + ETH_HLEN || (!is_cutting(tap) && !is_long(packet, length))) return accept_whole(tap, packet, length);
+    number = conversation_of(tap->protocol, packet + head, length - head);
+    if (number.status != NIW_OK || (tap->host->of_one[number.number % CONVERSATIONS] == 0 && !is_long(packet, length)))
+        return accept_whole(tap, packet, length);
+    return wait_uncut(tap, packet, length, (uint16_t)(number.number % CONVERSATIONS));
 }
 
 /* Takes one packet of the TAP device; answers how many frames it has, or 0 where there is none. */
-static unsigned read_next(struct lagd *lagd, uint8_t *packet) {
+static unsigned read_next(struct tap_plane *tap, uint8_t *packet) {
     ssize_t length;
-    if (lagd->broken) return 0;
-    length = read(lagd->host->tap, packet, packet_room());
+    if (tap->process->broken) return 0;
+    length = read(tap->host->tap, packet, packet_room());
     if (length < 0 && (errno == EAGAIN || errno == EINTR)) return 0;
     if (length < 0 && (errno == EBADFD || errno == EIO || errno == ENODEV)) {
-        lose_device(lagd);
+        lose_device(tap->plane);
         return 0;
     }
-    if (length >= (ssize_t)head_octets() && !lagd->plane.segments) return accept_in_turn(lagd, packet, (size_t)length);
-    accept_from_host(lagd, packet, length < 0 ? 0 : (size_t)length); /* one that cannot be read has no octets */
+    if (length >= (ssize_t)head_octets() && !tap->plane->segments) return accept_in_turn(tap, packet, (size_t)length);
+    accept_from_host(tap, packet, length < 0 ? 0 : (size_t)length); /* one that cannot be read has no octets */
     return 1;
 }
 
 /* Takes the packets that wait in the TAP device, some at most, and then of those that wait to be cut. */
-void read_host(struct lagd *lagd) {
+void read_host(struct tap_plane *tap) {
     unsigned got = 0, left = BATCH;
     for (; left > 0; got++) {
-        unsigned frames = read_next(lagd, room_at(lagd->host->packets, got));
+        unsigned frames = read_next(tap, room_at(tap->host->packets, got));
         if (frames == 0) break;
-        lagd->carry.taken += frames;
+        tap->carry->taken += frames;
         left -= frames < left ? frames : left;
     }
-    flush_data(lagd);
-    cut_waiting(lagd, MOST_CUT);
-    flush_data(lagd);
-    if (left == 0 || is_cutting(lagd)) lagd->carry.more_waits = true;
-    lagd->plane.passing->note_read(lagd, got, left > 0);
-    lagd->plane.passing->pass_on(lagd);
+    flush_data(tap);
+    cut_waiting(tap, MOST_CUT);
+    flush_data(tap);
+    if (left == 0 || is_cutting(tap)) tap->carry->more_waits = true;
+    tap->plane->passing->note_read(tap, got, left > 0);
+    tap->plane->passing->pass_on(tap);
 }
 
 /* Hands a packet up, which lies in parts; answers whether the device took it. */
-bool give_host(struct lagd *lagd, const struct iovec *parts, unsigned count, size_t length) {
-    return !lagd->broken && writev(lagd->host->tap, parts, (int)count) == (ssize_t)length;
+bool give_host(struct tap_plane *tap, const struct iovec *parts, unsigned count, size_t length) {
+    return !tap->process->broken && writev(tap->host->tap, parts, (int)count) == (ssize_t)length;
 }
 
 /* Serves what is ready: a member, or the TAP device, whose frames come after what was released. */
-void serve_data(struct lagd *lagd, uint32_t tag) {
-    if (lagd->broken) return;
-    if (tag == RESPONSES) serve_answers(lagd);
+void serve_data(struct tap_plane *tap, uint32_t tag) {
+    if (tap->process->broken) return;
+    if (tag == RESPONSES) serve_answers(tap);
     if (tag >= MEMBERS && tag < RESPONSES) {
-        receive_data(lagd, (uint16_t)(tag - MEMBERS + 1));
-        if (lagd->carry.changed) send_due(lagd);
+        receive_data(tap, (uint16_t)(tag - MEMBERS + 1));
+        if (tap->plane->changed) send_due(tap->protocol);
     }
-    settle_carry(lagd);
-    if (tag == HOST) read_host(lagd);
+    settle_carry(tap->plane);
+    if (tag == HOST) read_host(tap);
 }
 
 /* The link of a port goes down: nothing goes there from here on. */
-void lose_data(struct lagd *lagd, uint16_t port) {
-    lagd->plane.passing->withdraw_port(lagd, port);
-    forget_answers(lagd->answers, port);
+void lose_data(struct plane *plane, uint16_t port) {
+    struct tap_plane *tap = plane->tap;
+    plane->passing->withdraw_port(tap, port);
+    forget_answers(tap->answers, port);
 }
 
 /* The interface by which the kernel passes a conversation on, or 0. */
-int passing_member_of(struct lagd *lagd, uint16_t number) {
-    return lagd->plane.passing->member_of(lagd, number);
+int passing_member_of(struct plane *plane, uint16_t number) {
+    return plane->passing->member_of(plane->tap, number);
 }
 
 /* Makes the TAP device, and what members are given and have taken away. */
-void open_tap_plane(struct lagd *lagd) {
-    struct host_private *own = lagd->host;
+void open_tap_plane(struct plane *plane) {
+    struct tap_plane *tap = plane->tap;
+    struct host_private *own = tap->host;
     own->packets = make_rooms();
     own->segments = make_rooms();
     own->rooms = make_rooms();
-    load_guard(lagd);
-    lagd->plane.queueing->start(lagd);
-    if (call_at_exit(lagd, put_back_members) != 0) stop(REFUSED, "no memory", "for what members had");
-    own->tap = open_tap(lagd, lagd->settings.carry, lagd->settings.config.mac);
-    gather(lagd, tap_index(lagd->tap));
-    lagd->plane.passing->start(lagd);
-    if (!await_input(lagd->epoll_file, own->tap, HOST)) stop(REFUSED, "epoll", strerror(errno));
+    start_held(tap);
+    start_members(tap->members);
+    load_guard(tap);
+    plane->queueing->start(tap);
+    call_at_exit(tap->process, put_back_members, tap);
+    own->tap = open_tap(tap->device, tap->settings->carry, tap->settings->config.mac);
+    gather(tap->process, tap_index(tap->device));
+    plane->passing->start(tap);
+    if (!await_input(tap->process->epoll_file, own->tap, HOST)) stop(REFUSED, "epoll", strerror(errno));
 }
 
 /* Members are as they were before, and the device goes with the program. */
-void end_tap_plane(struct lagd *lagd) {
-    await_no_more(lagd->epoll_file, lagd->host->tap);
-    set_carrier(lagd, false);
-    close_members(lagd);
-    lagd->plane.passing->end(lagd);
-    end_held(lagd);
+void end_tap_plane(struct plane *plane) {
+    struct tap_plane *tap = plane->tap;
+    await_no_more(tap->process->epoll_file, tap->host->tap);
+    set_carrier(tap->device, false);
+    close_members(tap->protocol);
+    plane->passing->end(tap);
+    end_held(tap);
 }
 
 /* Makes what carries the data, and all room that frames ever take. */
-void open_carry(struct lagd *lagd) {
-    if (!lagd->settings.carry[0]) return;
-    start_held(lagd);
-    start_members(lagd->members);
-    lagd->plane.carrying->open(lagd);
+void open_carry(struct protocol *protocol) {
+    if (protocol->settings->carry[0]) protocol->plane->carrying->open(protocol->plane);
 }
 
 /* No interface is a member any more. */
-void close_members(struct lagd *lagd) {
-    for (uint16_t i = 0; i < lagd->link_count; i++)
-        if (lagd->links[i].socket >= 0) lagd->plane.carrying->remove(lagd, &lagd->links[i]);
+void close_members(struct protocol *protocol) {
+    for (uint16_t i = 0; i < protocol->ports->count; i++)
+        if (protocol->ports->links[i].socket >= 0) protocol->plane->carrying->remove(protocol->plane, &protocol->ports->links[i]);
 }
 
 /* The daemon ends, or the library refused a call: no data goes or comes from here on. */
-void end_carry(struct lagd *lagd) {
-    lagd->plane.carrying->end(lagd);
-    choose_no_plane(&lagd->plane);
+void end_carry(struct plane *plane) {
+    plane->carrying->end(plane);
+    choose_no_plane(plane);
 }

@@ -7,7 +7,7 @@
 #include <sys/un.h>
 #include <unistd.h>
 
-#include "daemon.h"
+#include "lagd.h"
 
 #define SOCKET "/run/systemd/journal/socket"
 #define LONGEST_ENTRY 2048
@@ -45,15 +45,15 @@ struct journal_private *make_journal_private(void) {
 
 /* Hands the journal a line of printable text. Answers what became of it: the journal may be elsewhere, and then the line goes to
  * standard output. */
-enum journaled tell_journal(struct lagd *lagd, int level, const char *text) {
-    struct journal_private *own = lagd->journal;
+enum journaled tell_journal(struct process *process, int level, const char *text) {
+    struct journal_private *own = process->journal;
     static const struct sockaddr_un to = {.sun_family = AF_UNIX, .sun_path = SOCKET};
     char entry[LONGEST_ENTRY], bundle_name[4 * NAME_ROOM];
     const char *id = id_of((unsigned)level & KINDS);
     int used;
     if (own->opened < 0) own->opened = socket(AF_UNIX, SOCK_DGRAM | SOCK_NONBLOCK | SOCK_CLOEXEC, 0);
     if (own->opened < 0) return NOT_JOURNALED;
-    (void)escape(bundle_name, sizeof bundle_name, lagd->settings.name, strlen(lagd->settings.name), false);
+    (void)escape(bundle_name, sizeof bundle_name, process->settings->name, strlen(process->settings->name), false);
     used = snprintf(entry, sizeof entry, "MESSAGE=%s\nPRIORITY=%d\nSYSLOG_IDENTIFIER=lagd\nLAGD_BUNDLE=%s\n", text, level & LOG_PRIMASK,
         bundle_name);
     if (id) used += snprintf(entry + used, sizeof entry - (size_t)used, "MESSAGE_ID=%s\n", id);

@@ -7,7 +7,7 @@
 #include <string.h>
 #include <unistd.h>
 
-#include "daemon.h"
+#include "tap.h"
 
 /* What a file has: it is whole if its last line is. */
 #define FORM "boot=%s\nmac=%s\njoins=%u\nqueues=%u %u %u %u\nrps=%s\nend\n"
@@ -73,27 +73,27 @@ static bool recall(struct folder_private *folder, const struct link *link, struc
 }
 
 /* Keeps what an interface has to get back, for the next daemon, where this one is killed. */
-void write_settings(struct lagd *lagd, const struct link *link, const struct kept *kept) {
+void write_settings(struct process *process, const struct link *link, const struct kept *kept) {
     char boot[BOOT_ROOM], mac[32];
     const struct ethtool_channels *queues = &kept->queues;
-    FILE *file = open_kept(lagd->folder, link, "member", O_WRONLY | O_CREAT | O_TRUNC, "w");
+    FILE *file = open_kept(process->folder, link, "member", O_WRONLY | O_CREAT | O_TRUNC, "w");
     if (file)
         fprintf(file, FORM, boot_id(boot), mac_text(link->mac, mac), kept->joins, queues->rx_count, queues->tx_count,
             queues->other_count, queues->combined_count, kept->steered[0] ? kept->steered : "-");
     if (!file || fclose(file) != 0)
-        (void)say(lagd, LOG_WARNING | ABOUT_DATA, "port %u %s: if this daemon is killed, nobody knows what the interface had: %s",
+        (void)say(process, LOG_WARNING | ABOUT_DATA, "port %u %s: if this daemon is killed, nobody knows what the interface had: %s",
             link->settings.number, link->name, strerror(errno));
 }
 
 /* Keeps what an interface has now, before it is changed, and adds to it what it had before an earlier daemon changed it. */
-void keep_settings(struct lagd *lagd, const struct link *link, struct kept *kept) {
+void keep_settings(struct process *process, const struct link *link, struct kept *kept) {
     struct kept first;
-    if (recall(lagd->folder, link, &first)) {
+    if (recall(process->folder, link, &first)) {
         kept->joins |= first.joins;
         if (first.queues.combined_count + first.queues.rx_count + first.queues.tx_count > 0) kept->queues = first.queues;
         if (first.steered[0]) memcpy(kept->steered, first.steered, sizeof kept->steered);
     }
-    write_settings(lagd, link, kept);
+    write_settings(process, link, kept);
 }
 
 /* What an interface had before an earlier daemon changed it; zeros, where nobody knows. */

@@ -10,7 +10,7 @@
 #include <sys/stat.h>
 #include <unistd.h>
 
-#include "daemon.h"
+#include "lagd.h"
 
 /* Below 0x0600 there are lengths in a frame, and no types; the kernel has no use of its own for this one. */
 #define PROTOCOL 0x05ac
@@ -48,9 +48,9 @@ static bool find_lock(int index, int but, struct lock *found) {
 
 /* Takes the lock of an interface; or -1, and errno: EADDRINUSE where somebody has it. Of two that take it at once one at least sees the
  * other one, since each is bound before it looks. It looks twice: of a list that changes the kernel may leave one out. */
-int lock_interface(struct lagd *lagd, int index) {
+int lock_interface(struct process *process, int index) {
     struct sockaddr_ll address = {.sll_family = AF_PACKET, .sll_protocol = htons(PROTOCOL), .sll_ifindex = index};
-    int opened = packet_socket(lagd, "lock", index, index, SOCK_DGRAM);
+    int opened = packet_socket(process, "lock", index, index, SOCK_DGRAM);
     struct lock other;
     if (opened < 0) return -1;
     if (bind(opened, (struct sockaddr *)&address, sizeof address) == 0 && find_lock(index, opened, &other)
@@ -58,16 +58,16 @@ int lock_interface(struct lagd *lagd, int index) {
         if (other.inode == 0) return opened;
         errno = EADDRINUSE;
     }
-    close_stored(lagd, "lock", index, opened);
+    close_stored(process->store, "lock", index, opened);
     return -1;
 }
 
 /* Who has the lock of an interface. */
-const char *holder_of(struct lagd *lagd, int index, char room[static HOLDER_ROOM]) {
+const char *holder_of(struct ports *ports, int index, char room[static HOLDER_ROOM]) {
     struct lock lock;
     bool own = false;
     if (!find_lock(index, -1, &lock) || lock.inode == 0) return "one that has left it now";
-    for (uint16_t i = 0; i < lagd->link_count; i++) own = own || inode_of(lagd->links[i].lock) == lock.inode;
+    for (uint16_t i = 0; i < ports->count; i++) own = own || inode_of(ports->links[i].lock) == lock.inode;
     snprintf(room, HOLDER_ROOM, own ? "this lagd, by another name" : "one of user %u", lock.user);
     return room;
 }

@@ -2,19 +2,19 @@
 #define _GNU_SOURCE
 #ifdef HAVE_SYSTEMD
 #include <systemd/sd-daemon.h>
+
+#include "lagd.h"
 #endif
 
-#include "daemon.h"
-
 #ifdef HAVE_SYSTEMD
-static void notify_bundle(struct lagd *lagd, const char *head) {
-    (void)sd_notifyf(0, "%sSTATUS=%s, %u of %u links carry", head, bundle_state_text(lagd->bundle.state), lagd->bundle.carrying,
-        lagd->bundle.links);
+static void notify_bundle(const struct bundle *bundle, const char *head) {
+    (void)sd_notifyf(0, "%sSTATUS=%s, %u of %u links carry", head, bundle_state_text(bundle->state), bundle->carrying,
+        bundle->links);
 }
 
 /* The interfaces that are there were taken up, or the file was read again. */
-void notify_ready(struct lagd *lagd) {
-    notify_bundle(lagd, "READY=1\n");
+void notify_ready(const struct bundle *bundle) {
+    notify_bundle(bundle, "READY=1\n");
 }
 
 void notify_reloading(void) {
@@ -26,8 +26,8 @@ void notify_stopping(void) {
 }
 
 /* The bundle is up, degraded or down now. */
-void notify_state(struct lagd *lagd) {
-    notify_bundle(lagd, "");
+void notify_state(const struct bundle *bundle) {
+    notify_bundle(bundle, "");
 }
 
 /* Once a second. */

@@ -1,6 +1,5 @@
 /* The keys of a bundle and of a port, and their values. The command line and the file have the same ones. */
 #define _GNU_SOURCE
-#include "daemon.h"
 #include "settings.h"
 
 #include <ctype.h>
@@ -9,6 +8,8 @@
 #include <string.h>
 #include <sys/stat.h>
 #include <unistd.h>
+
+#include "lagd.h"
 
 #define EACH_KEY_ONCE "each key once"
 #define A_NUMBER "a number from 0 to 65535"
@@ -276,36 +277,27 @@ static const char *name_of_port_key(size_t index) {
     return PORT_KEYS[index].name;
 }
 
-struct settings_private {
-    char text[512]; /* of list_words */
-};
-
-struct settings_private *make_settings_private(void) {
-    return make_room(sizeof(struct settings_private));
-}
-
 /* Words in a row, with `before_last` before the last one and `end` behind it. They stand until the next call. */
-const char *list_words(struct lagd *lagd, const char *(*word)(size_t index), size_t count, const char *before_last, const char *end) {
-    struct settings_private *own = lagd->settings_private;
+const char *list_words(struct words *words, const char *(*word)(size_t index), size_t count, const char *before_last, const char *end) {
     size_t length = 0;
-    for (size_t i = 0; i < count && length < sizeof own->text; i++) {
+    for (size_t i = 0; i < count && length < sizeof words->text; i++) {
         const char *joint = i == 0 ? "" : i + 1 < count ? ", " : before_last;
-        length += (size_t)snprintf(own->text + length, sizeof own->text - length, "%s%s", joint, word(i));
+        length += (size_t)snprintf(words->text + length, sizeof words->text - length, "%s%s", joint, word(i));
     }
-    if (length < sizeof own->text) snprintf(own->text + length, sizeof own->text - length, "%s", end);
-    return own->text;
+    if (length < sizeof words->text) snprintf(words->text + length, sizeof words->text - length, "%s", end);
+    return words->text;
 }
 
 /* Gives a key of the bundle a value, in a line from 1; answers NULL, or what was expected. A command line is one line: of a key that
  * stands there twice the last value holds. */
-const char *set_bundle(struct lagd *lagd, struct settings *settings, const char *name, const char *text, unsigned line) {
+const char *set_bundle(struct words *words, struct settings *settings, const char *name, const char *text, unsigned line) {
     for (size_t i = 0; i < BUNDLE_KEY_COUNT; i++) {
         if (strcmp(name, BUNDLE_KEYS[i].name) != 0) continue;
         if (settings->lines[i] && settings->lines[i] < line) return EACH_KEY_ONCE;
         settings->lines[i] = line;
         return BUNDLE_KEYS[i].take(text, settings) ? NULL : BUNDLE_KEYS[i].expected;
     }
-    return list_words(lagd, name_of_bundle_key, BUNDLE_KEY_COUNT, " or ", " as a key of [Bundle]");
+    return list_words(words, name_of_bundle_key, BUNDLE_KEY_COUNT, " or ", " as a key of [Bundle]");
 }
 
 /* The line that gives a key of the bundle, or 0. */
@@ -316,13 +308,13 @@ unsigned line_of(const struct settings *settings, const char *name) {
 }
 
 /* Gives a key of a port a value; answers NULL, or what was expected. */
-const char *set_port(struct lagd *lagd, struct port_settings *port, const char *name, const char *text) {
+const char *set_port(struct words *words, struct port_settings *port, const char *name, const char *text) {
     size_t i = 0;
     uint16_t number;
     bool is_first;
     int *value;
     while (i < PORT_KEY_COUNT && strcmp(name, PORT_KEYS[i].name) != 0) i++;
-    if (i == PORT_KEY_COUNT) return list_words(lagd, name_of_port_key, PORT_KEY_COUNT, " or ", " as a key of [Port]");
+    if (i == PORT_KEY_COUNT) return list_words(words, name_of_port_key, PORT_KEY_COUNT, " or ", " as a key of [Port]");
     value = value_at(port, i);
     if (*value != AS_BUNDLE) return EACH_KEY_ONCE;
     if (!PORT_KEYS[i].first) {

@@ -9,7 +9,6 @@
 #include <string.h>
 
 #include "netlink.h"
-#include "daemon.h"
 #include "team.h"
 
 #define MODE "loadbalance"
@@ -20,32 +19,18 @@
 /* How often a name is tried that the TAP device of the last daemon has still, each 100 ms. */
 #define MOST_TRIES 10
 
-struct team_private {
-    bool opened;
-    bool made; /* whether a daemon made the device, so that it goes at the end */
-    bool is_new; /* whether this one did */
-    bool taken[NIW_MOST_PORTS]; /* whether the interface of a port is a port of the device */
-    int lock, locked; /* by which no other lagd has the device, whatever members are there; and its index */
-};
-
-struct team_private *make_team_private(void) {
-    struct team_private *made = make_room(sizeof *made);
-    made->lock = -1;
-    return made;
-}
-
-bool is_team_port(const struct team_private *own, uint16_t port) {
-    return own->taken[port - 1];
+bool is_team_port(const struct team_plane *team, uint16_t port) {
+    return team->taken[port - 1];
 }
 
 /* Whether a daemon made the device. */
-bool has_made_team(struct lagd *lagd) {
-    return lagd->team->made;
+bool has_made_team(struct plane *plane) {
+    return plane->team->made;
 }
 
 /* Whether this daemon made the device, so that nobody has put a port there yet. */
-bool is_team_new(const struct team_private *own) {
-    return own->is_new;
+bool is_team_new(struct plane *plane) {
+    return plane->team->is_new;
 }
 
 /* Whether the driver takes the mode: at a device of its own, which stays. */
@@ -69,17 +54,16 @@ static uint32_t least_mtu(const struct settings *settings) {
 }
 
 /* Takes the lock of a device. */
-static void lock_device(struct lagd *lagd, int index) {
-    struct team_private *own = lagd->team;
+static void lock_device(struct team_plane *team, int index) {
     char what[128], holder[HOLDER_ROOM];
-    own->lock = lock_interface(lagd, index);
-    if (own->lock < 0 && errno == EADDRINUSE) {
-        snprintf(what, sizeof what, "another lagd has the interface, %s", holder_of(lagd, index, holder));
-        stop(REFUSED, what, lagd->settings.carry);
+    team->lock = lock_interface(team->process, index);
+    if (team->lock < 0 && errno == EADDRINUSE) {
+        snprintf(what, sizeof what, "another lagd has the interface, %s", holder_of(team->ports, index, holder));
+        stop(REFUSED, what, team->settings->carry);
     }
-    need(own->lock >= 0, lagd->settings.carry);
-    own->locked = index;
-    put_stored(lagd, "lock", index, own->lock);
+    need(team->lock >= 0, team->settings->carry);
+    team->locked = index;
+    put_stored(team->process->store, "lock", index, team->lock);
 }
 
 /* Whether each port of a device is an interface of this bundle. */
@@ -98,28 +82,28 @@ static bool has_own_ports(const struct settings *settings, const struct team_now
 }
 
 /* Takes a device that is there: that of the last daemon, or one that is of no use to others. */
-static void adopt_device(struct lagd *lagd, const struct interface *device, const uint8_t *mac) {
+static void adopt_device(struct team_plane *team, const struct interface *device, const uint8_t *mac) {
     struct team_now now;
-    bool known = device->index == lagd->inherited.tap;
+    bool known = device->index == team->process->inherited->tap;
     if (strcmp(device->kind, TEAM_KIND) != 0)
-        stop(REFUSED, lagd->settings.carry, "an interface of this name is there, and is no team device");
-    lock_device(lagd, device->index);
-    need(read_team(lagd->team_netlink, device->index, &now), lagd->settings.carry);
+        stop(REFUSED, team->settings->carry, "an interface of this name is there, and is no team device");
+    lock_device(team, device->index);
+    need(read_team(team->team_netlink, device->index, &now), team->settings->carry);
     if (strcmp(now.mode, MODE) != 0 && strcmp(now.mode, NO_MODE) != 0)
-        stop(REFUSED, lagd->settings.carry, "a team device of another mode is there");
-    if (!lagd->settings.follow && !has_own_ports(&lagd->settings, &now) && !known)
-        stop(REFUSED, lagd->settings.carry, "a team device with ports of others is there");
-    lagd->team->made = known && lagd->inherited.persists;
-    need(known || set_address(device->index, mac), lagd->settings.carry);
-    use_team_device(lagd, device->index);
+        stop(REFUSED, team->settings->carry, "a team device of another mode is there");
+    if (!team->settings->follow && !has_own_ports(team->settings, &now) && !known)
+        stop(REFUSED, team->settings->carry, "a team device with ports of others is there");
+    team->made = known && team->process->inherited->persists;
+    need(known || set_address(device->index, mac), team->settings->carry);
+    use_team_device(team->device, device->index);
 }
 
 /* Finds the device of the last daemon, whatever an administrator named it since, or else one of this name; answers whether there is one. A
  * TAP device of the last daemon goes. */
-static bool find_device(struct lagd *lagd, const char *name, struct interface *device) {
-    int tap = claim_stored(lagd, "tap", 0);
-    if (tap >= 0) close_stored(lagd, "tap", 0, tap);
-    if (lagd->inherited.tap != 0 && ask_interface(lagd->inherited.tap, NULL, device) && strcmp(device->kind, TEAM_KIND) == 0)
+static bool find_device(struct process *process, const char *name, struct interface *device) {
+    int tap = claim_stored(process->store, "tap", 0);
+    if (tap >= 0) close_stored(process->store, "tap", 0, tap);
+    if (process->inherited->tap != 0 && ask_interface(process->inherited->tap, NULL, device) && strcmp(device->kind, TEAM_KIND) == 0)
         return true;
     for (int tries = 0; ask_interface(0, name, device); tries++) {
         if (strcmp(device->kind, "tun") != 0 || tries == MOST_TRIES) return true;
@@ -129,13 +113,13 @@ static bool find_device(struct lagd *lagd, const char *name, struct interface *d
 }
 
 /* Has the driver spread frames over buckets, and tell what each of them sent. */
-static void set_options(struct lagd *lagd, const char *mode_now) {
+static void set_options(struct team_plane *team, const char *mode_now) {
     struct sock_filter steps[MOST_HASH_STEPS];
-    int index = tap_index(lagd->tap);
-    need(strcmp(mode_now, MODE) == 0 || set_team_text(lagd->team_netlink, index, "mode", MODE), "team: mode " MODE);
-    need(set_team_hash(lagd->team_netlink, index, steps, make_team_hash(&lagd->settings, steps)), "team: bpf_hash_func");
-    need(set_team_text(lagd->team_netlink, index, "lb_tx_method", "hash_to_port_mapping"), "team: lb_tx_method");
-    need(set_team_number(lagd->team_netlink, index, "lb_stats_refresh_interval", COUNTED_EVERY), "team: lb_stats_refresh_interval");
+    int index = tap_index(team->device);
+    need(strcmp(mode_now, MODE) == 0 || set_team_text(team->team_netlink, index, "mode", MODE), "team: mode " MODE);
+    need(set_team_hash(team->team_netlink, index, steps, make_team_hash(team->settings, steps)), "team: bpf_hash_func");
+    need(set_team_text(team->team_netlink, index, "lb_tx_method", "hash_to_port_mapping"), "team: lb_tx_method");
+    need(set_team_number(team->team_netlink, index, "lb_stats_refresh_interval", COUNTED_EVERY), "team: lb_stats_refresh_interval");
 }
 
 /* Gives a port the address of the device: frames to that would be of another host for the network stack. The driver puts back what it had. Some
@@ -152,77 +136,77 @@ static bool give_address(int index, const uint8_t *mac) {
 
 /* The device has another address than some ports: who administers it may change it. A port that does not take it would lose what comes: it is
  * taken up anew. */
-void give_team_addresses(struct lagd *lagd) {
+void give_team_addresses(struct team_plane *team) {
     uint8_t mac[ETH_ALEN];
-    if (!read_tap_mac(lagd->tap, mac)) return;
-    for (uint16_t i = 0; i < lagd->link_count; i++) {
-        if (!lagd->team->taken[i] || memcmp(lagd->links[i].mac, mac, sizeof mac) == 0 || give_address(lagd->links[i].index, mac))
+    if (!read_tap_mac(team->device, mac)) return;
+    for (uint16_t i = 0; i < team->ports->count; i++) {
+        if (!team->taken[i] || memcmp(team->ports->links[i].mac, mac, sizeof mac) == 0 || give_address(team->ports->links[i].index, mac))
             continue;
-        (void)say(lagd, LOG_WARNING | ABOUT_DATA, "port %u %s: it does not take the address of %s: %s", lagd->links[i].settings.number,
-            lagd->links[i].name, lagd->settings.carry, strerror(errno));
-        lose_link(lagd, &lagd->links[i]);
-        look_again(lagd->changes);
+        (void)say(team->process, LOG_WARNING | ABOUT_DATA, "port %u %s: it does not take the address of %s: %s", team->ports->links[i].settings.number,
+            team->ports->links[i].name, team->settings->carry, strerror(errno));
+        lose_link(team->protocol, &team->ports->links[i]);
+        look_again(team->protocol->changes);
     }
 }
 
 /* Takes an interface out of the device, by which it goes down: also where the device is gone, or somebody else took it out. */
-void leave_team_port(struct lagd *lagd, int index) {
+void leave_team_port(struct team_plane *team, int index) {
     struct interface port;
     bool up;
-    if (!lagd->team->opened || !ask_interface(index, NULL, &port) || (port.master != 0 && port.master != tap_index(lagd->tap))) return;
+    if (!team->opened || !ask_interface(index, NULL, &port) || (port.master != 0 && port.master != tap_index(team->device))) return;
     up = port.master == 0 || (port.flags & IFF_UP);
     if ((port.master == 0 || set_master(index, 0)) && up) (void)set_interface_up(index, true);
 }
 
 /* Makes an interface a new port of the device, which takes it while it is down, and passes no data on it until it is told to: the driver would
  * at once. */
-static bool make_port(struct lagd *lagd, int index, bool up) {
-    return (!up || set_interface_up(index, false)) && set_master(index, tap_index(lagd->tap))
-        && set_port_enabled(lagd->team_netlink, tap_index(lagd->tap), index, false);
+static bool make_port(struct team_plane *team, int index, bool up) {
+    return (!up || set_interface_up(index, false)) && set_master(index, tap_index(team->device))
+        && set_port_enabled(team->team_netlink, tap_index(team->device), index, false);
 }
 
 /* Makes an interface a port of the device; answers whether it is one, and else errno tells why not. One that belongs to another device stays
  * there. */
-bool open_team_port(struct lagd *lagd, struct link *link) {
-    struct team_private *own = lagd->team;
+bool open_team_port(struct plane *plane, struct link *link) {
+    struct team_plane *team = plane->team;
     struct interface port;
     uint8_t mac[ETH_ALEN];
     bool up, done;
-    if (!ask_interface(link->index, NULL, &port) || !read_tap_mac(lagd->tap, mac)) return false;
+    if (!ask_interface(link->index, NULL, &port) || !read_tap_mac(team->device, mac)) return false;
     up = (port.flags & IFF_UP) != 0;
     errno = EBUSY;
-    if (port.master != tap_index(lagd->tap) && (port.master != 0 || !may_put_in(lagd, link))) return false;
-    done = port.master != 0 || make_port(lagd, link->index, up);
-    own->taken[link - lagd->links] = done && (memcmp(port.mac, mac, sizeof mac) == 0 || give_address(link->index, mac));
-    forget_port(lagd, link->settings.number);
-    if (!own->taken[link - lagd->links]) {
+    if (port.master != tap_index(team->device) && (port.master != 0 || !may_put_in(team->protocol, link))) return false;
+    done = port.master != 0 || make_port(team, link->index, up);
+    team->taken[link - team->ports->links] = done && (memcmp(port.mac, mac, sizeof mac) == 0 || give_address(link->index, mac));
+    forget_port(team, link->settings.number);
+    if (!team->taken[link - team->ports->links]) {
         int fault = errno;
-        leave_team_port(lagd, link->index);
+        leave_team_port(team, link->index);
         if (up) (void)set_interface_up(link->index, true);
         errno = fault;
     }
-    return own->taken[link - lagd->links];
+    return team->taken[link - team->ports->links];
 }
 
 /* The interface is no member any more, or the daemon ends. */
-void close_team_port(struct lagd *lagd, struct link *link) {
-    struct team_private *own = lagd->team;
-    if (!own->taken[link - lagd->links]) return;
-    own->taken[link - lagd->links] = false;
-    forget_port(lagd, link->settings.number);
-    leave_team_port(lagd, link->index);
+void close_team_port(struct plane *plane, struct link *link) {
+    struct team_plane *team = plane->team;
+    if (!team->taken[link - team->ports->links]) return;
+    team->taken[link - team->ports->links] = false;
+    forget_port(team, link->settings.number);
+    leave_team_port(team, link->index);
 }
 
 /* Whether an interface is still a port of the device, as the kernel tells another master, or none: that may be older than what the daemon
  * did. */
-bool is_still_team_port(struct lagd *lagd, const struct link *link, int master) {
-    struct team_private *own = lagd->team;
+bool is_still_team_port(struct plane *plane, const struct link *link, int master) {
+    struct team_plane *team = plane->team;
     struct interface now;
-    if (!own->taken[link - lagd->links] || master == tap_index(lagd->tap) || !ask_interface(link->index, NULL, &now))
+    if (!team->taken[link - team->ports->links] || master == tap_index(team->device) || !ask_interface(link->index, NULL, &now))
         return true;
-    if (now.master == tap_index(lagd->tap)) return true;
-    (void)say(lagd, LOG_WARNING | ABOUT_DATA, "port %u %s: it was taken out of %s", link->settings.number, link->name,
-        lagd->settings.carry);
+    if (now.master == tap_index(team->device)) return true;
+    (void)say(team->process, LOG_WARNING | ABOUT_DATA, "port %u %s: it was taken out of %s", link->settings.number, link->name,
+        team->settings->carry);
     return false;
 }
 
@@ -236,77 +220,79 @@ static void free_inherited_ports(const struct inherited *inherited, int index) {
 
 /* By other settings nothing goes on: the ports of the device are free, and it goes if the last daemon made it. Where another daemon has it,
  * all stays as it is. */
-void leave_team(struct lagd *lagd, int index, bool with_device) {
+void leave_team(struct team_plane *team, int index, bool with_device) {
     struct interface device;
     int held;
-    if (!find_team_driver(lagd->team_netlink) || !ask_interface(index, NULL, &device) || strcmp(device.kind, TEAM_KIND) != 0) return;
-    held = lock_interface(lagd, index);
+    if (!find_team_driver(team->team_netlink) || !ask_interface(index, NULL, &device) || strcmp(device.kind, TEAM_KIND) != 0) return;
+    held = lock_interface(team->process, index);
     if (held < 0) return;
-    free_inherited_ports(&lagd->inherited, index);
+    free_inherited_ports(team->process->inherited, index);
     if (with_device) (void)remove_device(index);
-    close_stored(lagd, "lock", index, held);
+    close_stored(team->process->store, "lock", index, held);
 }
 
 /* The program ends, and no other one goes on: its ports are free, also those that a start did not come to, and the device goes if a daemon made
  * it. */
-static void end_team(struct lagd *lagd) {
-    struct team_private *own = lagd->team;
-    if (!own->opened || lagd->has_left) return;
-    for (uint16_t i = 0; i < lagd->link_count; i++) close_team_port(lagd, &lagd->links[i]);
-    if (tap_index(lagd->tap) != 0) free_inherited_ports(&lagd->inherited, tap_index(lagd->tap));
-    if (own->made && tap_index(lagd->tap) != 0) (void)remove_device(tap_index(lagd->tap));
-    if (own->lock >= 0) close_stored(lagd, "lock", own->locked, own->lock);
-    own->opened = false;
+static void end_team(void *given) {
+    struct team_plane *team = given;
+    if (!team->opened || team->process->has_left) return;
+    for (uint16_t i = 0; i < team->ports->count; i++) close_team_port(team->plane, &team->ports->links[i]);
+    if (tap_index(team->device) != 0) free_inherited_ports(team->process->inherited, tap_index(team->device));
+    if (team->made && tap_index(team->device) != 0) (void)remove_device(tap_index(team->device));
+    if (team->lock >= 0) close_stored(team->process->store, "lock", team->locked, team->lock);
+    team->opened = false;
 }
 
 /* Opens the device: it has no carrier, unless the data of the last daemon goes on. */
-void open_team(struct lagd *lagd) {
-    struct team_private *own = lagd->team;
-    const char *name = lagd->settings.carry;
-    const uint8_t *mac = lagd->settings.config.mac;
+void open_team(struct plane *plane) {
+    struct team_plane *team = plane->team;
+    const char *name = team->settings->carry;
+    const uint8_t *mac = team->settings->config.mac;
     struct interface device;
     struct team_now now;
-    need(find_team_driver(lagd->team_netlink), "plane=team: this kernel has no team driver");
-    if (call_at_exit(lagd, end_team) != 0) stop(REFUSED, "no memory", "for the team device");
-    own->opened = true;
-    if (find_device(lagd, name, &device)) {
-        adopt_device(lagd, &device, mac);
+    need(find_team_driver(team->team_netlink), "plane=team: this kernel has no team driver");
+    call_at_exit(team->process, end_team, team);
+    team->opened = true;
+    if (find_device(team->process, name, &device)) {
+        adopt_device(team, &device, mac);
     } else {
-        need(make_team_device(name, mac, least_mtu(&lagd->settings)) && ask_interface(0, name, &device), name);
-        lock_device(lagd, device.index); /* another one may have taken it at once */
-        own->made = own->is_new = true;
-        use_team_device(lagd, device.index);
+        need(make_team_device(name, mac, least_mtu(team->settings)) && ask_interface(0, name, &device), name);
+        lock_device(team, device.index); /* another one may have taken it at once */
+        team->made = team->is_new = true;
+        use_team_device(team->device, device.index);
     }
-    need(read_team(lagd->team_netlink, tap_index(lagd->tap), &now), "team");
-    set_options(lagd, now.mode);
-    start_buckets(lagd);
+    need(read_team(team->team_netlink, tap_index(team->device), &now), "team");
+    set_options(team, now.mode);
+    start_buckets(team);
 }
 
 /* Has the device a carrier, or none; answers whether the kernel does so. */
-bool give_team_carrier(struct lagd *lagd, bool on) {
-    return set_device_carrier(tap_index(lagd->tap), on);
+bool give_team_carrier(struct plane *plane, bool on) {
+    return set_device_carrier(tap_index(plane->carry->device), on);
 }
 
 /* The daemon ends, or the library refused a call. */
-void end_team_plane(struct lagd *lagd) {
-    set_carrier(lagd, false);
-    close_members(lagd);
-    end_team(lagd);
-    end_held(lagd);
+void end_team_plane(struct plane *plane) {
+    struct team_plane *team = plane->team;
+    set_carrier(team->device, false);
+    close_members(team->protocol);
+    end_team(team);
 }
 
 /* After calls that may have changed something: the active aggregator, and by which ports buckets go. */
-void settle_team(struct lagd *lagd) {
-    uint16_t before = lagd->carry.active;
-    choose_ports(lagd);
-    settle_buckets(lagd);
-    if (lagd->carry.active != before) forget_heard(lagd); /* until now frames came by the ports of the last one */
+void settle_team(struct plane *plane) {
+    struct team_plane *team = plane->team;
+    uint16_t before = team->carry->active;
+    choose_ports(plane);
+    settle_buckets(team);
+    if (team->carry->active != before) forget_heard(team->carry); /* until now frames came by the ports of the last one */
 }
 
 /* 100 ms passed, for all of the data. */
-void pass_tick_of_team(struct lagd *lagd) {
-    begin_carry_tick(lagd);
-    pass_bucket_tick(lagd);
-    note_heard(lagd);
-    end_carry_tick(lagd);
+void pass_tick_of_team(struct plane *plane) {
+    struct team_plane *team = plane->team;
+    begin_carry_tick(team->carry);
+    pass_bucket_tick(team);
+    note_heard(team->carry);
+    end_carry_tick(team->carry);
 }

@@ -8,7 +8,6 @@
 #include <net/if.h>
 #include <string.h>
 
-#include "daemon.h"
 #include "netlink.h"
 #include "team.h"
 

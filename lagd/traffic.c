@@ -7,8 +7,8 @@
 #include <netinet/in.h>
 #include <string.h>
 
-#include "carry.h"
 #include "netlink.h"
+#include "tap.h"
 
 /* What waits at a member: the octets of 50 ms at the speed of its link, within these bounds; the most of them where nobody tells a
  * speed. */
