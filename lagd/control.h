@@ -2,8 +2,8 @@
 #ifndef LAGD_CONTROL_H
 #define LAGD_CONTROL_H
 
-#include "tap.h"
-#include "team.h"
+#include "tap/tap.h"
+#include "team/team.h"
 
 /* What is written for whoever asks. What 64 ports of the longest names have to tell has less than 2 MiB. */
 #define REPORT_ROOM 4194304

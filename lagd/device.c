@@ -11,7 +11,7 @@
 #include <sys/stat.h>
 #include <unistd.h>
 
-#include "tap.h"
+#include "tap/tap.h"
 
 /* Of Linux 5.2, and not in older headers: the network namespace of a device. */
 #ifndef TUNGETDEVNETNS

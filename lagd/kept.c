@@ -7,7 +7,7 @@
 #include <string.h>
 #include <unistd.h>
 
-#include "tap.h"
+#include "tap/tap.h"
 
 /* What a file has: it is whole if its last line is. */
 #define FORM "boot=%s\nmac=%s\njoins=%u\nqueues=%u %u %u %u\nrps=%s\nend\n"

@@ -2,7 +2,7 @@
 #define _GNU_SOURCE
 #include <string.h>
 
-#include "tap.h"
+#include "tap/tap.h"
 
 /* How long the peer may take, when the marker is sent again, and when a peer that does not answer is asked again, in milliseconds. */
 #define PATIENCE 1000

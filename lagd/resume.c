@@ -2,8 +2,8 @@
 #define _GNU_SOURCE
 #include <string.h>
 
-#include "tap.h"
-#include "team.h"
+#include "tap/tap.h"
+#include "team/team.h"
 
 /* For how long LACPDUs of an end hold, in milliseconds, by its or its peer's LACP_Timeout (IEEE 802.1AX-2014, 6.4.4). */
 #define SHORT_TIMEOUT 3000

@@ -1,4 +1,4 @@
-/* The buckets of the team driver (lagd/buckets.c) over a driver in memory, and a library of four calls: links come and go, frames are sent,
+/* The buckets of the team driver (lagd/team/buckets.c) over a driver in memory, and a library of four calls: links come and go, frames are sent,
  * the driver counts late, others change what it has, and it refuses. After each turn buckets are on ports that carry, and those alone are
  * enabled. A bucket leaves a port that carries only if the driver counted no frame of it for `flight`.
  *
@@ -11,7 +11,7 @@
 #include "checks.h"
 #include "daemon.h"
 #include "netlink.h"
-#include "team.h"
+#include "team/team.h"
 
 #define PORTS 3
 #define INDEX 10 /* of the interface of a port: so much above its number */

@@ -1,4 +1,4 @@
-/* The markers of each queue, and the responses that wait (lagd/queues.c, lagd/answers.c), alone, over members and a clock in memory: a marker
+/* The markers of each queue, and the responses that wait (lagd/tap/queues.c, lagd/tap/answers.c), alone, over members and a clock in memory: a marker
  * goes by each queue that has frames which no response has told of, and counts as answered once each of these queues is.
  *
  * It prints a line for each check that fails, and then 'flights: N passed, M failed'; status 1 if one failed. */

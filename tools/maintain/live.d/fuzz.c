@@ -14,7 +14,7 @@
 
 #include "daemon.h"
 #include "netlink.h"
-#include "team.h"
+#include "team/team.h"
 
 /* The daemon. What is wrapped gets none. */
 static struct lagd *lagd;

@@ -1,4 +1,4 @@
-/* Fills the queues in which the daemon holds frames (lagd/held.c), in place of lagd/carry.c. A frame that is refused keeps no slot: a
+/* Fills the queues in which the daemon holds frames (lagd/tap/held.c), in place of lagd/tap/data.c. A frame that is refused keeps no slot: a
  * conversation that gets many more frames than it may hold leaves room for the others. Each frame comes out with its octets and its time.
  *
  * It prints a line for each check that fails, and then 'held: N passed, M failed'; status 1 if one failed. */

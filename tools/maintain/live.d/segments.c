@@ -1,4 +1,4 @@
-/* Frames of several segments that are cut, and frames that are put together (lagd/gso.c, lagd/gro.c), alone, over a device in memory: what is
+/* Frames of several segments that are cut, and frames that are put together (lagd/tap/gso.c, lagd/tap/gro.c), alone, over a device in memory: what is
  * cut has the headers and checksums that each segment has by itself; what goes up together is, cut again, what came, in its order; and what is
  * no part of a stream, was damaged, or is refused together, goes up as it came.
  *
@@ -9,7 +9,7 @@
 #include <sys/uio.h>
 
 #include "checks.h"
-#include "segments.h"
+#include "tap/segments.h"
 #include "daemon.h"
 
 #define HEAD 10
