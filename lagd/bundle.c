@@ -17,8 +17,8 @@ struct bundle_private *make_bundle_private(void) {
 /* How many links of an aggregator carry. */
 static uint16_t carrying_in(struct protocol *protocol, uint16_t aggregator) {
     uint16_t carrying = 0;
-    for (uint16_t i = 0; i < protocol->ports->count; i++)
-        if (protocol->ports->links[i].view.aggregator == aggregator && carries(protocol, &protocol->ports->links[i])) carrying++;
+    EACH_LINK(link, protocol->ports)
+        if (link->view.aggregator == aggregator && carries(protocol, link)) carrying++;
     return carrying;
 }
 
@@ -34,7 +34,8 @@ static uint16_t aggregator_after(struct protocol *protocol, uint16_t before) {
  * the one with the least group, so that the other end chooses it, too. */
 void choose_aggregator(struct protocol *protocol, struct bundle *now) {
     struct bundle_private *own = protocol->bundle_private;
-    own->chosen_last = now->aggregator = aggregator_after(protocol, protocol->plane->carrying->keeps_aggregator(protocol->plane) ? own->chosen_last : 0);
+    own->chosen_last = now->aggregator = aggregator_after(protocol,
+        protocol->plane->carrying->keeps_aggregator(protocol->plane) ? own->chosen_last : 0);
     now->carrying = carrying_in(protocol, now->aggregator);
 }
 

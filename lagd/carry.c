@@ -80,10 +80,10 @@ bool hears_peer(struct plane *plane) {
 /* Notes the ports of the active aggregator that carry, those that are emptied or the others. */
 static void note_ports(struct carry *carry, bool emptying) {
     carry->active_count = 0;
-    for (uint16_t i = 0; i < carry->ports->count; i++)
-        if (carry->active != 0 && carry->ports->links[i].view.aggregator == carry->active && carries(carry->protocol, &carry->ports->links[i])
-            && carry->ports->links[i].emptying == emptying)
-            carry->active_ports[carry->active_count++] = carry->ports->links[i].settings.number;
+    EACH_LINK(link, carry->ports)
+        if (carry->active != 0 && link->view.aggregator == carry->active && carries(carry->protocol, link)
+            && link->emptying == emptying)
+            carry->active_ports[carry->active_count++] = link->settings.number;
 }
 
 /* The aggregator whose ports carry the data: that of the bundle, unless that is down. */
@@ -161,7 +161,9 @@ static void wake_port(struct carry *carry, uint16_t port) {
     uint64_t load;
     if (link->view.receive_state == NIW_RECEIVE_CURRENT || *after == 0) *after = FIRST_WAKE;
     own->on_defaults[port - 1] = sleeps ? own->on_defaults[port - 1] + 1 : 0;
-    if (own->on_defaults[port - 1] < *after || !is_told(carry->process, niw_load(&carry->protocol->own_system, port), "niw_load", &load) || load > 0) return;
+    if (own->on_defaults[port - 1] < *after || !is_told(carry->process, niw_load(&carry->protocol->own_system, port), "niw_load", &load)
+        || load > 0)
+        return;
     *after = 2 * *after < LAST_WAKE ? 2 * *after : LAST_WAKE;
     if (!is_done(carry->process, niw_set_link(&carry->protocol->own_system, port, false), "niw_set_link")) return;
     if (!is_done(carry->process, niw_set_link(&carry->protocol->own_system, port, true), "niw_set_link")) return;

@@ -69,7 +69,8 @@ static void write_text_of_carry(struct control *control) {
     const struct carrying *carrying = control->plane->carrying;
     unsigned told = 0;
     add(&control->report, "  carry: %s, carrier %s, hash %s, flight %u ms, ", control->settings->carry,
-        has_carrier(control->device) ? "on" : is_halted(control->protocol->halt) ? "off, the device is down" : "off", hash_text(control->settings->hash),
+        has_carrier(control->device) ? "on" : is_halted(control->protocol->halt) ? "off, the device is down" : "off",
+            hash_text(control->settings->hash),
         control->settings->flight);
     carrying->show_markers(control);
     add(&control->report, "%s%s", way_text(control->settings), control->plane->queueing->text);
@@ -106,7 +107,8 @@ static void write_metrics_of_carry(struct control *control) {
         snprintf(name, sizeof name, "port_%s_total", MEMBER_COUNTERS[i].name);
         add_head(&control->report, name, "counter", MEMBER_COUNTERS[i].help);
         for (uint16_t link = 0; link < control->ports->count; link++)
-            if (control->ports->links[link].used) add_port_value(control, name, &control->ports->links[link], member_count(control->tap->members, (uint16_t)(link + 1), i));
+            if (control->ports->links[link].used)
+                add_port_value(control, name, &control->ports->links[link], member_count(control->tap->members, (uint16_t)(link + 1), i));
     }
 }
 

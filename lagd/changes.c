@@ -43,7 +43,7 @@ static bool ask_for(struct changes_private *own, int index, uint32_t number) {
 /* Asks for all interfaces. */
 static void ask(struct protocol *protocol) {
     struct changes_private *own = protocol->changes;
-    for (uint16_t i = 0; i < protocol->ports->count; i++) protocol->ports->links[i].present = false;
+    EACH_LINK(link, protocol->ports) link->present = false;
     own->tap_named = false;
     own->asking = ask_for(protocol->changes, 0, ++own->asked);
     if (!own->asking && !protocol->process->has_started) stop(REFUSED, "the kernel takes no question", strerror(errno));
@@ -158,8 +158,7 @@ static void follow_present(struct protocol *protocol, const struct interface *in
         follow_tap(protocol->device, interface->carrier, interface->discipline);
         follow_device(protocol, (interface->flags & IFF_UP) != 0);
     }
-    for (uint16_t i = 0; i < protocol->ports->count; i++) {
-        struct link *link = &protocol->ports->links[i];
+    EACH_LINK(link, protocol->ports) {
         bool named = is_named(interface, link->name), same = link->socket >= 0 && link->index == interface->index;
         named = named || (same && take_name(protocol, link, interface));
         if (link->socket >= 0 && (same != named || (same && !is_bound(link)))) lose_interface(protocol, link);
@@ -177,8 +176,7 @@ static void follow_present(struct protocol *protocol, const struct interface *in
 
 static void follow_absent(struct protocol *protocol, const struct interface *interface) {
     if (interface->index == tap_index(protocol->device)) protocol->plane->carrying->lose_device(protocol->plane);
-    for (uint16_t i = 0; i < protocol->ports->count; i++) {
-        struct link *link = &protocol->ports->links[i];
+    EACH_LINK(link, protocol->ports) {
         if (link->index != interface->index) continue;
         lose_interface(protocol, link);
         if (!interface->moved) forget_interface(protocol->process->folder, link);
@@ -188,8 +186,7 @@ static void follow_absent(struct protocol *protocol, const struct interface *int
 /* Queueing disciplines came or went. Which one an interface has now is asked: of its usual one the kernel does not tell. */
 static void note_discipline(struct protocol *protocol, const struct tcmsg *info) {
     bool ours = info->tcm_ifindex == tap_index(protocol->device);
-    for (uint16_t i = 0; i < protocol->ports->count; i++) {
-        struct link *link = &protocol->ports->links[i];
+    EACH_LINK(link, protocol->ports) {
         if (link->socket < 0 || link->index != info->tcm_ifindex) continue;
         link->has_new_queues = true;
         ours = true;
@@ -237,8 +234,7 @@ void read_messages(struct protocol *protocol, const void *messages, size_t lengt
 
 /* Sees the queues anew whose disciplines changed, once for all that was told at a time. */
 static void follow_all_queues(struct protocol *protocol) {
-    for (uint16_t i = 0; i < protocol->ports->count; i++) {
-        struct link *link = &protocol->ports->links[i];
+    EACH_LINK(link, protocol->ports) {
         bool changed = link->has_new_queues;
         link->has_new_queues = false;
         if (changed && !protocol->plane->queueing->follow(protocol->plane->tap, link)) lose_member(protocol, link);
@@ -247,7 +243,7 @@ static void follow_all_queues(struct protocol *protocol) {
 
 /* The kernel had no room for something, or the daemon had none: of queueing disciplines, too. */
 static void miss_changes(struct protocol *protocol) {
-    for (uint16_t i = 0; i < protocol->ports->count; i++) protocol->ports->links[i].has_new_queues = true;
+    EACH_LINK(link, protocol->ports) link->has_new_queues = true;
     protocol->changes->ask_again = true;
 }
 
@@ -299,8 +295,8 @@ void suspect_carriers(struct changes_private *own) {
 
 /* Asks for the interface of each link. */
 void ask_links(struct protocol *protocol) {
-    for (uint16_t i = 0; i < protocol->ports->count; i++)
-        if (protocol->ports->links[i].socket >= 0 && !ask_for(protocol->changes, protocol->ports->links[i].index, 0)) protocol->changes->ask_again = true;
+    EACH_LINK(link, protocol->ports)
+        if (link->socket >= 0 && !ask_for(protocol->changes, link->index, 0)) protocol->changes->ask_again = true;
 }
 
 /* Looks at carriers, at each tick and where one is suspected: the kernel counts at once that one came or went, but tells of those that go
@@ -310,9 +306,9 @@ void watch_carriers(struct protocol *protocol, bool all) {
     bool any = false;
     if (!all && !own->suspected) return;
     own->suspected = false;
-    for (uint16_t i = 0; i < protocol->ports->count; i++)
-        if (protocol->ports->links[i].socket >= 0 && (has_new_carrier(&protocol->ports->links[i]) || has_waited(protocol, &protocol->ports->links[i])))
-            any = ask_for(protocol->changes, protocol->ports->links[i].index, 0) || any;
+    EACH_LINK(link, protocol->ports)
+        if (link->socket >= 0 && (has_new_carrier(link) || has_waited(protocol, link)))
+            any = ask_for(protocol->changes, link->index, 0) || any;
     if (any) receive_changes(protocol);
 }
 

@@ -86,7 +86,8 @@ void set_carrier(struct device *own, bool on) {
         own->refused = false;
     } else if (!own->refused) {
         own->refused = true;
-        (void)say(own->process, LOG_ERR | ABOUT_CARRIER, "carry %s: its carrier cannot be set %s: %s", own->process->settings->carry, on ? "on" : "off",
+        (void)say(own->process, LOG_ERR | ABOUT_CARRIER, "carry %s: its carrier cannot be set %s: %s", own->process->settings->carry,
+            on ? "on" : "off",
             strerror(errno));
     }
 }
@@ -116,7 +117,8 @@ void settle_tap_mtu(struct plane *plane) {
     mtu = (uint32_t)now.ifr_mtu;
     if (own->set_mtu != 0 && mtu != own->set_mtu) own->less_mtu = mtu < own->most_mtu ? mtu : 0;
     if (own->set_mtu != 0 && mtu != own->set_mtu && mtu > own->most_mtu)
-        (void)say(own->process, LOG_WARNING | ABOUT_CARRIER, "carry %s: its members take no MTU of %u: it has %u again", own->process->settings->carry, mtu,
+        (void)say(own->process, LOG_WARNING | ABOUT_CARRIER, "carry %s: its members take no MTU of %u: it has %u again",
+            own->process->settings->carry, mtu,
             own->most_mtu);
     least = own->less_mtu != 0 && own->less_mtu < own->most_mtu ? own->less_mtu : own->most_mtu;
     wanted.ifr_mtu = (int)least;
@@ -236,7 +238,8 @@ static bool open_inherited(struct device *own, const char *name, const uint8_t *
     int fd = claim_stored(own->process->store, "tap", 0);
     if (fd < 0) return false;
     if (!is_here(fd, &device)
-        || (own->process->inherited->tap == 0 ? strcmp(device.ifr_name, name) != 0 : index_of(own, device.ifr_name) != own->process->inherited->tap)) {
+        || (own->process->inherited->tap == 0 ? strcmp(device.ifr_name, name) != 0 : index_of(own,
+            device.ifr_name) != own->process->inherited->tap)) {
         close_stored(own->process->store, "tap", 0, fd);
         return false;
     }

@@ -76,10 +76,12 @@ static void hand_over(struct protocol *protocol, struct link *link, const struct
         sizeof response);
     if (!is_done(protocol->process, received.status, "niw_receive")) return;
     if (received.what == NIW_RECEIVED_DISABLED) link->counts[DISABLED_RECEIVED]++;
-    if (!is_done(protocol->process, niw_count_received(&link->counters, arrival->frame, arrival->length, received.what), "niw_count_received")) return;
+    if (!is_done(protocol->process, niw_count_received(&link->counters, arrival->frame, arrival->length, received.what), "niw_count_received"))
+        return;
     if (received.what == NIW_RECEIVED_TOOK_LACPDU && actor) note_actor(protocol->settings, link, actor, arrival->frame);
     if (received.what != NIW_RECEIVED_RESPOND) return;
-    if (!may_answer(protocol, link, arrival) || !protocol->plane->queueing->answer(protocol->plane->tap, link, response)) note_odd_marker(link, arrival, RESPONSES_UNSENT);
+    if (!may_answer(protocol, link, arrival) || !protocol->plane->queueing->answer(protocol->plane->tap, link, response))
+        note_odd_marker(link, arrival, RESPONSES_UNSENT);
 }
 
 /* Accepts a response of the partner. */

@@ -40,7 +40,7 @@ static void fall_silent(struct protocol *protocol) {
 
 /* Tells each peer that its port is out of use, and then nothing more. */
 static void begin_halt(struct protocol *protocol) {
-    for (uint16_t i = 0; i < protocol->ports->count; i++) expect_lacpdu(&protocol->ports->links[i]);
+    EACH_LINK(link, protocol->ports) expect_lacpdu(link);
     hold_or_release_ports(protocol);
     send_due(protocol);
     read_views(protocol);
@@ -63,7 +63,7 @@ void follow_device(struct protocol *protocol, bool up) {
     if (!protocol->process->has_started) return;
     (void)say(protocol->process, LOG_WARNING | ABOUT_CARRIER, "carry %s: the device is %s", protocol->settings->carry,
         up ? "up: LACP begins" : "down: LACP ends, and begins again once it is up");
-    for (uint16_t i = 0; i < protocol->ports->count; i++) protocol->ports->links[i].changed = true;
+    EACH_LINK(link, protocol->ports) link->changed = true;
     if (up)
         end_halt(protocol);
     else
@@ -81,7 +81,8 @@ void start_halt(struct protocol *protocol) {
 /* The ports of the last daemon went on. */
 void halt_if_down(struct protocol *protocol) {
     if (protocol->halt->down)
-        (void)say(protocol->process, LOG_NOTICE | ABOUT_CARRIER, "carry %s: the device is down: LACP begins once it is up", protocol->settings->carry);
+        (void)say(protocol->process, LOG_NOTICE | ABOUT_CARRIER, "carry %s: the device is down: LACP begins once it is up",
+            protocol->settings->carry);
     if (protocol->halt->down && !protocol->halt->silent) begin_halt(protocol);
     if (!protocol->halt->down && protocol->halt->silent) end_halt(protocol);
 }

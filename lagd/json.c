@@ -21,7 +21,8 @@ static void add_time(struct report *report, time_t time) {
 static void add_bundle(struct control *control) {
     add(&control->report, "\"bundle\":");
     add_string(&control->report, control->settings->name);
-    add(&control->report, ",\"state\":\"%s\",\"links\":%u,\"carrying\":%u,\"aggregator\":%u", bundle_state_text(control->protocol->bundle.state), control->protocol->bundle.links,
+    add(&control->report, ",\"state\":\"%s\",\"links\":%u,\"carrying\":%u,\"aggregator\":%u", bundle_state_text(control->protocol->bundle.state),
+        control->protocol->bundle.links,
         control->protocol->bundle.carrying, control->protocol->bundle.aggregator);
     add_time(&control->report, control->protocol->bundle.changed_at);
 }
@@ -84,7 +85,8 @@ static void add_member(struct control *control, const struct link *link) {
     add(&control->report, ",\"link\":\"%s\",\"status\":\"%s\",\"carries\":%s,", link_name(link), status_text(view.facts.status),
         carries(control->protocol, link) ? "true" : "false");
     add_mac(&control->report, "address", link->mac);
-    add(&control->report, ",\"aggregator\":%u,\"receive\":\"%s\",\"mux\":\"%s\"", view.facts.aggregator, niw_receive_state_text((uint32_t)view.receive),
+    add(&control->report, ",\"aggregator\":%u,\"receive\":\"%s\",\"mux\":\"%s\"", view.facts.aggregator,
+        niw_receive_state_text((uint32_t)view.receive),
         niw_mux_state_text((uint32_t)view.mux));
     add(&control->report, ",\"current_while\":%" PRIu64 ",\"wait_while\":%" PRIu64, view.current_while, view.wait_while);
     add(&control->report, link->has_speed ? ",\"speed\":\"%s\"" : ",\"speed\":null", speed_text(&link->speed, speed));
@@ -107,7 +109,8 @@ void write_json(struct control *control) {
     add(&control->report, ",\"system_priority\":%u,", control->settings->config.priority);
     add_mac(&control->report, "system", control->settings->config.mac);
     add(&control->report, ",\"key\":%u,\"collector_max_delay\":%u", control->settings->key, control->settings->config.max_delay);
-    add(&control->report, ",\"min_links\":%u,\"max_links\":%u,\"seconds\":%" PRIu64 ",", control->settings->min_links, control->settings->config.max_links,
+    add(&control->report, ",\"min_links\":%u,\"max_links\":%u,\"seconds\":%" PRIu64 ",", control->settings->min_links,
+        control->settings->config.max_links,
         seconds_passed(control->protocol->system));
     control->plane->carrying->show(control, AS_JSON);
     add(&control->report, "\"ports\":[");

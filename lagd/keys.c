@@ -44,8 +44,8 @@ static bool is_taken(struct protocol *protocol, uint16_t key, const struct link 
     struct keys_private *own = protocol->keys;
     for (uint16_t i = 0; i < own->known_count; i++)
         if (own->known[i].key == key || own->known[i].given == key) return true;
-    for (uint16_t i = 0; i < protocol->ports->count; i++)
-        if (&protocol->ports->links[i] != but && (protocol->ports->links[i].key == key || protocol->ports->links[i].settings.key == key)) return true;
+    EACH_LINK(link, protocol->ports)
+        if (link != but && (link->key == key || link->settings.key == key)) return true;
     return false;
 }
 

@@ -217,6 +217,8 @@ struct ports {
     uint16_t count; /* up to the last port that there is, or was; numbers between may be free */
     uint16_t slots; /* the ports of the system: those of the bundle, and room for more */
 };
+/* Each port up to the last one that there is, or was. */
+#define EACH_LINK(link, of) for (struct link *link = (of)->links; link < (of)->links + (of)->count; link++)
 
 /* LACP: the system of the library, what the kernel tells of interfaces, and which ports the bundle has. */
 #define EACH_FILE_OF_PROTOCOL(DO) \

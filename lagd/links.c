@@ -115,7 +115,8 @@ bool open_link(struct protocol *protocol, struct link *link, int index) {
     link->lock = lock_interface(protocol->process, index);
     link->socket = link->lock < 0 ? -1 : open_socket(protocol->process, index);
     link->index = index;
-    taken = link->socket >= 0 && await_input(protocol->process->epoll_file, link->socket, link->settings.number) && protocol->plane->carrying->add(protocol->plane, link);
+    taken = link->socket >= 0 && await_input(protocol->process->epoll_file, link->socket, link->settings.number)
+        && protocol->plane->carrying->add(protocol->plane, link);
     link->trouble = taken ? 0 : errno;
     if (taken) put_stored(protocol->process->store, "lock", index, link->lock);
     if (taken) put_stored(protocol->process->store, "lacp", index, link->socket);

@@ -67,7 +67,7 @@ const char *holder_of(struct ports *ports, int index, char room[static HOLDER_RO
     struct lock lock;
     bool own = false;
     if (!find_lock(index, -1, &lock) || lock.inode == 0) return "one that has left it now";
-    for (uint16_t i = 0; i < ports->count; i++) own = own || inode_of(ports->links[i].lock) == lock.inode;
+    EACH_LINK(link, ports) own = own || inode_of(link->lock) == lock.inode;
     snprintf(room, HOLDER_ROOM, own ? "this lagd, by another name" : "one of user %u", lock.user);
     return room;
 }

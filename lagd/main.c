@@ -67,8 +67,8 @@ static void tell_changes(struct protocol *protocol) {
 
 /* A second passed. */
 static void pass_second(struct lagd *lagd) {
-    for (uint16_t i = 0; i < lagd->ports.count; i++) {
-        if (lagd->ports.links[i].lines < MOST_LINES) lagd->ports.links[i].lines++;
+    EACH_LINK(link, &lagd->ports) {
+        if (link->lines < MOST_LINES) link->lines++;
     }
     look_for_twins(&lagd->protocol);
     allow_bundle_line(lagd->protocol.bundle_private);

@@ -19,15 +19,15 @@
 /* How many links the bundle has. */
 uint16_t count_links(struct ports *ports) {
     uint16_t count = 0;
-    for (uint16_t i = 0; i < ports->count; i++)
-        if (ports->links[i].used && !ports->links[i].leaving) count++;
+    EACH_LINK(link, ports)
+        if (link->used && !link->leaving) count++;
     return count;
 }
 
 /* The link of this name, or NULL. */
 static struct link *link_of(struct ports *ports, const char *name) {
-    for (uint16_t i = 0; i < ports->count; i++)
-        if (ports->links[i].used && strcmp(ports->links[i].name, name) == 0) return &ports->links[i];
+    EACH_LINK(link, ports)
+        if (link->used && strcmp(link->name, name) == 0) return link;
     return NULL;
 }
 
@@ -51,7 +51,8 @@ static bool has_carried(const struct inherited *inherited, const struct inherite
 static void mark_taken(struct protocol *protocol, bool *taken, bool with_left) {
     for (uint16_t i = 0; protocol->process->has_started && i < protocol->ports->count; i++) taken[i] = protocol->ports->links[i].used;
     for (unsigned i = 0; with_left && !protocol->process->has_started && i < protocol->process->inherited->port_count; i++)
-        if (protocol->process->inherited->ports[i].number <= protocol->ports->slots && has_carried(protocol->process->inherited, &protocol->process->inherited->ports[i]))
+        if (protocol->process->inherited->ports[i].number <= protocol->ports->slots
+            && has_carried(protocol->process->inherited, &protocol->process->inherited->ports[i]))
             taken[protocol->process->inherited->ports[i].number - 1] = true;
 }
 
@@ -85,7 +86,9 @@ bool place_ports(struct protocol *protocol, struct settings *settings) {
     struct port_settings given[NIW_MOST_PORTS];
     uint16_t numbers[NIW_MOST_PORTS], count = settings->port_count;
     memcpy(given, settings->ports, sizeof given);
-    if (!number_ports(protocol, given, count, numbers, true) && (protocol->process->has_started || !number_ports(protocol, given, count, numbers, false))) return false;
+    if (!number_ports(protocol, given, count, numbers, true) && (protocol->process->has_started || !number_ports(protocol, given, count, numbers,
+        false)))
+        return false;
     for (uint16_t i = 0; i < NIW_MOST_PORTS; i++) settings->ports[i] = unset_port();
     settings->port_count = 0;
     for (uint16_t i = 0; i < count; i++) {
@@ -238,8 +241,8 @@ static bool has_left(struct protocol *protocol, struct link *link) {
 
 /* A port that the device alone had is one no more. */
 static void drop_followed(struct protocol *protocol) {
-    for (uint16_t i = 0; i < protocol->ports->count; i++)
-        if (protocol->ports->links[i].used && protocol->ports->links[i].followed && protocol->ports->links[i].outside && !protocol->ports->links[i].leaving) leave_port(protocol, (uint16_t)(i + 1));
+    EACH_LINK(link, protocol->ports)
+        if (link->used && link->followed && link->outside && !link->leaving) leave_port(protocol, link->settings.number);
 }
 
 /* 100 ms passed. */
@@ -253,8 +256,8 @@ void pass_leaving_tick(struct protocol *protocol) {
 
 /* The ports of the last daemon went on: those that the file has no more leave. */
 void leave_left_ports(struct protocol *protocol) {
-    for (uint16_t i = 0; i < protocol->ports->count; i++)
-        if (protocol->ports->links[i].used && protocol->ports->links[i].left_over) leave_port(protocol, (uint16_t)(i + 1));
+    EACH_LINK(link, protocol->ports)
+        if (link->used && link->left_over) leave_port(protocol, link->settings.number);
 }
 
 /* Whether the daemon puts an interface into the device: where others choose its ports, only what the administrator asked for, and what a file has as
@@ -287,7 +290,9 @@ void follow_port(struct protocol *protocol, const struct interface *interface) {
     struct port_settings settings = unset_port();
     struct interface now;
     uint16_t port = 1;
-    if (!protocol->settings->follow || interface->master == 0 || interface->master != tap_index(protocol->device) || interface->type != ARPHRD_ETHER) return;
+    if (!protocol->settings->follow || interface->master == 0 || interface->master != tap_index(protocol->device)
+        || interface->type != ARPHRD_ETHER)
+        return;
     if (!ask_interface(interface->index, NULL, &now) || now.master != interface->master) return;
     while (port <= protocol->ports->slots && protocol->ports->links[port - 1].used) port++;
     if (port > protocol->ports->slots) return;
@@ -300,7 +305,8 @@ void follow_port(struct protocol *protocol, const struct interface *interface) {
 /* The interface of a port that the device alone has was given another name: it is the same port. Answers whether it is. */
 bool take_name(struct protocol *protocol, const struct link *link, const struct interface *interface) {
     char *name = protocol->settings->ports[link->settings.number - 1].name;
-    if (!link->followed || link->leaving || interface->master != tap_index(protocol->device) || link_of(protocol->ports, interface->name)) return false;
+    if (!link->followed || link->leaving || interface->master != tap_index(protocol->device) || link_of(protocol->ports, interface->name))
+        return false;
     (void)say(protocol->process, LOG_NOTICE | ABOUT_PORT, "port %u %s: its name is %s now", link->settings.number, name, interface->name);
     memcpy(name, interface->name, sizeof interface->name);
     tell_watchers_of(protocol->control, link);
@@ -314,8 +320,8 @@ static const char *fault_of(struct protocol *protocol, const char *name) {
     if (strcmp(name, protocol->settings->carry) == 0) return "it is the device itself";
     if (!ask_interface(0, name, &interface)) return "there is no such interface";
     if (interface.type != ARPHRD_ETHER) return "it is no Ethernet interface";
-    for (uint16_t i = 0; i < protocol->ports->count; i++)
-        if (protocol->ports->links[i].used && protocol->ports->links[i].socket >= 0 && protocol->ports->links[i].index == interface.index) return "it is a port by another name";
+    EACH_LINK(link, protocol->ports)
+        if (link->used && link->socket >= 0 && link->index == interface.index) return "it is a port by another name";
     lock = lock_interface(protocol->process, interface.index);
     if (lock < 0) return errno == EADDRINUSE ? "another lagd has it" : strerror(errno);
     close_stored(protocol->process->store, "lock", interface.index, lock);

@@ -117,7 +117,9 @@ void write_metrics(struct control *control) {
     for (size_t gauge = 0; gauge < sizeof GAUGES / sizeof *GAUGES; gauge++) {
         add_head(&control->report, GAUGES[gauge].name, "gauge", GAUGES[gauge].help);
         for (uint16_t i = 0; i < control->ports->count; i++)
-            if (control->ports->links[i].used) add_port_value(control, GAUGES[gauge].name, &control->ports->links[i], GAUGES[gauge].value(control->protocol, &control->ports->links[i]));
+            if (control->ports->links[i].used)
+                add_port_value(control, GAUGES[gauge].name, &control->ports->links[i],
+                    GAUGES[gauge].value(control->protocol, &control->ports->links[i]));
     }
     for (unsigned count = 0; count < ALL_COUNTS; count++) {
         char name[64];

@@ -114,8 +114,7 @@ bool print_change(struct protocol *protocol, struct link *link) {
 
 /* Prints the ports that changed. What is printed too often is printed later. */
 void print_changes(struct protocol *protocol) {
-    for (uint16_t i = 0; i < protocol->ports->count; i++) {
-        struct link *link = &protocol->ports->links[i];
+    EACH_LINK(link, protocol->ports) {
         if (link->changed && link->lines > 0 && print_change(protocol, link)) link->lines--;
         tell_strangers(protocol, link);
         tell_markers(protocol, link);

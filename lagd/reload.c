@@ -15,7 +15,8 @@ static const char *restart_for(struct protocol *protocol, const struct settings 
     if (wanted->offload != protocol->settings->offload || wanted->fast != protocol->settings->fast) return "another offload or fast";
     if (wanted->all_queues != protocol->settings->all_queues) return "another queues";
     for (uint16_t port = 1; port <= wanted->port_count; port++)
-        if (wanted->ports[port - 1].name[0] && !has_aggregator(protocol->keys, port_of(wanted, port).key)) return "a key that no port had at the start";
+        if (wanted->ports[port - 1].name[0] && !has_aggregator(protocol->keys, port_of(wanted, port).key))
+            return "a key that no port had at the start";
     return NULL;
 }
 
@@ -114,7 +115,7 @@ static unsigned apply_settings(struct protocol *protocol, const struct settings 
     protocol->settings->wait_to_restore = wanted->wait_to_restore;
     protocol->settings->revert = wanted->revert;
     memcpy(protocol->settings->hook, wanted->hook, sizeof protocol->settings->hook);
-    for (uint16_t i = 0; i < protocol->ports->count; i++) protocol->ports->links[i].changed = true;
+    EACH_LINK(link, protocol->ports) link->changed = true;
     return changed;
 }
 

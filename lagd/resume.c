@@ -72,7 +72,8 @@ static bool distributes(struct protocol *protocol, uint16_t port) {
 /* The links that are up, and do not go on, come up for the library, too. */
 static void set_other_links(struct protocol *protocol, const bool *back) {
     for (uint16_t i = 0; i < protocol->ports->count; i++)
-        if (protocol->ports->links[i].up && !back[i] && !is_done(protocol->process, niw_set_link(&protocol->own_system, (uint16_t)(i + 1), true), "niw_set_link"))
+        if (protocol->ports->links[i].up && !back[i] && !is_done(protocol->process, niw_set_link(&protocol->own_system, (uint16_t)(i + 1), true),
+            "niw_set_link"))
             return;
 }
 
@@ -93,18 +94,20 @@ void release_former_members(struct plane *plane) {
  * was set of members is set back. */
 void begin_resuming(struct protocol *protocol) {
     protocol->resume->began = boottime();
-    for (unsigned i = 0; i < protocol->process->inherited->link_count; i++) protocol->process->resuming = protocol->process->resuming || protocol->process->inherited->links[i].carried;
+    for (unsigned i = 0; i < protocol->process->inherited->link_count; i++) protocol->process->resuming = protocol->process->resuming
+        || protocol->process->inherited->links[i].carried;
     if (protocol->process->inherited->others && !protocol->plane->carrying->keeps_members) release_former_members(protocol->plane);
 }
 
 /* Tells what became of the links of the last daemon, if some are there. */
 static void tell_links(struct protocol *protocol, unsigned count) {
     unsigned known = 0;
-    for (uint16_t i = 0; i < protocol->ports->count; i++) known += protocol->ports->links[i].socket >= 0 && inherited_of(protocol->process->inherited, &protocol->ports->links[i]) != NULL;
+    EACH_LINK(link, protocol->ports) known += link->socket >= 0 && inherited_of(protocol->process->inherited, link) != NULL;
     if (known > 0 && protocol->process->inherited->others)
         (void)say(protocol->process, LOG_WARNING | ABOUT_HANDOVER, "the state that the last daemon left is not used: it belongs to other settings");
     else if (known > 0)
-        (void)say(protocol->process, LOG_NOTICE | ABOUT_HANDOVER, "%u of %u links go on where the last daemon left them", count, count_links(protocol->ports));
+        (void)say(protocol->process, LOG_NOTICE | ABOUT_HANDOVER, "%u of %u links go on where the last daemon left them", count,
+            count_links(protocol->ports));
 }
 
 /* Once the interfaces are taken up: the ports that distributed do so again. The others come after them, so that none takes the place of one
@@ -138,11 +141,11 @@ static void stay(struct carry *carry, uint16_t number, uint16_t port) {
 
 /* The port of an interface that carries in the active aggregator, or 0. */
 static uint16_t port_on(struct carry *carry, int index) {
-    for (uint16_t i = 0; i < carry->ports->count; i++)
-        if (index != 0 && carry->ports->links[i].socket >= 0 && carry->ports->links[i].index == index
-            && carry->ports->links[i].view.aggregator == carry->active
-            && distributes(carry->protocol, (uint16_t)(i + 1)))
-            return (uint16_t)(i + 1);
+    EACH_LINK(link, carry->ports)
+        if (index != 0 && link->socket >= 0 && link->index == index
+            && link->view.aggregator == carry->active
+            && distributes(carry->protocol, link->settings.number))
+            return link->settings.number;
     return 0;
 }
 

@@ -13,19 +13,19 @@ static bool is_below(const struct link *one, const struct link *other) {
 /* The port that stands by in an aggregator and takes the next place there, or NULL. */
 static struct link *next_of(struct ports *ports, uint16_t aggregator) {
     struct link *next = NULL;
-    for (uint16_t i = 0; i < ports->count; i++)
-        if (ports->links[i].view.aggregator == aggregator && ports->links[i].view.standby && (!next || is_below(&ports->links[i], next)))
-            next = &ports->links[i];
+    EACH_LINK(link, ports)
+        if (link->view.aggregator == aggregator && link->view.standby && (!next || is_below(link, next)))
+            next = link;
     return next;
 }
 
 /* The port in use that gives way first in an aggregator; NULL where one of them does not distribute: a second one may not be without data. */
 static struct link *last_of(struct ports *ports, uint16_t aggregator) {
     struct link *last = NULL;
-    for (uint16_t i = 0; i < ports->count; i++) {
-        if (ports->links[i].view.aggregator != aggregator || ports->links[i].view.standby) continue;
-        if (ports->links[i].view.mux_state != NIW_MUX_COLLECTING_DISTRIBUTING) return NULL;
-        if (!last || is_below(last, &ports->links[i])) last = &ports->links[i];
+    EACH_LINK(link, ports) {
+        if (link->view.aggregator != aggregator || link->view.standby) continue;
+        if (link->view.mux_state != NIW_MUX_COLLECTING_DISTRIBUTING) return NULL;
+        if (!last || is_below(last, link)) last = link;
     }
     return last;
 }
@@ -53,10 +53,10 @@ static void give_way(struct protocol *protocol, struct link *last, const struct 
 static struct link *surplus_of(struct ports *ports, uint16_t aggregator, uint16_t most) {
     struct link *last = NULL;
     unsigned count = 0;
-    for (uint16_t i = 0; i < ports->count; i++) {
-        if (ports->links[i].view.aggregator != aggregator || ports->links[i].view.standby || !ports->links[i].up) continue;
+    EACH_LINK(link, ports) {
+        if (link->view.aggregator != aggregator || link->view.standby || !link->up) continue;
         count++;
-        if (!last || is_below(last, &ports->links[i])) last = &ports->links[i];
+        if (!last || is_below(last, link)) last = link;
     }
     return count > most ? last : NULL;
 }

@@ -21,7 +21,8 @@ static void add_policy(struct control *control) {
 static void add_bundle(struct control *control) {
     char mac[32];
     add(&control->report, "---- %s ----\n", control->settings->name);
-    add(&control->report, "  status: %s, %u of %u links carry\n", bundle_state_text(control->protocol->bundle.state), control->protocol->bundle.carrying, control->protocol->bundle.links);
+    add(&control->report, "  status: %s, %u of %u links carry\n", bundle_state_text(control->protocol->bundle.state),
+        control->protocol->bundle.carrying, control->protocol->bundle.links);
     add(&control->report, "  sys_id: %s\n  sys_priority: %u\n", mac_text(control->settings->config.mac, mac), control->settings->config.priority);
     add(&control->report, "  aggregation key: %u\n  lacp_time: %s\n", control->settings->key, control->settings->short_timeout ? "fast" : "slow");
     add(&control->report, "  aggregator: %u\n  min_links: %u\n  max_links: %u\n", control->protocol->bundle.aggregator, control->settings->min_links,
@@ -64,7 +65,8 @@ static void add_member(struct control *control, const struct link *link) {
     const struct niw_info *partner = &view.partner;
     char mac[32], speed[40];
     if (!view_of(control->protocol, link, &view)) return;
-    add(&control->report, "\nmember: %s: %s, %s\n", link->name, niw_receive_state_text((uint32_t)view.receive), niw_mux_state_text((uint32_t)view.mux));
+    add(&control->report, "\nmember: %s: %s, %s\n", link->name, niw_receive_state_text((uint32_t)view.receive),
+        niw_mux_state_text((uint32_t)view.mux));
     add(&control->report, "  status: %s\n  may_enable: %s\n", status_text(view.facts.status), carries(control->protocol, link) ? "true" : "false");
     if (link->trouble) add(&control->report, "  trouble: %s\n", strerror(link->trouble));
     add(&control->report, "  link: %s\n  address: %s\n", link_name(link), mac_text(link->mac, mac));
@@ -87,6 +89,6 @@ static void add_member(struct control *control, const struct link *link) {
 void write_text(struct control *control) {
     add_bundle(control);
     control->plane->carrying->show(control, AS_TEXT);
-    for (uint16_t i = 0; i < control->ports->count; i++)
-        if (control->ports->links[i].used) add_member(control, &control->ports->links[i]);
+    EACH_LINK(link, control->ports)
+        if (link->used) add_member(control, link);
 }

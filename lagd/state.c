@@ -100,13 +100,14 @@ static void write_state(struct state *own, FILE *file) {
     fprintf(file, "lagd %u\nboot %s\nway %s\n", FORM_VERSION, boot_id(boot), way(own->carry->settings, room));
     fprintf(file, "written %" PRIu64 "\n", boottime());
     fprintf(file, "marker %" PRIu32 "\n", is_done(own->carry->process, marker.status, "niw_next_marker") && marker.left ? marker.id : 0);
-    fprintf(file, "bundle %u %u %lld\n", own->carry->protocol->bundle.state, own->carry->protocol->bundle.aggregator, (long long)own->carry->protocol->bundle.changed_at);
+    fprintf(file, "bundle %u %u %lld\n", own->carry->protocol->bundle.state, own->carry->protocol->bundle.aggregator,
+        (long long)own->carry->protocol->bundle.changed_at);
     if (tap_index(own->carry->device) != 0)
         fprintf(file, "tap %d %d %" PRIu32 " %u\n", tap_index(own->carry->device), own->carry->plane->carrying->has_made_device(own->carry->plane),
             mtu_of_administrator(own->carry->device), peer_answering(own->carry->probe));
     write_ports(own->carry->ports, file);
-    for (uint16_t i = 0; i < own->carry->ports->count; i++)
-        if (own->carry->ports->links[i].socket >= 0) write_link(file, &own->carry->ports->links[i]);
+    EACH_LINK(link, own->carry->ports)
+        if (link->socket >= 0) write_link(file, link);
     memset(own->members, 0, sizeof own->members);
     write_conversations(own, file);
     fputs("end\n", file);

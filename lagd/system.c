@@ -137,8 +137,8 @@ void send_due(struct protocol *protocol) {
 
 /* Sends again what did not go before this tick, if nothing newer was due since. */
 void send_again(struct protocol *protocol) {
-    for (uint16_t i = 0; i < protocol->ports->count; i++)
-        if (protocol->ports->links[i].unsent && !protocol->ports->links[i].tried) send_frame(protocol, &protocol->ports->links[i], protocol->ports->links[i].frame);
+    EACH_LINK(link, protocol->ports)
+        if (link->unsent && !link->tried) send_frame(protocol, link, link->frame);
 }
 
 /* The link of a port is up or down now. */
@@ -180,9 +180,9 @@ static void pass_tick_of(struct link *link) {
 /* 100 ms passed for churn detection: by what the library tells of the ports after its own tick. */
 static void watch_churn(struct protocol *protocol) {
     read_views(protocol);
-    for (uint16_t i = 0; i < protocol->ports->count; i++) {
-        const struct niw_view *view = &protocol->ports->links[i].view;
-        if (!is_done(protocol->process, niw_churn_tick(&protocol->ports->links[i].churn, view->up, view->state, view->partner_state), "niw_churn_tick")) return;
+    EACH_LINK(link, protocol->ports) {
+        const struct niw_view *view = &link->view;
+        if (!is_done(protocol->process, niw_churn_tick(&link->churn, view->up, view->state, view->partner_state), "niw_churn_tick")) return;
     }
 }
 
@@ -190,7 +190,7 @@ static void watch_churn(struct protocol *protocol) {
 bool pass_system_tick(struct protocol *protocol) {
     if (!is_done(protocol->process, niw_tick(&protocol->own_system), "niw_tick")) return false;
     watch_churn(protocol);
-    for (uint16_t i = 0; i < protocol->ports->count; i++) pass_tick_of(&protocol->ports->links[i]);
+    EACH_LINK(link, protocol->ports) pass_tick_of(link);
     protocol->system->ticks++;
     return true;
 }
@@ -216,8 +216,8 @@ void tell_end(struct protocol *protocol) {
 
 /* Whether each peer was told. Where three LACPDUs were sent within a second, the next one waits. */
 bool end_is_told(struct ports *ports) {
-    for (uint16_t i = 0; i < ports->count; i++)
-        if (ports->links[i].to_tell && ports->links[i].up && ports->links[i].counters.lacpdus_sent == ports->links[i].sent_before_end)
+    EACH_LINK(link, ports)
+        if (link->to_tell && link->up && link->counters.lacpdus_sent == link->sent_before_end)
             return false;
     return true;
 }
@@ -225,7 +225,8 @@ bool end_is_told(struct ports *ports) {
 /* Says of each port that the daemon has ended, and frees the system; answers whether the library never refused a call. */
 bool end_system(struct protocol *protocol) {
     for (uint16_t i = 0; i < protocol->ports->count; i++)
-        if (protocol->ports->links[i].used) (void)say(protocol->process, LOG_NOTICE | ABOUT_END, "port %u %s: ended", i + 1, protocol->ports->links[i].name);
+        if (protocol->ports->links[i].used)
+            (void)say(protocol->process, LOG_NOTICE | ABOUT_END, "port %u %s: ended", i + 1, protocol->ports->links[i].name);
     end_bundle(protocol);
     return is_done(protocol->process, niw_free(&protocol->own_system), "niw_free") && !protocol->process->broken;
 }

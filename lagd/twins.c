@@ -31,10 +31,10 @@ static void tell_twin(struct protocol *protocol, const struct link *link) {
 
 /* A second passed. */
 void look_for_twins(struct protocol *protocol) {
-    for (uint16_t i = 0; i < protocol->ports->count; i++) {
-        uint16_t twin = twin_of(protocol->ports, &protocol->ports->links[i]);
-        protocol->ports->links[i].twin_seconds = twin == 0 ? 0 : protocol->ports->links[i].twin_seconds + 1;
-        if (twin == 0 || protocol->ports->links[i].twin_seconds >= SECONDS) protocol->ports->links[i].twin = twin;
-        if (protocol->ports->links[i].twin_seconds == SECONDS) tell_twin(protocol, &protocol->ports->links[i]);
+    EACH_LINK(link, protocol->ports) {
+        uint16_t twin = twin_of(protocol->ports, link);
+        link->twin_seconds = twin == 0 ? 0 : link->twin_seconds + 1;
+        if (twin == 0 || link->twin_seconds >= SECONDS) link->twin = twin;
+        if (link->twin_seconds == SECONDS) tell_twin(protocol, link);
     }
 }

@@ -240,8 +240,8 @@ void open_carry(struct protocol *protocol) {
 
 /* No interface is a member any more. */
 void close_members(struct protocol *protocol) {
-    for (uint16_t i = 0; i < protocol->ports->count; i++)
-        if (protocol->ports->links[i].socket >= 0) protocol->plane->carrying->remove(protocol->plane, &protocol->ports->links[i]);
+    EACH_LINK(link, protocol->ports)
+        if (link->socket >= 0) protocol->plane->carrying->remove(protocol->plane, link);
 }
 
 /* The daemon ends, or the library refused a call: no data goes or comes from here on. */

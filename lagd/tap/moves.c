@@ -93,8 +93,8 @@ bool empty_port(struct plane *plane, uint16_t port) {
 
 /* Whether a port is emptied, so that no other move is asked for. */
 static bool is_any_emptied(struct ports *ports) {
-    for (uint16_t i = 0; i < ports->count; i++)
-        if (ports->links[i].emptying) return true;
+    EACH_LINK(link, ports)
+        if (link->emptying) return true;
     return false;
 }
 

@@ -193,7 +193,8 @@ bool may_spread(struct folder_private *folder, const struct link *link) {
 
 /* Has a program choose the queue of each frame that the daemon sends at a member; answers whether it does. */
 static bool choose_queues(struct tap_plane *tap, const struct link *link, struct guard *guard) {
-    if (guard->queues > 1 && guard->chooser < 0) guard->chooser = attach_stored(tap->process->store, "queues", tap->spread->program, link->index, true);
+    if (guard->queues > 1 && guard->chooser < 0)
+        guard->chooser = attach_stored(tap->process->store, "queues", tap->spread->program, link->index, true);
     return guard->queues == 1 || guard->chooser >= 0;
 }
 

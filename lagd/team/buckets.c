@@ -154,7 +154,8 @@ static void leave_last_aggregator(struct team_plane *team) {
         struct niw_assignment state;
         if (!ask_state(team->protocol, own->previous, number, &state)) return;
         if (is_held(&state) && !force(team->carry, own->previous, number)) return;
-        if (state.what == NIW_CONVERSATION_ON && !is_done(team->process, niw_rest(&team->protocol->own_system, own->previous, number), "niw_rest")) return;
+        if (state.what == NIW_CONVERSATION_ON && !is_done(team->process, niw_rest(&team->protocol->own_system, own->previous, number), "niw_rest"))
+            return;
     }
     own->previous = team->carry->active;
 }
@@ -164,7 +165,8 @@ static void lose_port(struct protocol *protocol, uint16_t port) {
     int fault = errno;
     char name[IF_NAMESIZE];
     if (if_indextoname((unsigned)protocol->ports->links[port - 1].index, name)) /* of one that is gone the kernel tells, too */
-        (void)say(protocol->process, LOG_WARNING | ABOUT_DATA, "port %u %s: the team driver refuses it: %s", port, protocol->ports->links[port - 1].name,
+        (void)say(protocol->process, LOG_WARNING | ABOUT_DATA, "port %u %s: the team driver refuses it: %s", port,
+            protocol->ports->links[port - 1].name,
             strerror(fault));
     lose_link(protocol, &protocol->ports->links[port - 1]);
     look_again(protocol->changes);

@@ -142,7 +142,8 @@ void give_team_addresses(struct team_plane *team) {
     for (uint16_t i = 0; i < team->ports->count; i++) {
         if (!team->taken[i] || memcmp(team->ports->links[i].mac, mac, sizeof mac) == 0 || give_address(team->ports->links[i].index, mac))
             continue;
-        (void)say(team->process, LOG_WARNING | ABOUT_DATA, "port %u %s: it does not take the address of %s: %s", team->ports->links[i].settings.number,
+        (void)say(team->process, LOG_WARNING | ABOUT_DATA, "port %u %s: it does not take the address of %s: %s",
+            team->ports->links[i].settings.number,
             team->ports->links[i].name, team->settings->carry, strerror(errno));
         lose_link(team->protocol, &team->ports->links[i]);
         look_again(team->protocol->changes);
@@ -236,7 +237,7 @@ void leave_team(struct team_plane *team, int index, bool with_device) {
 static void end_team(void *given) {
     struct team_plane *team = given;
     if (!team->opened || team->process->has_left) return;
-    for (uint16_t i = 0; i < team->ports->count; i++) close_team_port(team->plane, &team->ports->links[i]);
+    EACH_LINK(link, team->ports) close_team_port(team->plane, link);
     if (tap_index(team->device) != 0) free_inherited_ports(team->process->inherited, tap_index(team->device));
     if (team->made && tap_index(team->device) != 0) (void)remove_device(tap_index(team->device));
     if (team->lock >= 0) close_stored(team->process->store, "lock", team->locked, team->lock);
