@@ -99,7 +99,7 @@ static void choose_active(struct carry *carry) {
         (void)say(carry->process, LOG_NOTICE | ABOUT_CARRIER, "carry %s: carrier %s", carry->settings->carry, carry->active ? "on" : "off");
     if (before != carry->active) forget_heard(carry);
     if (before != carry->active && carry->active != 0) announce_soon(carry->announce);
-    carry->plane->carrying->tell_host(carry->plane);
+    CALL(carry->plane->carrying->tell_host, carry->plane);
 }
 
 /* Chooses by what the ports are now. */
@@ -115,7 +115,7 @@ void go_on_in(struct carry *carry, uint16_t aggregator) {
     struct carry_private *own = carry->carry_private;
     carry->time = own->heard_at = milliseconds();
     carry->active = own->previous = aggregator;
-    carry->plane->carrying->go_on(carry->plane);
+    CALL(carry->plane->carrying->go_on, carry->plane);
 }
 
 /* Another aggregator is active: what is on a port of the previous one leaves it, behind a marker. Its frames wait until it is free there.
@@ -146,7 +146,7 @@ void note_heard(struct carry *carry) {
 void settle_carry(struct plane *plane) {
     if (plane->carry->process->broken || !plane->changed) return;
     plane->changed = false;
-    plane->carrying->settle(plane);
+    CALL(plane->carrying->settle, plane);
 }
 
 /* A port on defaults sends an LACPDU each 30 s only, so a link that was silent for more than 6 s would be long in coming back. As one
@@ -191,5 +191,5 @@ void end_carry_tick(struct carry *carry) {
 
 /* 100 ms passed. */
 void pass_carry_tick(struct protocol *protocol) {
-    if (!protocol->process->broken) protocol->plane->carrying->tick(protocol->plane);
+    if (!protocol->process->broken) CALL(protocol->plane->carrying->tick, protocol->plane);
 }

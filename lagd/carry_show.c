@@ -72,11 +72,11 @@ static void write_text_of_carry(struct control *control) {
         has_carrier(control->device) ? "on" : is_halted(control->protocol->halt) ? "off, the device is down" : "off",
             hash_text(control->settings->hash),
         control->settings->flight);
-    carrying->show_markers(control);
+    CALL(carrying->show_markers, control);
     add(&control->report, "%s%s", way_text(control->settings), control->plane->queueing->text);
     for (unsigned i = carrying->first_count; i < carrying->end_count; i++)
         add(&control->report, "%s %s %" PRIu64, told++ % 5 == 0 ? "\n  data:" : "", CARRY_COUNTERS[i].name, control->carry->counts[i]);
-    carrying->show_waiting(control, AS_TEXT);
+    CALL(carrying->show_waiting, control, AS_TEXT);
 }
 
 static void write_json_of_carry(struct control *control) {
@@ -87,7 +87,7 @@ static void write_json_of_carry(struct control *control) {
         has_carrier(control->device) ? "true" : "false", control->carry->active,
         hash_text(control->settings->hash));
     add(&control->report, "\"flight\":%u,\"way\":\"%s\",", control->settings->flight, way_text(control->settings));
-    carrying->show_waiting(control, AS_JSON);
+    CALL(carrying->show_waiting, control, AS_JSON);
     for (unsigned i = carrying->first_count; i < carrying->end_count; i++)
         add(&control->report, ",\"%s\":%" PRIu64, CARRY_COUNTERS[i].name, control->carry->counts[i]);
     add(&control->report, "},");
@@ -97,7 +97,7 @@ static void write_metrics_of_carry(struct control *control) {
     const struct carrying *carrying = control->plane->carrying;
     char name[64];
     add_bundle_value(control, "carry_carrier", "gauge", "whether the device has a carrier", has_carrier(control->device));
-    carrying->show_waiting(control, AS_METRICS);
+    CALL(carrying->show_waiting, control, AS_METRICS);
     for (unsigned i = carrying->first_count; i < carrying->end_count; i++) {
         bool most = i == LONGEST_QUEUE;
         snprintf(name, sizeof name, "carry_%s%s", CARRY_COUNTERS[i].name, most ? "" : "_total");
@@ -114,7 +114,7 @@ static void write_metrics_of_carry(struct control *control) {
 
 /* What there is to tell of the device, and of all conversations. */
 void show_carry(struct control *control, enum form form) {
-    control->plane->passing->count(control->tap);
+    CALL(control->plane->passing->count, control->tap);
     switch (form) {
     case AS_TEXT: write_text_of_carry(control); break;
     case AS_JSON: write_json_of_carry(control); break;
@@ -129,6 +129,6 @@ void show_member(struct control *control, const struct link *link, enum form for
     for (unsigned i = 0; i < control->plane->carrying->member_counts; i++)
         add(&control->report, form == AS_JSON ? ",\"%s\":%" PRIu64 : " %s %" PRIu64, MEMBER_COUNTERS[i].name,
             member_count(control->tap->members, link->settings.number, i));
-    control->plane->queueing->show(control, link, form);
+    CALL(control->plane->queueing->show, control, link, form);
     add(&control->report, form == AS_JSON ? "}" : "\n");
 }

@@ -127,7 +127,7 @@ static void follow(struct protocol *protocol, struct link *link, const struct in
     bool up, carrier = (interface->flags & IFF_UP) && (interface->flags & IFF_RUNNING) && (interface->flags & IFF_LOWER_UP), lost = false;
     if (interface->has_mac) follow_address(protocol->plane, link, interface->mac);
     if (!follow_discipline(protocol, link, interface)) return;
-    if (interface->mtu != 0) protocol->plane->carrying->follow_mtu(protocol->plane, link, interface->mtu);
+    if (interface->mtu != 0) CALL(protocol->plane->carrying->follow_mtu, protocol->plane, link, interface->mtu);
     if (interface->counts_losses && interface->losses != link->kernel_losses) {
         uint32_t losses = losses_since(link->kernel_losses, interface->losses);
         link->kernel_losses = interface->losses;
@@ -139,7 +139,7 @@ static void follow(struct protocol *protocol, struct link *link, const struct in
     up = carrier && !is_silent(protocol->halt) && is_restored(protocol, link);
     if (up && !link->up) fit_queue(protocol->plane, link, interface->name);
     if (up) apply_speed(protocol, link, interface->name);
-    if (up) protocol->plane->carrying->follow_speed(protocol->plane, link, interface->name);
+    if (up) CALL(protocol->plane->carrying->follow_speed, protocol->plane, link, interface->name);
     set_link(protocol, port, up);
 }
 
@@ -175,7 +175,7 @@ static void follow_present(struct protocol *protocol, const struct interface *in
 }
 
 static void follow_absent(struct protocol *protocol, const struct interface *interface) {
-    if (interface->index == tap_index(protocol->device)) protocol->plane->carrying->lose_device(protocol->plane);
+    if (interface->index == tap_index(protocol->device)) CALL(protocol->plane->carrying->lose_device, protocol->plane);
     EACH_LINK(link, protocol->ports) {
         if (link->index != interface->index) continue;
         lose_interface(protocol, link);
@@ -202,7 +202,7 @@ static void end_answer(struct protocol *protocol, int error) {
     if (error < 0 && !protocol->process->has_started) stop(REFUSED, "the kernel does not tell of interfaces", strerror(-error));
     own->asking = false;
     own->ask_again = own->ask_again || !whole;
-    if (whole && !own->tap_named) protocol->plane->carrying->lose_device(protocol->plane);
+    if (whole && !own->tap_named) CALL(protocol->plane->carrying->lose_device, protocol->plane);
     for (uint16_t i = 0; whole && i < protocol->ports->count; i++)
         if (!protocol->ports->links[i].present) lose_interface(protocol, &protocol->ports->links[i]);
 }

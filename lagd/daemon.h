@@ -25,11 +25,11 @@ struct lagd {
 
 /* Joins the parts of a daemon that has nothing yet. */
 static inline void join_parts(struct lagd *lagd) {
-    lagd->process = (struct process){.settings = &lagd->settings, .inherited = &lagd->inherited, .epoll_file = -1};
+    lagd->process = (struct process){.settings = &lagd->settings, .inherited = &lagd->inherited, .epoll_file = -1, .output = -1, .journal = -1};
     lagd->plane = (struct plane){.device = lagd->device, .carry = &lagd->carry, .tap = &lagd->tap, .team = &lagd->team, .changed = true};
     lagd->protocol = (struct protocol){KNOWN(lagd), .control = &lagd->control};
     lagd->carry = (struct carry){KNOWN(lagd), .protocol = &lagd->protocol, .state = lagd->state};
-    lagd->tap = (struct tap_plane){KNOWN(lagd), .protocol = &lagd->protocol, .carry = &lagd->carry};
+    lagd->tap = (struct tap_plane){KNOWN(lagd), .protocol = &lagd->protocol, .carry = &lagd->carry, .dropper = -1};
     lagd->team = (struct team_plane){KNOWN(lagd), .protocol = &lagd->protocol, .carry = &lagd->carry, .lock = -1};
     lagd->control.process = &lagd->process;
     lagd->control.settings = &lagd->settings;

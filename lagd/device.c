@@ -79,7 +79,7 @@ bool give_tap_carrier(struct plane *plane, bool on) {
 /* The carrier of the device, which is on while data is carried. What the kernel refuses has one line, and is tried again at each tick. */
 void set_carrier(struct device *own, bool on) {
     if (own->carrier == on || own->number == 0) return;
-    if (!on) own->plane->passing->open_host(own->plane->tap, false);
+    if (!on) CALL(own->plane->passing->open_host, own->plane->tap, false);
     if (own->plane->carrying->give_carrier(own->plane, on)) {
         own->carrier = on;
         own->carrier_ticks = 0;
@@ -138,9 +138,9 @@ uint32_t longest_payload(const struct device *own) {
 /* The kernel told of the device. */
 void follow_tap(struct device *own, bool has_now, const char *discipline) {
     own->carrier_told = has_now;
-    own->plane->passing->follow_discipline(own->plane->tap, discipline);
-    if (own->carrier && has_now) own->plane->passing->open_host(own->plane->tap, true);
-    own->plane->carrying->settle_mtu(own->plane);
+    CALL(own->plane->passing->follow_discipline, own->plane->tap, discipline);
+    if (own->carrier && has_now) CALL(own->plane->passing->open_host, own->plane->tap, true);
+    CALL(own->plane->carrying->settle_mtu, own->plane);
 }
 
 /* 100 ms passed. Of a device that is not up the kernel tells no carrier, whoever set one. */
@@ -222,7 +222,7 @@ static void set_up(struct device *own, const uint8_t *mac) {
     queue.ifr_qlen = HOST_QUEUE;
     (void)ask_tap(own, SIOCSIFTXQLEN, &queue);
     settle_tap_mtu(own->plane);
-    own->plane->passing->set_up_device(own->number);
+    CALL(own->plane->passing->set_up_device, own->number);
 }
 
 /* What waits in the device is lost. */

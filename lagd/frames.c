@@ -87,7 +87,7 @@ static void hand_over(struct protocol *protocol, struct link *link, const struct
 /* Accepts a response of the partner. */
 void accept_response(struct protocol *protocol, struct link *link, const struct arrival *arrival) {
     hand_over(protocol, link, arrival, NULL);
-    protocol->plane->carrying->note_response(protocol->plane, link);
+    CALL(protocol->plane->carrying->note_response, protocol->plane, link);
 }
 
 /* Whether the actor of an LACPDU may be the partner of a link; writes which system it is. */

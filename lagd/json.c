@@ -96,7 +96,7 @@ static void add_member(struct control *control, const struct link *link) {
     add_ends(&control->report, &view);
     add_strangers(control, link);
     add_counts(&control->report, link);
-    control->plane->carrying->show_member(control, link, AS_JSON);
+    CALL(control->plane->carrying->show_member, control, link, AS_JSON);
     add(&control->report, ",\"trouble\":");
     add_string(&control->report, link->trouble ? strerror(link->trouble) : "");
     add(&control->report, "}");
@@ -112,7 +112,7 @@ void write_json(struct control *control) {
     add(&control->report, ",\"min_links\":%u,\"max_links\":%u,\"seconds\":%" PRIu64 ",", control->settings->min_links,
         control->settings->config.max_links,
         seconds_passed(control->protocol->system));
-    control->plane->carrying->show(control, AS_JSON);
+    CALL(control->plane->carrying->show, control, AS_JSON);
     add(&control->report, "\"ports\":[");
     for (uint16_t i = 0, count = 0; i < control->ports->count; i++) {
         if (!control->ports->links[i].used) continue;

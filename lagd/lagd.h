@@ -195,7 +195,7 @@ struct ending {
 };
 
 /* The program: how far it is, its lines, the files that it has open, and what it was given. */
-#define EACH_FILE_OF_PROCESS(DO) DO(folder, folder) DO(journal, journal) DO(lines, lines) DO(status, status) DO(store, store)
+#define EACH_FILE_OF_PROCESS(DO) DO(status, status) DO(store, store)
 struct process {
     const struct settings *settings;
     struct inherited *inherited; /* what the last daemon left; all 0 where there is nothing */
@@ -204,6 +204,8 @@ struct process {
     bool broken;   /* whether it cannot go on, as where the library refused a call: the peers are told, and it ends */
     bool has_left; /* whether the next daemon goes on from here */
     int epoll_file; /* the epoll by which it waits */
+    int folder;     /* of the status socket, and of what members had */
+    int output, journal; /* what lines are written to, once there were some, or -1 */
     struct words words;
     struct ending endings[MOST_ENDINGS]; /* the last one first */
     unsigned ending_count;
@@ -222,7 +224,7 @@ struct ports {
 
 /* LACP: the system of the library, what the kernel tells of interfaces, and which ports the bundle has. */
 #define EACH_FILE_OF_PROTOCOL(DO) \
-    DO(bundle, bundle_private) DO(changes, changes) DO(halt, halt) DO(keys, keys) DO(resume, resume) DO(system, system)
+    DO(bundle, bundle_private) DO(changes, changes) DO(halt, halt) DO(keys, keys) DO(system, system)
 struct protocol {
     struct process *process;
     struct settings *settings; /* those that hold now */
@@ -233,6 +235,7 @@ struct protocol {
     struct niw_system own_system;
     uint16_t aggregator_count;
     struct bundle bundle;
+    uint64_t resumed_at; /* when it went on from the last daemon, in milliseconds of CLOCK_BOOTTIME */
     EACH_FILE_OF_PROTOCOL(KEEPS)
 };
 EACH_FILE_OF_PROTOCOL(MAKES)
@@ -445,11 +448,10 @@ void reload(struct protocol *protocol, const char *file);
 /* kept.c */
 #define BOOT_ROOM 64
 const char *boot_id(char room[static BOOT_ROOM]);
-void forget_interface(const struct folder_private *folder, const struct link *link);
+void forget_interface(int folder, const struct link *link);
 
 /* folder.c */
-void open_folder(struct folder_private *own, const char *folder);
-int folder_file(const struct folder_private *folder);
+int open_folder(const char *folder);
 unsigned long network_namespace(void);
 
 /* bpf.c */

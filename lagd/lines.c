@@ -31,24 +31,14 @@ size_t escape(char *text, size_t room, const char *from, size_t length, bool lin
     return used;
 }
 
-struct lines_private {
-    int opened; /* of output */
-};
-
-struct lines_private *make_lines_private(void) {
-    struct lines_private *made = make_room(sizeof *made);
-    made->opened = -1;
-    return made;
-}
-
 /* Standard output; of a pipe or a terminal an opening of our own, at which no write waits. */
-static int output(struct lines_private *own) {
+static int output(struct process *process) {
     struct stat file;
-    if (own->opened >= 0) return own->opened;
+    if (process->output >= 0) return process->output;
     if (isatty(STDOUT_FILENO) || (fstat(STDOUT_FILENO, &file) == 0 && S_ISFIFO(file.st_mode)))
-        own->opened = open("/proc/self/fd/1", O_WRONLY | O_NONBLOCK | O_NOCTTY | O_CLOEXEC);
-    if (own->opened < 0) own->opened = STDOUT_FILENO;
-    return own->opened;
+        process->output = open("/proc/self/fd/1", O_WRONLY | O_NONBLOCK | O_NOCTTY | O_CLOEXEC);
+    if (process->output < 0) process->output = STDOUT_FILENO;
+    return process->output;
 }
 
 /* Whether the journal reads standard output: then a line begins with its priority, and has no time of its own. */
@@ -122,30 +112,33 @@ static bool say_text(struct process *process, int level, const char *text) {
         if (told != NOT_JOURNALED) return told == JOURNALED;
         used = snprintf(line, sizeof line, "<%d>%s\n", level & LOG_PRIMASK, text);
     }
-    return write_line(output(process->lines), line, (size_t)used);
+    return write_line(output(process), line, (size_t)used);
+}
+
+/* Forms a text that a terminal only shows. */
+static void form(char text[static LONGEST_TEXT], const char *format, va_list given) {
+    char raw[LONGEST_TEXT];
+    int length = vsnprintf(raw, sizeof raw, format, given);
+    (void)escape(text, LONGEST_TEXT, raw, length < (int)sizeof raw ? (size_t)length : sizeof raw - 1, false);
 }
 
 /* Prints a line; answers whether it did. */
 bool say(struct process *process, int level, const char *format, ...) {
-    char raw[LONGEST_TEXT], text[LONGEST_TEXT];
+    char text[LONGEST_TEXT];
     va_list given;
-    int length;
     va_start(given, format);
-    length = vsnprintf(raw, sizeof raw, format, given);
+    form(text, format, given);
     va_end(given);
-    (void)escape(text, sizeof text, raw, length < (int)sizeof raw ? (size_t)length : sizeof raw - 1, false);
     return say_text(process, level, text);
 }
 
 /* Tells what is wrong with a file: at the start on standard error, and later by a line. */
 void complain(struct process *process, const char *format, ...) {
-    char raw[LONGEST_TEXT], text[LONGEST_TEXT];
+    char text[LONGEST_TEXT];
     va_list given;
-    int length;
     va_start(given, format);
-    length = vsnprintf(raw, sizeof raw, format, given);
+    form(text, format, given);
     va_end(given);
-    (void)escape(text, sizeof text, raw, length < (int)sizeof raw ? (size_t)length : sizeof raw - 1, false);
     if (process->has_started)
         (void)say_text(process, LOG_WARNING | ABOUT_FILE, text);
     else

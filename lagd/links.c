@@ -131,8 +131,8 @@ bool open_link(struct protocol *protocol, struct link *link, int index) {
 
 /* The interface is gone. */
 void close_link(struct protocol *protocol, struct link *link) {
-    protocol->plane->carrying->remove(protocol->plane, link);
-    protocol->plane->carrying->follow_mtu(protocol->plane, link, 0);
+    CALL(protocol->plane->carrying->remove, protocol->plane, link);
+    CALL(protocol->plane->carrying->follow_mtu, protocol->plane, link, 0);
     close_files(protocol->process->store, link);
     link->unsent = false;
     link->changed = true;

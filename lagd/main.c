@@ -148,9 +148,9 @@ static void serve_callers(struct control *control, const struct epoll_event *eve
 
 /* The next daemon is to go on: answers whether it can. */
 static bool leave_state(struct lagd *lagd) {
-    lagd->plane.carrying->keep_device(&lagd->plane, true);
+    CALL(lagd->plane.carrying->keep_device, &lagd->plane, true);
     lagd->process.has_left = save_state(lagd->state);
-    if (!lagd->process.has_left) lagd->plane.carrying->keep_device(&lagd->plane, false);
+    if (!lagd->process.has_left) CALL(lagd->plane.carrying->keep_device, &lagd->plane, false);
     if (!lagd->process.has_left) return false;
     leave_store(lagd->process.store);
     (void)say(&lagd->process, LOG_NOTICE | ABOUT_HANDOVER, "the next daemon may go on from here; %u frames that waited are lost",
@@ -232,7 +232,7 @@ static int run_daemon(struct lagd *lagd, const struct options *options) {
     lagd->process.epoll_file = epoll_create1(EPOLL_CLOEXEC);
     if (lagd->process.epoll_file < 0) stop(REFUSED, "epoll", strerror(errno));
     if (lagd->settings.system_auto) read_own_address(&lagd->settings);
-    open_folder(lagd->process.folder, options->folder);
+    lagd->process.folder = open_folder(options->folder);
     open_store(&lagd->process);
     choose_plane(&lagd->plane, &lagd->settings);
     recall_state(lagd->state);

@@ -140,7 +140,7 @@ void join_port(struct protocol *protocol, uint16_t port, const struct port_setti
     link->left_over = link->followed = false;
     begin_link(protocol, port);
     link->puts_in = true;
-    protocol->plane->carrying->forget(protocol->plane, port);
+    CALL(protocol->plane->carrying->forget, protocol->plane, port);
     if (!configure(protocol, link)) return;
     (void)say(protocol->process, LOG_NOTICE | ABOUT_PORT, "port %u %s: it joins the bundle", port, link->name);
     ask_now(protocol);
@@ -170,7 +170,7 @@ bool begin_hold(struct protocol *protocol, uint16_t port) {
         protocol->plane->changed = true;
         return true;
     }
-    if (link->held || link->leaving) protocol->plane->carrying->drain(protocol->plane, port);
+    if (link->held || link->leaving) CALL(protocol->plane->carrying->drain, protocol->plane, port);
     return apply_hold(protocol, port);
 }
 
@@ -180,7 +180,7 @@ static void end_emptying(struct protocol *protocol, uint16_t port) {
     if (link->up && milliseconds() - link->leaves_since < MOST_WAIT && !protocol->plane->carrying->empty(protocol->plane, port)) return;
     link->emptying = false;
     link->leaves_since = milliseconds();
-    protocol->plane->carrying->drain(protocol->plane, port);
+    CALL(protocol->plane->carrying->drain, protocol->plane, port);
     if (!apply_hold(protocol, port)) return;
     send_due(protocol);
     read_views(protocol);

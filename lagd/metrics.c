@@ -128,5 +128,5 @@ void write_metrics(struct control *control) {
         for (uint16_t i = 0; i < control->ports->count; i++)
             if (control->ports->links[i].used) add_port_value(control, name, &control->ports->links[i], count_at(&control->ports->links[i], count));
     }
-    control->plane->carrying->show(control, AS_METRICS);
+    CALL(control->plane->carrying->show, control, AS_METRICS);
 }

@@ -18,6 +18,9 @@ struct settings;
 struct tap_plane;
 struct team_plane;
 
+/* Calls a function of a table. One that gives nothing back may be missing where there is nothing to do. */
+#define CALL(function, ...) do { if (function) (function)(__VA_ARGS__); } while (0)
+
 /* How something is told to whoever asks. */
 enum form { AS_TEXT, AS_JSON, AS_METRICS };
 
@@ -29,7 +32,7 @@ struct carrying {
     void (*keep_device)(struct plane *plane, bool keeps); /* it outlives the daemon, or goes with it */
     bool (*has_made_device)(struct plane *plane);       /* whether the next daemon is to take it away at its end */
     bool (*give_carrier)(struct plane *plane, bool on); /* whether the kernel does so */
-    void (*settle_mtu)(struct plane *plane);            /* the device has the longest MTU that each member takes, or a lower one of an administrator */
+    void (*settle_mtu)(struct plane *plane); /* the longest MTU that each member takes, or a lower one of an administrator */
     bool (*add)(struct plane *plane, struct link *link); /* whether an interface is taken up, and else errno tells why not */
     void (*remove)(struct plane *plane, struct link *link); /* it is a member no more, and has what it had before */
     bool (*renew)(struct plane *plane, struct link *link); /* it has another queueing discipline: whether it is still taken up */
@@ -94,7 +97,7 @@ struct queueing {
     void (*watch)(struct tap_plane *tap); /* 100 ms passed: a member whose queues others changed is taken up anew */
     void (*mark)(struct tap_plane *tap, uint16_t port, uint16_t number, struct msghdr *message); /* which queue a frame of a conversation goes by */
     bool (*send_marker)(struct tap_plane *tap, struct link *link, const uint8_t *marker, bool again); /* false where not all of it went */
-    void (*accept_response)(struct tap_plane *tap, struct link *link, const struct arrival *arrival, uint32_t id); /* to the marker of this identifier */
+    void (*accept_response)(struct tap_plane *tap, struct link *link, const struct arrival *arrival, uint32_t id);
     bool (*answer)(struct tap_plane *tap, struct link *link, const uint8_t *response); /* false where too many wait */
     void (*show)(struct control *control, const struct link *link, enum form form);
     const char *text;         /* behind the way, in the status */

@@ -11,14 +11,6 @@
 /* Where an LACPDU has the state of its actor (IEEE 802.1AX-2014, 6.4.2.3). */
 #define ACTOR_STATE (ETH_HLEN + 18)
 
-struct resume_private {
-    uint64_t began; /* when it was begun, in milliseconds of CLOCK_BOOTTIME */
-};
-
-struct resume_private *make_resume_private(void) {
-    return make_room(sizeof(struct resume_private));
-}
-
 /* What the last daemon left of a link. An interface that was made anew is another one. */
 static const struct inherited_link *inherited_of(const struct inherited *inherited, const struct link *link) {
     for (unsigned i = 0; i < inherited->link_count; i++)
@@ -32,8 +24,8 @@ static uint64_t timeout_of(bool is_short) {
 }
 
 /* Whether so much time passed since then, and not more than that. What is of later than now is of another clock. */
-static bool is_within(struct resume_private *own, uint64_t then, uint64_t most) {
-    return then <= own->began && own->began - then < most;
+static bool is_within(uint64_t began, uint64_t then, uint64_t most) {
+    return then <= began && began - then < most;
 }
 
 /* Whether a port goes on: its carrier did not go, neither end has given the other one up, and its partner may be that. */
@@ -41,8 +33,8 @@ static bool goes_on(struct protocol *protocol, const struct link *link) {
     const struct inherited_link *was = link->up && !link->held ? inherited_of(protocol->process->inherited, link) : NULL;
     struct system_id actor;
     return was && was->carried && was->losses == link->kernel_losses
-        && is_within(protocol->resume, was->heard, timeout_of(link->settings.short_timeout))
-        && is_within(protocol->resume, was->spoken, timeout_of((was->lacpdu[ACTOR_STATE] & NIW_STATE_TIMEOUT) != 0))
+        && is_within(protocol->resumed_at, was->heard, timeout_of(link->settings.short_timeout))
+        && is_within(protocol->resumed_at, was->spoken, timeout_of((was->lacpdu[ACTOR_STATE] & NIW_STATE_TIMEOUT) != 0))
         && may_be_partner(link, was->lacpdu, &actor);
 }
 
@@ -50,7 +42,7 @@ static bool goes_on(struct protocol *protocol, const struct link *link) {
 static struct niw_saved saved_of(struct protocol *protocol, const struct link *link) {
     const struct inherited_link *was = inherited_of(protocol->process->inherited, link);
     struct niw_saved saved = {.port = link->settings.number, .aggregator = was->aggregator};
-    saved.age = (uint32_t)((protocol->resume->began - was->heard) / NIW_TICK_MILLISECONDS);
+    saved.age = (uint32_t)((protocol->resumed_at - was->heard) / NIW_TICK_MILLISECONDS);
     memcpy(saved.frame, was->lacpdu, sizeof saved.frame);
     return saved;
 }
@@ -93,7 +85,7 @@ void release_former_members(struct plane *plane) {
 /* Before the interfaces are taken up: whether there is something to go on with. Where no data is carried any more, or by the team driver, what
  * was set of members is set back. */
 void begin_resuming(struct protocol *protocol) {
-    protocol->resume->began = boottime();
+    protocol->resumed_at = boottime();
     for (unsigned i = 0; i < protocol->process->inherited->link_count; i++) protocol->process->resuming = protocol->process->resuming
         || protocol->process->inherited->links[i].carried;
     if (protocol->process->inherited->others && !protocol->plane->carrying->keeps_members) release_former_members(protocol->plane);
@@ -116,7 +108,7 @@ unsigned resume(struct protocol *protocol) {
     struct niw_saved saved[NIW_MOST_PORTS];
     bool back[NIW_MOST_PORTS] = {false};
     size_t count = 0;
-    protocol->resume->began = boottime();
+    protocol->resumed_at = boottime();
     for (uint16_t i = 0; protocol->process->resuming && i < protocol->ports->count; i++)
         if (goes_on(protocol, &protocol->ports->links[i])) saved[count++] = saved_of(protocol, &protocol->ports->links[i]);
     count = resume_system(protocol, saved, count);
@@ -161,7 +153,7 @@ void resume_conversations(struct plane *plane, bool goes_on) {
         uint16_t port = port_on(carry, member != 0 ? member : carry->process->inherited->members[number]);
         if (port != 0) stay(carry, number, port);
     }
-    plane->passing->resume(plane->tap);
+    CALL(plane->passing->resume, plane->tap);
 }
 
 /* After the ports: the bundle and its data go on as they were. */
@@ -169,12 +161,12 @@ void resume_data(struct protocol *protocol, unsigned count) {
     bool goes_on = count > 0 && protocol->process->inherited->bundle.aggregator <= protocol->aggregator_count;
     read_views(protocol);
     if (goes_on) go_on_as(protocol, &protocol->process->inherited->bundle);
-    protocol->plane->carrying->resume(protocol->plane, goes_on);
+    CALL(protocol->plane->carrying->resume, protocol->plane, goes_on);
 }
 
 /* All that goes on was taken over: what is left of the last daemon goes. */
 void end_resuming(struct protocol *protocol) {
-    protocol->plane->carrying->end_resuming(protocol->plane);
+    CALL(protocol->plane->carrying->end_resuming, protocol->plane);
     drop_unclaimed(protocol->process->store);
 }
 

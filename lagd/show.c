@@ -82,13 +82,13 @@ static void add_member(struct control *control, const struct link *link) {
     add_end(&control->report, "partner", partner->system_mac,
         (unsigned[]){partner->system_priority, partner->port, partner->port_priority, partner->key}, partner->state);
     add_counts(&control->report, link);
-    control->plane->carrying->show_member(control, link, AS_TEXT);
+    CALL(control->plane->carrying->show_member, control, link, AS_TEXT);
 }
 
 /* The whole status. */
 void write_text(struct control *control) {
     add_bundle(control);
-    control->plane->carrying->show(control, AS_TEXT);
+    CALL(control->plane->carrying->show, control, AS_TEXT);
     EACH_LINK(link, control->ports)
         if (link->used) add_member(control, link);
 }

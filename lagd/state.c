@@ -121,7 +121,7 @@ static void keep_file(struct state *own, int file) {
 
 /* Puts a whole file in the place of the last one; answers whether it did. */
 static bool replace_file(struct state *own) {
-    int fd = openat(folder_file(own->carry->process->folder), own->new_name, O_WRONLY | O_CREAT | O_TRUNC | O_APPEND | O_NOFOLLOW | O_CLOEXEC, 0600);
+    int fd = openat(own->carry->process->folder, own->new_name, O_WRONLY | O_CREAT | O_TRUNC | O_APPEND | O_NOFOLLOW | O_CLOEXEC, 0600);
     FILE *file = fd < 0 ? NULL : fdopen(fd, "a");
     bool written;
     if (!file) {
@@ -132,7 +132,7 @@ static bool replace_file(struct state *own) {
     written = fflush(file) == 0 && !ferror(file) && !own->carry->process->broken;
     keep_file(own, written ? fcntl(fd, F_DUPFD_CLOEXEC, 0) : -1);
     written = fclose(file) == 0 && own->file >= 0;
-    return written && renameat(folder_file(own->carry->process->folder), own->new_name, folder_file(own->carry->process->folder), own->name) == 0;
+    return written && renameat(own->carry->process->folder, own->new_name, own->carry->process->folder, own->name) == 0;
 }
 
 /* It could not be written: there is none. */
@@ -141,8 +141,8 @@ static void lose_file(struct state *own) {
         (void)say(own->carry->process, LOG_WARNING | ABOUT_HANDOVER, "its state cannot be kept, so the next daemon starts anew: %s", strerror(errno));
     own->failed = true;
     keep_file(own, -1);
-    (void)unlinkat(folder_file(own->carry->process->folder), own->new_name, 0);
-    (void)unlinkat(folder_file(own->carry->process->folder), own->name, 0);
+    (void)unlinkat(own->carry->process->folder, own->new_name, 0);
+    (void)unlinkat(own->carry->process->folder, own->name, 0);
 }
 
 /* Writes the state; answers whether it did. Where that fails there is none. */
@@ -172,8 +172,8 @@ void end_state(struct state *own) {
     int emptied;
     own->over = true;
     keep_file(own, -1);
-    if (unlinkat(folder_file(own->carry->process->folder), own->name, 0) == 0 || errno == ENOENT) return;
-    emptied = openat(folder_file(own->carry->process->folder), own->name, O_WRONLY | O_TRUNC | O_NOFOLLOW | O_CLOEXEC);
+    if (unlinkat(own->carry->process->folder, own->name, 0) == 0 || errno == ENOENT) return;
+    emptied = openat(own->carry->process->folder, own->name, O_WRONLY | O_TRUNC | O_NOFOLLOW | O_CLOEXEC);
     if (emptied >= 0)
         close(emptied);
     else
@@ -300,7 +300,7 @@ static const char *read_state(struct state *own, FILE *file) {
 /* Opens the file, if it is one of root or of this user, who alone may write it. */
 static FILE *open_state(struct state *own) {
     struct stat found;
-    int fd = openat(folder_file(own->carry->process->folder), own->name, O_RDONLY | O_NOFOLLOW | O_NONBLOCK | O_CLOEXEC);
+    int fd = openat(own->carry->process->folder, own->name, O_RDONLY | O_NOFOLLOW | O_NONBLOCK | O_CLOEXEC);
     FILE *file = NULL;
     if (fd >= 0 && fstat(fd, &found) == 0 && S_ISREG(found.st_mode) && (found.st_uid == 0 || found.st_uid == geteuid())
         && !(found.st_mode & (S_IWGRP | S_IWOTH)))

@@ -240,7 +240,7 @@ void tell_watchers_of(struct control *control, const struct link *link) {
 
 static void remove_socket(void *given) {
     const struct process *process = given;
-    (void)unlinkat(folder_file(process->folder), process->status->own_name, 0);
+    (void)unlinkat(process->folder, process->status->own_name, 0);
 }
 
 /* Whether somebody listens at an address. */
@@ -260,10 +260,10 @@ void open_status(struct process *process, const char *folder) {
     mode_t mask;
     for (unsigned i = 0; i < MOST_CALLERS; i++) own->callers[i].fd = -1;
     snprintf(own->own_name, sizeof own->own_name, "%lu.%.*s.sock", network_namespace(), LONGEST_NAME, process->settings->name);
-    length = snprintf(address.sun_path, sizeof address.sun_path, "/proc/self/fd/%d/%s", folder_file(process->folder), own->own_name);
+    length = snprintf(address.sun_path, sizeof address.sun_path, "/proc/self/fd/%d/%s", process->folder, own->own_name);
     if (length >= (int)sizeof address.sun_path) stop(WRONG_WORD, "too long", own->own_name);
     if (is_taken(&address)) stop(REFUSED, "another lagd has this bundle", process->settings->name);
-    (void)unlinkat(folder_file(process->folder), own->own_name, 0);
+    (void)unlinkat(process->folder, own->own_name, 0);
     own->listener = socket(AF_UNIX, SOCK_STREAM | SOCK_NONBLOCK | SOCK_CLOEXEC, 0);
     mask = umask(0117);
     fault = own->listener < 0 || bind(own->listener, (struct sockaddr *)&address, sizeof address) < 0 || listen(own->listener, 64) < 0

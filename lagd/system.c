@@ -120,7 +120,7 @@ static void send_due_of(struct protocol *protocol, uint16_t port) {
         struct niw_sent due = niw_transmit(&protocol->own_system, port, frame, sizeof frame);
         if (!is_done(protocol->process, due.status, "niw_transmit") || !due.is) return;
         if (due.what == NIW_SENT_MARKER)
-            protocol->plane->carrying->send_marker(protocol->plane, &protocol->ports->links[port - 1], frame);
+            CALL(protocol->plane->carrying->send_marker, protocol->plane, &protocol->ports->links[port - 1], frame);
         else
             send_frame(protocol, &protocol->ports->links[port - 1], frame);
     }
@@ -152,7 +152,7 @@ void set_link(struct protocol *protocol, uint16_t port, bool up) {
         if (!is_silent(protocol->halt)) link->counts[LOSSES]++;
         forget_partner(protocol->settings, link);
     }
-    if (!up) protocol->plane->carrying->lose(protocol->plane, port);
+    if (!up) CALL(protocol->plane->carrying->lose, protocol->plane, port);
     if (protocol->process->resuming) return;
     if (!is_done(protocol->process, niw_set_link(&protocol->own_system, port, up), "niw_set_link")) return;
     protocol->plane->changed = true;

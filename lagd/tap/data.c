@@ -80,7 +80,7 @@ void accept_from_host(struct tap_plane *tap, uint8_t *packet, size_t length) {
 /* How many frames of the peer came in an aggregator that was active, of those that come here, or by the kernel. */
 uint64_t frames_handed_up(struct plane *plane, bool counts_now) {
     struct carry *carry = plane->carry;
-    if (counts_now) plane->passing->count(plane->tap);
+    if (counts_now) CALL(plane->passing->count, plane->tap);
     return carry->counts[HANDED_UP] + carry->counts[HOST_UNTAKEN];
 }
 
@@ -123,7 +123,7 @@ static void release(struct tap_plane *tap) {
     }
     tap->carry->waiting = any_left;
     flush_data(tap);
-    tap->plane->passing->pass_on(tap);
+    CALL(tap->plane->passing->pass_on, tap);
 }
 
 /* The host sees how fast the ports are that carry, and a carrier where there are some. */
@@ -137,13 +137,13 @@ void tell_speed_and_carrier(struct plane *plane) {
 void settle_frames(struct plane *plane) {
     struct tap_plane *tap = plane->tap;
     choose_ports(plane);
-    plane->passing->withdraw(tap);
+    CALL(plane->passing->withdraw, tap);
     leave_previous(tap->carry);
-    plane->passing->set_collecting(tap);
+    CALL(plane->passing->set_collecting, tap);
     look_at_partner(tap->carry);
     if (tap->carry->waiting) release(tap);
     if (tap->carry->to_balance) balance(tap->carry);
-    if (tap->carry->to_balance) plane->passing->read_host(tap);
+    if (tap->carry->to_balance) CALL(plane->passing->read_host, tap);
     tap->carry->to_balance = false;
 }
 
@@ -151,10 +151,10 @@ void settle_frames(struct plane *plane) {
 void pass_tick_of_frames(struct plane *plane) {
     struct tap_plane *tap = plane->tap;
     begin_carry_tick(tap->carry);
-    plane->passing->tick(tap);
+    CALL(plane->passing->tick, tap);
     note_heard(tap->carry);
     pass_flight_tick(tap);
     count_losses(tap);
-    plane->queueing->watch(tap);
+    CALL(plane->queueing->watch, tap);
     end_carry_tick(tap->carry);
 }

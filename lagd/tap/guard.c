@@ -14,19 +14,9 @@
 
 #include "tap.h"
 
-struct guard_private {
-    int program;
-};
-
-struct guard_private *make_guard_private(void) {
-    struct guard_private *made = make_room(sizeof *made);
-    made->program = -1;
-    return made;
-}
-
 /* The program that keeps data from the stack of a member is loaded once, while the daemon may. */
 void load_guard(struct tap_plane *tap) {
-    tap->guard->program = load_program(tap->settings, "dropper", NULL);
+    tap->dropper = load_program(tap->settings, "dropper", NULL);
 }
 
 /* Asks the driver of an interface something, or for something. */
@@ -178,8 +168,8 @@ static void open_fast(struct tap_plane *tap, const struct link *link, struct gua
 /* Keeps data from the stack of an interface: by TCX, or, where the kernel has none, by a classifier. */
 void keep_from_stack(struct tap_plane *tap, const struct link *link, struct guard *guard) {
     uint16_t port = link->settings.number;
-    if (tap->guard->program >= 0) guard->opened = attach_stored(tap->process->store, "guard", tap->guard->program, link->index, false);
-    if (tap->guard->program >= 0 && guard->opened < 0) guard->classifier = set_classifier(tap->guard->program, link->index);
+    if (tap->dropper >= 0) guard->opened = attach_stored(tap->process->store, "guard", tap->dropper, link->index, false);
+    if (tap->dropper >= 0 && guard->opened < 0) guard->classifier = set_classifier(tap->dropper, link->index);
     if (guard->classifier == CLASSIFIER_BEHIND_OTHERS)
         (void)say(tap->process, LOG_WARNING | ABOUT_DATA,
             "port %u %s: it has a clsact already: its own network stack has what filters there accept", port, link->name);
@@ -201,7 +191,7 @@ static unsigned joins_allowed(const struct settings *settings, const struct link
 
 /* A member that has one queue, as this daemon or an earlier one gave it, gets back what it had, where it may keep that. How many others give it
  * meanwhile, it is to have behind the daemon. */
-static void regain_queues(struct folder_private *folder, const struct link *link, struct ethtool_channels *before) {
+static void regain_queues(int folder, const struct link *link, struct ethtool_channels *before) {
     struct ethtool_channels now;
     if (queues_of(link->index, &now) > 1)
         *before = now;

@@ -46,7 +46,7 @@ void lose_device(struct plane *plane) {
     struct host_private *own = tap->host;
     if (tap->process->broken) return;
     tap->process->broken = true;
-    plane->passing->end(tap);
+    CALL(plane->passing->end, tap);
     forget_tap(tap->device);
     drop_stored(tap->process->store, "tap", 0);
     if (own->tap >= 0) await_no_more(tap->process->epoll_file, own->tap);
@@ -172,8 +172,8 @@ void read_host(struct tap_plane *tap) {
     cut_waiting(tap, MOST_CUT);
     flush_data(tap);
     if (left == 0 || is_cutting(tap)) tap->carry->more_waits = true;
-    tap->plane->passing->note_read(tap, got, left > 0);
-    tap->plane->passing->pass_on(tap);
+    CALL(tap->plane->passing->note_read, tap, got, left > 0);
+    CALL(tap->plane->passing->pass_on, tap);
 }
 
 /* Hands a packet up, which lies in parts; answers whether the device took it. */
@@ -196,7 +196,7 @@ void serve_data(struct tap_plane *tap, uint32_t tag) {
 /* The link of a port goes down: nothing goes there from here on. */
 void lose_data(struct plane *plane, uint16_t port) {
     struct tap_plane *tap = plane->tap;
-    plane->passing->withdraw_port(tap, port);
+    CALL(plane->passing->withdraw_port, tap, port);
     forget_answers(tap->answers, port);
 }
 
@@ -215,11 +215,11 @@ void open_tap_plane(struct plane *plane) {
     start_held(tap);
     start_members(tap->members);
     load_guard(tap);
-    plane->queueing->start(tap);
+    CALL(plane->queueing->start, tap);
     call_at_exit(tap->process, put_back_members, tap);
     own->tap = open_tap(tap->device, tap->settings->carry, tap->settings->config.mac);
     gather(tap->process, tap_index(tap->device));
-    plane->passing->start(tap);
+    CALL(plane->passing->start, tap);
     if (!await_input(tap->process->epoll_file, own->tap, HOST)) stop(REFUSED, "epoll", strerror(errno));
 }
 
@@ -229,23 +229,23 @@ void end_tap_plane(struct plane *plane) {
     await_no_more(tap->process->epoll_file, tap->host->tap);
     set_carrier(tap->device, false);
     close_members(tap->protocol);
-    plane->passing->end(tap);
+    CALL(plane->passing->end, tap);
     end_held(tap);
 }
 
 /* Makes what carries the data, and all room that frames ever take. */
 void open_carry(struct protocol *protocol) {
-    if (protocol->settings->carry[0]) protocol->plane->carrying->open(protocol->plane);
+    if (protocol->settings->carry[0]) CALL(protocol->plane->carrying->open, protocol->plane);
 }
 
 /* No interface is a member any more. */
 void close_members(struct protocol *protocol) {
     EACH_LINK(link, protocol->ports)
-        if (link->socket >= 0) protocol->plane->carrying->remove(protocol->plane, link);
+        if (link->socket >= 0) CALL(protocol->plane->carrying->remove, protocol->plane, link);
 }
 
 /* The daemon ends, or the library refused a call: no data goes or comes from here on. */
 void end_carry(struct plane *plane) {
-    plane->carrying->end(plane);
+    CALL(plane->carrying->end, plane);
     choose_no_plane(plane);
 }

@@ -212,7 +212,7 @@ static void count_loss(struct member *member) {
 /* The programs and sockets of a member are chosen anew; answers whether it is still taken up. */
 static bool renew_member(struct tap_plane *tap, struct link *link) {
     struct member *member = member_of(tap, link);
-    tap->plane->passing->withdraw_port(tap, link->settings.number);
+    CALL(tap->plane->passing->withdraw_port, tap, link->settings.number);
     count_loss(member);
     close_sockets(tap, member);
     reopen_guard(tap, link, &member->guard);
@@ -241,7 +241,7 @@ bool renew_for_discipline(struct plane *plane, struct link *link) {
 /* An interface has this MAC address now. */
 void follow_address(struct plane *plane, struct link *link, const uint8_t *mac) {
     if (memcmp(link->mac, mac, sizeof link->mac) == 0) return;
-    plane->carrying->move(plane, link, mac);
+    CALL(plane->carrying->move, plane, link, mac);
     memcpy(link->mac, mac, sizeof link->mac);
 }
 
@@ -300,7 +300,7 @@ void close_member(struct plane *plane, struct link *link) {
     struct tap_plane *tap = plane->tap;
     struct member *member = member_of(tap, link);
     if (member->socket < 0) return;
-    plane->passing->withdraw_port(tap, link->settings.number);
+    CALL(plane->passing->withdraw_port, tap, link->settings.number);
     forget_answers(tap->answers, link->settings.number);
     count_loss(member);
     close_sockets(tap, member);
@@ -400,7 +400,7 @@ void put_data(struct tap_plane *tap, uint16_t port, uint16_t number, uint8_t *pa
     if (member->out == BATCH) flush_member(tap->protocol->changes, member);
     member->parts[member->out] = (struct iovec){packet, length};
     member->messages[member->out].msg_hdr = (struct msghdr){.msg_iov = &member->parts[member->out], .msg_iovlen = 1};
-    tap->plane->queueing->mark(tap, port, number, &member->messages[member->out].msg_hdr);
+    CALL(tap->plane->queueing->mark, tap, port, number, &member->messages[member->out].msg_hdr);
     member->out++;
 }
 
@@ -428,7 +428,7 @@ bool send_by_one_queue(struct tap_plane *tap, struct link *link, const uint8_t *
  * kernel passes on and no longer may is taken back before. */
 static bool send_marker(struct tap_plane *tap, struct link *link, const uint8_t *marker, bool again) {
     flush_member(tap->protocol->changes, member_of(tap, link));
-    tap->plane->passing->withdraw(tap);
+    CALL(tap->plane->passing->withdraw, tap);
     return tap->plane->queueing->send_marker(tap, link, marker, again);
 }
 

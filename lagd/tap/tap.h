@@ -12,7 +12,7 @@
 /* Frames that are sent by one call of the kernel, or taken of a socket in a turn: a marker on another one waits for no more. */
 #define BATCH 64
 #define EACH_FILE_OF_TAP(DO) \
-    DO(answers, answers) DO(fast, fast) DO(flight, flight) DO(gro, gro) DO(guard, guard) DO(held, held) DO(host, host) \
+    DO(answers, answers) DO(fast, fast) DO(flight, flight) DO(gro, gro) DO(held, held) DO(host, host) \
     DO(members, members) DO(queues, queues) DO(spread, spread)
 struct tap_plane {
     struct process *process;
@@ -22,6 +22,7 @@ struct tap_plane {
     struct device *device;
     struct plane *plane;
     struct carry *carry;
+    int dropper; /* the program that keeps data from the stack of a member, or -1 */
     EACH_FILE_OF_TAP(KEEPS)
 };
 EACH_FILE_OF_TAP(MAKES)
@@ -65,13 +66,13 @@ struct kept {
     char steered[PROCESSORS_ROOM];  /* the processors that RPS named, or empty where that was one, or is not changed */
     struct ethtool_channels queues; /* what there was; all 0 where there was one queue */
 };
-FILE *open_kept(struct folder_private *folder, const struct link *link, const char *kind, int flags, const char *mode);
-bool replace_kept(const struct folder_private *folder, const struct link *link, const char *from, const char *to);
-void drop_kept(const struct folder_private *folder, const struct link *link, const char *kind);
+FILE *open_kept(int folder, const struct link *link, const char *kind, int flags, const char *mode);
+bool replace_kept(int folder, const struct link *link, const char *from, const char *to);
+void drop_kept(int folder, const struct link *link, const char *kind);
 void write_settings(struct process *process, const struct link *link, const struct kept *kept);
 void keep_settings(struct process *process, const struct link *link, struct kept *kept);
-void recall_settings(struct folder_private *folder, const struct link *link, struct kept *kept);
-void forget_settings(const struct folder_private *folder, const struct link *link);
+void recall_settings(int folder, const struct link *link, struct kept *kept);
+void forget_settings(int folder, const struct link *link);
 
 /* host.c */
 void lose_device(struct plane *plane);
@@ -249,9 +250,9 @@ void stop_spreading(struct store_private *store, const struct link *link, struct
 void note_channels(const struct link *link, struct guard *guard);
 bool has_usual_queues(struct tap_plane *tap, const struct guard *guard);
 bool is_spread_anew(const struct system_private *own, const struct link *link, const struct guard *guard);
-void move_former(struct folder_private *folder, struct link *link, const uint8_t *mac);
-void gather_back(struct folder_private *folder, const struct link *link, bool whole);
-bool may_spread(struct folder_private *folder, const struct link *link);
+void move_former(int folder, struct link *link, const uint8_t *mac);
+void gather_back(int folder, const struct link *link, bool whole);
+bool may_spread(int folder, const struct link *link);
 
 /* held.c */
 void start_held(struct tap_plane *tap);

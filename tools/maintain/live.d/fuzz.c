@@ -85,7 +85,7 @@ static void make_ports(void) {
     make_system(&lagd->protocol);
     if (!mkdtemp(folder) || socketpair(AF_UNIX, SOCK_DGRAM | SOCK_NONBLOCK, 0, wire) < 0) abort();
     (void)atexit(remove_folder);
-    open_folder(lagd->process.folder, folder);
+    lagd->process.folder = open_folder(folder);
     open_status(&lagd->process, folder);
     lagd->process.has_started = true;
     set_link(&lagd->protocol, 1, true);

@@ -320,7 +320,6 @@ static void accept(struct tap_plane *tap, struct link *link, const struct arriva
 NOTHING(count_losses, tap_plane)
 NOTHING(pass_announcing_tick, carry)
 NOTHING(pass_tap_tick, device)
-static NOTHING(nothing, tap_plane)
 void announce_soon(struct announce_private *own) {
     (void)own;
 }
@@ -365,9 +364,8 @@ _Noreturn void stop(int status, const char *what, const char *which) {
 static const struct carrying FRAMES = {.settle = settle_frames, .tick = pass_tick_of_frames, .keeps_aggregator = hears_peer,
     .frames_heard = frames_handed_up, .tell_host = tell_speed_and_carrier, .go_on = settle_carry,
     .note_response = note_response};
-static const struct passing BY_DAEMON = {.count = nothing, .withdraw = nothing, .pass_on = nothing, .set_collecting = nothing,
-    .read_host = nothing, .tick = nothing};
-static const struct queueing ONE_QUEUE = {.watch = nothing, .accept_response = accept, .answer = answer, .markers_at_once = 1};
+static const struct passing BY_DAEMON = {0};
+static const struct queueing ONE_QUEUE = {.accept_response = accept, .answer = answer, .markers_at_once = 1};
 
 /* The link of a port is up or down for an end. */
 static void set_link_of(struct end *end, uint16_t port, bool up) {
