@@ -453,6 +453,7 @@ void forget_interface(int folder, const struct link *link);
 /* folder.c */
 int open_folder(const char *folder);
 unsigned long network_namespace(void);
+uint64_t namespace_cookie(void);
 
 /* bpf.c */
 void *make_map(uint32_t size, uint32_t count, int *map);

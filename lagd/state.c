@@ -98,7 +98,7 @@ static void write_state(struct state *own, FILE *file) {
     struct niw_marker marker = niw_next_marker(&own->carry->protocol->own_system);
     char boot[BOOT_ROOM], room[WAY_ROOM];
     fprintf(file, "lagd %u\nboot %s\nway %s\n", FORM_VERSION, boot_id(boot), way(own->carry->settings, room));
-    fprintf(file, "written %" PRIu64 "\n", boottime());
+    fprintf(file, "space %" PRIu64 "\nwritten %" PRIu64 "\n", namespace_cookie(), boottime());
     fprintf(file, "marker %" PRIu32 "\n", is_done(own->carry->process, marker.status, "niw_next_marker") && marker.left ? marker.id : 0);
     fprintf(file, "bundle %u %u %lld\n", own->carry->protocol->bundle.state, own->carry->protocol->bundle.aggregator,
         (long long)own->carry->protocol->bundle.changed_at);
@@ -251,6 +251,7 @@ static bool read_rest(struct inherited *inherited, FILE *file) {
     while (fscanf(file, "%15s", word) == 1) {
         bool read = false;
         if (strcmp(word, "end") == 0) return true;
+        if (strcmp(word, "space") == 0) read = fscanf(file, "%" SCNu64, &inherited->space) == 1;
         if (strcmp(word, "written") == 0) read = fscanf(file, "%" SCNu64, &inherited->written) == 1;
         if (strcmp(word, "marker") == 0) read = fscanf(file, "%" SCNu32, &inherited->marker) == 1;
         if (strcmp(word, "bundle") == 0) read = read_bundle(inherited, file);
@@ -269,30 +270,33 @@ static bool read_rest(struct inherited *inherited, FILE *file) {
 /* By other settings nothing goes on: what stays to be done is to put back what the last daemon changed. It has a line once these interfaces
  * are found. */
 static void keep_interfaces(struct state *own, bool team) {
-    own->carry->process->inherited->others = true;
+    struct inherited *inherited = own->carry->process->inherited;
+    inherited->others = true;
     if (team)
-        leave_team(own->team, own->carry->process->inherited->tap, own->carry->process->inherited->persists);
-    else if (own->carry->process->inherited->persists)
-        end_tap(own->carry->process->inherited->tap);
-    for (unsigned i = 0; i < own->carry->process->inherited->link_count; i++) own->carry->process->inherited->links[i].carried = false;
-    memset(own->carry->process->inherited->members, 0, sizeof own->carry->process->inherited->members);
-    own->carry->process->inherited->port_count = 0;
-    own->carry->process->inherited->bundle = (struct bundle){0};
-    own->carry->process->inherited->answering = NOT_ASKED;
-    own->carry->process->inherited->tap = own->carry->process->inherited->persists = 0;
-    own->carry->process->inherited->mtu = 0;
+        leave_team(own->team, inherited->tap, inherited->persists);
+    else if (inherited->persists)
+        end_tap(inherited->tap);
+    for (unsigned i = 0; i < inherited->link_count; i++) inherited->links[i].carried = false;
+    memset(inherited->members, 0, sizeof inherited->members);
+    inherited->port_count = 0;
+    inherited->bundle = (struct bundle){0};
+    inherited->answering = NOT_ASKED;
+    inherited->tap = inherited->persists = 0;
+    inherited->mtu = 0;
 }
 
-/* Reads a state; answers NULL, or why it counts for nothing. */
+/* Reads a state; answers NULL, or why it counts for nothing. In another network namespace its numbers of interfaces are those of others. */
 static const char *read_state(struct state *own, FILE *file) {
+    struct inherited *inherited = own->carry->process->inherited;
     unsigned version;
     char boot[BOOT_ROOM], now[BOOT_ROOM], given[WAY_ROOM], room[WAY_ROOM];
     if (fscanf(file, "lagd %u", &version) != 1) return "it is no state of lagd";
     if (version != FORM_VERSION) return "it is of another version";
     if (fscanf(file, " boot %63s way %95s", boot, given) != 2) return "it is cut off";
     if (strcmp(boot, boot_id(now)) != 0) return "it is of another boot";
-    if (!read_rest(own->carry->process->inherited, file)) return "it is cut off, or wrong";
-    read_changes(own->carry->process->inherited, file);
+    if (!read_rest(inherited, file)) return "it is cut off, or wrong";
+    if (inherited->space != 0 && inherited->space != namespace_cookie()) return "it is of another network namespace";
+    read_changes(inherited, file);
     if (strcmp(given, way(own->carry->settings, room)) != 0) keep_interfaces(own, is_way_of_team(given));
     return NULL;
 }

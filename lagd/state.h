@@ -29,6 +29,7 @@ struct inherited {
     struct inherited_link links[NIW_MOST_PORTS];
     unsigned port_count;
     struct inherited_port ports[NIW_MOST_PORTS];
+    uint64_t space;               /* the namespace_cookie of its network namespace, or 0 */
     uint64_t written;             /* when it was written, in milliseconds of CLOCK_BOOTTIME */
     uint32_t marker;              /* the identifier of the next one */
     struct bundle bundle;         /* its state, aggregator and time of the last change */

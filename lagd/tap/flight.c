@@ -17,10 +17,12 @@ struct flight_private *make_flight_private(void) {
     return make_room(sizeof(struct flight_private));
 }
 
-/* Whether the library tells that a port distributes, or that it does not. */
+/* Whether the library tells that a port distributes with a partner, or that it does not: a link that fell silent distributes again, on defaults,
+ * 5 s after it stopped, and nobody answers its markers. */
 static bool distributes(struct protocol *protocol, uint16_t port, bool wanted) {
     struct niw_truth answer = niw_distributes(&protocol->own_system, port);
-    return is_done(protocol->process, answer.status, "niw_distributes") && answer.is == wanted;
+    bool has_partner = !protocol->ports->links[port - 1].view.defaulted;
+    return is_done(protocol->process, answer.status, "niw_distributes") && (answer.is && has_partner) == wanted;
 }
 
 /* A frame goes on a port. */
@@ -28,7 +30,7 @@ void note_sent(struct flight_private *own, uint16_t port) {
     own->silent_since[port - 1] = 0;
 }
 
-/* Frees what is held on a port that does not distribute for longer than frames can be on their way. */
+/* Frees what is held on a port that does not distribute with a partner, and had no frame, for longer than frames can be on their way. */
 static void watch_port(struct tap_plane *tap, uint16_t port) {
     struct carry *carry = tap->carry;
     uint64_t held, freed, *since = &tap->flight->silent_since[port - 1];

@@ -12,6 +12,7 @@ static struct lagd tested, *lagd = &tested;
 int main(int argc, char **argv) {
     char line[4096];
     if (argc != 3) return 2;
+    join_parts(lagd);
     lagd->settings.hash = (enum hash)atoi(argv[1]);
     lagd->settings.hash_seed = (uint16_t)atoi(argv[2]);
     while (fgets(line, sizeof line, stdin)) {
