@@ -217,7 +217,7 @@ static const char *question_of(const struct options *options) {
 }
 
 /* Asks a daemon, and whether it answers before it is watched. One that does not has a line. */
-static bool ask_daemon(struct control *control, unsigned daemon, const struct options *options) {
+static bool ask_one(struct control *control, unsigned daemon, const struct options *options) {
     struct asking_private *own = control->asking;
     const char *path = own->daemons[daemon].path;
     bool watched = options->action == WATCH;
@@ -283,7 +283,7 @@ int ask_daemons(struct control *control, const struct options *options) {
     unsigned answers = 0;
     find_sockets(control->asking, options->folder, true);
     if (options->action == ORDER) return order_daemon(control, options);
-    for (unsigned i = 0; i < own->count; i++) answers += ask_daemon(control, i, options);
+    for (unsigned i = 0; i < own->count; i++) answers += ask_one(control, i, options);
     if (answers == 0 && (options->action != METRICS || own->count == 0 || own->denied)) refuse_all(control->asking, options->folder);
     if (options->action == WATCH) return print_changes_of_all(control);
     if (options->action == METRICS) {

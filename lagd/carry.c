@@ -78,7 +78,7 @@ bool hears_peer(struct plane *plane) {
 }
 
 /* Notes the ports of the active aggregator that carry, those that are emptied or the others. */
-static void note_ports(struct carry *carry, bool emptying) {
+static void note_active_ports(struct carry *carry, bool emptying) {
     carry->active_count = 0;
     EACH_LINK(link, carry->ports)
         if (carry->active != 0 && link->view.aggregator == carry->active && carries(carry->protocol, link)
@@ -92,8 +92,8 @@ static void choose_active(struct carry *carry) {
     uint16_t before = carry->active;
     choose_aggregator(carry->protocol, &now);
     carry->active = now.carrying >= carry->settings->min_links ? now.aggregator : 0;
-    note_ports(carry, false);
-    if (carry->active_count == 0) note_ports(carry, true); /* while there is no other */
+    note_active_ports(carry, false);
+    if (carry->active_count == 0) note_active_ports(carry, true); /* while there is no other */
     if (before != 0 && carry->active != 0 && before != carry->active) carry->counts[SWITCHES]++;
     if ((before == 0) != (carry->active == 0))
         (void)say(carry->process, LOG_NOTICE | ABOUT_CARRIER, "carry %s: carrier %s", carry->settings->carry, carry->active ? "on" : "off");
@@ -152,7 +152,7 @@ void settle_carry(struct plane *plane) {
 /* A port on defaults sends an LACPDU each 30 s only, so a link that was silent for more than 6 s would be long in coming back. As one
  * whose link came up it sends one each second. It is done to ports that carry nothing, after a second, and then after twice as long each
  * time. */
-static void wake_port(struct carry *carry, uint16_t port) {
+static void wake_sleeper(struct carry *carry, uint16_t port) {
     struct carry_private *own = carry->carry_private;
     const struct link *link = &carry->ports->links[port - 1];
     bool sleeps = link->up && link->view.receive_state == NIW_RECEIVE_DEFAULTED
@@ -173,7 +173,7 @@ static void wake_port(struct carry *carry, uint16_t port) {
 
 /* Each port that sleeps and carries nothing is woken now and then. */
 void wake_ports(struct carry *carry) {
-    for (uint16_t port = 1; !carry->process->broken && port <= carry->ports->count; port++) wake_port(carry, port);
+    for (uint16_t port = 1; !carry->process->broken && port <= carry->ports->count; port++) wake_sleeper(carry, port);
 }
 
 /* 100 ms passed: before what the device does then, */

@@ -122,7 +122,7 @@ static bool follow_discipline(struct protocol *protocol, struct link *link, cons
 
 /* Follows an interface of a port. Its carrier may have gone and come back, of which the kernel tells at once: it counts how often
  * it went. IFF_RUNNING may be a second old, and IFF_LOWER_UP is the carrier itself. */
-static void follow(struct protocol *protocol, struct link *link, const struct interface *interface) {
+static void follow_link(struct protocol *protocol, struct link *link, const struct interface *interface) {
     uint16_t port = link->settings.number;
     bool up, carrier = (interface->flags & IFF_UP) && (interface->flags & IFF_RUNNING) && (interface->flags & IFF_LOWER_UP), lost = false;
     if (interface->has_mac) follow_address(protocol->plane, link, interface->mac);
@@ -160,7 +160,7 @@ static void follow_present(struct protocol *protocol, const struct interface *in
     }
     EACH_LINK(link, protocol->ports) {
         bool named = is_named(interface, link->name), same = link->socket >= 0 && link->index == interface->index;
-        named = named || (same && take_name(protocol, link, interface));
+        named = named || (same && accept_name(protocol, link, interface));
         if (link->socket >= 0 && (same != named || (same && !is_bound(link)))) lose_interface(protocol, link);
         if (same && link->socket >= 0 && !protocol->plane->carrying->still_has(protocol->plane, link, interface->master)) {
             tell_taken_out(protocol, link);
@@ -169,7 +169,7 @@ static void follow_present(struct protocol *protocol, const struct interface *in
         known = known || named;
         if (!named) continue;
         link->present = true;
-        if (link->socket >= 0 || take_up(protocol, link, interface)) follow(protocol, link, interface);
+        if (link->socket >= 0 || take_up(protocol, link, interface)) follow_link(protocol, link, interface);
     }
     if (!known) follow_port(protocol, interface);
 }

@@ -38,7 +38,7 @@ static void add_state(struct report *report, uint8_t state) {
     add(report, "]}");
 }
 
-static void add_ends(struct report *report, const struct view *view) {
+static void add_both_ends(struct report *report, const struct view *view) {
     add(report, ",\"actor\":{\"key\":%u,\"port_priority\":%u,\"port\":%u", view->own.key, view->own.port_priority, view->own.port);
     add_state(report, view->state);
     add(report, ",\"partner\":{\"defaulted\":%s,\"system_priority\":%u,", view->facts.defaulted ? "true" : "false",
@@ -93,7 +93,7 @@ static void add_member(struct control *control, const struct link *link) {
     add_time(&control->report, link->changed_at);
     add(&control->report, ",\"actor_churn\":\"%s\",\"partner_churn\":\"%s\"", niw_churn_state_text(link->churn.actor.state),
         niw_churn_state_text(link->churn.partner.state));
-    add_ends(&control->report, &view);
+    add_both_ends(&control->report, &view);
     add_strangers(control, link);
     add_counts(&control->report, link);
     CALL(control->plane->carrying->show_member, control, link, AS_JSON);

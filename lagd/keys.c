@@ -40,7 +40,7 @@ bool has_aggregator(const struct keys_private *own, uint16_t given) {
 }
 
 /* Whether a key is one of aggregators, or of a port that is not this one. */
-static bool is_taken(struct protocol *protocol, uint16_t key, const struct link *but) {
+static bool is_key_of_any(struct protocol *protocol, uint16_t key, const struct link *but) {
     struct keys_private *own = protocol->keys;
     for (uint16_t i = 0; i < own->known_count; i++)
         if (own->known[i].key == key || own->known[i].given == key) return true;
@@ -52,7 +52,7 @@ static bool is_taken(struct protocol *protocol, uint16_t key, const struct link 
 /* The next key behind this one that no aggregator and no port has, but for this port, if there is one. */
 uint16_t free_key(struct protocol *protocol, uint16_t behind, const struct link *but) {
     do behind++;
-    while (is_taken(protocol, behind, but));
+    while (is_key_of_any(protocol, behind, but));
     return behind;
 }
 

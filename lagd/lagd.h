@@ -413,7 +413,7 @@ bool may_put_in(struct protocol *protocol, const struct link *link);
 bool stays_outside(struct protocol *protocol, struct link *link, int master);
 void tell_taken_out(struct protocol *protocol, struct link *link);
 void follow_port(struct protocol *protocol, const struct interface *interface);
-bool take_name(struct protocol *protocol, const struct link *link, const struct interface *interface);
+bool accept_name(struct protocol *protocol, const struct link *link, const struct interface *interface);
 void answer_order(struct protocol *protocol, char *order, char answer[static ORDER_ROOM]);
 
 /* halt.c */
@@ -426,7 +426,7 @@ void pass_halt_tick(struct protocol *protocol);
 
 /* ports.c */
 void read_views(struct protocol *protocol);
-void print_changes(struct protocol *protocol);
+void print_all_changes(struct protocol *protocol);
 bool print_change(struct protocol *protocol, struct link *link);
 struct facts facts_of(struct protocol *protocol, const struct link *link);
 bool carries(struct protocol *protocol, const struct link *link);
@@ -538,7 +538,7 @@ void settle_carry(struct plane *plane);
 void pass_carry_tick(struct protocol *protocol);
 void open_carry(struct protocol *protocol);
 void end_carry(struct plane *plane);
-void close_members(struct protocol *protocol);
+void remove_all_members(struct protocol *protocol);
 void fit_queue(struct plane *plane, const struct link *link, const char *interface);
 bool reopen_member(struct plane *plane, struct link *link);
 void follow_address(struct plane *plane, struct link *link, const uint8_t *mac);

@@ -61,7 +61,7 @@ static int open_clock(void) {
 /* Tells what changed. */
 static void tell_changes(struct protocol *protocol) {
     read_views(protocol);
-    print_changes(protocol);
+    print_all_changes(protocol);
     look_at_bundle(protocol);
 }
 
@@ -141,7 +141,7 @@ static void serve_all_data(struct tap_plane *tap, const struct epoll_event *even
 }
 
 /* Serves those who ask. */
-static void serve_callers(struct control *control, const struct epoll_event *events, int count) {
+static void serve_all_callers(struct control *control, const struct epoll_event *events, int count) {
     for (int i = 0; i < count; i++)
         if (events[i].data.u32 >= CALLERS && events[i].data.u32 < HOST) serve_caller(control, events[i].data.u32 - CALLERS);
 }
@@ -177,7 +177,7 @@ static void serve(struct lagd *lagd, const struct epoll_event *events, int count
     if (ready.change) receive_changes(&lagd->protocol);
     serve_all_frames(&lagd->protocol, events, count);
     serve_all_data(&lagd->tap, events, count);
-    serve_callers(&lagd->control, events, count);
+    serve_all_callers(&lagd->control, events, count);
     if (ready.caller) accept_callers(&lagd->process);
     watch_carriers(&lagd->protocol, ready.tick);
     if (ready.tick) pass_time(lagd, clock);

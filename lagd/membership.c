@@ -303,7 +303,7 @@ void follow_port(struct protocol *protocol, const struct interface *interface) {
 }
 
 /* The interface of a port that the device alone has was given another name: it is the same port. Answers whether it is. */
-bool take_name(struct protocol *protocol, const struct link *link, const struct interface *interface) {
+bool accept_name(struct protocol *protocol, const struct link *link, const struct interface *interface) {
     char *name = protocol->settings->ports[link->settings.number - 1].name;
     if (!link->followed || link->leaving || interface->master != tap_index(protocol->device) || link_of(protocol->ports, interface->name))
         return false;

@@ -171,7 +171,7 @@ static _Noreturn void end_printing(void) {
 }
 
 /* One option. --help and --version end the program. */
-static void read_option(struct control *control, int option, const char *last) {
+static void act_on_letter(struct control *control, int option, const char *last) {
     struct options_private *own = control->options;
     const char letter[] = {'-', (char)optopt, 0};
     switch (option) {
@@ -251,7 +251,7 @@ static void read_rows(struct control *control, int argc, char **argv) {
         if (own->rows[i].value) letters[length++] = ':';
     }
     opterr = 0;
-    for (int option; (option = getopt_long(argc, argv, letters, names, NULL)) >= 0;) read_option(control, option, argv[optind - 1]);
+    for (int option; (option = getopt_long(argc, argv, letters, names, NULL)) >= 0;) act_on_letter(control, option, argv[optind - 1]);
 }
 
 /* Reads the command line, and the file that it names. */

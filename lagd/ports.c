@@ -113,7 +113,7 @@ bool print_change(struct protocol *protocol, struct link *link) {
 }
 
 /* Prints the ports that changed. What is printed too often is printed later. */
-void print_changes(struct protocol *protocol) {
+void print_all_changes(struct protocol *protocol) {
     EACH_LINK(link, protocol->ports) {
         if (link->changed && link->lines > 0 && print_change(protocol, link)) link->lines--;
         tell_strangers(protocol, link);

@@ -56,7 +56,7 @@ static void recall_partner(struct process *process, struct link *link) {
     link->lacpdus_at[MOST_LACPDUS - 1] = was->spoken;
 }
 
-static bool distributes(struct protocol *protocol, uint16_t port) {
+static bool is_distributing(struct protocol *protocol, uint16_t port) {
     struct niw_truth answer = niw_distributes(&protocol->own_system, port);
     return is_done(protocol->process, answer.status, "niw_distributes") && answer.is;
 }
@@ -136,7 +136,7 @@ static uint16_t port_on(struct carry *carry, int index) {
     EACH_LINK(link, carry->ports)
         if (index != 0 && link->socket >= 0 && link->index == index
             && link->view.aggregator == carry->active
-            && distributes(carry->protocol, link->settings.number))
+            && is_distributing(carry->protocol, link->settings.number))
             return link->settings.number;
     return 0;
 }

@@ -33,7 +33,7 @@ static void add_bundle(struct control *control) {
 }
 
 /* One end of a port. */
-static void add_end(struct report *report, const char *whose, const uint8_t *mac, const unsigned numbers[static 4], uint8_t state) {
+static void add_side(struct report *report, const char *whose, const uint8_t *mac, const unsigned numbers[static 4], uint8_t state) {
     char text[32];
     add(report, "\n  %s sys_id: %s\n  %s sys_priority: %u\n", whose, mac_text(mac, text), whose, numbers[0]);
     add(report, "  %s port_id: %u\n  %s port_priority: %u\n", whose, numbers[1], whose, numbers[2]);
@@ -78,8 +78,8 @@ static void add_member(struct control *control, const struct link *link) {
     if (link->has_speed) add(&control->report, "  speed: %s\n", speed_text(&link->speed, speed));
     add_time(&control->report, "last change", link->changed_at);
     add_strangers(control, link);
-    add_end(&control->report, "actor", own->system_mac, (unsigned[]){own->system_priority, own->port, own->port_priority, own->key}, view.state);
-    add_end(&control->report, "partner", partner->system_mac,
+    add_side(&control->report, "actor", own->system_mac, (unsigned[]){own->system_priority, own->port, own->port_priority, own->key}, view.state);
+    add_side(&control->report, "partner", partner->system_mac,
         (unsigned[]){partner->system_priority, partner->port, partner->port_priority, partner->key}, partner->state);
     add_counts(&control->report, link);
     CALL(control->plane->carrying->show_member, control, link, AS_TEXT);

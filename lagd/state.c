@@ -190,7 +190,7 @@ static bool read_hex(const char *text, uint8_t *octets) {
     return true;
 }
 
-static bool read_link(struct inherited *inherited, FILE *file) {
+static bool read_link_line(struct inherited *inherited, FILE *file) {
     struct inherited_link *link = &inherited->links[inherited->link_count];
     char mac[32], own[32], hex[HEX_ROOM];
     unsigned octets[6];
@@ -260,7 +260,7 @@ static bool read_rest(struct inherited *inherited, FILE *file) {
                 &inherited->answering) == 4
                 && inherited->answering <= MUTE;
         if (strcmp(word, "port") == 0) read = read_port_number(inherited, file);
-        if (strcmp(word, "link") == 0) read = read_link(inherited, file);
+        if (strcmp(word, "link") == 0) read = read_link_line(inherited, file);
         if (strcmp(word, "on") == 0) read = read_conversation(inherited, file);
         if (!read) return false;
     }

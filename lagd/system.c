@@ -69,7 +69,7 @@ static struct niw_made put_system(struct protocol *protocol, const struct niw_sa
 }
 
 /* Holds the ports that are to be held. */
-static void hold_ports(struct protocol *protocol) {
+static void hold_by_settings(struct protocol *protocol) {
     for (uint16_t port = 1; port <= protocol->ports->count; port++)
         if (protocol->ports->links[port - 1].held && !apply_hold(protocol, port)) return;
 }
@@ -93,7 +93,7 @@ size_t resume_system(struct protocol *protocol, struct niw_saved *saved, size_t 
         count = drop_saved(saved, count, made.place);
     }
     if (!is_done(protocol->process, made.status, "niw_resume")) return 0;
-    hold_ports(protocol);
+    hold_by_settings(protocol);
     return count;
 }
 
@@ -109,7 +109,7 @@ void make_system(struct protocol *protocol) {
     for (uint16_t port = 1; port <= NIW_MOST_PORTS; port++) begin_link(protocol, port);
     make_keys(protocol, protocol->system->keys);
     if (!is_done(protocol->process, put_system(protocol, NULL, 0).status, "niw_new")) return;
-    hold_ports(protocol);
+    hold_by_settings(protocol);
     read_views(protocol);
 }
 

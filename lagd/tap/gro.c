@@ -80,7 +80,7 @@ static bool has_same_headers(const uint8_t *one, const uint8_t *other, const str
 }
 
 /* Whether a packet follows those that wait. */
-static bool follows(const struct gro_private *own, const uint8_t *packet, const struct tcp_packet *tcp) {
+static bool continues_stream(const struct gro_private *own, const uint8_t *packet, const struct tcp_packet *tcp) {
     const uint8_t *first = own->packets[0].iov_base;
     struct tcp_packet alone = own->all;
     alone.length = own->packets[0].iov_len;
@@ -130,7 +130,7 @@ void put_host(struct tap_plane *tap, uint8_t *packet, size_t length) {
     struct gro_private *own = tap->gro;
     struct tcp_packet tcp;
     bool joins = read_tcp(packet, length, &tcp);
-    if (own->count > 0 && !(joins && follows(own, packet, &tcp))) flush_host(tap);
+    if (own->count > 0 && !(joins && continues_stream(own, packet, &tcp))) flush_host(tap);
     if (joins && own->count == 0) own->all = tcp;
     if (joins && own->count > 0) own->all.length += length - tcp.payload;
     own->packets[own->count++] = (struct iovec){packet, length};

@@ -228,7 +228,7 @@ void end_tap_plane(struct plane *plane) {
     struct tap_plane *tap = plane->tap;
     await_no_more(tap->process->epoll_file, tap->host->tap);
     set_carrier(tap->device, false);
-    close_members(tap->protocol);
+    remove_all_members(tap->protocol);
     CALL(plane->passing->end, tap);
     end_held(tap);
 }
@@ -239,7 +239,7 @@ void open_carry(struct protocol *protocol) {
 }
 
 /* No interface is a member any more. */
-void close_members(struct protocol *protocol) {
+void remove_all_members(struct protocol *protocol) {
     EACH_LINK(link, protocol->ports)
         if (link->socket >= 0) CALL(protocol->plane->carrying->remove, protocol->plane, link);
 }

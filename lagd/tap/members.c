@@ -165,7 +165,7 @@ static void store_sockets(struct store_private *store, const struct member *memb
 }
 
 /* Opens the sockets of a member; answers whether it did. */
-static bool open_sockets(struct tap_plane *tap, struct member *member, const struct link *link) {
+static bool open_member_sockets(struct tap_plane *tap, struct member *member, const struct link *link) {
     bool fast = member->guard.fast;
     uint32_t tag = MEMBERS + (uint32_t)(member - tap->members->members);
     member->socket = open_data(tap->process, link->index, &member->guard);
@@ -179,7 +179,7 @@ static bool open_sockets(struct tap_plane *tap, struct member *member, const str
 /* Opens the sockets of a member whose programs run; answers whether it did. Else, it is no member any more, and errno tells why. */
 static bool open_or_close(struct tap_plane *tap, struct member *member, const struct link *link) {
     int fault;
-    if (open_sockets(tap, member, link)) {
+    if (open_member_sockets(tap, member, link)) {
         store_sockets(tap->process->store, member, link->index);
         begin_queues(tap->queues, link->settings.number, member->guard.queues);
         return true;

@@ -107,7 +107,7 @@ static bool is_known(int folder, const struct link *link, const char *wanted, FI
 
 /* Changes each setting of an interface that is to be another one, or, with `next`, keeps there what it is now; answers whether all was done. One
  * that the kernel does not show for an interface, as XPS for one queue, is off. */
-static bool change_all(int folder, const struct link *link, FILE *next) {
+static bool change_processors(int folder, const struct link *link, FILE *next) {
     char name[NAME_OCTETS], path[128], now[PROCESSORS_ROOM], mask[16];
     bool done = true;
     for (enum setting setting = 0; setting < SETTINGS; setting++) {
@@ -132,7 +132,7 @@ static bool keep_all(int folder, const struct link *link) {
     if (!next) return false;
     fprintf(next, HEAD, boot_id(boot), mac_text(link->mac, mac));
     (void)is_known(folder, link, NULL, next);
-    done = change_all(folder, link, next) && !ferror(next);
+    done = change_processors(folder, link, next) && !ferror(next);
     return fclose(next) == 0 && done && replace_kept(folder, link, "queues.new", "queues");
 }
 
@@ -148,7 +148,7 @@ static const char *fault_of_spreading(int folder, const struct link *link, const
     if (count == 0) return "/sys does not show its queues";
     if (!guard->in_order) return "its queueing discipline is neither noqueue, bfifo nor pfifo";
     if (!keep_all(folder, link)) return "what its queues have cannot be kept";
-    if (!change_all(folder, link, NULL)) return "RPS or XPS of its queues cannot be set";
+    if (!change_processors(folder, link, NULL)) return "RPS or XPS of its queues cannot be set";
     return NULL;
 }
 

@@ -129,7 +129,7 @@ void start_buckets(struct team_plane *team) {
 }
 
 /* The conversation leaves its port at once: its frames cannot be held. */
-static bool force(struct carry *carry, uint16_t aggregator, uint16_t number) {
+static bool force_free(struct carry *carry, uint16_t aggregator, uint16_t number) {
     if (!is_done(carry->process, niw_force(&carry->protocol->own_system, aggregator, number), "niw_force")) return false;
     carry->counts[FORCED]++;
     return true;
@@ -138,7 +138,7 @@ static bool force(struct carry *carry, uint16_t aggregator, uint16_t number) {
 /* The port by which the frames of a conversation go from now on; 0 where the library tells none. */
 static uint16_t place(struct carry *carry, uint16_t number) {
     struct niw_number answer = niw_offer_conversation(&carry->protocol->own_system, carry->active, number);
-    if (answer.status == NIW_HELD && force(carry, carry->active, number))
+    if (answer.status == NIW_HELD && force_free(carry, carry->active, number))
         answer = niw_offer_conversation(&carry->protocol->own_system, carry->active, number);
     if (answer.status == NIW_NONE_DISTRIBUTING || !is_done(carry->process, answer.status, "niw_offer_conversation")) return 0;
     carry->conversations[number].home = carry->active;
@@ -153,7 +153,7 @@ static void leave_last_aggregator(struct team_plane *team) {
     for (uint16_t number = 0; own->previous != 0 && number < CONVERSATIONS; number++) {
         struct niw_assignment state;
         if (!ask_state(team->protocol, own->previous, number, &state)) return;
-        if (is_held(&state) && !force(team->carry, own->previous, number)) return;
+        if (is_held(&state) && !force_free(team->carry, own->previous, number)) return;
         if (state.what == NIW_CONVERSATION_ON && !is_done(team->process, niw_rest(&team->protocol->own_system, own->previous, number), "niw_rest"))
             return;
     }

@@ -113,7 +113,7 @@ static bool find_device(struct process *process, const char *name, struct interf
 }
 
 /* Has the driver spread frames over buckets, and tell what each of them sent. */
-static void set_options(struct team_plane *team, const char *mode_now) {
+static void configure_driver(struct team_plane *team, const char *mode_now) {
     struct sock_filter steps[MOST_HASH_STEPS];
     int index = tap_index(team->device);
     need(strcmp(mode_now, MODE) == 0 || set_team_text(team->team_netlink, index, "mode", MODE), "team: mode " MODE);
@@ -263,7 +263,7 @@ void open_team(struct plane *plane) {
         use_team_device(team->device, device.index);
     }
     need(read_team(team->team_netlink, tap_index(team->device), &now), "team");
-    set_options(team, now.mode);
+    configure_driver(team, now.mode);
     start_buckets(team);
 }
 
@@ -276,7 +276,7 @@ bool give_team_carrier(struct plane *plane, bool on) {
 void end_team_plane(struct plane *plane) {
     struct team_plane *team = plane->team;
     set_carrier(team->device, false);
-    close_members(team->protocol);
+    remove_all_members(team->protocol);
     end_team(team);
 }
 
