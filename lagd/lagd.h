@@ -2,6 +2,7 @@
 #ifndef LAGD_H
 #define LAGD_H
 
+#include <errno.h>
 #include <stdbool.h>
 #include <stddef.h>
 #include <stdint.h>
@@ -246,6 +247,11 @@ static inline void *make_room(size_t octets) {
     if (made) return made;
     (void)fputs("lagd: no memory\n", stderr);
     exit(REFUSED);
+}
+
+/* -errno of what failed just now, which is never 0. */
+static inline int last_fault(void) {
+    return errno > 0 ? -errno : -EIO;
 }
 
 /* An answer that tells whether the library refused: what depends on the call is done only where it did not. */

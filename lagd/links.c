@@ -20,12 +20,12 @@
 /* How many ticks a failure is told of, so that a queue that is full now and then is one line. */
 #define TROUBLE_TICKS 50
 
-/* A packet socket of an interface, for the frames of the slow protocols alone; or -1, and errno. */
+/* A packet socket of an interface, for the frames of the slow protocols alone; or -errno. */
 static int open_socket(struct process *process, int index) {
     struct sockaddr_ll address = {.sll_family = AF_PACKET, .sll_protocol = htons(ETH_P_SLOW), .sll_ifindex = index};
     struct packet_mreq member = {index, PACKET_MR_MULTICAST, 6, {0x01, 0x80, 0xc2, 0x00, 0x00, 0x02}};
     int opened = packet_socket(process, "lacp", index, index, SOCK_RAW);
-    if (opened < 0) return -1;
+    if (opened < 0) return opened;
     (void)setsockopt(opened, SOL_SOCKET, SO_PRIORITY, &(int){TC_PRIO_CONTROL}, sizeof(int)); /* before data */
     (void)setsockopt(opened, SOL_PACKET, PACKET_IGNORE_OUTGOING, &(int){1}, sizeof(int));
     if (setsockopt(opened, SOL_PACKET, PACKET_AUXDATA, &(int){1}, sizeof(int)) == 0
@@ -33,7 +33,7 @@ static int open_socket(struct process *process, int index) {
         && setsockopt(opened, SOL_PACKET, PACKET_ADD_MEMBERSHIP, &member, sizeof member) == 0)
         return opened;
     close_stored(process->store, "lacp", index, opened);
-    return -1;
+    return last_fault();
 }
 
 /* The queueing disciplines in which a frame of control passes data that waits: by its priority, or as the rare frame of a flow of its
@@ -109,15 +109,22 @@ static void close_files(struct store_private *store, struct link *link) {
     link->socket = link->lock = link->carrier_file = -1;
 }
 
+/* Opens what an interface that is taken up has; answers 0, or -errno. */
+static int open_files(struct protocol *protocol, struct link *link, int index) {
+    link->index = index;
+    link->lock = lock_interface(protocol->process, index);
+    if (link->lock < 0) return link->lock;
+    link->socket = open_socket(protocol->process, index);
+    if (link->socket < 0) return link->socket;
+    if (!await_input(protocol->process->epoll_file, link->socket, link->settings.number)) return last_fault();
+    return protocol->plane->carrying->add(protocol->plane, link);
+}
+
 /* Takes up the interface of this number; answers whether it did, and else `trouble` has why not. */
 bool open_link(struct protocol *protocol, struct link *link, int index) {
     bool taken;
-    link->lock = lock_interface(protocol->process, index);
-    link->socket = link->lock < 0 ? -1 : open_socket(protocol->process, index);
-    link->index = index;
-    taken = link->socket >= 0 && await_input(protocol->process->epoll_file, link->socket, link->settings.number)
-        && protocol->plane->carrying->add(protocol->plane, link);
-    link->trouble = taken ? 0 : errno;
+    link->trouble = -open_files(protocol, link, index);
+    taken = link->trouble == 0;
     if (taken) put_stored(protocol->process->store, "lock", index, link->lock);
     if (taken) put_stored(protocol->process->store, "lacp", index, link->socket);
     link->carrier_file = open_carrier(index);

@@ -323,7 +323,7 @@ static const char *fault_of(struct protocol *protocol, const char *name) {
     EACH_LINK(link, protocol->ports)
         if (link->used && link->socket >= 0 && link->index == interface.index) return "it is a port by another name";
     lock = lock_interface(protocol->process, interface.index);
-    if (lock < 0) return errno == EADDRINUSE ? "another lagd has it" : strerror(errno);
+    if (lock < 0) return lock == -EADDRINUSE ? "another lagd has it" : strerror(-lock);
     close_stored(protocol->process->store, "lock", interface.index, lock);
     return NULL;
 }

@@ -19,6 +19,12 @@ static bool give_no_carrier(struct plane *plane, bool on) {
     return true;
 }
 
+static int add_nothing(struct plane *plane, struct link *link) {
+    (void)plane;
+    (void)link;
+    return 0;
+}
+
 static bool ignore_link(struct plane *plane, struct link *link) {
     (void)plane;
     (void)link;
@@ -80,7 +86,7 @@ static bool keeps_queues(struct tap_plane *tap, struct link *link) {
 }
 
 static const struct carrying NO_DEVICE = {
-    .has_made_device = is_never, .give_carrier = give_no_carrier, .add = ignore_link, .renew = ignore_link, .can_empty = cannot_empty,
+    .has_made_device = is_never, .give_carrier = give_no_carrier, .add = add_nothing, .renew = ignore_link, .can_empty = cannot_empty,
     .empty = has_nothing, .is_new = is_never, .still_has = keeps_ports, .keeps_aggregator = is_always, .frames_heard = hear_nothing,
     .member_of = has_no_member, .frames_waiting = has_none_waiting,
 };

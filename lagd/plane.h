@@ -33,7 +33,7 @@ struct carrying {
     bool (*has_made_device)(struct plane *plane);       /* whether the next daemon is to take it away at its end */
     bool (*give_carrier)(struct plane *plane, bool on); /* whether the kernel does so */
     void (*settle_mtu)(struct plane *plane); /* the longest MTU that each member takes, or a lower one of an administrator */
-    bool (*add)(struct plane *plane, struct link *link); /* whether an interface is taken up, and else errno tells why not */
+    int (*add)(struct plane *plane, struct link *link); /* takes an interface up: 0, or -errno */
     void (*remove)(struct plane *plane, struct link *link); /* it is a member no more, and has what it had before */
     bool (*renew)(struct plane *plane, struct link *link); /* it has another queueing discipline: whether it is still taken up */
     void (*move)(struct plane *plane, struct link *link, const uint8_t *mac); /* it has another MAC address */

@@ -184,12 +184,13 @@ static bool is_of(int fd, int index) {
 }
 
 /* A packet socket for an interface, stored for a link with an index: the one that the last daemon left, with what came meanwhile unless that
- * is old, or a new one, which takes nothing before it is bound; or -1, and errno. */
+ * is old, or a new one, which takes nothing before it is bound; or -errno. */
 int packet_socket(struct process *process, const char *kind, int of, int index, int type) {
     int fd = claim_stored(process->store, kind, of);
     if (fd >= 0 && is_of(fd, index) && (type == SOCK_DGRAM || was_away_briefly(process->inherited))) return fd;
     if (fd >= 0) close_stored(process->store, kind, of, fd);
-    return socket(AF_PACKET, type | SOCK_NONBLOCK | SOCK_CLOEXEC, 0);
+    fd = socket(AF_PACKET, type | SOCK_NONBLOCK | SOCK_CLOEXEC, 0);
+    return fd < 0 ? -errno : fd;
 }
 
 /* As attach_program, in the place of the program of the last daemon, where that left one; the manager of services keeps it, too. */

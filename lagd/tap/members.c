@@ -110,12 +110,12 @@ static bool set_ways(int fd, bool in_order) {
         && setsockopt(fd, SOL_PACKET, PACKET_AUXDATA, &(int){1}, sizeof(int)) == 0;
 }
 
-/* A packet socket for the data of an interface, and its markers; or -1, and errno. Where the kernel hands up what comes, it only sends. */
+/* A packet socket for the data of an interface, and its markers; or -errno. Where the kernel hands up what comes, it only sends. */
 static int open_data(struct process *process, int index, const struct guard *guard) {
     struct sockaddr_ll address = {.sll_family = AF_PACKET, .sll_protocol = htons(ETH_P_ALL), .sll_ifindex = index};
     struct packet_mreq all = {index, PACKET_MR_PROMISC, 0, {0}};
     int fd = packet_socket(process, "data", index, index, SOCK_RAW);
-    if (fd < 0) return -1;
+    if (fd < 0) return fd;
     enlarge(fd, SO_RCVBUFFORCE, SO_RCVBUF);
     enlarge(fd, SO_SNDBUFFORCE, SO_SNDBUF);
     (void)setsockopt(fd, SOL_PACKET, PACKET_IGNORE_OUTGOING, &(int){1}, sizeof(int));
@@ -124,23 +124,23 @@ static int open_data(struct process *process, int index, const struct guard *gua
         && setsockopt(fd, SOL_PACKET, PACKET_ADD_MEMBERSHIP, &all, sizeof all) == 0)
         return fd;
     close_stored(process->store, "data", index, fd);
-    return -1;
+    return last_fault();
 }
 
 /* A packet socket for the markers that the kernel hands up to the TAP device, behind the data of this port, or, with 0, for those that come
- * to a member while no data goes up; or -1, and errno. A socket for all protocols has them before the filters and bridges of an administrator, which
+ * to a member while no data goes up; or -errno. A socket for all protocols has them before the filters and bridges of an administrator, which
  * may take frames away there. */
 static int open_markers(struct process *process, const struct link *link, int index, uint16_t port) {
     struct sockaddr_ll address = {.sll_family = AF_PACKET, .sll_protocol = htons(port > 0 ? ETH_P_ALL : ETH_P_SLOW), .sll_ifindex = index};
     const char *kind = port > 0 ? "markers" : "direct";
     int fd = packet_socket(process, kind, link->index, index, SOCK_RAW);
-    if (fd < 0) return -1;
+    if (fd < 0) return fd;
     (void)setsockopt(fd, SOL_PACKET, PACKET_IGNORE_OUTGOING, &(int){1}, sizeof(int));
     if ((port > 0 ? filter_marked(fd, port) : filter(fd, true)) && setsockopt(fd, SOL_PACKET, PACKET_AUXDATA, &(int){1}, sizeof(int)) == 0
         && bind(fd, (struct sockaddr *)&address, sizeof address) == 0)
         return fd;
     close_stored(process->store, kind, link->index, fd);
-    return -1;
+    return last_fault();
 }
 
 /* Makes room for what comes by members. */
@@ -149,12 +149,11 @@ void start_members(struct members_private *own) {
 }
 
 static void close_sockets(struct tap_plane *tap, struct member *member) {
-    int index = tap->ports->links[member - tap->members->members].index, fault = errno;
+    int index = tap->ports->links[member - tap->members->members].index;
     if (member->socket >= 0) close_stored(tap->process->store, "data", index, member->socket);
     if (member->markers >= 0) close_stored(tap->process->store, "markers", index, member->markers);
     if (member->direct >= 0) close_stored(tap->process->store, "direct", index, member->direct);
     member->socket = member->markers = member->direct = -1;
-    errno = fault;
 }
 
 /* The manager of services keeps the sockets of a member, too. */
@@ -164,38 +163,38 @@ static void store_sockets(struct store_private *store, const struct member *memb
     if (member->direct >= 0) put_stored(store, "direct", index, member->direct);
 }
 
-/* Opens the sockets of a member; answers whether it did. */
-static bool open_member_sockets(struct tap_plane *tap, struct member *member, const struct link *link) {
-    bool fast = member->guard.fast;
+/* Opens the sockets of a member; answers 0, or -errno. */
+static int open_member_sockets(struct tap_plane *tap, struct member *member, const struct link *link) {
+    int epoll_file = tap->process->epoll_file;
     uint32_t tag = MEMBERS + (uint32_t)(member - tap->members->members);
     member->socket = open_data(tap->process, link->index, &member->guard);
-    if (member->socket < 0 || !fast) return member->socket >= 0 && await_input(tap->process->epoll_file, member->socket, tag);
+    if (member->socket < 0) return member->socket;
+    if (!member->guard.fast) return await_input(epoll_file, member->socket, tag) ? 0 : last_fault();
     member->markers = open_markers(tap->process, link, tap_index(tap->device), link->settings.number);
+    if (member->markers < 0) return member->markers;
     member->direct = open_markers(tap->process, link, link->index, 0);
-    return member->markers >= 0 && member->direct >= 0 && await_input(tap->process->epoll_file, member->markers, tag)
-        && await_input(tap->process->epoll_file, member->direct, tag);
+    if (member->direct < 0) return member->direct;
+    return await_input(epoll_file, member->markers, tag) && await_input(epoll_file, member->direct, tag) ? 0 : last_fault();
 }
 
-/* Opens the sockets of a member whose programs run; answers whether it did. Else, it is no member any more, and errno tells why. */
-static bool open_or_close(struct tap_plane *tap, struct member *member, const struct link *link) {
-    int fault;
-    if (open_member_sockets(tap, member, link)) {
+/* Opens the sockets of a member whose programs run; answers 0, or -errno, and then it is no member any more. */
+static int open_or_close(struct tap_plane *tap, struct member *member, const struct link *link) {
+    int fault = open_member_sockets(tap, member, link);
+    if (fault == 0) {
         store_sockets(tap->process->store, member, link->index);
         begin_queues(tap->queues, link->settings.number, member->guard.queues);
-        return true;
+    } else {
+        close_sockets(tap, member);
+        close_guard(tap, link, &member->guard);
     }
-    fault = errno;
-    close_sockets(tap, member);
-    close_guard(tap, link, &member->guard);
-    errno = fault;
-    return false;
+    return fault;
 }
 
-/* Takes up an interface for data; answers whether it did, and else errno tells why not. */
-bool open_member(struct plane *plane, struct link *link) {
+/* Takes up an interface for data; answers 0, or -errno. */
+int open_member(struct plane *plane, struct link *link) {
     struct tap_plane *tap = plane->tap;
     struct member *member = member_of(tap, link);
-    if (!filter(link->socket, false)) return false;
+    if (!filter(link->socket, false)) return last_fault();
     open_guard(tap, link, &member->guard);
     member->has_marker = false;
     return open_or_close(tap, member, link);
@@ -217,7 +216,7 @@ static bool renew_member(struct tap_plane *tap, struct link *link) {
     close_sockets(tap, member);
     reopen_guard(tap, link, &member->guard);
     tap->plane->changed = true;
-    return open_or_close(tap, member, link);
+    return open_or_close(tap, member, link) == 0;
 }
 
 /* The interface has another queueing discipline: how data is sent is seen anew. Answers whether the member is still taken up. */

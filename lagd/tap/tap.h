@@ -129,7 +129,7 @@ void close_guard(struct tap_plane *tap, const struct link *link, struct guard *g
 void put_back(struct tap_plane *tap, int index, const uint8_t *mac);
 
 /* members.c */
-bool open_member(struct plane *plane, struct link *link);
+int open_member(struct plane *plane, struct link *link);
 void close_member(struct plane *plane, struct link *link);
 void forget_member(struct plane *plane, uint16_t port);
 void drain_member(struct plane *plane, uint16_t port);

@@ -57,11 +57,11 @@ static uint32_t least_mtu(const struct settings *settings) {
 static void lock_device(struct team_plane *team, int index) {
     char what[128], holder[HOLDER_ROOM];
     team->lock = lock_interface(team->process, index);
-    if (team->lock < 0 && errno == EADDRINUSE) {
+    if (team->lock == -EADDRINUSE) {
         snprintf(what, sizeof what, "another lagd has the interface, %s", holder_of(team->ports, index, holder));
         stop(REFUSED, what, team->settings->carry);
     }
-    need(team->lock >= 0, team->settings->carry);
+    if (team->lock < 0) stop(REFUSED, team->settings->carry, strerror(-team->lock));
     team->locked = index;
     put_stored(team->process->store, "lock", index, team->lock);
 }
@@ -123,15 +123,14 @@ static void configure_driver(struct team_plane *team, const char *mode_now) {
 }
 
 /* Gives a port the address of the device: frames to that would be of another host for the network stack. The driver puts back what it had. Some
- * cards take an address only while they are down; one that takes none even then is up again. */
-static bool give_address(int index, const uint8_t *mac) {
-    int fault = 0;
-    if (set_address(index, mac)) return true;
-    if (errno != EBUSY || !set_interface_up(index, false)) return false;
-    if (!set_address(index, mac)) fault = errno;
-    if (!set_interface_up(index, true) && fault == 0) fault = errno;
-    errno = fault;
-    return fault == 0;
+ * cards take an address only while they are down; one that takes none even then is up again. Answers 0, or -errno. */
+static int give_address(int index, const uint8_t *mac) {
+    int fault = set_address(index, mac) ? 0 : last_fault();
+    if (fault != -EBUSY) return fault;
+    if (!set_interface_up(index, false)) return last_fault();
+    fault = set_address(index, mac) ? 0 : last_fault();
+    if (!set_interface_up(index, true) && fault == 0) fault = last_fault();
+    return fault;
 }
 
 /* The device has another address than some ports: who administers it may change it. A port that does not take it would lose what comes: it is
@@ -139,13 +138,13 @@ static bool give_address(int index, const uint8_t *mac) {
 void give_team_addresses(struct team_plane *team) {
     uint8_t mac[ETH_ALEN];
     if (!read_tap_mac(team->device, mac)) return;
-    for (uint16_t i = 0; i < team->ports->count; i++) {
-        if (!team->taken[i] || memcmp(team->ports->links[i].mac, mac, sizeof mac) == 0 || give_address(team->ports->links[i].index, mac))
-            continue;
-        (void)say(team->process, LOG_WARNING | ABOUT_DATA, "port %u %s: it does not take the address of %s: %s",
-            team->ports->links[i].settings.number,
-            team->ports->links[i].name, team->settings->carry, strerror(errno));
-        lose_link(team->protocol, &team->ports->links[i]);
+    EACH_LINK(link, team->ports) {
+        bool differs = team->taken[link - team->ports->links] && memcmp(link->mac, mac, sizeof mac) != 0;
+        int fault = differs ? give_address(link->index, mac) : 0;
+        if (fault == 0) continue;
+        (void)say(team->process, LOG_WARNING | ABOUT_DATA, "port %u %s: it does not take the address of %s: %s", link->settings.number,
+            link->name, team->settings->carry, strerror(-fault));
+        lose_link(team->protocol, link);
         look_again(team->protocol->changes);
     }
 }
@@ -160,33 +159,30 @@ void leave_team_port(struct team_plane *team, int index) {
 }
 
 /* Makes an interface a new port of the device, which takes it while it is down, and passes no data on it until it is told to: the driver would
- * at once. */
-static bool make_port(struct team_plane *team, int index, bool up) {
-    return (!up || set_interface_up(index, false)) && set_master(index, tap_index(team->device))
+ * at once. Answers 0, or -errno. */
+static int make_port(struct team_plane *team, int index, bool up) {
+    bool done = (!up || set_interface_up(index, false)) && set_master(index, tap_index(team->device))
         && set_port_enabled(team->team_netlink, tap_index(team->device), index, false);
+    return done ? 0 : last_fault();
 }
 
-/* Makes an interface a port of the device; answers whether it is one, and else errno tells why not. One that belongs to another device stays
- * there. */
-bool open_team_port(struct plane *plane, struct link *link) {
+/* Makes an interface a port of the device; answers 0, or -errno. One that belongs to another device stays there. */
+int open_team_port(struct plane *plane, struct link *link) {
     struct team_plane *team = plane->team;
     struct interface port;
     uint8_t mac[ETH_ALEN];
-    bool up, done;
-    if (!ask_interface(link->index, NULL, &port) || !read_tap_mac(team->device, mac)) return false;
+    int fault = 0;
+    bool up;
+    if (!ask_interface(link->index, NULL, &port) || !read_tap_mac(team->device, mac)) return last_fault();
     up = (port.flags & IFF_UP) != 0;
-    errno = EBUSY;
-    if (port.master != tap_index(team->device) && (port.master != 0 || !may_put_in(team->protocol, link))) return false;
-    done = port.master != 0 || make_port(team, link->index, up);
-    team->taken[link - team->ports->links] = done && (memcmp(port.mac, mac, sizeof mac) == 0 || give_address(link->index, mac));
+    if (port.master != tap_index(team->device) && (port.master != 0 || !may_put_in(team->protocol, link))) return -EBUSY;
+    if (port.master == 0) fault = make_port(team, link->index, up);
+    if (fault == 0 && memcmp(port.mac, mac, sizeof mac) != 0) fault = give_address(link->index, mac);
+    team->taken[link - team->ports->links] = fault == 0;
     forget_port(team, link->settings.number);
-    if (!team->taken[link - team->ports->links]) {
-        int fault = errno;
-        leave_team_port(team, link->index);
-        if (up) (void)set_interface_up(link->index, true);
-        errno = fault;
-    }
-    return team->taken[link - team->ports->links];
+    if (fault != 0) leave_team_port(team, link->index);
+    if (fault != 0 && up) (void)set_interface_up(link->index, true);
+    return fault;
 }
 
 /* The interface is no member any more, or the daemon ends. */

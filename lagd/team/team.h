@@ -67,7 +67,7 @@ void end_team_plane(struct plane *plane);
 bool give_team_carrier(struct plane *plane, bool on);
 void settle_team(struct plane *plane);
 void pass_tick_of_team(struct plane *plane);
-bool open_team_port(struct plane *plane, struct link *link);
+int open_team_port(struct plane *plane, struct link *link);
 void close_team_port(struct plane *plane, struct link *link);
 bool is_team_port(const struct team_plane *own, uint16_t port);
 bool is_still_team_port(struct plane *plane, const struct link *link, int master);
