@@ -213,6 +213,7 @@ static int print_changes_of_all(struct control *control) {
 
 static const char *question_of(const struct options *options) {
     if (options->action == METRICS) return "metrics\n";
+    if (options->action == SHOW_CONFIG) return "config\n";
     return options->json ? "json\n" : "text\n";
 }
 
@@ -290,7 +291,7 @@ int ask_daemons(struct control *control, const struct options *options) {
         print_metrics(control->asking);
         print_who_answers(control);
     }
-    for (unsigned i = 0; options->action == SHOW && i < own->count; i++)
+    for (unsigned i = 0; (options->action == SHOW || options->action == SHOW_CONFIG) && i < own->count; i++)
         if (own->daemons[i].answer) print(control->asking, own->daemons[i].answer, strlen(own->daemons[i].answer));
     return fflush(stdout) == 0 ? DONE : REFUSED;
 }

@@ -59,6 +59,7 @@ struct view {
 };
 bool view_of(struct protocol *protocol, const struct link *link, struct view *view) MUST_USE;
 void write_text(struct control *control);
+void write_config(struct control *control);
 void write_json(struct control *control);
 void write_json_event(struct control *control, const struct link *link);
 void write_metrics(struct control *control);

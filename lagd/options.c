@@ -13,7 +13,7 @@ static const char HELP_BEGINS[] =
     "  lagd --config FILE [--folder FOLDER]\n"
     "  lagd --check FILE\n"
     "  lagd [OPTION..] KEY PRIORITY,MAC INTERFACE[:WORD,..]..\n"
-    "  lagd --status | --watch [--json] | --metrics [--folder FOLDER]\n"
+    "  lagd --status | --show-config | --watch [--json] | --metrics [--folder FOLDER]\n"
     "\n"
     "KEY is 0 to 65535. PRIORITY,MAC is the system, as 32768,02:00:00:00:00:01; auto stands for 32768 and the address of the first\n"
     "interface. The interfaces are ports 1, 2 and on, 1 to 64 of them. One that is missing is waited for. SIGTERM, SIGINT, SIGQUIT\n"
@@ -40,6 +40,7 @@ static const struct option_text BEFORE_KEYS[] = {
 static const struct option_text BEHIND_KEYS[] = {
     {'f', "folder", "FOLDER", "of status sockets; /run/lagd if not given"},
     {'s', "status", NULL, "prints the state of each lagd of this network namespace and folder"},
+    {'D', "show-config", NULL, "prints the settings that it has now, as a file has them"},
     {'w', "watch", NULL, "prints each change of one, as it happens"},
     {'j', "json", NULL, "prints either as JSON, a line for each"},
     {'M', "metrics", NULL, "prints counts and states in the form of Prometheus"},
@@ -179,6 +180,7 @@ static void act_on_letter(struct control *control, int option, const char *last)
     case 'k': choose(control->options, CHECK); note_file(control->options, optarg); break;
     case 'f': own->options.folder = optarg; break;
     case 's': choose(control->options, SHOW); break;
+    case 'D': choose(control->options, SHOW_CONFIG); break;
     case 'w': choose(control->options, WATCH); break;
     case 'M': choose(control->options, METRICS); break;
     case 'I': choose_order(control->options, "add", optarg); break;

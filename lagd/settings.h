@@ -91,9 +91,12 @@ struct settings {
 /* A key of a bundle: the file and the long option have its name. */
 struct bundle_key {
     const char *name, *expected; /* `expected`: of its value */
-    bool (*take)(const char *text, struct settings *settings); /* whether the text is a value of the key */
+    bool (*parse)(const struct bundle_key *key, const char *text, struct settings *settings); /* whether the text is a value of the key */
     char letter;                 /* of its option; 0: the command line gives it by its place */
     const char *value, *help;    /* in the help: the word for its value, NULL where the option alone says yes; and its lines */
+    size_t at;            /* of its value in struct settings, if that is a number or one of two words, */
+    uint16_t least, most; /* of the number, */
+    const char *first, *second; /* or the words for true and false */
 };
 
 /* What is wrong with all of it: what was expected, and the key that says otherwise; NULL where nothing is, or no key does. */
@@ -106,6 +109,9 @@ struct words {
     char text[512];
 };
 
+/* The room of a line of a key with its value. */
+#define LINE_ROOM (PATH_ROOM + 32)
+
 struct settings usual_settings(void);
 const char *hash_text(enum hash hash);
 const char *way_text(const struct settings *settings);
@@ -114,6 +120,8 @@ const char *list_words(struct words *words, const char *(*word)(size_t index), s
 const char *set_bundle(struct words *words, struct settings *settings, const char *name, const char *text, unsigned line);
 unsigned line_of(const struct settings *settings, const char *name);
 const char *set_port(struct words *words, struct port_settings *port, const char *name, const char *text);
+bool write_bundle_key(const struct settings *settings, size_t index, char text[static LINE_ROOM]);
+bool write_port_key(const struct port_settings *port, size_t index, char text[static LINE_ROOM]);
 struct port_settings unset_port(void);
 const char *add_port(struct settings *settings, const char *name, size_t length);
 struct lack lack_of(const struct settings *settings);

@@ -92,3 +92,18 @@ void write_text(struct control *control) {
     EACH_LINK(link, control->ports)
         if (link->used) add_member(control, link);
 }
+
+/* The settings that hold now, as a file has them: without ports that leave, and those that the device alone has. */
+void write_config(struct control *control) {
+    char text[LINE_ROOM];
+    add(&control->report, "# %s\n[Bundle]\n", control->settings->name);
+    for (size_t i = 0; write_bundle_key(control->settings, i, text); i++)
+        if (text[0]) add(&control->report, "%s\n", text);
+    EACH_LINK(link, control->ports) {
+        const struct port_settings *port = &control->settings->ports[link - control->ports->links];
+        if (!link->used || link->leaving || link->followed) continue;
+        add(&control->report, "\n[Port %s]\n", port->name);
+        for (size_t i = 0; write_port_key(port, i, text); i++)
+            if (text[0]) add(&control->report, "%s\n", text);
+    }
+}

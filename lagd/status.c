@@ -166,6 +166,7 @@ static void answer_caller(struct control *control, struct caller *caller) {
     if (caller->watches) return;
     control->report.length = 0;
     if (strcmp(asked, "text") == 0) write_text(control);
+    if (strcmp(asked, "config") == 0) write_config(control);
     if (strcmp(asked, "json") == 0) write_json(control);
     if (strcmp(asked, "metrics") == 0) write_metrics(control);
     if (control->process->broken) control->report.length = 0; /* what the library refuses to tell is not told half */
