@@ -34,9 +34,7 @@ struct asking_private {
     char line[4096]; /* of print */
 };
 
-struct asking_private *make_asking_private(void) {
-    return make_room(sizeof(struct asking_private));
-}
+MAKES_ROOM(asking)
 
 /* Whether a file is the status socket of a daemon of this namespace, of which bundle. */
 static bool is_socket(const char *name, char bundle[static NAME_ROOM]) {
@@ -166,13 +164,13 @@ static void print_metrics(struct asking_private *own) {
 /* Prints which bundles have a daemon that answers, and when that was. */
 static void print_who_answers(struct control *control) {
     struct asking_private *own = control->asking;
-    control->report.length = 0;
-    add_head(&control->report, "up", "gauge", "whether the daemon of the bundle answers");
+    control->report->length = 0;
+    add_head(control->report, "up", "gauge", "whether the daemon of the bundle answers");
     for (unsigned i = 0; i < own->count; i++)
-        if (own->daemons[i].may_ask) add_value_of(&control->report, "up", own->daemons[i].bundle, own->daemons[i].answer != NULL);
-    add_head(&control->report, "time_seconds", "gauge", "when this was asked");
-    add(&control->report, "lagd_time_seconds %llu\n", (unsigned long long)time(NULL));
-    print(control->asking, control->report.text, control->report.length);
+        if (own->daemons[i].may_ask) add_value_of(control->report, "up", own->daemons[i].bundle, own->daemons[i].answer != NULL);
+    add_head(control->report, "time_seconds", "gauge", "when this was asked");
+    add(control->report, "lagd_time_seconds %llu\n", (unsigned long long)time(NULL));
+    print(control->asking, control->report->text, control->report->length);
 }
 
 /* Ends the program where no daemon answers. */

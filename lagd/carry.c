@@ -20,9 +20,7 @@ struct carry_private {
     unsigned wakes_after[NIW_MOST_PORTS]; /* how many of them it may */
 };
 
-struct carry_private *make_carry_private(void) {
-    return make_room(sizeof(struct carry_private));
-}
+MAKES_ROOM(carry)
 
 /* Writes what a conversation of an aggregator is doing; answers whether the library told it. */
 bool ask_state(struct protocol *protocol, uint16_t aggregator, uint16_t number, struct niw_assignment *state) {

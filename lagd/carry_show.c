@@ -30,7 +30,7 @@ static unsigned count_fast(const struct carry *carry) {
 
 /* Whether the peer answers markers. */
 void show_markers(struct control *control) {
-    add(&control->report, "markers %s, ", answering_text(control->carry->probe));
+    add(control->report, "markers %s, ", answering_text(control->carry->probe));
 }
 
 /* What waits in the daemon, and what does not come there. */
@@ -38,9 +38,9 @@ void show_frames_waiting(struct control *control, enum form form) {
     uint64_t waiting;
     if (!count_all_held(control->tap, &waiting)) return;
     switch (form) {
-    case AS_TEXT: add(&control->report, "\n  waiting: %" PRIu64 ", conversations of the kernel: %u\n", waiting, count_fast(control->carry)); break;
+    case AS_TEXT: add(control->report, "\n  waiting: %" PRIu64 ", conversations of the kernel: %u\n", waiting, count_fast(control->carry)); break;
     case AS_JSON:
-        add(&control->report, "\"markers\":\"%s\",\"waiting\":%" PRIu64 ",\"fast_conversations\":%u", answering_text(control->carry->probe), waiting,
+        add(control->report, "\"markers\":\"%s\",\"waiting\":%" PRIu64 ",\"fast_conversations\":%u", answering_text(control->carry->probe), waiting,
             count_fast(control->carry));
         break;
     case AS_METRICS:
@@ -53,8 +53,8 @@ void show_frames_waiting(struct control *control, enum form form) {
 void show_waiting_buckets(struct control *control, enum form form) {
     unsigned waiting = count_waiting_buckets(control->team);
     switch (form) {
-    case AS_TEXT: add(&control->report, "\n  waiting: %u conversations, until they are still\n", waiting); break;
-    case AS_JSON: add(&control->report, "\"waiting_conversations\":%u", waiting); break;
+    case AS_TEXT: add(control->report, "\n  waiting: %u conversations, until they are still\n", waiting); break;
+    case AS_JSON: add(control->report, "\"waiting_conversations\":%u", waiting); break;
     case AS_METRICS:
         add_bundle_value(control, "carry_waiting_conversations", "gauge", "how many conversations wait until they are still", waiting);
     }
@@ -62,35 +62,35 @@ void show_waiting_buckets(struct control *control, enum form form) {
 
 /* By how many queues a member has its data go. */
 void show_queues(struct control *control, const struct link *link, enum form form) {
-    add(&control->report, form == AS_JSON ? ",\"queues\":%u" : " queues %u", member_queues(control->tap->members, link->settings.number));
+    add(control->report, form == AS_JSON ? ",\"queues\":%u" : " queues %u", member_queues(control->tap->members, link->settings.number));
 }
 
 static void write_text_of_carry(struct control *control) {
     const struct carrying *carrying = control->plane->carrying;
     unsigned told = 0;
-    add(&control->report, "  carry: %s, carrier %s, hash %s, flight %u ms, ", control->settings->carry,
+    add(control->report, "  carry: %s, carrier %s, hash %s, flight %u ms, ", control->settings->carry,
         has_carrier(control->device) ? "on" : is_halted(control->protocol->halt) ? "off, the device is down" : "off",
             hash_text(control->settings->hash),
         control->settings->flight);
     CALL(carrying->show_markers, control);
-    add(&control->report, "%s%s", way_text(control->settings), control->plane->queueing->text);
+    add(control->report, "%s%s", way_text(control->settings), control->plane->queueing->text);
     for (unsigned i = carrying->first_count; i < carrying->end_count; i++)
-        add(&control->report, "%s %s %" PRIu64, told++ % 5 == 0 ? "\n  data:" : "", CARRY_COUNTERS[i].name, control->carry->counts[i]);
+        add(control->report, "%s %s %" PRIu64, told++ % 5 == 0 ? "\n  data:" : "", CARRY_COUNTERS[i].name, control->carry->counts[i]);
     CALL(carrying->show_waiting, control, AS_TEXT);
 }
 
 static void write_json_of_carry(struct control *control) {
     const struct carrying *carrying = control->plane->carrying;
-    add(&control->report, "\"carry\":{\"device\":");
-    add_string(&control->report, control->settings->carry);
-    add(&control->report, ",\"up\":%s,\"carrier\":%s,\"aggregator\":%u,\"hash\":\"%s\",", is_halted(control->protocol->halt) ? "false" : "true",
+    add(control->report, "\"carry\":{\"device\":");
+    add_string(control->report, control->settings->carry);
+    add(control->report, ",\"up\":%s,\"carrier\":%s,\"aggregator\":%u,\"hash\":\"%s\",", is_halted(control->protocol->halt) ? "false" : "true",
         has_carrier(control->device) ? "true" : "false", control->carry->active,
         hash_text(control->settings->hash));
-    add(&control->report, "\"flight\":%u,\"way\":\"%s\",", control->settings->flight, way_text(control->settings));
+    add(control->report, "\"flight\":%u,\"way\":\"%s\",", control->settings->flight, way_text(control->settings));
     CALL(carrying->show_waiting, control, AS_JSON);
     for (unsigned i = carrying->first_count; i < carrying->end_count; i++)
-        add(&control->report, ",\"%s\":%" PRIu64, CARRY_COUNTERS[i].name, control->carry->counts[i]);
-    add(&control->report, "},");
+        add(control->report, ",\"%s\":%" PRIu64, CARRY_COUNTERS[i].name, control->carry->counts[i]);
+    add(control->report, "},");
 }
 
 static void write_metrics_of_carry(struct control *control) {
@@ -105,7 +105,7 @@ static void write_metrics_of_carry(struct control *control) {
     }
     for (unsigned i = 0; i < carrying->member_counts; i++) {
         snprintf(name, sizeof name, "port_%s_total", MEMBER_COUNTERS[i].name);
-        add_head(&control->report, name, "counter", MEMBER_COUNTERS[i].help);
+        add_head(control->report, name, "counter", MEMBER_COUNTERS[i].help);
         for (uint16_t link = 0; link < control->ports->count; link++)
             if (control->ports->links[link].used)
                 add_port_value(control, name, &control->ports->links[link], member_count(control->tap->members, (uint16_t)(link + 1), i));
@@ -124,11 +124,11 @@ void show_carry(struct control *control, enum form form) {
 
 /* And of a member, which has no metrics of its own. */
 void show_member(struct control *control, const struct link *link, enum form form) {
-    add(&control->report, form == AS_JSON ? ",\"data\":{\"busy_conversations\":%u" : "  data: busy_conversations %u",
+    add(control->report, form == AS_JSON ? ",\"data\":{\"busy_conversations\":%u" : "  data: busy_conversations %u",
         count_busy(control->carry, link->settings.number));
     for (unsigned i = 0; i < control->plane->carrying->member_counts; i++)
-        add(&control->report, form == AS_JSON ? ",\"%s\":%" PRIu64 : " %s %" PRIu64, MEMBER_COUNTERS[i].name,
+        add(control->report, form == AS_JSON ? ",\"%s\":%" PRIu64 : " %s %" PRIu64, MEMBER_COUNTERS[i].name,
             member_count(control->tap->members, link->settings.number, i));
     CALL(control->plane->queueing->show, control, link, form);
-    add(&control->report, form == AS_JSON ? "}" : "\n");
+    add(control->report, form == AS_JSON ? "}" : "\n");
 }

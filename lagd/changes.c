@@ -28,9 +28,7 @@ struct changes_private {
     bool tap_named; /* whether the answer that is being read named the TAP device */
 };
 
-struct changes_private *make_changes_private(void) {
-    return make_room(sizeof(struct changes_private));
-}
+MAKES_ROOM(changes)
 
 /* Asks for an interface, or with 0 for all of them; answers whether the kernel took the question. The answer comes as changes do. */
 static bool ask_for(struct changes_private *own, int index, uint32_t number) {
@@ -72,7 +70,7 @@ static bool is_named(const struct interface *interface, const char *name) {
 }
 
 /* At the start an interface cannot be taken up. */
-static _Noreturn void refuse_link(struct ports *ports, const struct link *link) {
+static _Noreturn void refuse_link(const struct ports *ports, const struct link *link) {
     char what[128], holder[HOLDER_ROOM];
     if (link->trouble != EADDRINUSE) stop(REFUSED, link->name, strerror(link->trouble));
     snprintf(what, sizeof what, "another lagd has the interface, %s", holder_of(ports, link->index, holder));

@@ -24,7 +24,7 @@ struct control {
     struct carry *carry;
     struct tap_plane *tap;
     struct team_plane *team;
-    struct report report;
+    struct report *report;
     EACH_FILE_OF_CONTROL(KEEPS)
 };
 EACH_FILE_OF_CONTROL(MAKES)

@@ -36,6 +36,7 @@ struct lagd *make_lagd(void) {
     lagd->state = make_state(&lagd->carry, &lagd->team);
     join_parts(lagd);
     make_files(lagd);
+    lagd->control.report = make_room(sizeof *lagd->control.report);
     choose_no_plane(&lagd->plane);
     if (on_exit(end_process, &lagd->process) != 0) exit(REFUSED);
     return lagd;

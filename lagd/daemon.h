@@ -31,15 +31,7 @@ static inline void join_parts(struct lagd *lagd) {
     lagd->carry = (struct carry){KNOWN(lagd), .protocol = &lagd->protocol, .state = lagd->state};
     lagd->tap = (struct tap_plane){KNOWN(lagd), .protocol = &lagd->protocol, .carry = &lagd->carry, .dropper = -1};
     lagd->team = (struct team_plane){KNOWN(lagd), .protocol = &lagd->protocol, .carry = &lagd->carry, .lock = -1};
-    lagd->control.process = &lagd->process;
-    lagd->control.settings = &lagd->settings;
-    lagd->control.ports = &lagd->ports;
-    lagd->control.protocol = &lagd->protocol;
-    lagd->control.device = lagd->device;
-    lagd->control.plane = &lagd->plane;
-    lagd->control.carry = &lagd->carry;
-    lagd->control.tap = &lagd->tap;
-    lagd->control.team = &lagd->team;
+    lagd->control = (struct control){KNOWN(lagd), .protocol = &lagd->protocol, .carry = &lagd->carry, .tap = &lagd->tap, .team = &lagd->team};
 }
 
 /* daemon.c */

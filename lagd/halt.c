@@ -12,9 +12,7 @@ struct halt_private {
     unsigned ticks; /* for how long peers are told */
 };
 
-struct halt_private *make_halt_private(void) {
-    return make_room(sizeof(struct halt_private));
-}
+MAKES_ROOM(halt)
 
 /* Whether the device is down, so that no port may carry. */
 bool is_halted(const struct halt_private *own) {

@@ -19,12 +19,12 @@ static void add_time(struct report *report, time_t time) {
 }
 
 static void add_bundle(struct control *control) {
-    add(&control->report, "\"bundle\":");
-    add_string(&control->report, control->settings->name);
-    add(&control->report, ",\"state\":\"%s\",\"links\":%u,\"carrying\":%u,\"aggregator\":%u", bundle_state_text(control->protocol->bundle.state),
+    add(control->report, "\"bundle\":");
+    add_string(control->report, control->settings->name);
+    add(control->report, ",\"state\":\"%s\",\"links\":%u,\"carrying\":%u,\"aggregator\":%u", bundle_state_text(control->protocol->bundle.state),
         control->protocol->bundle.links,
         control->protocol->bundle.carrying, control->protocol->bundle.aggregator);
-    add_time(&control->report, control->protocol->bundle.changed_at);
+    add_time(control->report, control->protocol->bundle.changed_at);
 }
 
 static void add_state(struct report *report, uint8_t state) {
@@ -50,21 +50,21 @@ static void add_both_ends(struct report *report, const struct view *view) {
 
 static void add_strangers(struct control *control, const struct link *link) {
     char system[32];
-    add(&control->report, ",\"pinned\":");
-    add(&control->report, link->pinned ? "\"%s\"" : "null", system_text(&link->partner, system));
-    add(&control->report, ",\"same_partner_port\":");
+    add(control->report, ",\"pinned\":");
+    add(control->report, link->pinned ? "\"%s\"" : "null", system_text(&link->partner, system));
+    add(control->report, ",\"same_partner_port\":");
     if (link->twin > 0)
-        add_string(&control->report, control->ports->links[link->twin - 1].name);
+        add_string(control->report, control->ports->links[link->twin - 1].name);
     else
-        add(&control->report, "null");
-    add(&control->report, ",\"other_system\":");
+        add(control->report, "null");
+    add(control->report, ",\"other_system\":");
     if (!link->strangers.seen) {
-        add(&control->report, "null");
+        add(control->report, "null");
         return;
     }
-    add(&control->report, "{\"system\":\"%s\",", system_text(&link->strangers.system, system));
-    add_mac(&control->report, "source", link->strangers.source);
-    add(&control->report, "}");
+    add(control->report, "{\"system\":\"%s\",", system_text(&link->strangers.system, system));
+    add_mac(control->report, "source", link->strangers.source);
+    add(control->report, "}");
 }
 
 static void add_counts(struct report *report, const struct link *link) {
@@ -78,61 +78,61 @@ static void add_member(struct control *control, const struct link *link) {
     struct view view;
     char speed[40];
     if (!view_of(control->protocol, link, &view)) return;
-    add(&control->report, "{\"port\":%u,\"interface\":", link->settings.number);
-    add_string(&control->report, link->name);
-    add(&control->report, link->socket < 0 ? ",\"index\":null" : ",\"index\":%d", link->index);
-    add(&control->report, ",\"key\":%u", link->key);
-    add(&control->report, ",\"link\":\"%s\",\"status\":\"%s\",\"carries\":%s,", link_name(link), status_text(view.facts.status),
+    add(control->report, "{\"port\":%u,\"interface\":", link->settings.number);
+    add_string(control->report, link->name);
+    add(control->report, link->socket < 0 ? ",\"index\":null" : ",\"index\":%d", link->index);
+    add(control->report, ",\"key\":%u", link->key);
+    add(control->report, ",\"link\":\"%s\",\"status\":\"%s\",\"carries\":%s,", link_name(link), status_text(view.facts.status),
         carries(control->protocol, link) ? "true" : "false");
-    add_mac(&control->report, "address", link->mac);
-    add(&control->report, ",\"aggregator\":%u,\"receive\":\"%s\",\"mux\":\"%s\"", view.facts.aggregator,
+    add_mac(control->report, "address", link->mac);
+    add(control->report, ",\"aggregator\":%u,\"receive\":\"%s\",\"mux\":\"%s\"", view.facts.aggregator,
         niw_receive_state_text((uint32_t)view.receive),
         niw_mux_state_text((uint32_t)view.mux));
-    add(&control->report, ",\"current_while\":%" PRIu64 ",\"wait_while\":%" PRIu64, view.current_while, view.wait_while);
-    add(&control->report, link->has_speed ? ",\"speed\":\"%s\"" : ",\"speed\":null", speed_text(&link->speed, speed));
-    add_time(&control->report, link->changed_at);
-    add(&control->report, ",\"actor_churn\":\"%s\",\"partner_churn\":\"%s\"", niw_churn_state_text(link->churn.actor.state),
+    add(control->report, ",\"current_while\":%" PRIu64 ",\"wait_while\":%" PRIu64, view.current_while, view.wait_while);
+    add(control->report, link->has_speed ? ",\"speed\":\"%s\"" : ",\"speed\":null", speed_text(&link->speed, speed));
+    add_time(control->report, link->changed_at);
+    add(control->report, ",\"actor_churn\":\"%s\",\"partner_churn\":\"%s\"", niw_churn_state_text(link->churn.actor.state),
         niw_churn_state_text(link->churn.partner.state));
-    add_both_ends(&control->report, &view);
+    add_both_ends(control->report, &view);
     add_strangers(control, link);
-    add_counts(&control->report, link);
+    add_counts(control->report, link);
     CALL(control->plane->carrying->show_member, control, link, AS_JSON);
-    add(&control->report, ",\"trouble\":");
-    add_string(&control->report, link->trouble ? strerror(link->trouble) : "");
-    add(&control->report, "}");
+    add(control->report, ",\"trouble\":");
+    add_string(control->report, link->trouble ? strerror(link->trouble) : "");
+    add(control->report, "}");
 }
 
 /* The whole status, in a line. */
 void write_json(struct control *control) {
-    add(&control->report, "{\"lagd\":\"%s\",", VERSION);
+    add(control->report, "{\"lagd\":\"%s\",", VERSION);
     add_bundle(control);
-    add(&control->report, ",\"system_priority\":%u,", control->settings->config.priority);
-    add_mac(&control->report, "system", control->settings->config.mac);
-    add(&control->report, ",\"key\":%u,\"collector_max_delay\":%u", control->settings->key, control->settings->config.max_delay);
-    add(&control->report, ",\"min_links\":%u,\"max_links\":%u,\"seconds\":%" PRIu64 ",", control->settings->min_links,
+    add(control->report, ",\"system_priority\":%u,", control->settings->config.priority);
+    add_mac(control->report, "system", control->settings->config.mac);
+    add(control->report, ",\"key\":%u,\"collector_max_delay\":%u", control->settings->key, control->settings->config.max_delay);
+    add(control->report, ",\"min_links\":%u,\"max_links\":%u,\"seconds\":%" PRIu64 ",", control->settings->min_links,
         control->settings->config.max_links,
         seconds_passed(control->protocol->system));
     CALL(control->plane->carrying->show, control, AS_JSON);
-    add(&control->report, "\"ports\":[");
+    add(control->report, "\"ports\":[");
     for (uint16_t i = 0, count = 0; i < control->ports->count; i++) {
         if (!control->ports->links[i].used) continue;
-        if (count++ > 0) add(&control->report, ",");
+        if (count++ > 0) add(control->report, ",");
         add_member(control, &control->ports->links[i]);
     }
-    add(&control->report, "]}\n");
+    add(control->report, "]}\n");
 }
 
 /* A change of a port, or of the bundle, where `link` is null, in a line. */
 void write_json_event(struct control *control, const struct link *link) {
     char text[32];
-    add(&control->report, "{\"time\":\"%sZ\",\"event\":\"%s\",", time_text(time(NULL), text), link ? "port" : "bundle");
+    add(control->report, "{\"time\":\"%sZ\",\"event\":\"%s\",", time_text(time(NULL), text), link ? "port" : "bundle");
     if (link) {
-        add(&control->report, "\"bundle\":");
-        add_string(&control->report, control->settings->name);
-        add(&control->report, ",\"port\":");
+        add(control->report, "\"bundle\":");
+        add_string(control->report, control->settings->name);
+        add(control->report, ",\"port\":");
         add_member(control, link);
     } else {
         add_bundle(control);
     }
-    add(&control->report, "}\n");
+    add(control->report, "}\n");
 }

@@ -28,9 +28,7 @@ struct keys_private {
     uint16_t speeds; /* how many speeds of one key have aggregators */
 };
 
-struct keys_private *make_keys_private(void) {
-    return make_room(sizeof(struct keys_private));
-}
+MAKES_ROOM(keys)
 
 /* Whether aggregators of a key were made, for ports to which it was given. */
 bool has_aggregator(const struct keys_private *own, uint16_t given) {
@@ -94,7 +92,7 @@ static bool is_same_speed(const struct speed *one, const struct speed *other) {
 }
 
 /* Whether a port still has the speed of a key. */
-static bool is_in_use(struct ports *ports, const struct speed_key *key) {
+static bool is_in_use(const struct ports *ports, const struct speed_key *key) {
     for (uint16_t i = 0; key->used && i < ports->count; i++)
         if (ports->links[i].has_speed && ports->links[i].key == key->given && is_same_speed(&ports->links[i].speed, &key->speed)) return true;
     return false;

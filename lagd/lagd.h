@@ -54,7 +54,6 @@ struct report;
 /* What a file keeps for a daemon, which it alone knows, and the field by which it is found; and who makes that. */
 #define KEEPS(file, field) struct file##_private *field;
 #define MAKES(file, field) struct file##_private *make_##file##_private(void);
-#define MADE_BY(file, field) .field = make_##file##_private(),
 
 /* What is printed of a port. */
 struct facts {
@@ -222,6 +221,7 @@ struct ports {
 };
 /* Each port up to the last one that there is, or was. */
 #define EACH_LINK(link, of) for (struct link *link = (of)->links; link < (of)->links + (of)->count; link++)
+#define EACH_LINK_AS_IS(link, of) for (const struct link *link = (of)->links; link < (of)->links + (of)->count; link++)
 
 /* LACP: the system of the library, what the kernel tells of interfaces, and which ports the bundle has. */
 #define EACH_FILE_OF_PROTOCOL(DO) \
@@ -248,6 +248,10 @@ static inline void *make_room(size_t octets) {
     (void)fputs("lagd: no memory\n", stderr);
     exit(REFUSED);
 }
+
+/* What a file keeps begins as zeros. */
+#define MAKES_ROOM(file) \
+    struct file##_private *make_##file##_private(void) { return make_room(sizeof(struct file##_private)); }
 
 /* -errno of what failed just now, which is never 0. */
 static inline int last_fault(void) {
@@ -312,7 +316,7 @@ int open_signals(const struct settings *settings);
 /* locks.c */
 int lock_interface(struct process *process, int index);
 #define HOLDER_ROOM 64
-const char *holder_of(struct ports *ports, int index, char room[static HOLDER_ROOM]);
+const char *holder_of(const struct ports *ports, int index, char room[static HOLDER_ROOM]);
 
 /* links.c */
 bool open_link(struct protocol *protocol, struct link *link, int index);
@@ -399,12 +403,12 @@ uint64_t seconds_passed(const struct system_private *own);
 uint64_t milliseconds(void);
 void expect_lacpdu(struct link *link);
 void tell_end(struct protocol *protocol);
-bool end_is_told(struct ports *ports);
+bool end_is_told(const struct ports *ports);
 bool end_system(struct protocol *protocol);
 
 /* membership.c */
 #define ORDER_ROOM 384
-uint16_t count_links(struct ports *ports);
+uint16_t count_links(const struct ports *ports);
 bool place_ports(struct protocol *protocol, struct settings *settings);
 void keep_left_ports(struct protocol *protocol);
 void leave_left_ports(struct protocol *protocol);
@@ -545,7 +549,7 @@ void pass_carry_tick(struct protocol *protocol);
 void open_carry(struct protocol *protocol);
 void end_carry(struct plane *plane);
 void remove_all_members(struct protocol *protocol);
-void fit_queue(struct plane *plane, const struct link *link, const char *interface);
+void fit_queue(const struct plane *plane, const struct link *link, const char *interface);
 bool reopen_member(struct plane *plane, struct link *link);
 void follow_address(struct plane *plane, struct link *link, const uint8_t *mac);
 

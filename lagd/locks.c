@@ -61,11 +61,11 @@ int lock_interface(struct process *process, int index) {
 }
 
 /* Who has the lock of an interface. */
-const char *holder_of(struct ports *ports, int index, char room[static HOLDER_ROOM]) {
+const char *holder_of(const struct ports *ports, int index, char room[static HOLDER_ROOM]) {
     struct lock lock;
     bool own = false;
     if (find_lock(index, -1, &lock) < 0 || lock.inode == 0) return "one that has left it now";
-    EACH_LINK(link, ports) own = own || inode_of(link->lock) == lock.inode;
+    EACH_LINK_AS_IS(link, ports) own = own || inode_of(link->lock) == lock.inode;
     snprintf(room, HOLDER_ROOM, own ? "this lagd, by another name" : "one of user %u", lock.user);
     return room;
 }

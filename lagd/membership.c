@@ -17,9 +17,9 @@
 #define MOST_WAIT 3000
 
 /* How many links the bundle has. */
-uint16_t count_links(struct ports *ports) {
+uint16_t count_links(const struct ports *ports) {
     uint16_t count = 0;
-    EACH_LINK(link, ports)
+    EACH_LINK_AS_IS(link, ports)
         if (link->used && !link->leaving) count++;
     return count;
 }
@@ -57,7 +57,7 @@ static void mark_taken(struct protocol *protocol, bool *taken, bool with_left) {
 }
 
 /* The lowest number that no port has, which has it from now on; 0 where there is none. */
-static uint16_t claim_number(struct ports *ports, bool *taken) {
+static uint16_t claim_number(const struct ports *ports, bool *taken) {
     uint16_t number = 1;
     while (number <= ports->slots && taken[number - 1]) number++;
     if (number > ports->slots) return 0;

@@ -73,7 +73,7 @@ static bool is_same(const struct facts *one, const struct facts *other) {
 }
 
 /* Why a port is in trouble, behind a comma. */
-static const char *trouble_text(struct ports *ports, const struct link *link, char *room, size_t size) {
+static const char *trouble_text(const struct ports *ports, const struct link *link, char *room, size_t size) {
     char holder[HOLDER_ROOM];
     room[0] = 0;
     if (link->trouble == EADDRINUSE)

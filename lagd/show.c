@@ -15,21 +15,21 @@ static void add_policy(struct control *control) {
     const char *whom = control->settings->policy == PARTNER_ANY ? "any" : control->settings->policy == PARTNER_FIRST ? "first"
                                                                                                   : system_text(&control->settings->partner,
                                                                                                   text);
-    add(&control->report, "  partner: %s%s\n", whom, control->settings->partner_required ? ", required" : "");
+    add(control->report, "  partner: %s%s\n", whom, control->settings->partner_required ? ", required" : "");
 }
 
 static void add_bundle(struct control *control) {
     char mac[32];
-    add(&control->report, "---- %s ----\n", control->settings->name);
-    add(&control->report, "  status: %s, %u of %u links carry\n", bundle_state_text(control->protocol->bundle.state),
+    add(control->report, "---- %s ----\n", control->settings->name);
+    add(control->report, "  status: %s, %u of %u links carry\n", bundle_state_text(control->protocol->bundle.state),
         control->protocol->bundle.carrying, control->protocol->bundle.links);
-    add(&control->report, "  sys_id: %s\n  sys_priority: %u\n", mac_text(control->settings->config.mac, mac), control->settings->config.priority);
-    add(&control->report, "  aggregation key: %u\n  lacp_time: %s\n", control->settings->key, control->settings->short_timeout ? "fast" : "slow");
-    add(&control->report, "  aggregator: %u\n  min_links: %u\n  max_links: %u\n", control->protocol->bundle.aggregator, control->settings->min_links,
+    add(control->report, "  sys_id: %s\n  sys_priority: %u\n", mac_text(control->settings->config.mac, mac), control->settings->config.priority);
+    add(control->report, "  aggregation key: %u\n  lacp_time: %s\n", control->settings->key, control->settings->short_timeout ? "fast" : "slow");
+    add(control->report, "  aggregator: %u\n  min_links: %u\n  max_links: %u\n", control->protocol->bundle.aggregator, control->settings->min_links,
         control->settings->config.max_links);
     add_policy(control);
-    add_time(&control->report, "last change", control->protocol->bundle.changed_at);
-    add(&control->report, "  uptime: %" PRIu64 " s, lagd %s\n", seconds_passed(control->protocol->system), VERSION);
+    add_time(control->report, "last change", control->protocol->bundle.changed_at);
+    add(control->report, "  uptime: %" PRIu64 " s, lagd %s\n", seconds_passed(control->protocol->system), VERSION);
 }
 
 /* One end of a port. */
@@ -45,10 +45,10 @@ static void add_side(struct report *report, const char *whose, const uint8_t *ma
 
 static void add_strangers(struct control *control, const struct link *link) {
     char system[32], source[32];
-    if (link->pinned) add(&control->report, "  pinned to: %s\n", system_text(&link->partner, system));
-    if (link->twin > 0) add(&control->report, "  partner port: that of %s, too\n", control->ports->links[link->twin - 1].name);
+    if (link->pinned) add(control->report, "  pinned to: %s\n", system_text(&link->partner, system));
+    if (link->twin > 0) add(control->report, "  partner port: that of %s, too\n", control->ports->links[link->twin - 1].name);
     if (!link->strangers.seen) return;
-    add(&control->report, "  other system: %s from %s\n", system_text(&link->strangers.system, system), mac_text(link->strangers.source, source));
+    add(control->report, "  other system: %s from %s\n", system_text(&link->strangers.system, system), mac_text(link->strangers.source, source));
 }
 
 static void add_counts(struct report *report, const struct link *link) {
@@ -65,23 +65,23 @@ static void add_member(struct control *control, const struct link *link) {
     const struct niw_info *partner = &view.partner;
     char mac[32], speed[40];
     if (!view_of(control->protocol, link, &view)) return;
-    add(&control->report, "\nmember: %s: %s, %s\n", link->name, niw_receive_state_text((uint32_t)view.receive),
+    add(control->report, "\nmember: %s: %s, %s\n", link->name, niw_receive_state_text((uint32_t)view.receive),
         niw_mux_state_text((uint32_t)view.mux));
-    add(&control->report, "  status: %s\n  may_enable: %s\n", status_text(view.facts.status), carries(control->protocol, link) ? "true" : "false");
-    if (link->trouble) add(&control->report, "  trouble: %s\n", strerror(link->trouble));
-    add(&control->report, "  link: %s\n  address: %s\n", link_name(link), mac_text(link->mac, mac));
-    add(&control->report, "  port_id: %u\n  port_priority: %u\n", own->port, own->port_priority);
-    add(&control->report, "  aggregator: %u\n", view.facts.aggregator);
-    add(&control->report, "  current_while: %" PRIu64 "\n  wait_while: %" PRIu64 "\n", view.current_while, view.wait_while);
-    add(&control->report, "  actor_churn: %s\n  partner_churn: %s\n", niw_churn_state_text(link->churn.actor.state),
+    add(control->report, "  status: %s\n  may_enable: %s\n", status_text(view.facts.status), carries(control->protocol, link) ? "true" : "false");
+    if (link->trouble) add(control->report, "  trouble: %s\n", strerror(link->trouble));
+    add(control->report, "  link: %s\n  address: %s\n", link_name(link), mac_text(link->mac, mac));
+    add(control->report, "  port_id: %u\n  port_priority: %u\n", own->port, own->port_priority);
+    add(control->report, "  aggregator: %u\n", view.facts.aggregator);
+    add(control->report, "  current_while: %" PRIu64 "\n  wait_while: %" PRIu64 "\n", view.current_while, view.wait_while);
+    add(control->report, "  actor_churn: %s\n  partner_churn: %s\n", niw_churn_state_text(link->churn.actor.state),
         niw_churn_state_text(link->churn.partner.state));
-    if (link->has_speed) add(&control->report, "  speed: %s\n", speed_text(&link->speed, speed));
-    add_time(&control->report, "last change", link->changed_at);
+    if (link->has_speed) add(control->report, "  speed: %s\n", speed_text(&link->speed, speed));
+    add_time(control->report, "last change", link->changed_at);
     add_strangers(control, link);
-    add_side(&control->report, "actor", own->system_mac, (unsigned[]){own->system_priority, own->port, own->port_priority, own->key}, view.state);
-    add_side(&control->report, "partner", partner->system_mac,
+    add_side(control->report, "actor", own->system_mac, (unsigned[]){own->system_priority, own->port, own->port_priority, own->key}, view.state);
+    add_side(control->report, "partner", partner->system_mac,
         (unsigned[]){partner->system_priority, partner->port, partner->port_priority, partner->key}, partner->state);
-    add_counts(&control->report, link);
+    add_counts(control->report, link);
     CALL(control->plane->carrying->show_member, control, link, AS_TEXT);
 }
 
@@ -96,14 +96,14 @@ void write_text(struct control *control) {
 /* The settings that hold now, as a file has them: without ports that leave, and those that the device alone has. */
 void write_config(struct control *control) {
     char text[LINE_ROOM];
-    add(&control->report, "# %s\n[Bundle]\n", control->settings->name);
+    add(control->report, "# %s\n[Bundle]\n", control->settings->name);
     for (size_t i = 0; write_bundle_key(control->settings, i, text); i++)
-        if (text[0]) add(&control->report, "%s\n", text);
+        if (text[0]) add(control->report, "%s\n", text);
     EACH_LINK(link, control->ports) {
         const struct port_settings *port = &control->settings->ports[link - control->ports->links];
         if (!link->used || link->leaving || link->followed) continue;
-        add(&control->report, "\n[Port %s]\n", port->name);
+        add(control->report, "\n[Port %s]\n", port->name);
         for (size_t i = 0; write_port_key(port, i, text); i++)
-            if (text[0]) add(&control->report, "%s\n", text);
+            if (text[0]) add(control->report, "%s\n", text);
     }
 }

@@ -75,7 +75,7 @@ static void write_link(FILE *file, const struct link *link) {
 }
 
 /* Writes which port has which number. */
-static void write_ports(struct ports *ports, FILE *file) {
+static void write_ports(const struct ports *ports, FILE *file) {
     for (uint16_t i = 0; i < ports->count; i++) {
         const struct link *link = &ports->links[i];
         if (link->used) fprintf(file, "port %u %d %s\n", i + 1, link->socket >= 0 ? link->index : 0, link->name);

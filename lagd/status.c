@@ -164,15 +164,15 @@ static void answer_caller(struct control *control, struct caller *caller) {
         return;
     }
     if (caller->watches) return;
-    control->report.length = 0;
+    control->report->length = 0;
     if (strcmp(asked, "text") == 0) write_text(control);
     if (strcmp(asked, "config") == 0) write_config(control);
     if (strcmp(asked, "json") == 0) write_json(control);
     if (strcmp(asked, "metrics") == 0) write_metrics(control);
-    if (control->process->broken) control->report.length = 0; /* what the library refuses to tell is not told half */
-    caller->rest = control->report.length > 0 ? malloc(control->report.length) : NULL;
-    caller->answer_length = control->report.length;
-    if (caller->rest) memcpy(caller->rest, control->report.text, control->report.length);
+    if (control->process->broken) control->report->length = 0; /* what the library refuses to tell is not told half */
+    caller->rest = control->report->length > 0 ? malloc(control->report->length) : NULL;
+    caller->answer_length = control->report->length;
+    if (caller->rest) memcpy(caller->rest, control->report->text, control->report->length);
     if (caller->rest)
         send_rest(control->process, caller);
     else
@@ -234,9 +234,9 @@ void tell_watchers_of(struct control *control, const struct link *link) {
     bool any = false;
     for (unsigned i = 0; i < MOST_CALLERS; i++) any = any || (own->callers[i].fd >= 0 && own->callers[i].watches && own->callers[i].json);
     if (!any) return;
-    control->report.length = 0;
+    control->report->length = 0;
     write_json_event(control, link);
-    if (!control->process->broken) tell(control->process->status, control->report.text, control->report.length, true);
+    if (!control->process->broken) tell(control->process->status, control->report->text, control->report->length, true);
 }
 
 static void remove_socket(void *given) {

@@ -36,9 +36,7 @@ struct store_private {
     bool stays; /* whether the next daemon gets what is there */
 };
 
-struct store_private *make_store_private(void) {
-    return make_room(sizeof(struct store_private));
-}
+MAKES_ROOM(store)
 
 static void name_stored(const char *kind, int number, char room[static NAME_OF_FILE]) {
     snprintf(room, NAME_OF_FILE, "%s-%lu-%d", kind, network_namespace(), number);

@@ -12,9 +12,7 @@ struct system_private {
     uint16_t keys[NIW_MOST_PORTS]; /* of the aggregators */
 };
 
-struct system_private *make_system_private(void) {
-    return make_room(sizeof(struct system_private));
-}
+MAKES_ROOM(system)
 
 /* How many ticks passed since the start. */
 uint64_t ticks_passed(const struct system_private *own) {
@@ -215,8 +213,8 @@ void tell_end(struct protocol *protocol) {
 }
 
 /* Whether each peer was told. Where three LACPDUs were sent within a second, the next one waits. */
-bool end_is_told(struct ports *ports) {
-    EACH_LINK(link, ports)
+bool end_is_told(const struct ports *ports) {
+    EACH_LINK_AS_IS(link, ports)
         if (link->to_tell && link->up && link->counters.lacpdus_sent == link->sent_before_end)
             return false;
     return true;

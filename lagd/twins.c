@@ -14,7 +14,7 @@ static bool has_same_partner(const struct niw_view *one, const struct niw_view *
 }
 
 /* The first other port whose partner names the same port, or 0. */
-static uint16_t twin_of(struct ports *ports, const struct link *link) {
+static uint16_t twin_of(const struct ports *ports, const struct link *link) {
     for (uint16_t i = 0; i < ports->count; i++)
         if (&ports->links[i] != link && has_same_partner(&link->view, &ports->links[i].view)) return ports->links[i].settings.number;
     return 0;

@@ -13,9 +13,7 @@ struct flight_private {
     uint64_t silent_since[NIW_MOST_PORTS]; /* the time since which a port holds conversations and does not distribute, or 0 */
 };
 
-struct flight_private *make_flight_private(void) {
-    return make_room(sizeof(struct flight_private));
-}
+MAKES_ROOM(flight)
 
 /* Whether the library tells that a port distributes with a partner, or that it does not: a link that fell silent distributes again, on defaults,
  * 5 s after it stopped, and nobody answers its markers. */

@@ -19,9 +19,7 @@ struct gro_private {
     bool open;     /* whether one more may follow */
 };
 
-struct gro_private *make_gro_private(void) {
-    return make_room(sizeof(struct gro_private));
-}
+MAKES_ROOM(gro)
 
 /* Whether a header of IP is usual, of a packet of TCP with so many octets behind it; answers the octets of the header, or 0. */
 static size_t ip_octets(unsigned type, const uint8_t *ip, size_t length) {

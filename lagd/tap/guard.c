@@ -96,7 +96,7 @@ void gather(struct process *process, int index) {
 }
 
 /* What an interface has that is changed while it is a member. */
-static void look_before(struct plane *plane, const struct link *link, struct kept *before) {
+static void look_before(const struct plane *plane, const struct link *link, struct kept *before) {
     char path[128];
     *before = (struct kept){.joins = read_joins(link->index).wanted};
     if (queues_of(link->index, &before->queues) <= 1) before->queues = (struct ethtool_channels){0};
@@ -133,7 +133,7 @@ void look_at_discipline(struct tap_plane *tap, struct link *link, struct guard *
 }
 
 /* The link comes up: the queue of its interface, if that is one of the daemon, has the length of its speed from now on. */
-void fit_queue(struct plane *plane, const struct link *link, const char *interface) {
+void fit_queue(const struct plane *plane, const struct link *link, const char *interface) {
     if (!plane->wants_fifo) return;
     if (link->has_fifos)
         fit_each_fifo(link->index, plane->queueing->fifos_of(link->index), read_speed(link->socket, interface).megabits);

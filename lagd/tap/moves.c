@@ -92,8 +92,8 @@ bool empty_port(struct plane *plane, uint16_t port) {
 }
 
 /* Whether a port is emptied, so that no other move is asked for. */
-static bool is_any_emptied(struct ports *ports) {
-    EACH_LINK(link, ports)
+static bool is_any_emptied(const struct ports *ports) {
+    EACH_LINK_AS_IS(link, ports)
         if (link->emptying) return true;
     return false;
 }

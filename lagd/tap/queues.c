@@ -33,9 +33,7 @@ struct queues_private {
     uint64_t all; /* of send_by_queues */
 };
 
-struct queues_private *make_queues_private(void) {
-    return make_room(sizeof(struct queues_private));
-}
+MAKES_ROOM(queues)
 
 static uint32_t all_of(unsigned count) {
     return (1u << count) - 1;

@@ -36,9 +36,7 @@ struct buckets_private {
     unsigned shortages, unseen; /* in turn */
 };
 
-struct buckets_private *make_buckets_private(void) {
-    return make_room(sizeof(struct buckets_private));
-}
+MAKES_ROOM(buckets)
 
 /* The interface by which the frames of a bucket went at the start, or 0. */
 int bucket_member_of(struct plane *plane, uint16_t number) {

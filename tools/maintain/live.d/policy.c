@@ -346,7 +346,7 @@ bool is_halted(const struct halt_private *own) {
     return false;
 }
 
-uint16_t count_links(struct ports *ports) {
+uint16_t count_links(const struct ports *ports) {
     (void)ports;
     return PORTS;
 }
