@@ -35,8 +35,8 @@ void notify_alive(void) {
     (void)sd_notify(0, "WATCHDOG=1");
 }
 #else
-void notify_ready(struct lagd *lagd) {
-    (void)lagd;
+void notify_ready(const struct bundle *bundle) {
+    (void)bundle;
 }
 
 void notify_reloading(void) {
@@ -45,8 +45,8 @@ void notify_reloading(void) {
 void notify_stopping(void) {
 }
 
-void notify_state(struct lagd *lagd) {
-    (void)lagd;
+void notify_state(const struct bundle *bundle) {
+    (void)bundle;
 }
 
 void notify_alive(void) {
