@@ -1,9 +1,10 @@
 /* The manager of services, if one started the daemon: it is told when the daemon is ready, what it does, and that it lives. */
 #define _GNU_SOURCE
+#include "lagd.h"
+
 #ifdef HAVE_SYSTEMD
 #include <systemd/sd-daemon.h>
 
-#include "lagd.h"
 #endif
 
 #ifdef HAVE_SYSTEMD
