@@ -5,9 +5,6 @@
 #ifdef HAVE_SYSTEMD
 #include <systemd/sd-daemon.h>
 
-#endif
-
-#ifdef HAVE_SYSTEMD
 static void notify_bundle(const struct bundle *bundle, const char *head) {
     (void)sd_notifyf(0, "%sSTATUS=%s, %u of %u links carry", head, bundle_state_text(bundle->state), bundle->carrying,
         bundle->links);
