@@ -153,7 +153,8 @@ static const struct bundle_key BUNDLE_KEYS[] = {
     {"port-priority", A_NUMBER, parse_number, 'p', "N", "0 to 65535; 32768 if not given", NUMBER(port_priority, 0, UINT16_MAX)},
     {"timeout", "short or long", parse_choice, 't', "short|long",
         "what is asked of the peers: an LACPDU each second, as if not given, or each 30 seconds", CHOICE(short_timeout, "short", "long")},
-    {"activity", "active or passive", parse_choice, 'a', "active|passive", "whether it speaks first: active, if not given", CHOICE(active, "active", "passive")},
+    {"activity", "active or passive", parse_choice, 'a', "active|passive", "whether it speaks first: active, if not given",
+        CHOICE(active, "active", "passive")},
     {"max-links", "a number from 0 to 64", parse_number, 'm', "N",
         "the most links of an aggregator, 1 to 64; 0, as if not given: no limit", NUMBER(config.max_links, 0, NIW_MOST_PORTS)},
     {"min-links", "a number from 1 to 64", parse_number, 'n', "N",
@@ -180,13 +181,17 @@ static const struct bundle_key BUNDLE_KEYS[] = {
         "them into the device or takes them out, as the network manager does", CHOICE(follow, "follow", "given")},
     {"hash", "layer2, layer2+3, layer3+4, encap3+4 or vlan+srcmac", parse_hash, 'H', "layer2|layer2+3|layer3+4|encap3+4|vlan+srcmac",
         "what frames of one conversation have in common; layer2, if not given", OF_ITS_OWN},
-    {"hash-seed", A_NUMBER, parse_number, 'S', "N", "another number spreads conversations in another way, but by layer2; 0 if not given", NUMBER(hash_seed, 0, UINT16_MAX)},
+    {"hash-seed", A_NUMBER, parse_number, 'S', "N", "another number spreads conversations in another way, but by layer2; 0 if not given",
+        NUMBER(hash_seed, 0, UINT16_MAX)},
     {"flight", "a number of milliseconds from 1 to 60000", parse_number, 'F', "MILLISECONDS",
         "how long a frame can be on its way; 500 if not given", NUMBER(flight, 1, 60000)},
-    {"offload", YES_OR_NO, parse_choice, 'O', NULL, "passes frames of several segments, which the kernel or the card cuts", CHOICE(offload, "yes", "no")},
-    {"fast", YES_OR_NO, parse_choice, 'K', NULL, "the kernel passes data on by itself (Linux 6.6), of several segments too", CHOICE(fast, "yes", "no")},
+    {"offload", YES_OR_NO, parse_choice, 'O', NULL, "passes frames of several segments, which the kernel or the card cuts",
+        CHOICE(offload, "yes", "no")},
+    {"fast", YES_OR_NO, parse_choice, 'K', NULL, "the kernel passes data on by itself (Linux 6.6), of several segments too",
+        CHOICE(fast, "yes", "no")},
     {"queues", "one or all", parse_choice, 'Q', "one|all",
-        "how many queues of its members data goes by: one, if not given; all (Linux 6.6): each\nconversation by one of them", CHOICE(all_queues, "all", "one")},
+        "how many queues of its members data goes by: one, if not given; all (Linux 6.6): each\nconversation by one of them",
+        CHOICE(all_queues, "all", "one")},
     {"answer-after", "a number of milliseconds from 1 to 500", parse_number, 'A', "MILLISECONDS",
         "how long a response to a marker waits with --queues all; 50 if not given", NUMBER(answer_after, 1, 500)},
 };
@@ -209,7 +214,8 @@ static void write_value(const struct bundle_key *key, const struct settings *set
     if (key->parse == parse_choice) snprintf(text, PATH_ROOM, "%s", *(const bool *)value_in(key, settings) ? key->first : key->second);
     if (key->parse == parse_system) snprintf(text, PATH_ROOM, "%s", system_text(&own, room));
     if (key->parse == parse_partner) snprintf(text, PATH_ROOM, "%s", settings->policy == PARTNER_FIRST ? "first" : "any");
-    if (key->parse == parse_partner && settings->policy == PARTNER_GIVEN) snprintf(text, PATH_ROOM, "%s", system_text(&settings->partner, room));
+    if (key->parse == parse_partner && settings->policy == PARTNER_GIVEN)
+        snprintf(text, PATH_ROOM, "%s", system_text(&settings->partner, room));
     if (key->parse == parse_hook) snprintf(text, PATH_ROOM, "%s", settings->hook);
     if (key->parse == parse_carry) snprintf(text, PATH_ROOM, "%s", settings->carry);
     if (key->parse == parse_plane) snprintf(text, PATH_ROOM, "%s", settings->plane == PLANE_TEAM ? "team" : "tap");
