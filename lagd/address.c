@@ -5,8 +5,8 @@
 #include <stdio.h>
 #include <string.h>
 
-#include "daemon.h"
 #include "netlink.h"
+#include "lagd.h"
 
 /* Whether a system may have the address of an interface. */
 static bool has_system_address(const struct interface *interface) {

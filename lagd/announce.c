@@ -11,8 +11,8 @@
 #include <sys/socket.h>
 #include <unistd.h>
 
-#include "daemon.h"
 #include "netlink.h"
+#include "carry.h"
 
 /* The most frames of an announcement: so many fit into what a socket may send at once. */
 #define MOST_ANNOUNCED 256
@@ -177,45 +177,45 @@ static void read_address(struct announce_private *own, const struct nlmsghdr *me
 }
 
 static void read_told(const struct nlmsghdr *message, void *into) {
-    struct lagd *lagd = into;
-    if (message->nlmsg_type == RTM_NEWNETCONF) read_forwarding(lagd->announce, message);
-    if (message->nlmsg_type == RTM_NEWADDR) read_address(lagd->announce, message);
-    if (message->nlmsg_type == RTM_NEWLINK) read_place(lagd->announce, message);
+    struct announce_private *own = into;
+    if (message->nlmsg_type == RTM_NEWNETCONF) read_forwarding(own, message);
+    if (message->nlmsg_type == RTM_NEWADDR) read_address(own, message);
+    if (message->nlmsg_type == RTM_NEWLINK) read_place(own, message);
 }
 
 /* Has the kernel tell all that it has of a kind; answers whether it did. The head of an interface is longer than what other kinds want. */
-static bool ask_all(struct lagd *lagd, uint16_t what, uint8_t family) {
+static bool ask_all(struct announce_private *own, uint16_t what, uint8_t family) {
     union message question = message_of(what, NLM_F_DUMP, &(struct ifinfomsg){.ifi_family = family}, sizeof(struct ifinfomsg));
-    return ask_list(NETLINK_ROUTE, &question, read_told, lagd, 0);
+    return ask_list(NETLINK_ROUTE, &question, read_told, own, 0);
 }
 
 /* Finds the device, and what stands above it, level by level. */
-static void find_places(struct lagd *lagd) {
-    struct announce_private *own = lagd->announce;
+static void find_places(struct carry *carry) {
+    struct announce_private *own = carry->announce;
     unsigned before = 0;
     memset(own->places, 0, sizeof own->places);
-    own->places[0].index = tap_index(lagd->tap);
-    own->place_count = read_tap_mac(lagd->tap, own->places[0].mac) ? 1 : 0;
+    own->places[0].index = tap_index(carry->device);
+    own->place_count = read_tap_mac(carry->device, own->places[0].mac) ? 1 : 0;
     for (unsigned level = 0; level < MOST_LEVELS && before != own->place_count; level++) {
         before = level == 0 ? 0 : own->place_count; /* the first one tells the bridge of the device alone, where that has a lower number */
-        (void)ask_all(lagd, RTM_GETLINK, AF_UNSPEC);
+        (void)ask_all(own, RTM_GETLINK, AF_UNSPEC);
     }
 }
 
 /* Announces the addresses of the device, and of what stands above it. Where the kernel has no IPv6, it does not tell who is a router, and has
  * no address. */
-static void announce(struct lagd *lagd) {
-    struct announce_private *own = lagd->announce;
+static void announce(struct carry *carry) {
+    struct announce_private *own = carry->announce;
     bool done = false;
     own->sender = socket(AF_PACKET, SOCK_RAW | SOCK_NONBLOCK | SOCK_CLOEXEC, 0);
     own->announced = own->place_count = 0;
-    if (own->sender >= 0) find_places(lagd);
+    if (own->sender >= 0) find_places(carry);
     if (own->place_count > 0) {
-        (void)ask_all(lagd, RTM_GETNETCONF, AF_INET6);
-        done = ask_all(lagd, RTM_GETADDR, AF_UNSPEC);
+        (void)ask_all(own, RTM_GETNETCONF, AF_INET6);
+        done = ask_all(own, RTM_GETADDR, AF_UNSPEC);
     }
     if (!done)
-        (void)say(lagd, LOG_WARNING | ABOUT_CARRIER, "carry %s: its addresses were not announced: %s", lagd->settings.carry,
+        (void)say(carry->process, LOG_WARNING | ABOUT_CARRIER, "carry %s: its addresses were not announced: %s", carry->settings->carry,
             strerror(errno));
     if (own->sender >= 0) close(own->sender);
     own->sender = -1;
@@ -228,11 +228,11 @@ void announce_soon(struct announce_private *own) {
 }
 
 /* 100 ms passed. While the device has no carrier, nothing that is sent there goes. */
-void pass_announcing_tick(struct lagd *lagd) {
-    struct announce_private *own = lagd->announce;
-    if (own->times == 0 || !has_carrier(lagd->tap)) return;
+void pass_announcing_tick(struct carry *carry) {
+    struct announce_private *own = carry->announce;
+    if (own->times == 0 || !has_carrier(carry->device)) return;
     if (own->wait_ticks > 0 && --own->wait_ticks > 0) return;
-    announce(lagd);
+    announce(carry);
     own->times--;
     own->wait_ticks = SECOND;
 }

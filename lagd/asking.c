@@ -13,7 +13,7 @@
 #include <time.h>
 #include <unistd.h>
 
-#include "daemon.h"
+#include "control.h"
 
 /* How long a daemon may take for its answer, in milliseconds. */
 #define PATIENCE 2000
@@ -34,9 +34,7 @@ struct asking_private {
     char line[4096]; /* of print */
 };
 
-struct asking_private *make_asking_private(void) {
-    return make_room(sizeof(struct asking_private));
-}
+MAKES_ROOM(asking)
 
 /* Whether a file is the status socket of a daemon of this namespace, of which bundle. */
 static bool is_socket(const char *name, char bundle[static NAME_ROOM]) {
@@ -107,14 +105,14 @@ static int ask(struct asking_private *own, const char *path, const char *questio
 }
 
 /* Whether text of a daemon is a refusal. Then it is told. */
-static bool is_refusal(struct lagd *lagd, const char *path, const char *text) {
+static bool is_refusal(struct process *process, const char *path, const char *text) {
     if (strncmp(text, REFUSAL, strlen(REFUSAL)) != 0) return false;
-    complain(lagd, "%s: %.*s", path, (int)strcspn(text, "\n"), text);
+    complain(process, "%s: %.*s", path, (int)strcspn(text, "\n"), text);
     return true;
 }
 
 /* Reads until the daemon ends the connection; NULL where it does not in time, or refuses, as a line says. */
-static char *read_answer(struct lagd *lagd, int fd, const char *path) {
+static char *read_answer(struct process *process, int fd, const char *path) {
     char *whole = NULL;
     size_t size = 0, used = 0;
     ssize_t got = -1;
@@ -126,10 +124,10 @@ static char *read_answer(struct lagd *lagd, int fd, const char *path) {
         if (got > 0) used += (size_t)got;
     } while (got > 0);
     if (whole) whole[used] = 0;
-    if (whole && is_refusal(lagd, path, whole))
+    if (whole && is_refusal(process, path, whole))
         used = 0;
     else if (got != 0 || used == 0)
-        complain(lagd, "%s: its daemon does not answer", path);
+        complain(process, "%s: its daemon does not answer", path);
     if (got == 0 && used > 0) return whole;
     free(whole);
     return NULL;
@@ -164,15 +162,15 @@ static void print_metrics(struct asking_private *own) {
 }
 
 /* Prints which bundles have a daemon that answers, and when that was. */
-static void print_who_answers(struct lagd *lagd) {
-    struct asking_private *own = lagd->asking;
-    lagd->report.length = 0;
-    add_head(&lagd->report, "up", "gauge", "whether the daemon of the bundle answers");
+static void print_who_answers(struct control *control) {
+    struct asking_private *own = control->asking;
+    control->report->length = 0;
+    add_head(control->report, "up", "gauge", "whether the daemon of the bundle answers");
     for (unsigned i = 0; i < own->count; i++)
-        if (own->daemons[i].may_ask) add_value_of(&lagd->report, "up", own->daemons[i].bundle, own->daemons[i].answer != NULL);
-    add_head(&lagd->report, "time_seconds", "gauge", "when this was asked");
-    add(&lagd->report, "lagd_time_seconds %llu\n", (unsigned long long)time(NULL));
-    print(lagd->asking, lagd->report.text, lagd->report.length);
+        if (own->daemons[i].may_ask) add_value_of(control->report, "up", own->daemons[i].bundle, own->daemons[i].answer != NULL);
+    add_head(control->report, "time_seconds", "gauge", "when this was asked");
+    add(control->report, "lagd_time_seconds %llu\n", (unsigned long long)time(NULL));
+    print(control->asking, control->report->text, control->report->length);
 }
 
 /* Ends the program where no daemon answers. */
@@ -182,14 +180,14 @@ static _Noreturn void refuse_all(const struct asking_private *own, const char *f
 }
 
 /* Prints what came of a daemon that is watched. */
-static void print_lines_of(struct lagd *lagd, unsigned daemon, char *text, size_t length) {
+static void print_lines_of(struct control *control, unsigned daemon, char *text, size_t length) {
     text[length] = 0;
-    if (!is_refusal(lagd, lagd->asking->daemons[daemon].path, text)) print(lagd->asking, text, length);
+    if (!is_refusal(control->process, control->asking->daemons[daemon].path, text)) print(control->asking, text, length);
 }
 
 /* Prints what the daemons say, one after the other as each has a line, until they end. */
-static int print_changes_of_all(struct lagd *lagd) {
-    struct asking_private *own = lagd->asking;
+static int print_changes_of_all(struct control *control) {
+    struct asking_private *own = control->asking;
     struct pollfd waits[MOST_DAEMONS];
     char text[4096 + 1];
     unsigned left = 0;
@@ -202,7 +200,7 @@ static int print_changes_of_all(struct lagd *lagd) {
             ssize_t got;
             if (!waits[i].revents) continue;
             got = recv(waits[i].fd, text, sizeof text - 1, 0);
-            if (got > 0) print_lines_of(lagd, i, text, (size_t)got);
+            if (got > 0) print_lines_of(control, i, text, (size_t)got);
             if (got <= 0) waits[i].fd = -1;
             left -= got <= 0;
         }
@@ -213,33 +211,34 @@ static int print_changes_of_all(struct lagd *lagd) {
 
 static const char *question_of(const struct options *options) {
     if (options->action == METRICS) return "metrics\n";
+    if (options->action == SHOW_CONFIG) return "config\n";
     return options->json ? "json\n" : "text\n";
 }
 
 /* Asks a daemon, and whether it answers before it is watched. One that does not has a line. */
-static bool ask_daemon(struct lagd *lagd, unsigned daemon, const struct options *options) {
-    struct asking_private *own = lagd->asking;
+static bool ask_one(struct control *control, unsigned daemon, const struct options *options) {
+    struct asking_private *own = control->asking;
     const char *path = own->daemons[daemon].path;
     bool watched = options->action == WATCH;
-    int fd = ask(lagd->asking, path, question_of(options));
+    int fd = ask(control->asking, path, question_of(options));
     own->daemons[daemon].may_ask = fd >= 0 || (errno != EACCES && errno != EPERM);
     if (!own->daemons[daemon].may_ask) own->denied = path;
-    if (fd < 0) complain(lagd, "%s: its daemon does not answer: %s", path, strerror(errno));
-    if (fd >= 0) own->daemons[daemon].answer = read_answer(lagd, fd, path);
+    if (fd < 0) complain(control->process, "%s: its daemon does not answer: %s", path, strerror(errno));
+    if (fd >= 0) own->daemons[daemon].answer = read_answer(control->process, fd, path);
     if (fd >= 0) close(fd);
-    own->daemons[daemon].fd = watched && fd >= 0 ? ask(lagd->asking, path, options->json ? "watch-json\n" : "watch\n") : -1;
+    own->daemons[daemon].fd = watched && fd >= 0 ? ask(control->asking, path, options->json ? "watch-json\n" : "watch\n") : -1;
     return watched ? own->daemons[daemon].fd >= 0 : own->daemons[daemon].answer != NULL;
 }
 
 /* Tells a daemon an order; answers what it said, without the line end. */
-static char *tell_order(struct lagd *lagd, const char *path, const char *what, const char *interface) {
+static char *tell_order(struct control *control, const char *path, const char *what, const char *interface) {
     char order[QUESTION_ROOM], *answer;
     int fd;
     if (snprintf(order, sizeof order, "%s %s\n", what, interface) >= (int)sizeof order || strchr(interface, '\n'))
         stop(WRONG_WORD, "expected the name of an interface", interface);
-    fd = ask(lagd->asking, path, order);
+    fd = ask(control->asking, path, order);
     if (fd < 0) stop(REFUSED, path, strerror(errno));
-    answer = read_answer(lagd, fd, path);
+    answer = read_answer(control->process, fd, path);
     close(fd);
     if (answer) answer[strcspn(answer, "\n")] = 0;
     return answer;
@@ -261,14 +260,14 @@ static const char *find_daemon(struct asking_private *own, const char *folder) {
 }
 
 /* Has the one daemon of a folder change its bundle, and waits until that is done; answers how the program ends. */
-static int order_daemon(struct lagd *lagd, const struct options *options) {
-    const char *what = options->order, *path = find_daemon(lagd->asking, options->folder);
+static int order_daemon(struct control *control, const struct options *options) {
+    const char *what = options->order, *path = find_daemon(control->asking, options->folder);
     bool waits = true;
     while (waits) {
-        char *answer = tell_order(lagd, path, what, options->interface);
+        char *answer = tell_order(control, path, what, options->interface);
         if (!answer) return REFUSED;
         waits = strncmp(answer, "wait: ", 6) == 0;
-        if (!waits) print(lagd->asking, answer, strlen(answer));
+        if (!waits) print(control->asking, answer, strlen(answer));
         free(answer);
         if (waits && strcmp(what, "remove") == 0) what = "removed"; /* another one may add it anew meanwhile */
         if (waits) (void)poll(NULL, 0, NIW_TICK_MILLISECONDS);
@@ -278,19 +277,19 @@ static int order_daemon(struct lagd *lagd, const struct options *options) {
 }
 
 /* Asks the daemons, and prints what they answer; answers how the program ends. */
-int ask_daemons(struct lagd *lagd, const struct options *options) {
-    struct asking_private *own = lagd->asking;
+int ask_daemons(struct control *control, const struct options *options) {
+    struct asking_private *own = control->asking;
     unsigned answers = 0;
-    find_sockets(lagd->asking, options->folder, true);
-    if (options->action == ORDER) return order_daemon(lagd, options);
-    for (unsigned i = 0; i < own->count; i++) answers += ask_daemon(lagd, i, options);
-    if (answers == 0 && (options->action != METRICS || own->count == 0 || own->denied)) refuse_all(lagd->asking, options->folder);
-    if (options->action == WATCH) return print_changes_of_all(lagd);
+    find_sockets(control->asking, options->folder, true);
+    if (options->action == ORDER) return order_daemon(control, options);
+    for (unsigned i = 0; i < own->count; i++) answers += ask_one(control, i, options);
+    if (answers == 0 && (options->action != METRICS || own->count == 0 || own->denied)) refuse_all(control->asking, options->folder);
+    if (options->action == WATCH) return print_changes_of_all(control);
     if (options->action == METRICS) {
-        print_metrics(lagd->asking);
-        print_who_answers(lagd);
+        print_metrics(control->asking);
+        print_who_answers(control);
     }
-    for (unsigned i = 0; options->action == SHOW && i < own->count; i++)
-        if (own->daemons[i].answer) print(lagd->asking, own->daemons[i].answer, strlen(own->daemons[i].answer));
+    for (unsigned i = 0; (options->action == SHOW || options->action == SHOW_CONFIG) && i < own->count; i++)
+        if (own->daemons[i].answer) print(control->asking, own->daemons[i].answer, strlen(own->daemons[i].answer));
     return fflush(stdout) == 0 ? DONE : REFUSED;
 }

@@ -4,7 +4,7 @@
 #include <sys/mman.h>
 #include <unistd.h>
 
-#include "carry.h"
+#include "lagd.h"
 
 /* Of Linux 6.6, and not in older headers. */
 #define TCX_INGRESS 46

@@ -3,8 +3,7 @@
 #include <inttypes.h>
 #include <stdio.h>
 
-#include "daemon.h"
-#include "team.h"
+#include "control.h"
 
 static const struct count_text CARRY_COUNTERS[] = {EACH_CARRY_COUNT(COUNT_TEXT)};
 static const struct count_text MEMBER_COUNTERS[] = {EACH_MEMBER_COUNT(COUNT_TEXT)};
@@ -30,104 +29,106 @@ static unsigned count_fast(const struct carry *carry) {
 }
 
 /* Whether the peer answers markers. */
-void show_markers(struct lagd *lagd) {
-    add(&lagd->report, "markers %s, ", answering_text(lagd->probe));
+void show_markers(struct control *control) {
+    add(control->report, "markers %s, ", answering_text(control->carry->probe));
 }
 
 /* What waits in the daemon, and what does not come there. */
-void show_frames_waiting(struct lagd *lagd, enum form form) {
+void show_frames_waiting(struct control *control, enum form form) {
     uint64_t waiting;
-    if (!count_all_held(lagd, &waiting)) return;
+    if (!count_all_held(control->tap, &waiting)) return;
     switch (form) {
-    case AS_TEXT: add(&lagd->report, "\n  waiting: %" PRIu64 ", conversations of the kernel: %u\n", waiting, count_fast(&lagd->carry)); break;
+    case AS_TEXT: add(control->report, "\n  waiting: %" PRIu64 ", conversations of the kernel: %u\n", waiting, count_fast(control->carry)); break;
     case AS_JSON:
-        add(&lagd->report, "\"markers\":\"%s\",\"waiting\":%" PRIu64 ",\"fast_conversations\":%u", answering_text(lagd->probe), waiting,
-            count_fast(&lagd->carry));
+        add(control->report, "\"markers\":\"%s\",\"waiting\":%" PRIu64 ",\"fast_conversations\":%u", answering_text(control->carry->probe), waiting,
+            count_fast(control->carry));
         break;
     case AS_METRICS:
-        add_bundle_value(lagd, "carry_waiting", "gauge", "how many frames wait", waiting);
-        add_bundle_value(lagd, "carry_fast_conversations", "gauge", "how many conversations the kernel passes on", count_fast(&lagd->carry));
+        add_bundle_value(control, "carry_waiting", "gauge", "how many frames wait", waiting);
+        add_bundle_value(control, "carry_fast_conversations", "gauge", "how many conversations the kernel passes on", count_fast(control->carry));
     }
 }
 
 /* What waits where the driver holds no frame. */
-void show_waiting_buckets(struct lagd *lagd, enum form form) {
-    unsigned waiting = count_waiting_buckets(lagd);
+void show_waiting_buckets(struct control *control, enum form form) {
+    unsigned waiting = count_waiting_buckets(control->team);
     switch (form) {
-    case AS_TEXT: add(&lagd->report, "\n  waiting: %u conversations, until they are still\n", waiting); break;
-    case AS_JSON: add(&lagd->report, "\"waiting_conversations\":%u", waiting); break;
+    case AS_TEXT: add(control->report, "\n  waiting: %u conversations, until they are still\n", waiting); break;
+    case AS_JSON: add(control->report, "\"waiting_conversations\":%u", waiting); break;
     case AS_METRICS:
-        add_bundle_value(lagd, "carry_waiting_conversations", "gauge", "how many conversations wait until they are still", waiting);
+        add_bundle_value(control, "carry_waiting_conversations", "gauge", "how many conversations wait until they are still", waiting);
     }
 }
 
 /* By how many queues a member has its data go. */
-void show_queues(struct lagd *lagd, const struct link *link, enum form form) {
-    add(&lagd->report, form == AS_JSON ? ",\"queues\":%u" : " queues %u", member_queues(lagd->members, link->settings.number));
+void show_queues(struct control *control, const struct link *link, enum form form) {
+    add(control->report, form == AS_JSON ? ",\"queues\":%u" : " queues %u", member_queues(control->tap->members, link->settings.number));
 }
 
-static void write_text_of_carry(struct lagd *lagd) {
-    const struct carrying *carrying = lagd->plane.carrying;
+static void write_text_of_carry(struct control *control) {
+    const struct carrying *carrying = control->plane->carrying;
     unsigned told = 0;
-    add(&lagd->report, "  carry: %s, carrier %s, hash %s, flight %u ms, ", lagd->settings.carry,
-        has_carrier(lagd->tap) ? "on" : is_halted(lagd->halt) ? "off, the device is down" : "off", hash_text(lagd->settings.hash),
-        lagd->settings.flight);
-    carrying->show_markers(lagd);
-    add(&lagd->report, "%s%s", way_text(&lagd->settings), lagd->plane.queueing->text);
+    add(control->report, "  carry: %s, carrier %s, hash %s, flight %u ms, ", control->settings->carry,
+        has_carrier(control->device) ? "on" : is_halted(control->protocol->halt) ? "off, the device is down" : "off",
+            hash_text(control->settings->hash),
+        control->settings->flight);
+    CALL(carrying->show_markers, control);
+    add(control->report, "%s%s", way_text(control->settings), control->plane->queueing->text);
     for (unsigned i = carrying->first_count; i < carrying->end_count; i++)
-        add(&lagd->report, "%s %s %" PRIu64, told++ % 5 == 0 ? "\n  data:" : "", CARRY_COUNTERS[i].name, lagd->carry.counts[i]);
-    carrying->show_waiting(lagd, AS_TEXT);
+        add(control->report, "%s %s %" PRIu64, told++ % 5 == 0 ? "\n  data:" : "", CARRY_COUNTERS[i].name, control->carry->counts[i]);
+    CALL(carrying->show_waiting, control, AS_TEXT);
 }
 
-static void write_json_of_carry(struct lagd *lagd) {
-    const struct carrying *carrying = lagd->plane.carrying;
-    add(&lagd->report, "\"carry\":{\"device\":");
-    add_string(&lagd->report, lagd->settings.carry);
-    add(&lagd->report, ",\"up\":%s,\"carrier\":%s,\"aggregator\":%u,\"hash\":\"%s\",", is_halted(lagd->halt) ? "false" : "true",
-        has_carrier(lagd->tap) ? "true" : "false", lagd->carry.active,
-        hash_text(lagd->settings.hash));
-    add(&lagd->report, "\"flight\":%u,\"way\":\"%s\",", lagd->settings.flight, way_text(&lagd->settings));
-    carrying->show_waiting(lagd, AS_JSON);
+static void write_json_of_carry(struct control *control) {
+    const struct carrying *carrying = control->plane->carrying;
+    add(control->report, "\"carry\":{\"device\":");
+    add_string(control->report, control->settings->carry);
+    add(control->report, ",\"up\":%s,\"carrier\":%s,\"aggregator\":%u,\"hash\":\"%s\",", is_halted(control->protocol->halt) ? "false" : "true",
+        has_carrier(control->device) ? "true" : "false", control->carry->active,
+        hash_text(control->settings->hash));
+    add(control->report, "\"flight\":%u,\"way\":\"%s\",", control->settings->flight, way_text(control->settings));
+    CALL(carrying->show_waiting, control, AS_JSON);
     for (unsigned i = carrying->first_count; i < carrying->end_count; i++)
-        add(&lagd->report, ",\"%s\":%" PRIu64, CARRY_COUNTERS[i].name, lagd->carry.counts[i]);
-    add(&lagd->report, "},");
+        add(control->report, ",\"%s\":%" PRIu64, CARRY_COUNTERS[i].name, control->carry->counts[i]);
+    add(control->report, "},");
 }
 
-static void write_metrics_of_carry(struct lagd *lagd) {
-    const struct carrying *carrying = lagd->plane.carrying;
+static void write_metrics_of_carry(struct control *control) {
+    const struct carrying *carrying = control->plane->carrying;
     char name[64];
-    add_bundle_value(lagd, "carry_carrier", "gauge", "whether the device has a carrier", has_carrier(lagd->tap));
-    carrying->show_waiting(lagd, AS_METRICS);
+    add_bundle_value(control, "carry_carrier", "gauge", "whether the device has a carrier", has_carrier(control->device));
+    CALL(carrying->show_waiting, control, AS_METRICS);
     for (unsigned i = carrying->first_count; i < carrying->end_count; i++) {
         bool most = i == LONGEST_QUEUE;
         snprintf(name, sizeof name, "carry_%s%s", CARRY_COUNTERS[i].name, most ? "" : "_total");
-        add_bundle_value(lagd, name, most ? "gauge" : "counter", CARRY_COUNTERS[i].help, lagd->carry.counts[i]);
+        add_bundle_value(control, name, most ? "gauge" : "counter", CARRY_COUNTERS[i].help, control->carry->counts[i]);
     }
     for (unsigned i = 0; i < carrying->member_counts; i++) {
         snprintf(name, sizeof name, "port_%s_total", MEMBER_COUNTERS[i].name);
-        add_head(&lagd->report, name, "counter", MEMBER_COUNTERS[i].help);
-        for (uint16_t link = 0; link < lagd->link_count; link++)
-            if (lagd->links[link].used) add_port_value(lagd, name, &lagd->links[link], member_count(lagd->members, (uint16_t)(link + 1), i));
+        add_head(control->report, name, "counter", MEMBER_COUNTERS[i].help);
+        for (uint16_t link = 0; link < control->ports->count; link++)
+            if (control->ports->links[link].used)
+                add_port_value(control, name, &control->ports->links[link], member_count(control->tap->members, (uint16_t)(link + 1), i));
     }
 }
 
 /* What there is to tell of the device, and of all conversations. */
-void show_carry(struct lagd *lagd, enum form form) {
-    lagd->plane.passing->count(lagd);
+void show_carry(struct control *control, enum form form) {
+    CALL(control->plane->passing->count, control->tap);
     switch (form) {
-    case AS_TEXT: write_text_of_carry(lagd); break;
-    case AS_JSON: write_json_of_carry(lagd); break;
-    case AS_METRICS: write_metrics_of_carry(lagd);
+    case AS_TEXT: write_text_of_carry(control); break;
+    case AS_JSON: write_json_of_carry(control); break;
+    case AS_METRICS: write_metrics_of_carry(control);
     }
 }
 
 /* And of a member, which has no metrics of its own. */
-void show_member(struct lagd *lagd, const struct link *link, enum form form) {
-    add(&lagd->report, form == AS_JSON ? ",\"data\":{\"busy_conversations\":%u" : "  data: busy_conversations %u",
-        count_busy(&lagd->carry, link->settings.number));
-    for (unsigned i = 0; i < lagd->plane.carrying->member_counts; i++)
-        add(&lagd->report, form == AS_JSON ? ",\"%s\":%" PRIu64 : " %s %" PRIu64, MEMBER_COUNTERS[i].name,
-            member_count(lagd->members, link->settings.number, i));
-    lagd->plane.queueing->show(lagd, link, form);
-    add(&lagd->report, form == AS_JSON ? "}" : "\n");
+void show_member(struct control *control, const struct link *link, enum form form) {
+    add(control->report, form == AS_JSON ? ",\"data\":{\"busy_conversations\":%u" : "  data: busy_conversations %u",
+        count_busy(control->carry, link->settings.number));
+    for (unsigned i = 0; i < control->plane->carrying->member_counts; i++)
+        add(control->report, form == AS_JSON ? ",\"%s\":%" PRIu64 : " %s %" PRIu64, MEMBER_COUNTERS[i].name,
+            member_count(control->tap->members, link->settings.number, i));
+    CALL(control->plane->queueing->show, control, link, form);
+    add(control->report, form == AS_JSON ? "}" : "\n");
 }

@@ -10,9 +10,8 @@
 #include <string.h>
 #include <sys/socket.h>
 
-#include "daemon.h"
 #include "netlink.h"
-#include "team.h"
+#include "device.h"
 
 #define ROOM 65536
 /* How long the kernel may take for an answer at the start, in milliseconds, and how often it is asked then. */
@@ -29,9 +28,7 @@ struct changes_private {
     bool tap_named; /* whether the answer that is being read named the TAP device */
 };
 
-struct changes_private *make_changes_private(void) {
-    return make_room(sizeof(struct changes_private));
-}
+MAKES_ROOM(changes)
 
 /* Asks for an interface, or with 0 for all of them; answers whether the kernel took the question. The answer comes as changes do. */
 static bool ask_for(struct changes_private *own, int index, uint32_t number) {
@@ -42,12 +39,12 @@ static bool ask_for(struct changes_private *own, int index, uint32_t number) {
 }
 
 /* Asks for all interfaces. */
-static void ask(struct lagd *lagd) {
-    struct changes_private *own = lagd->changes;
-    for (uint16_t i = 0; i < lagd->link_count; i++) lagd->links[i].present = false;
+static void ask(struct protocol *protocol) {
+    struct changes_private *own = protocol->changes;
+    EACH_LINK(link, protocol->ports) link->present = false;
     own->tap_named = false;
-    own->asking = ask_for(lagd->changes, 0, ++own->asked);
-    if (!own->asking && !lagd->has_started) stop(REFUSED, "the kernel takes no question", strerror(errno));
+    own->asking = ask_for(protocol->changes, 0, ++own->asked);
+    if (!own->asking && !protocol->process->has_started) stop(REFUSED, "the kernel takes no question", strerror(errno));
     own->ask_again = !own->asking;
     own->interrupted = false;
 }
@@ -73,27 +70,27 @@ static bool is_named(const struct interface *interface, const char *name) {
 }
 
 /* At the start an interface cannot be taken up. */
-static _Noreturn void refuse_link(struct lagd *lagd, const struct link *link) {
+static _Noreturn void refuse_link(const struct ports *ports, const struct link *link) {
     char what[128], holder[HOLDER_ROOM];
     if (link->trouble != EADDRINUSE) stop(REFUSED, link->name, strerror(link->trouble));
-    snprintf(what, sizeof what, "another lagd has the interface, %s", holder_of(lagd, link->index, holder));
+    snprintf(what, sizeof what, "another lagd has the interface, %s", holder_of(ports, link->index, holder));
     stop(REFUSED, what, link->name);
 }
 
 /* Takes up an interface that has the name of a port. At the start, what is wrong with one ends the program. */
-static bool take_up(struct lagd *lagd, struct link *link, const struct interface *interface) {
+static bool take_up(struct protocol *protocol, struct link *link, const struct interface *interface) {
     if (interface->type != ARPHRD_ETHER) {
-        if (!lagd->has_started && !link->left_over) stop(WRONG_WORD, "not an Ethernet interface", link->name);
+        if (!protocol->process->has_started && !link->left_over) stop(WRONG_WORD, "not an Ethernet interface", link->name);
         return false;
     }
-    if (stays_outside(lagd, link, interface->master)) return false;
+    if (stays_outside(protocol, link, interface->master)) return false;
     memcpy(link->discipline, interface->discipline, sizeof link->discipline);
     if (interface->has_mac) memcpy(link->mac, interface->mac, sizeof link->mac);
     link->stacked = is_stacked(interface);
-    if (!open_link(lagd, link, interface->index)) {
-        if (!lagd->has_started && link->left_over) return false;
-        if (!lagd->has_started) refuse_link(lagd, link);
-        lagd->changes->ask_again = true;
+    if (!open_link(protocol, link, interface->index)) {
+        if (!protocol->process->has_started && link->left_over) return false;
+        if (!protocol->process->has_started) refuse_link(protocol->ports, link);
+        protocol->changes->ask_again = true;
         return false;
     }
     link->kernel_losses = interface->losses;
@@ -107,113 +104,110 @@ static uint32_t losses_since(uint32_t before, uint32_t now) {
 }
 
 /* An interface is not taken up any more, as it could not be used anew. */
-static void lose_member(struct lagd *lagd, struct link *link) {
-    lagd->changes->ask_again = true;
-    lose_link(lagd, link);
+static void lose_member(struct protocol *protocol, struct link *link) {
+    protocol->changes->ask_again = true;
+    lose_link(protocol, link);
 }
 
 /* The queues of an interface are of another kind than it had: an interface that is made has none until it is up. Whether the kernel may
  * pass on what goes there is seen anew. Answers whether the interface is still taken up. */
-static bool follow_discipline(struct lagd *lagd, struct link *link, const struct interface *interface) {
+static bool follow_discipline(struct protocol *protocol, struct link *link, const struct interface *interface) {
     if (!interface->discipline[0] || strcmp(link->discipline, interface->discipline) == 0) return true;
-    if (reopen_member(lagd, link)) return true;
-    lose_member(lagd, link);
+    if (reopen_member(protocol->plane, link)) return true;
+    lose_member(protocol, link);
     return false;
 }
 
 /* Follows an interface of a port. Its carrier may have gone and come back, of which the kernel tells at once: it counts how often
  * it went. IFF_RUNNING may be a second old, and IFF_LOWER_UP is the carrier itself. */
-static void follow(struct lagd *lagd, struct link *link, const struct interface *interface) {
+static void follow_link(struct protocol *protocol, struct link *link, const struct interface *interface) {
     uint16_t port = link->settings.number;
     bool up, carrier = (interface->flags & IFF_UP) && (interface->flags & IFF_RUNNING) && (interface->flags & IFF_LOWER_UP), lost = false;
-    if (interface->has_mac) follow_address(lagd, link, interface->mac);
-    if (!follow_discipline(lagd, link, interface)) return;
-    if (interface->mtu != 0) lagd->plane.carrying->follow_mtu(lagd, link, interface->mtu);
+    if (interface->has_mac) follow_address(protocol->plane, link, interface->mac);
+    if (!follow_discipline(protocol, link, interface)) return;
+    if (interface->mtu != 0) CALL(protocol->plane->carrying->follow_mtu, protocol->plane, link, interface->mtu);
     if (interface->counts_losses && interface->losses != link->kernel_losses) {
         uint32_t losses = losses_since(link->kernel_losses, interface->losses);
         link->kernel_losses = interface->losses;
         lost = losses > 0;
         if (lost) link->counts[LOSSES] += losses - (link->up ? 1 : 0);
-        if (lost) set_link(lagd, port, false);
+        if (lost) set_link(protocol, port, false);
     }
     if (lost || !carrier) forget_carrier(link);
-    up = carrier && !is_silent(lagd->halt) && is_restored(lagd, link);
-    if (up && !link->up) fit_queue(lagd, link, interface->name);
-    if (up) apply_speed(lagd, link, interface->name);
-    if (up) lagd->plane.carrying->follow_speed(lagd, link, interface->name);
-    set_link(lagd, port, up);
+    up = carrier && !is_silent(protocol->halt) && is_restored(protocol, link);
+    if (up && !link->up) fit_queue(protocol->plane, link, interface->name);
+    if (up) apply_speed(protocol, link, interface->name);
+    if (up) CALL(protocol->plane->carrying->follow_speed, protocol->plane, link, interface->name);
+    set_link(protocol, port, up);
 }
 
 /* The interface of a port is gone, or has another name now. Where the device alone said that it is a port, it is none any more. */
-static void lose_interface(struct lagd *lagd, struct link *link) {
+static void lose_interface(struct protocol *protocol, struct link *link) {
     link->outside = link->outside || link->followed;
-    if (link->socket >= 0) lose_link(lagd, link);
+    if (link->socket >= 0) lose_link(protocol, link);
 }
 
 /* An interface is there. A port goes by its name, and the TAP device by its number. */
-static void follow_present(struct lagd *lagd, const struct interface *interface) {
+static void follow_present(struct protocol *protocol, const struct interface *interface) {
     bool known = false;
-    if (interface->index == tap_index(lagd->tap)) {
-        lagd->changes->tap_named = true;
-        look_at_carry(&lagd->carry);
-        follow_tap(lagd, interface->carrier, interface->discipline);
-        follow_device(lagd, (interface->flags & IFF_UP) != 0);
+    if (interface->index == tap_index(protocol->device)) {
+        protocol->changes->tap_named = true;
+        protocol->plane->changed = true;
+        follow_tap(protocol->device, interface->carrier, interface->discipline);
+        follow_device(protocol, (interface->flags & IFF_UP) != 0);
     }
-    for (uint16_t i = 0; i < lagd->link_count; i++) {
-        struct link *link = &lagd->links[i];
+    EACH_LINK(link, protocol->ports) {
         bool named = is_named(interface, link->name), same = link->socket >= 0 && link->index == interface->index;
-        named = named || (same && take_name(lagd, link, interface));
-        if (link->socket >= 0 && (same != named || (same && !is_bound(link)))) lose_interface(lagd, link);
-        if (same && link->socket >= 0 && !is_still_team_port(lagd, link, interface->master)) {
-            tell_taken_out(lagd, link);
-            lose_link(lagd, link);
+        named = named || (same && accept_name(protocol, link, interface));
+        if (link->socket >= 0 && (same != named || (same && !is_bound(link)))) lose_interface(protocol, link);
+        if (same && link->socket >= 0 && !protocol->plane->carrying->still_has(protocol->plane, link, interface->master)) {
+            tell_taken_out(protocol, link);
+            lose_link(protocol, link);
         }
         known = known || named;
         if (!named) continue;
         link->present = true;
-        if (link->socket >= 0 || take_up(lagd, link, interface)) follow(lagd, link, interface);
+        if (link->socket >= 0 || take_up(protocol, link, interface)) follow_link(protocol, link, interface);
     }
-    if (!known) follow_port(lagd, interface);
+    if (!known) follow_port(protocol, interface);
 }
 
-static void follow_absent(struct lagd *lagd, const struct interface *interface) {
-    if (interface->index == tap_index(lagd->tap)) lagd->plane.carrying->lose_device(lagd);
-    for (uint16_t i = 0; i < lagd->link_count; i++) {
-        struct link *link = &lagd->links[i];
+static void follow_absent(struct protocol *protocol, const struct interface *interface) {
+    if (interface->index == tap_index(protocol->device)) CALL(protocol->plane->carrying->lose_device, protocol->plane);
+    EACH_LINK(link, protocol->ports) {
         if (link->index != interface->index) continue;
-        lose_interface(lagd, link);
-        if (!interface->moved) forget_interface(lagd->folder, link);
+        lose_interface(protocol, link);
+        if (!interface->moved) forget_interface(protocol->process->folder, link);
     }
 }
 
 /* Queueing disciplines came or went. Which one an interface has now is asked: of its usual one the kernel does not tell. */
-static void note_discipline(struct lagd *lagd, const struct tcmsg *info) {
-    bool ours = info->tcm_ifindex == tap_index(lagd->tap);
-    for (uint16_t i = 0; i < lagd->link_count; i++) {
-        struct link *link = &lagd->links[i];
+static void note_discipline(struct protocol *protocol, const struct tcmsg *info) {
+    bool ours = info->tcm_ifindex == tap_index(protocol->device);
+    EACH_LINK(link, protocol->ports) {
         if (link->socket < 0 || link->index != info->tcm_ifindex) continue;
         link->has_new_queues = true;
         ours = true;
     }
-    if (ours && info->tcm_parent == TC_H_ROOT && !ask_for(lagd->changes, info->tcm_ifindex, 0)) lagd->changes->ask_again = true;
+    if (ours && info->tcm_parent == TC_H_ROOT && !ask_for(protocol->changes, info->tcm_ifindex, 0)) protocol->changes->ask_again = true;
 }
 
 /* The answer to the last question has ended. What a whole one did not name is gone. One that ends with an error ends the program at
  * the start; later the kernel is asked again. */
-static void end_answer(struct lagd *lagd, int error) {
-    struct changes_private *own = lagd->changes;
+static void end_answer(struct protocol *protocol, int error) {
+    struct changes_private *own = protocol->changes;
     bool whole = error == 0 && !own->interrupted;
-    if (error < 0 && !lagd->has_started) stop(REFUSED, "the kernel does not tell of interfaces", strerror(-error));
+    if (error < 0 && !protocol->process->has_started) stop(REFUSED, "the kernel does not tell of interfaces", strerror(-error));
     own->asking = false;
     own->ask_again = own->ask_again || !whole;
-    if (whole && !own->tap_named) lagd->plane.carrying->lose_device(lagd);
-    for (uint16_t i = 0; whole && i < lagd->link_count; i++)
-        if (!lagd->links[i].present) lose_interface(lagd, &lagd->links[i]);
+    if (whole && !own->tap_named) CALL(protocol->plane->carrying->lose_device, protocol->plane);
+    for (uint16_t i = 0; whole && i < protocol->ports->count; i++)
+        if (!protocol->ports->links[i].present) lose_interface(protocol, &protocol->ports->links[i]);
 }
 
 /* Takes one message. A bridge tells of its ports in messages of its own family, which say nothing of their links. */
-static void parse_change(struct lagd *lagd, const struct nlmsghdr *message) {
-    struct changes_private *own = lagd->changes;
+static void parse_change(struct protocol *protocol, const struct nlmsghdr *message) {
+    struct changes_private *own = protocol->changes;
     const struct ifinfomsg *info = mnl_nlmsg_get_payload(message);
     const struct tcmsg *discipline = mnl_nlmsg_get_payload(message);
     size_t length = mnl_nlmsg_get_payload_len(message);
@@ -221,41 +215,40 @@ static void parse_change(struct lagd *lagd, const struct nlmsghdr *message) {
     uint16_t type = message->nlmsg_type;
     bool answers = own->asking && message->nlmsg_seq == own->asked && message->nlmsg_pid == mnl_socket_get_portid(own->route);
     if (answers && (message->nlmsg_flags & NLM_F_DUMP_INTR)) own->interrupted = true;
-    if (answers && (type == NLMSG_DONE || type == NLMSG_ERROR)) end_answer(lagd, error_of(message));
-    if ((type == RTM_NEWQDISC || type == RTM_DELQDISC) && length >= sizeof *discipline) note_discipline(lagd, discipline);
+    if (answers && (type == NLMSG_DONE || type == NLMSG_ERROR)) end_answer(protocol, error_of(message));
+    if ((type == RTM_NEWQDISC || type == RTM_DELQDISC) && length >= sizeof *discipline) note_discipline(protocol, discipline);
     if ((type != RTM_NEWLINK && type != RTM_DELLINK) || length < sizeof *info || info->ifi_family != AF_UNSPEC) return;
     interface = read_interface(message);
-    if (type == RTM_NEWLINK && interface.name[0]) follow_present(lagd, &interface);
-    if (type == RTM_DELLINK) follow_absent(lagd, &interface);
+    if (type == RTM_NEWLINK && interface.name[0]) follow_present(protocol, &interface);
+    if (type == RTM_DELLINK) follow_absent(protocol, &interface);
 }
 
 /* Takes the messages of `length` octets, in their order. */
-void read_messages(struct lagd *lagd, const void *messages, size_t length) {
+void read_messages(struct protocol *protocol, const void *messages, size_t length) {
     int left = (int)length;
     for (const struct nlmsghdr *message = messages; is_whole(message, left); message = mnl_nlmsg_next(message, &left))
-        parse_change(lagd, message);
+        parse_change(protocol, message);
 }
 
 /* Sees the queues anew whose disciplines changed, once for all that was told at a time. */
-static void follow_all_queues(struct lagd *lagd) {
-    for (uint16_t i = 0; i < lagd->link_count; i++) {
-        struct link *link = &lagd->links[i];
+static void follow_all_queues(struct protocol *protocol) {
+    EACH_LINK(link, protocol->ports) {
         bool changed = link->has_new_queues;
         link->has_new_queues = false;
-        if (changed && !lagd->plane.queueing->follow(lagd, link)) lose_member(lagd, link);
+        if (changed && !protocol->plane->queueing->follow(protocol->plane->tap, link)) lose_member(protocol, link);
     }
 }
 
 /* The kernel had no room for something, or the daemon had none: of queueing disciplines, too. */
-static void miss_changes(struct lagd *lagd) {
-    for (uint16_t i = 0; i < lagd->link_count; i++) lagd->links[i].has_new_queues = true;
-    lagd->changes->ask_again = true;
+static void miss_changes(struct protocol *protocol) {
+    EACH_LINK(link, protocol->ports) link->has_new_queues = true;
+    protocol->changes->ask_again = true;
 }
 
 /* Takes what the kernel told, up to its end. Where it had no room for some, it says so, and all is asked again. Any program of the machine
  * may send to this socket, too: what does not come from the kernel is not looked at. */
-static void receive_all(struct lagd *lagd) {
-    struct changes_private *own = lagd->changes;
+static void receive_all(struct protocol *protocol) {
+    struct changes_private *own = protocol->changes;
     _Alignas(struct nlmsghdr) uint8_t room[ROOM];
     for (int turn = 0; turn < MOST_TAKEN; turn++) {
         struct sockaddr_nl from = {0};
@@ -264,22 +257,22 @@ static void receive_all(struct lagd *lagd) {
         if (got < 0 && errno != ENOBUFS) return;
         if (got >= 0 && from.nl_pid != 0) continue;
         if (got < 0 || got > (ssize_t)sizeof room)
-            miss_changes(lagd);
+            miss_changes(protocol);
         else
-            read_messages(lagd, room, (size_t)got);
+            read_messages(protocol, room, (size_t)got);
     }
 }
 
 /* Takes what the kernel told. */
-void receive_changes(struct lagd *lagd) {
-    receive_all(lagd);
-    follow_all_queues(lagd);
+void receive_changes(struct protocol *protocol) {
+    receive_all(protocol);
+    follow_all_queues(protocol);
 }
 
 /* Asks again for what was missed, or could not be taken up; once a second. */
-void watch_changes(struct lagd *lagd) {
-    struct changes_private *own = lagd->changes;
-    if (own->ask_again && !own->asking) ask(lagd);
+void watch_changes(struct protocol *protocol) {
+    struct changes_private *own = protocol->changes;
+    if (own->ask_again && !own->asking) ask(protocol);
 }
 
 /* An interface is to be taken up anew. */
@@ -288,9 +281,9 @@ void look_again(struct changes_private *own) {
 }
 
 /* An interface is to be taken up as soon as can be. */
-void ask_now(struct lagd *lagd) {
-    look_again(lagd->changes);
-    watch_changes(lagd);
+void ask_now(struct protocol *protocol) {
+    look_again(protocol->changes);
+    watch_changes(protocol);
 }
 
 /* Something could not be sent: a carrier may have gone. */
@@ -299,34 +292,34 @@ void suspect_carriers(struct changes_private *own) {
 }
 
 /* Asks for the interface of each link. */
-void ask_links(struct lagd *lagd) {
-    for (uint16_t i = 0; i < lagd->link_count; i++)
-        if (lagd->links[i].socket >= 0 && !ask_for(lagd->changes, lagd->links[i].index, 0)) lagd->changes->ask_again = true;
+void ask_links(struct protocol *protocol) {
+    EACH_LINK(link, protocol->ports)
+        if (link->socket >= 0 && !ask_for(protocol->changes, link->index, 0)) protocol->changes->ask_again = true;
 }
 
 /* Looks at carriers, at each tick and where one is suspected: the kernel counts at once that one came or went, but tells of those that go
  * once a second, over all interfaces. It is asked then, and answers at once. */
-void watch_carriers(struct lagd *lagd, bool all) {
-    struct changes_private *own = lagd->changes;
+void watch_carriers(struct protocol *protocol, bool all) {
+    struct changes_private *own = protocol->changes;
     bool any = false;
     if (!all && !own->suspected) return;
     own->suspected = false;
-    for (uint16_t i = 0; i < lagd->link_count; i++)
-        if (lagd->links[i].socket >= 0 && (has_new_carrier(&lagd->links[i]) || has_waited(lagd, &lagd->links[i])))
-            any = ask_for(lagd->changes, lagd->links[i].index, 0) || any;
-    if (any) receive_changes(lagd);
+    EACH_LINK(link, protocol->ports)
+        if (link->socket >= 0 && (has_new_carrier(link) || has_waited(protocol, link)))
+            any = ask_for(protocol->changes, link->index, 0) || any;
+    if (any) receive_changes(protocol);
 }
 
 /* Opens the changes of interfaces, and takes up those that are there. */
-int open_changes(struct lagd *lagd) {
-    struct changes_private *own = lagd->changes;
+int open_changes(struct protocol *protocol) {
+    struct changes_private *own = protocol->changes;
     own->route = mnl_socket_open2(NETLINK_ROUTE, SOCK_NONBLOCK | SOCK_CLOEXEC);
     if (!own->route || mnl_socket_bind(own->route, RTMGRP_LINK | RTMGRP_TC, MNL_SOCKET_AUTOPID) < 0)
         stop(REFUSED, "no changes of interfaces", strerror(errno));
-    for (ask(lagd); own->asking || own->ask_again; watch_changes(lagd)) {
+    for (ask(protocol); own->asking || own->ask_again; watch_changes(protocol)) {
         if (poll(&(struct pollfd){mnl_socket_get_fd(own->route), POLLIN, 0}, 1, PATIENCE) != 1) stop(REFUSED, "no answer", "interfaces");
         if (own->asked > MOST_ASKED) stop(REFUSED, "no whole answer", "interfaces");
-        receive_changes(lagd);
+        receive_changes(protocol);
     }
     return mnl_socket_get_fd(own->route);
 }

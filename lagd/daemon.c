@@ -1,33 +1,43 @@
 /* A daemon is made, and goes. */
 #define _GNU_SOURCE
+#include <assert.h>
+
 #include "daemon.h"
 
 /* Has a function called as the program ends, as atexit does; that hands it nothing. */
-int call_at_exit(struct lagd *lagd, void (*ending)(struct lagd *lagd)) {
-    if (lagd->ending_count == MOST_ENDINGS) return -1;
-    lagd->endings[lagd->ending_count++] = ending;
-    return 0;
+void call_at_exit(struct process *process, void (*act)(void *what), void *what) {
+    assert(process->ending_count < MOST_ENDINGS);
+    process->endings[process->ending_count++] = (struct ending){act, what};
 }
 
 /* The program ends, from wherever that is. The memory goes with it. */
-static void end_lagd(int status, void *given) {
-    struct lagd *lagd = given;
+static void end_process(int status, void *given) {
+    struct process *process = given;
     (void)status;
-    while (lagd->ending_count > 0) lagd->endings[--lagd->ending_count](lagd);
+    while (process->ending_count > 0) {
+        const struct ending *last = &process->endings[--process->ending_count];
+        last->act(last->what);
+    }
 }
 
-static void make_private(struct lagd *lagd) {
-#define MAKE(file, field) lagd->field = make_##file##_private();
-    EACH_FILE(MAKE)
-#undef MAKE
+#define MAKE(file, field) of->field = make_##file##_private();
+static void make_files(struct lagd *lagd) {
+    { struct process *of = &lagd->process; EACH_FILE_OF_PROCESS(MAKE) }
+    { struct protocol *of = &lagd->protocol; EACH_FILE_OF_PROTOCOL(MAKE) }
+    { struct carry *of = &lagd->carry; EACH_FILE_OF_CARRY(MAKE) }
+    { struct tap_plane *of = &lagd->tap; EACH_FILE_OF_TAP(MAKE) }
+    { struct team_plane *of = &lagd->team; EACH_FILE_OF_TEAM(MAKE) }
+    { struct control *of = &lagd->control; EACH_FILE_OF_CONTROL(MAKE) }
 }
 
 struct lagd *make_lagd(void) {
     struct lagd *lagd = make_room(sizeof *lagd);
-    lagd->epoll_file = -1;
-    lagd->carry.changed = true;
+    lagd->device = make_device(&lagd->process, &lagd->plane);
+    lagd->state = make_state(&lagd->carry, &lagd->team);
+    join_parts(lagd);
+    make_files(lagd);
+    lagd->control.report = make_room(sizeof *lagd->control.report);
     choose_no_plane(&lagd->plane);
-    make_private(lagd);
-    if (on_exit(end_lagd, lagd) != 0) exit(REFUSED);
+    if (on_exit(end_process, &lagd->process) != 0) exit(REFUSED);
     return lagd;
 }

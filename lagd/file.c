@@ -19,7 +19,7 @@ enum section { NO_SECTION, WRONG_SECTION, BUNDLE_SECTION, PORT_SECTION };
 
 /* A file that is being read. */
 struct reading {
-    struct lagd *lagd;
+    struct process *process;
     FILE *file;
     const char *path;
     unsigned line; /* from 1 */
@@ -29,18 +29,18 @@ struct reading {
     struct settings *settings;
 };
 
-static void expect_at(struct lagd *lagd, struct reading *reading, unsigned line, const char *expected, const char *found) {
+static void expect_at(struct process *process, struct reading *reading, unsigned line, const char *expected, const char *found) {
     reading->faults++;
-    complain(lagd, "%s:%u: expected %s: %s", reading->path, line, expected, found);
+    complain(process, "%s:%u: expected %s: %s", reading->path, line, expected, found);
 }
 
 /* In the line that was read last. */
-static void expect(struct lagd *lagd, struct reading *reading, const char *expected, const char *found) {
-    expect_at(lagd, reading, reading->line, expected, found);
+static void expect(struct process *process, struct reading *reading, const char *expected, const char *found) {
+    expect_at(process, reading, reading->line, expected, found);
 }
 
 /* Takes the head of a section: `line` begins with a bracket. */
-static void parse_section(struct lagd *lagd, struct reading *reading, const char *line) {
+static void parse_section(struct process *process, struct reading *reading, const char *line) {
     const char *end = strchr(line, ']'), *fault = "[Bundle] or [Port INTERFACE]";
     reading->section = WRONG_SECTION;
     if (strcmp(line, "[Bundle]") == 0) {
@@ -51,7 +51,7 @@ static void parse_section(struct lagd *lagd, struct reading *reading, const char
         fault = add_port(reading->settings, line + 6, (size_t)(end - line) - 6);
         if (!fault) reading->section = PORT_SECTION;
     }
-    if (fault) expect(lagd, reading, fault, line);
+    if (fault) expect(process, reading, fault, line);
 }
 
 /* What is wrong with a line, before its key and value are looked at, or NULL. The library would cut a line that is too long, take one
@@ -67,7 +67,7 @@ static const char *fault_of(const char *line, size_t length) {
 /* Hands the library the next line; an empty one in place of the head of a section, and of one that is wrong. */
 static char *next_line(char *into, int room, void *given) {
     struct reading *reading = given;
-    struct lagd *lagd = reading->lagd;
+    struct process *process = reading->process;
     char *line = NULL;
     size_t size = 0;
     ssize_t got = getline(&line, &size, reading->file);
@@ -76,8 +76,8 @@ static char *next_line(char *into, int room, void *given) {
         reading->line++;
         while (got > 0 && (line[got - 1] == '\n' || line[got - 1] == '\r' || line[got - 1] == ' ')) line[--got] = 0;
         fault = fault_of(line, (size_t)got);
-        if (fault) expect(lagd, reading, fault, line);
-        if (!fault && line[0] == '[') parse_section(lagd, reading, line);
+        if (fault) expect(process, reading, fault, line);
+        if (!fault && line[0] == '[') parse_section(process, reading, line);
         snprintf(into, (size_t)room, "%s\n", fault || line[0] == '[' ? "" : line);
     }
     free(line);
@@ -87,20 +87,20 @@ static char *next_line(char *into, int room, void *given) {
 /* Takes a key and its value, of the section that came last. */
 static int parse_pair(void *given, const char *section, const char *name, const char *value) {
     struct reading *reading = given;
-    struct lagd *lagd = reading->lagd;
+    struct process *process = reading->process;
     struct settings *wanted = reading->settings;
     const char *expected = NULL;
     (void)section; /* the library cuts long ones */
     switch (reading->section) {
-    case BUNDLE_SECTION: expected = set_bundle(lagd, wanted, name, value, reading->line); break;
-    case PORT_SECTION: expected = set_port(lagd, &wanted->ports[wanted->port_count - 1], name, value); break;
+    case BUNDLE_SECTION: expected = set_bundle(&process->words, wanted, name, value, reading->line); break;
+    case PORT_SECTION: expected = set_port(&process->words, &wanted->ports[wanted->port_count - 1], name, value); break;
     case WRONG_SECTION: break;
     default: expected = "[Bundle] or [Port INTERFACE] before keys"; break;
     }
     if (expected) {
         char found[2 * LONGEST_FILE_LINE];
         snprintf(found, sizeof found, "%s=%s", name, value);
-        expect(lagd, reading, expected, found);
+        expect(process, reading, expected, found);
     }
     return expected == NULL;
 }
@@ -114,7 +114,7 @@ static void name_bundle(const char *path, struct settings *wanted) {
 }
 
 /* Opens a file, if it is a regular one of no more than LONGEST_FILE octets; else NULL, and a line. */
-static FILE *open_file(struct lagd *lagd, const char *path) {
+static FILE *open_file(struct process *process, const char *path) {
     struct stat found;
     int opened = open(path, O_RDONLY | O_CLOEXEC | O_NONBLOCK | O_NOCTTY);
     const char *fault = NULL;
@@ -125,34 +125,34 @@ static FILE *open_file(struct lagd *lagd, const char *path) {
         fault = "expected a regular file of at most 65536 octets";
     else if (!(file = fdopen(opened, "r")))
         fault = strerror(errno);
-    if (fault) complain(lagd, "%s: %s", path, fault);
+    if (fault) complain(process, "%s: %s", path, fault);
     if (fault && opened >= 0) close(opened);
     return file;
 }
 
 /* Looks at what only all lines say together. */
-static void look_at_all(struct lagd *lagd, struct reading *reading) {
+static void look_at_all(struct process *process, struct reading *reading) {
     struct lack lack = lack_of(reading->settings);
     if (!lack.expected) return;
     if (lack.key) {
-        expect_at(lagd, reading, line_of(reading->settings, lack.key), lack.expected, lack.key);
+        expect_at(process, reading, line_of(reading->settings, lack.key), lack.expected, lack.key);
     } else {
         reading->faults++;
-        complain(lagd, "%s: expected %s", reading->path, lack.expected);
+        complain(process, "%s: expected %s", reading->path, lack.expected);
     }
 }
 
 /* Reads a file; answers whether it is right. There is a line for each fault. */
-bool read_file(struct lagd *lagd, const char *path, struct settings *wanted) {
-    struct reading reading = {.lagd = lagd, .path = path, .settings = wanted};
+bool read_file(struct process *process, const char *path, struct settings *wanted) {
+    struct reading reading = {.process = process, .path = path, .settings = wanted};
     *wanted = usual_settings();
     name_bundle(path, wanted);
-    reading.file = open_file(lagd, path);
+    reading.file = open_file(process, path);
     if (!reading.file) return false;
     ini_allow_multiline = false;
     ini_allow_inline_comments = false;
     (void)ini_parse_stream(next_line, &reading, parse_pair, &reading);
     fclose(reading.file);
-    if (reading.faults == 0) look_at_all(lagd, &reading);
+    if (reading.faults == 0) look_at_all(process, &reading);
     return reading.faults == 0;
 }

@@ -6,7 +6,7 @@
 #include <string.h>
 #include <sys/socket.h>
 
-#include "daemon.h"
+#include "lagd.h"
 
 #define LONGEST_FRAME 2048
 /* Where an LACPDU has its actor's system priority and system (IEEE 802.1AX-2014, 6.4.2.3). */
@@ -70,39 +70,24 @@ void note_actor(const struct settings *settings, struct link *link, const struct
 }
 
 /* Hands a frame to the library, and sends the response to a marker, if there were not too many within a second. */
-static void hand_over(struct lagd *lagd, struct link *link, const struct arrival *arrival, const struct system_id *actor) {
+static void hand_over(struct protocol *protocol, struct link *link, const struct arrival *arrival, const struct system_id *actor) {
     uint8_t response[NIW_FRAME];
-    struct niw_received received = niw_receive(&lagd->own_system, link->settings.number, arrival->frame, arrival->length, response,
+    struct niw_received received = niw_receive(&protocol->own_system, link->settings.number, arrival->frame, arrival->length, response,
         sizeof response);
-    if (!is_done(lagd, received.status, "niw_receive")) return;
+    if (!is_done(protocol->process, received.status, "niw_receive")) return;
     if (received.what == NIW_RECEIVED_DISABLED) link->counts[DISABLED_RECEIVED]++;
-    if (!is_done(lagd, niw_count_received(&link->counters, arrival->frame, arrival->length, received.what), "niw_count_received")) return;
-    if (received.what == NIW_RECEIVED_TOOK_LACPDU && actor) note_actor(&lagd->settings, link, actor, arrival->frame);
-    if (received.what != NIW_RECEIVED_RESPOND) return;
-    if (!may_answer(lagd, link, arrival) || !lagd->plane.queueing->answer(lagd, link, response)) note_odd_marker(link, arrival, RESPONSES_UNSENT);
-}
-
-/* Takes a response of the partner. */
-void accept_response(struct lagd *lagd, struct link *link, const struct arrival *arrival, uint32_t id) {
-    (void)id;
-    hand_over(lagd, link, arrival, NULL);
-    note_response(lagd, link);
-}
-
-/* Takes a response to a marker of one queue: the library has the last one that was missing. */
-void accept_response_of_queue(struct lagd *lagd, struct link *link, const struct arrival *arrival, uint32_t id) {
-    uint8_t frame[NIW_FRAME];
-    struct arrival last = *arrival;
-    bool ends = ends_flight(lagd->queues, link, &id);
-    if (!ends && !is_done(lagd, niw_count_received(&link->counters, arrival->frame, arrival->length, NIW_RECEIVED_RELEASED),
-        "niw_count_received"))
+    if (!is_done(protocol->process, niw_count_received(&link->counters, arrival->frame, arrival->length, received.what), "niw_count_received"))
         return;
-    if (!ends) return;
-    memcpy(frame, arrival->frame, sizeof frame);
-    set_identifier(frame, id);
-    last.frame = frame;
-    last.length = sizeof frame;
-    accept_response(lagd, link, &last, id);
+    if (received.what == NIW_RECEIVED_TOOK_LACPDU && actor) note_actor(protocol->settings, link, actor, arrival->frame);
+    if (received.what != NIW_RECEIVED_RESPOND) return;
+    if (!may_answer(protocol, link, arrival) || !protocol->plane->queueing->answer(protocol->plane->tap, link, response))
+        note_odd_marker(link, arrival, RESPONSES_UNSENT);
+}
+
+/* Accepts a response of the partner. */
+void accept_response(struct protocol *protocol, struct link *link, const struct arrival *arrival) {
+    hand_over(protocol, link, arrival, NULL);
+    CALL(protocol->plane->carrying->note_response, protocol->plane, link);
 }
 
 /* Whether the actor of an LACPDU may be the partner of a link; writes which system it is. */
@@ -113,7 +98,7 @@ bool may_be_partner(const struct link *link, const uint8_t *frame, struct system
 
 /* Takes a frame. The slow protocols have one address, which no bridge passes on: a frame to any other one comes from anybody. Their
  * frames have no VLAN tag. The kernel calls one with a tag another host's, or shows it as a frame of the VLAN's interface. */
-void accept_frame(struct lagd *lagd, struct link *link, const struct arrival *arrival) {
+void accept_frame(struct protocol *protocol, struct link *link, const struct arrival *arrival) {
     struct system_id actor;
     struct niw_pdu response;
     bool is_lacpdu, is_response;
@@ -131,15 +116,15 @@ void accept_frame(struct lagd *lagd, struct link *link, const struct arrival *ar
         note_stranger(link, &actor, arrival->frame + 6);
         return;
     }
-    is_response = link->up && read_response(lagd, arrival, &response);
-    if (is_response && !is_partners_response(&lagd->settings, link, arrival, &response)) {
+    is_response = link->up && read_response(protocol->process, arrival, &response);
+    if (is_response && !is_partners_response(protocol->settings, link, arrival, &response)) {
         note_odd_marker(link, arrival, FOREIGN_RESPONSES);
         return;
     }
     if (is_response)
-        lagd->plane.queueing->accept_response(lagd, link, arrival, response.transaction_id);
+        protocol->plane->queueing->accept_response(protocol->plane->tap, link, arrival, response.transaction_id);
     else
-        hand_over(lagd, link, arrival, is_lacpdu ? &actor : NULL);
+        hand_over(protocol, link, arrival, is_lacpdu ? &actor : NULL);
 }
 
 /* What the kernel tells beside a frame; zeros where it does not. */
@@ -155,8 +140,8 @@ struct tpacket_auxdata aux_of(struct msghdr *message) {
 }
 
 /* Takes the frames that wait at an interface, MOST_TAKEN of them at most. */
-void receive_frames(struct lagd *lagd, uint16_t port) {
-    struct link *link = &lagd->links[port - 1];
+void receive_frames(struct protocol *protocol, uint16_t port) {
+    struct link *link = &protocol->ports->links[port - 1];
     uint8_t frame[LONGEST_FRAME];
     for (int turn = 0; turn < MOST_TAKEN && link->socket >= 0; turn++) {
         union {
@@ -171,21 +156,21 @@ void receive_frames(struct lagd *lagd, uint16_t port) {
         if (got < 0) return;
         if (from.sll_pkttype == PACKET_OUTGOING) continue; /* an old kernel shows what was sent */
         arrival.tagged = (aux_of(&message).tp_status & TP_STATUS_VLAN_VALID) != 0;
-        accept_frame(lagd, link, &arrival);
+        accept_frame(protocol, link, &arrival);
     }
 }
 
 /* Tells of strangers on a link, if there are more than were told of: at once, and then every 10 s at most. */
-void tell_strangers(struct lagd *lagd, struct link *link) {
+void tell_strangers(struct protocol *protocol, struct link *link) {
     struct strangers *strangers = &link->strangers;
     uint64_t foreign = link->counts[FOREIGN_RECEIVED], changes = link->counts[PARTNER_CHANGES];
     char system[32], source[32];
-    if (foreign + changes == strangers->told || ticks_passed(lagd->system) < strangers->tell_at) return;
-    if (!say(lagd, LOG_WARNING | ABOUT_STRANGER,
+    if (foreign + changes == strangers->told || ticks_passed(protocol->system) < strangers->tell_at) return;
+    if (!say(protocol->process, LOG_WARNING | ABOUT_STRANGER,
         "port %u %s: another system speaks, last %s from %s: %" PRIu64 " LACPDUs not taken, %" PRIu64
             " changes of the partner", link->settings.number, link->name, system_text(&strangers->system, system),
             mac_text(strangers->source, source), foreign, changes))
         return;
     strangers->told = foreign + changes;
-    strangers->tell_at = ticks_passed(lagd->system) + STRANGERS_TICKS;
+    strangers->tell_at = ticks_passed(protocol->system) + STRANGERS_TICKS;
 }

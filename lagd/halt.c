@@ -1,7 +1,7 @@
 /* LACP ends while the device is down: nothing of the host goes there, and what comes is lost. Each peer is told that its port is out of use, the
  * ports fall silent, and all begins again once the device is up. */
+#include "device.h"
 #define _GNU_SOURCE
-#include "daemon.h"
 
 /* How many ticks peers are told at most. Where three LACPDUs went within a second, the next one waits. */
 #define MOST_TICKS 15
@@ -12,9 +12,7 @@ struct halt_private {
     unsigned ticks; /* for how long peers are told */
 };
 
-struct halt_private *make_halt_private(void) {
-    return make_room(sizeof(struct halt_private));
-}
+MAKES_ROOM(halt)
 
 /* Whether the device is down, so that no port may carry. */
 bool is_halted(const struct halt_private *own) {
@@ -27,68 +25,69 @@ bool is_silent(const struct halt_private *own) {
 }
 
 /* Each port is held, or as the file has it again. */
-static void hold_or_release_ports(struct lagd *lagd) {
-    for (uint16_t port = 1; port <= lagd->link_count; port++)
-        if (!apply_hold(lagd, port)) return;
+static void hold_or_release_ports(struct protocol *protocol) {
+    for (uint16_t port = 1; port <= protocol->ports->count; port++)
+        if (!apply_hold(protocol, port)) return;
 }
 
 /* The ports are silent from here on. */
-static void fall_silent(struct lagd *lagd) {
-    lagd->halt->silent = true;
-    for (uint16_t port = 1; port <= lagd->link_count; port++) set_link(lagd, port, false);
+static void fall_silent(struct protocol *protocol) {
+    protocol->halt->silent = true;
+    for (uint16_t port = 1; port <= protocol->ports->count; port++) set_link(protocol, port, false);
 }
 
 /* Tells each peer that its port is out of use, and then nothing more. */
-static void begin_halt(struct lagd *lagd) {
-    for (uint16_t i = 0; i < lagd->link_count; i++) expect_lacpdu(&lagd->links[i]);
-    hold_or_release_ports(lagd);
-    send_due(lagd);
-    read_views(lagd);
-    lagd->halt->ticks = 0;
-    if (end_is_told(lagd)) fall_silent(lagd);
+static void begin_halt(struct protocol *protocol) {
+    EACH_LINK(link, protocol->ports) expect_lacpdu(link);
+    hold_or_release_ports(protocol);
+    send_due(protocol);
+    read_views(protocol);
+    protocol->halt->ticks = 0;
+    if (end_is_told(protocol->ports)) fall_silent(protocol);
 }
 
 /* The ports go on as new ones, once the kernel told of their interfaces. */
-static void end_halt(struct lagd *lagd) {
-    hold_or_release_ports(lagd);
-    lagd->halt->silent = false;
-    ask_links(lagd);
+static void end_halt(struct protocol *protocol) {
+    hold_or_release_ports(protocol);
+    protocol->halt->silent = false;
+    ask_links(protocol);
 }
 
 /* The kernel told of the device, which is up or down. At the start the ports of the last daemon go on first, so that their peers can be told. */
-void follow_device(struct lagd *lagd, bool up) {
-    struct halt_private *own = lagd->halt;
+void follow_device(struct protocol *protocol, bool up) {
+    struct halt_private *own = protocol->halt;
     if (own->down == !up) return;
     own->down = !up;
-    if (!lagd->has_started) return;
-    (void)say(lagd, LOG_WARNING | ABOUT_CARRIER, "carry %s: the device is %s", lagd->settings.carry,
+    if (!protocol->process->has_started) return;
+    (void)say(protocol->process, LOG_WARNING | ABOUT_CARRIER, "carry %s: the device is %s", protocol->settings->carry,
         up ? "up: LACP begins" : "down: LACP ends, and begins again once it is up");
-    for (uint16_t i = 0; i < lagd->link_count; i++) lagd->links[i].changed = true;
+    EACH_LINK(link, protocol->ports) link->changed = true;
     if (up)
-        end_halt(lagd);
+        end_halt(protocol);
     else
-        begin_halt(lagd);
-    look_at_carry(&lagd->carry);
-    look_at_bundle(lagd);
+        begin_halt(protocol);
+    protocol->plane->changed = true;
+    look_at_bundle(protocol);
 }
 
 /* The device was opened. Where no port goes on, no peer has to be told. */
-void start_halt(struct lagd *lagd) {
-    lagd->halt->down = tap_index(lagd->tap) != 0 && !is_tap_up(lagd->tap);
-    lagd->halt->silent = lagd->halt->down && !lagd->resuming;
+void start_halt(struct protocol *protocol) {
+    protocol->halt->down = tap_index(protocol->device) != 0 && !is_tap_up(protocol->device);
+    protocol->halt->silent = protocol->halt->down && !protocol->process->resuming;
 }
 
 /* The ports of the last daemon went on. */
-void halt_if_down(struct lagd *lagd) {
-    if (lagd->halt->down)
-        (void)say(lagd, LOG_NOTICE | ABOUT_CARRIER, "carry %s: the device is down: LACP begins once it is up", lagd->settings.carry);
-    if (lagd->halt->down && !lagd->halt->silent) begin_halt(lagd);
-    if (!lagd->halt->down && lagd->halt->silent) end_halt(lagd);
+void halt_if_down(struct protocol *protocol) {
+    if (protocol->halt->down)
+        (void)say(protocol->process, LOG_NOTICE | ABOUT_CARRIER, "carry %s: the device is down: LACP begins once it is up",
+            protocol->settings->carry);
+    if (protocol->halt->down && !protocol->halt->silent) begin_halt(protocol);
+    if (!protocol->halt->down && protocol->halt->silent) end_halt(protocol);
 }
 
 /* 100 ms passed. */
-void pass_halt_tick(struct lagd *lagd) {
-    struct halt_private *own = lagd->halt;
+void pass_halt_tick(struct protocol *protocol) {
+    struct halt_private *own = protocol->halt;
     if (!own->down || own->silent) return;
-    if (++own->ticks >= MOST_TICKS || end_is_told(lagd)) fall_silent(lagd);
+    if (++own->ticks >= MOST_TICKS || end_is_told(protocol->ports)) fall_silent(protocol);
 }

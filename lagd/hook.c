@@ -8,7 +8,7 @@
 #include <sys/prctl.h>
 #include <unistd.h>
 
-#include "daemon.h"
+#include "lagd.h"
 
 /* It has no signal blocked or ignored, and a session of its own. */
 static void set_attributes(posix_spawnattr_t *attributes) {
@@ -46,16 +46,16 @@ static int start(const char *path, char *const *environment) {
 }
 
 /* Runs the hook, with the state of the bundle in its environment. */
-void run_hook(struct lagd *lagd, const char *path, enum bundle_state before) {
+void run_hook(struct protocol *protocol, const char *path, enum bundle_state before) {
     char name[NAME_ROOM + 16], state[32], previous[32], links_text[32], carrying[32], aggregator[32];
     char *environment[] = {"PATH=/usr/sbin:/usr/bin:/sbin:/bin", name, state, previous, links_text, carrying, aggregator, NULL};
     int fault;
-    snprintf(name, sizeof name, "LAGD_BUNDLE=%s", lagd->settings.name);
-    snprintf(state, sizeof state, "LAGD_STATE=%s", bundle_state_text(lagd->bundle.state));
+    snprintf(name, sizeof name, "LAGD_BUNDLE=%s", protocol->settings->name);
+    snprintf(state, sizeof state, "LAGD_STATE=%s", bundle_state_text(protocol->bundle.state));
     snprintf(previous, sizeof previous, "LAGD_PREVIOUS=%s", bundle_state_text(before));
-    snprintf(links_text, sizeof links_text, "LAGD_LINKS=%u", lagd->bundle.links);
-    snprintf(carrying, sizeof carrying, "LAGD_CARRYING=%u", lagd->bundle.carrying);
-    snprintf(aggregator, sizeof aggregator, "LAGD_AGGREGATOR=%u", lagd->bundle.aggregator);
+    snprintf(links_text, sizeof links_text, "LAGD_LINKS=%u", protocol->bundle.links);
+    snprintf(carrying, sizeof carrying, "LAGD_CARRYING=%u", protocol->bundle.carrying);
+    snprintf(aggregator, sizeof aggregator, "LAGD_AGGREGATOR=%u", protocol->bundle.aggregator);
     fault = start(path, environment);
-    if (fault) (void)say(lagd, LOG_WARNING | ABOUT_HOOK, "hook %s: %s", path, strerror(fault));
+    if (fault) (void)say(protocol->process, LOG_WARNING | ABOUT_HOOK, "hook %s: %s", path, strerror(fault));
 }

@@ -7,7 +7,7 @@
 #include <sys/un.h>
 #include <unistd.h>
 
-#include "daemon.h"
+#include "lagd.h"
 
 #define SOCKET "/run/systemd/journal/socket"
 #define LONGEST_ENTRY 2048
@@ -33,30 +33,19 @@ static const char *id_of(unsigned kind) {
     }
 }
 
-struct journal_private {
-    int opened; /* of tell_journal */
-};
-
-struct journal_private *make_journal_private(void) {
-    struct journal_private *made = make_room(sizeof *made);
-    made->opened = -1;
-    return made;
-}
-
 /* Hands the journal a line of printable text. Answers what became of it: the journal may be elsewhere, and then the line goes to
  * standard output. */
-enum journaled tell_journal(struct lagd *lagd, int level, const char *text) {
-    struct journal_private *own = lagd->journal;
+enum journaled tell_journal(struct process *process, int level, const char *text) {
     static const struct sockaddr_un to = {.sun_family = AF_UNIX, .sun_path = SOCKET};
     char entry[LONGEST_ENTRY], bundle_name[4 * NAME_ROOM];
     const char *id = id_of((unsigned)level & KINDS);
     int used;
-    if (own->opened < 0) own->opened = socket(AF_UNIX, SOCK_DGRAM | SOCK_NONBLOCK | SOCK_CLOEXEC, 0);
-    if (own->opened < 0) return NOT_JOURNALED;
-    (void)escape(bundle_name, sizeof bundle_name, lagd->settings.name, strlen(lagd->settings.name), false);
+    if (process->journal < 0) process->journal = socket(AF_UNIX, SOCK_DGRAM | SOCK_NONBLOCK | SOCK_CLOEXEC, 0);
+    if (process->journal < 0) return NOT_JOURNALED;
+    (void)escape(bundle_name, sizeof bundle_name, process->settings->name, strlen(process->settings->name), false);
     used = snprintf(entry, sizeof entry, "MESSAGE=%s\nPRIORITY=%d\nSYSLOG_IDENTIFIER=lagd\nLAGD_BUNDLE=%s\n", text, level & LOG_PRIMASK,
         bundle_name);
     if (id) used += snprintf(entry + used, sizeof entry - (size_t)used, "MESSAGE_ID=%s\n", id);
-    if (sendto(own->opened, entry, (size_t)used, MSG_NOSIGNAL, (const struct sockaddr *)&to, sizeof to) == used) return JOURNALED;
+    if (sendto(process->journal, entry, (size_t)used, MSG_NOSIGNAL, (const struct sockaddr *)&to, sizeof to) == used) return JOURNALED;
     return errno == EAGAIN ? JOURNAL_IS_BUSY : NOT_JOURNALED;
 }

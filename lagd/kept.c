@@ -7,7 +7,7 @@
 #include <string.h>
 #include <unistd.h>
 
-#include "daemon.h"
+#include "tap/tap.h"
 
 /* What a file has: it is whole if its last line is. */
 #define FORM "boot=%s\nmac=%s\njoins=%u\nqueues=%u %u %u %u\nrps=%s\nend\n"
@@ -26,12 +26,12 @@ const char *boot_id(char room[static BOOT_ROOM]) {
 }
 
 /* Opens the file of an interface that has this kind of settings; or answers NULL, and errno tells why not. */
-FILE *open_kept(struct folder_private *folder, const struct link *link, const char *kind, int flags, const char *mode) {
+FILE *open_kept(int folder, const struct link *link, const char *kind, int flags, const char *mode) {
     char name[64];
     FILE *file;
     int opened, fault;
     name_file(link, kind, name);
-    opened = openat(folder_file(folder), name, flags | O_NOFOLLOW | O_CLOEXEC, 0600);
+    opened = openat(folder, name, flags | O_NOFOLLOW | O_CLOEXEC, 0600);
     file = opened < 0 ? NULL : fdopen(opened, mode);
     if (file || opened < 0) return file;
     fault = errno;
@@ -41,22 +41,22 @@ FILE *open_kept(struct folder_private *folder, const struct link *link, const ch
 }
 
 /* Puts a file of an interface in the place of another one; answers whether it did. */
-bool replace_kept(const struct folder_private *folder, const struct link *link, const char *from, const char *to) {
+bool replace_kept(int folder, const struct link *link, const char *from, const char *to) {
     char old[64], next[64];
     name_file(link, from, old);
     name_file(link, to, next);
-    return renameat(folder_file(folder), old, folder_file(folder), next) == 0;
+    return renameat(folder, old, folder, next) == 0;
 }
 
 /* What a file of an interface has is of no use any more. */
-void drop_kept(const struct folder_private *folder, const struct link *link, const char *kind) {
+void drop_kept(int folder, const struct link *link, const char *kind) {
     char name[64];
     name_file(link, kind, name);
-    (void)unlinkat(folder_file(folder), name, 0);
+    (void)unlinkat(folder, name, 0);
 }
 
 /* Reads what an interface had before an earlier daemon changed it; answers whether there is something. */
-static bool recall(struct folder_private *folder, const struct link *link, struct kept *kept) {
+static bool recall(int folder, const struct link *link, struct kept *kept) {
     char boot[BOOT_ROOM], now[BOOT_ROOM], mac[32], own[32], end[8] = "";
     struct ethtool_channels *queues = &kept->queues;
     int found;
@@ -73,41 +73,41 @@ static bool recall(struct folder_private *folder, const struct link *link, struc
 }
 
 /* Keeps what an interface has to get back, for the next daemon, where this one is killed. */
-void write_settings(struct lagd *lagd, const struct link *link, const struct kept *kept) {
+void write_settings(struct process *process, const struct link *link, const struct kept *kept) {
     char boot[BOOT_ROOM], mac[32];
     const struct ethtool_channels *queues = &kept->queues;
-    FILE *file = open_kept(lagd->folder, link, "member", O_WRONLY | O_CREAT | O_TRUNC, "w");
+    FILE *file = open_kept(process->folder, link, "member", O_WRONLY | O_CREAT | O_TRUNC, "w");
     if (file)
         fprintf(file, FORM, boot_id(boot), mac_text(link->mac, mac), kept->joins, queues->rx_count, queues->tx_count,
             queues->other_count, queues->combined_count, kept->steered[0] ? kept->steered : "-");
     if (!file || fclose(file) != 0)
-        (void)say(lagd, LOG_WARNING | ABOUT_DATA, "port %u %s: if this daemon is killed, nobody knows what the interface had: %s",
+        (void)say(process, LOG_WARNING | ABOUT_DATA, "port %u %s: if this daemon is killed, nobody knows what the interface had: %s",
             link->settings.number, link->name, strerror(errno));
 }
 
 /* Keeps what an interface has now, before it is changed, and adds to it what it had before an earlier daemon changed it. */
-void keep_settings(struct lagd *lagd, const struct link *link, struct kept *kept) {
+void keep_settings(struct process *process, const struct link *link, struct kept *kept) {
     struct kept first;
-    if (recall(lagd->folder, link, &first)) {
+    if (recall(process->folder, link, &first)) {
         kept->joins |= first.joins;
         if (first.queues.combined_count + first.queues.rx_count + first.queues.tx_count > 0) kept->queues = first.queues;
         if (first.steered[0]) memcpy(kept->steered, first.steered, sizeof kept->steered);
     }
-    write_settings(lagd, link, kept);
+    write_settings(process, link, kept);
 }
 
 /* What an interface had before an earlier daemon changed it; zeros, where nobody knows. */
-void recall_settings(struct folder_private *folder, const struct link *link, struct kept *kept) {
+void recall_settings(int folder, const struct link *link, struct kept *kept) {
     if (!recall(folder, link, kept)) *kept = (struct kept){0};
 }
 
 /* The interface has what it had before. */
-void forget_settings(const struct folder_private *folder, const struct link *link) {
+void forget_settings(int folder, const struct link *link) {
     drop_kept(folder, link, "member");
 }
 
 /* The interface is gone for good. One that went to another namespace may come back, and is what it was made then. */
-void forget_interface(const struct folder_private *folder, const struct link *link) {
+void forget_interface(int folder, const struct link *link) {
     forget_settings(folder, link);
     drop_kept(folder, link, "queues");
 }

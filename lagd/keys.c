@@ -8,7 +8,7 @@
 #include <string.h>
 #include <sys/ioctl.h>
 
-#include "daemon.h"
+#include "lagd.h"
 
 /* The most speeds of one key, and the most words of the masks of link modes, which are of no interest here. */
 #define MOST_SPEEDS 4
@@ -28,9 +28,7 @@ struct keys_private {
     uint16_t speeds; /* how many speeds of one key have aggregators */
 };
 
-struct keys_private *make_keys_private(void) {
-    return make_room(sizeof(struct keys_private));
-}
+MAKES_ROOM(keys)
 
 /* Whether aggregators of a key were made, for ports to which it was given. */
 bool has_aggregator(const struct keys_private *own, uint16_t given) {
@@ -40,28 +38,28 @@ bool has_aggregator(const struct keys_private *own, uint16_t given) {
 }
 
 /* Whether a key is one of aggregators, or of a port that is not this one. */
-static bool is_taken(struct lagd *lagd, uint16_t key, const struct link *but) {
-    struct keys_private *own = lagd->keys;
+static bool is_key_of_any(struct protocol *protocol, uint16_t key, const struct link *but) {
+    struct keys_private *own = protocol->keys;
     for (uint16_t i = 0; i < own->known_count; i++)
         if (own->known[i].key == key || own->known[i].given == key) return true;
-    for (uint16_t i = 0; i < lagd->link_count; i++)
-        if (&lagd->links[i] != but && (lagd->links[i].key == key || lagd->links[i].settings.key == key)) return true;
+    EACH_LINK(link, protocol->ports)
+        if (link != but && (link->key == key || link->settings.key == key)) return true;
     return false;
 }
 
 /* The next key behind this one that no aggregator and no port has, but for this port, if there is one. */
-uint16_t free_key(struct lagd *lagd, uint16_t behind, const struct link *but) {
+uint16_t free_key(struct protocol *protocol, uint16_t behind, const struct link *but) {
     do behind++;
-    while (is_taken(lagd, behind, but));
+    while (is_key_of_any(protocol, behind, but));
     return behind;
 }
 
 /* Chooses how many speeds of one key have aggregators, by how many ports there are, and how many ports there may be. */
-void choose_slots(struct lagd *lagd) {
-    struct keys_private *own = lagd->keys;
-    uint16_t fit = (uint16_t)(NIW_MOST_PORTS / (lagd->settings.port_count > 0 ? lagd->settings.port_count : 1));
-    own->speeds = !lagd->settings.key_by_speed ? 1 : fit < MOST_SPEEDS ? fit : MOST_SPEEDS;
-    lagd->slot_count = (uint16_t)(NIW_MOST_PORTS / own->speeds);
+void choose_slots(struct protocol *protocol) {
+    struct keys_private *own = protocol->keys;
+    uint16_t fit = (uint16_t)(NIW_MOST_PORTS / (protocol->settings->port_count > 0 ? protocol->settings->port_count : 1));
+    own->speeds = !protocol->settings->key_by_speed ? 1 : fit < MOST_SPEEDS ? fit : MOST_SPEEDS;
+    protocol->ports->slots = (uint16_t)(NIW_MOST_PORTS / own->speeds);
 }
 
 /* A key of aggregators, for ports to which this one was given: the first one is that one itself. */
@@ -73,20 +71,20 @@ static uint16_t key_for(const struct keys_private *own, uint16_t given, uint16_t
 
 /* Makes the keys of the aggregators: in the order of ports, of which those that are to come have the key of the bundle, one of the key of each,
  * and then as many of each further key that a speed may have. */
-void make_keys(struct lagd *lagd, uint16_t keys[static NIW_MOST_PORTS]) {
-    struct keys_private *own = lagd->keys;
-    for (uint16_t i = 0; i < lagd->slot_count; i++)
-        if (!has_aggregator(lagd->keys, lagd->links[i].key))
-            own->known[own->known_count++] = (struct speed_key){.given = lagd->links[i].key, .key = lagd->links[i].key};
+void make_keys(struct protocol *protocol, uint16_t keys[static NIW_MOST_PORTS]) {
+    struct keys_private *own = protocol->keys;
+    for (uint16_t i = 0; i < protocol->ports->slots; i++)
+        if (!has_aggregator(protocol->keys, protocol->ports->links[i].key))
+            own->known[own->known_count++] = (struct speed_key){.given = protocol->ports->links[i].key, .key = protocol->ports->links[i].key};
     for (uint16_t i = 0, given = own->known_count; i < given; i++) {
         for (uint16_t speed = 1; speed < own->speeds; speed++) {
-            own->known[own->known_count] = (struct speed_key){.given = own->known[i].given, .key = free_key(lagd, own->known[i].key, NULL)};
+            own->known[own->known_count] = (struct speed_key){.given = own->known[i].given, .key = free_key(protocol, own->known[i].key, NULL)};
             own->known_count++;
         }
     }
     for (uint16_t speed = 0; speed < own->speeds; speed++)
-        for (uint16_t port = 0; port < lagd->slot_count; port++)
-            keys[lagd->aggregator_count++] = key_for(lagd->keys, lagd->links[port].key, speed);
+        for (uint16_t port = 0; port < protocol->ports->slots; port++)
+            keys[protocol->aggregator_count++] = key_for(protocol->keys, protocol->ports->links[port].key, speed);
 }
 
 static bool is_same_speed(const struct speed *one, const struct speed *other) {
@@ -94,24 +92,24 @@ static bool is_same_speed(const struct speed *one, const struct speed *other) {
 }
 
 /* Whether a port still has the speed of a key. */
-static bool is_in_use(struct lagd *lagd, const struct speed_key *key) {
-    for (uint16_t i = 0; key->used && i < lagd->link_count; i++)
-        if (lagd->links[i].has_speed && lagd->links[i].key == key->given && is_same_speed(&lagd->links[i].speed, &key->speed)) return true;
+static bool is_in_use(const struct ports *ports, const struct speed_key *key) {
+    for (uint16_t i = 0; key->used && i < ports->count; i++)
+        if (ports->links[i].has_speed && ports->links[i].key == key->given && is_same_speed(&ports->links[i].speed, &key->speed)) return true;
     return false;
 }
 
 /* Chooses the key of a port: that of its speed, else one whose speed no port has any more, else one without an aggregator. */
-uint16_t choose_key(struct lagd *lagd, const struct link *link) {
-    struct keys_private *own = lagd->keys;
+uint16_t choose_key(struct protocol *protocol, const struct link *link) {
+    struct keys_private *own = protocol->keys;
     struct speed_key *unused = NULL;
-    if (!lagd->settings.key_by_speed || !link->has_speed) return link->key;
+    if (!protocol->settings->key_by_speed || !link->has_speed) return link->key;
     for (uint16_t i = 0; i < own->known_count; i++) {
         struct speed_key *key = &own->known[i];
         if (key->given != link->key) continue;
         if (key->used && is_same_speed(&key->speed, &link->speed)) return key->key;
-        if (!unused && !is_in_use(lagd, key)) unused = key;
+        if (!unused && !is_in_use(protocol->ports, key)) unused = key;
     }
-    if (!unused) return free_key(lagd, link->key, link);
+    if (!unused) return free_key(protocol, link->key, link);
     unused->used = true;
     unused->speed = link->speed;
     return unused->key;
@@ -157,22 +155,22 @@ bool write_speed(int socket, const char *name, uint32_t megabits) {
 }
 
 /* Gives a port its key. */
-static void give_key(struct lagd *lagd, struct link *link) {
-    struct niw_change change = {.key = choose_key(lagd, link), .priority = link->settings.priority,
+static void give_key(struct protocol *protocol, struct link *link) {
+    struct niw_change change = {.key = choose_key(protocol, link), .priority = link->settings.priority,
         .aggregatable = link->settings.aggregatable};
-    if (!is_done(lagd, niw_configure(&lagd->own_system, link->settings.number, &change).status, "niw_configure")) return;
+    if (!is_done(protocol->process, niw_configure(&protocol->own_system, link->settings.number, &change).status, "niw_configure")) return;
     link->settings.key = change.key;
 }
 
 /* The link of a port comes up: it has the key of its speed from now on. */
-void apply_speed(struct lagd *lagd, struct link *link, const char *interface) {
+void apply_speed(struct protocol *protocol, struct link *link, const char *interface) {
     struct speed now;
-    if (!lagd->settings.key_by_speed || link->up) return;
+    if (!protocol->settings->key_by_speed || link->up) return;
     now = read_speed(link->socket, interface);
     if (link->has_speed && is_same_speed(&now, &link->speed)) return;
     link->has_speed = true;
     link->speed = now;
-    give_key(lagd, link);
+    give_key(protocol, link);
 }
 
 /* The speed as text, as '1000 Mb/s, full duplex'. */

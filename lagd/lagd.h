@@ -2,9 +2,12 @@
 #ifndef LAGD_H
 #define LAGD_H
 
+#include <errno.h>
 #include <stdbool.h>
 #include <stddef.h>
 #include <stdint.h>
+#include <stdio.h>
+#include <stdlib.h>
 #include <syslog.h>
 #include <time.h>
 
@@ -38,31 +41,19 @@ enum { DONE = 0, REFUSED = 1, WRONG_WORD = 2 };
 #define SECOND 10
 /* The most LACPDUs of a port within a second (IEEE 802.1AX-2014, 6.4.16). */
 #define MOST_LACPDUS 3
+/* For how many nanoseconds too long the kernel may let the daemon sleep: hardly longer than frames are to gather (main.c). */
+#define TIMER_SLACK 1
 
-/* What a file keeps for a daemon, which it alone knows; and what others than it are handed. */
-struct announce_private;
-struct answers_private;
-struct asking_private;
-struct buckets_private;
-struct changes_private;
-struct fast_private;
-struct flight_private;
-struct folder_private;
-struct halt_private;
-struct held_private;
-struct keys_private;
-struct members_private;
-struct options_private;
-struct probe_private;
-struct queues_private;
-struct status_private;
-struct system_private;
-struct tap_private;
-struct team_private;
-struct team_netlink_private;
-struct carry;
+/* The parts of a daemon that stand above the protocol. */
+struct control;
+struct device;
 struct inherited;
+struct process;
 struct report;
+
+/* What a file keeps for a daemon, which it alone knows, and the field by which it is found; and who makes that. */
+#define KEEPS(file, field) struct file##_private *field;
+#define MAKES(file, field) struct file##_private *make_##file##_private(void);
 
 /* What is printed of a port. */
 struct facts {
@@ -185,7 +176,7 @@ struct bundle {
 };
 
 /* What the program is to do. */
-enum action { RUN, CHECK, SHOW, WATCH, METRICS, ORDER };
+enum action { RUN, CHECK, SHOW, SHOW_CONFIG, WATCH, METRICS, ORDER };
 
 struct options {
     enum action action;
@@ -195,6 +186,77 @@ struct options {
     const char *order, *interface; /* of ORDER: what is to be done with which interface */
     struct settings settings;
 };
+
+/* What is called as the program ends. */
+#define MOST_ENDINGS 8
+struct ending {
+    void (*act)(void *what);
+    void *what;
+};
+
+/* The program: how far it is, its lines, the files that it has open, and what it was given. */
+#define EACH_FILE_OF_PROCESS(DO) DO(status, status) DO(store, store)
+struct process {
+    const struct settings *settings;
+    struct inherited *inherited; /* what the last daemon left; all 0 where there is nothing */
+    bool has_started; /* whether the interfaces that are there were taken up */
+    bool resuming;    /* whether links that come up are not yet up for the library */
+    bool broken;   /* whether it cannot go on, as where the library refused a call: the peers are told, and it ends */
+    bool has_left; /* whether the next daemon goes on from here */
+    int epoll_file; /* the epoll by which it waits */
+    int folder;     /* of the status socket, and of what members had */
+    int output, journal; /* what lines are written to, once there were some, or -1 */
+    struct words words;
+    struct ending endings[MOST_ENDINGS]; /* the last one first */
+    unsigned ending_count;
+    EACH_FILE_OF_PROCESS(KEEPS)
+};
+EACH_FILE_OF_PROCESS(MAKES)
+
+/* The ports, and what is known of the interface of each. */
+struct ports {
+    struct link links[NIW_MOST_PORTS];
+    uint16_t count; /* up to the last port that there is, or was; numbers between may be free */
+    uint16_t slots; /* the ports of the system: those of the bundle, and room for more */
+};
+/* Each port up to the last one that there is, or was. */
+#define EACH_LINK(link, of) for (struct link *link = (of)->links; link < (of)->links + (of)->count; link++)
+#define EACH_LINK_AS_IS(link, of) for (const struct link *link = (of)->links; link < (of)->links + (of)->count; link++)
+
+/* LACP: the system of the library, what the kernel tells of interfaces, and which ports the bundle has. */
+#define EACH_FILE_OF_PROTOCOL(DO) \
+    DO(bundle, bundle_private) DO(changes, changes) DO(halt, halt) DO(keys, keys) DO(system, system)
+struct protocol {
+    struct process *process;
+    struct settings *settings; /* those that hold now */
+    struct ports *ports;
+    struct device *device;
+    struct plane *plane;     /* what carries the data */
+    struct control *control; /* who is told of changes */
+    struct niw_system own_system;
+    uint16_t aggregator_count;
+    struct bundle bundle;
+    uint64_t resumed_at; /* when it went on from the last daemon, in milliseconds of CLOCK_BOOTTIME */
+    EACH_FILE_OF_PROTOCOL(KEEPS)
+};
+EACH_FILE_OF_PROTOCOL(MAKES)
+
+/* Room for what a file keeps, of zeros. There is no daemon without it. */
+static inline void *make_room(size_t octets) {
+    void *made = calloc(1, octets);
+    if (made) return made;
+    (void)fputs("lagd: no memory\n", stderr);
+    exit(REFUSED);
+}
+
+/* What a file keeps begins as zeros. */
+#define MAKES_ROOM(file) \
+    struct file##_private *make_##file##_private(void) { return make_room(sizeof(struct file##_private)); }
+
+/* -errno of what failed just now, which is never 0. */
+static inline int last_fault(void) {
+    return errno > 0 ? -errno : -EIO;
+}
 
 /* An answer that tells whether the library refused: what depends on the call is done only where it did not. */
 #define MUST_USE __attribute__((warn_unused_result))
@@ -235,22 +297,15 @@ enum {
 };
 _Noreturn void stop(int status, const char *what, const char *which);
 void need(bool done, const char *what);
-bool is_done(struct lagd *lagd, uint32_t status, const char *call) MUST_USE;
-bool is_told(struct lagd *lagd, struct niw_number answer, const char *call, uint64_t *number) MUST_USE;
-bool say(struct lagd *lagd, int level, const char *format, ...) __attribute__((format(printf, 3, 4)));
-void complain(struct lagd *lagd, const char *format, ...) __attribute__((format(printf, 2, 3)));
+bool is_done(struct process *process, uint32_t status, const char *call) MUST_USE;
+bool is_told(struct process *process, struct niw_number answer, const char *call, uint64_t *number) MUST_USE;
+bool say(struct process *process, int level, const char *format, ...) __attribute__((format(printf, 3, 4)));
+void complain(struct process *process, const char *format, ...) __attribute__((format(printf, 2, 3)));
 size_t escape(char *text, size_t room, const char *from, size_t length, bool lines);
 
 /* journal.c */
 enum journaled { JOURNALED, JOURNAL_IS_BUSY, NOT_JOURNALED };
-enum journaled tell_journal(struct lagd *lagd, int level, const char *text);
-
-/* options.c */
-struct options *read_options(struct lagd *lagd, int argc, char **argv);
-const char *read_port(struct lagd *lagd, char *text, struct settings *settings);
-
-/* possible.c */
-int check_machine(struct lagd *lagd, const struct options *options);
+enum journaled tell_journal(struct process *process, int level, const char *text);
 
 /* address.c */
 void read_own_address(struct settings *settings);
@@ -259,16 +314,16 @@ void read_own_address(struct settings *settings);
 int open_signals(const struct settings *settings);
 
 /* locks.c */
-int lock_interface(struct lagd *lagd, int index);
+int lock_interface(struct process *process, int index);
 #define HOLDER_ROOM 64
-const char *holder_of(struct lagd *lagd, int index, char room[static HOLDER_ROOM]);
+const char *holder_of(const struct ports *ports, int index, char room[static HOLDER_ROOM]);
 
 /* links.c */
-bool open_link(struct lagd *lagd, struct link *link, int index);
-void close_link(struct lagd *lagd, struct link *link);
+bool open_link(struct protocol *protocol, struct link *link, int index);
+void close_link(struct protocol *protocol, struct link *link);
 bool is_bound(const struct link *link);
 bool has_new_carrier(struct link *link);
-void send_frame(struct lagd *lagd, struct link *link, const uint8_t *frame);
+void send_frame(struct protocol *protocol, struct link *link, const uint8_t *frame);
 
 /* frames.c */
 struct arrival {
@@ -281,269 +336,169 @@ struct arrival {
 struct msghdr;
 struct tpacket_auxdata;
 struct tpacket_auxdata aux_of(struct msghdr *message);
-void accept_frame(struct lagd *lagd, struct link *link, const struct arrival *arrival);
-void receive_frames(struct lagd *lagd, uint16_t port);
-void accept_response(struct lagd *lagd, struct link *link, const struct arrival *arrival, uint32_t id);
-void accept_response_of_queue(struct lagd *lagd, struct link *link, const struct arrival *arrival, uint32_t id);
+void accept_frame(struct protocol *protocol, struct link *link, const struct arrival *arrival);
+void receive_frames(struct protocol *protocol, uint16_t port);
+void accept_response(struct protocol *protocol, struct link *link, const struct arrival *arrival);
 void forget_partner(const struct settings *settings, struct link *link);
 bool may_be_partner(const struct link *link, const uint8_t *frame, struct system_id *actor);
 void note_actor(const struct settings *settings, struct link *link, const struct system_id *actor, const uint8_t *frame);
-void tell_strangers(struct lagd *lagd, struct link *link);
+void tell_strangers(struct protocol *protocol, struct link *link);
 
 /* markers.c */
-bool read_response(struct lagd *lagd, const struct arrival *arrival, struct niw_pdu *pdu);
+bool read_response(struct process *process, const struct arrival *arrival, struct niw_pdu *pdu);
 bool is_partners_response(const struct settings *settings, const struct link *link, const struct arrival *arrival, const struct niw_pdu *response);
 void note_odd_marker(struct link *link, const struct arrival *arrival, enum count count);
-bool may_answer(struct lagd *lagd, struct link *link, const struct arrival *arrival);
-void tell_markers(struct lagd *lagd, struct link *link);
+bool may_answer(struct protocol *protocol, struct link *link, const struct arrival *arrival);
+void tell_markers(struct protocol *protocol, struct link *link);
 
 /* How many markers come in the place of one, of a partner whose members have several queues, where ours have: one for each queue. */
 #define MARKERS_AT_ONCE 16
 
-/* queues.c */
-bool ends_flight(struct queues_private *own, const struct link *link, uint32_t *id);
-void set_identifier(uint8_t *frame, uint32_t id);
-
-/* answers.c */
-bool answer_at_once(struct lagd *lagd, struct link *link, const uint8_t *response);
-bool answer_later(struct lagd *lagd, struct link *link, const uint8_t *response);
-
 /* twins.c */
-void look_for_twins(struct lagd *lagd);
-
-/* probe.c */
-void note_response(struct lagd *lagd, const struct link *link);
+void look_for_twins(struct protocol *protocol);
 
 /* restore.c */
-bool is_restored(struct lagd *lagd, struct link *link);
+bool is_restored(struct protocol *protocol, struct link *link);
 void forget_carrier(struct link *link);
-bool has_waited(struct lagd *lagd, const struct link *link);
+bool has_waited(struct protocol *protocol, const struct link *link);
 
 /* revert.c */
-void pass_revert_second(struct lagd *lagd);
-void limit_links(struct lagd *lagd, uint16_t most);
+void pass_revert_second(struct protocol *protocol);
+void limit_links(struct protocol *protocol, uint16_t most);
 
 /* changes.c */
-int open_changes(struct lagd *lagd);
-void receive_changes(struct lagd *lagd);
-void read_messages(struct lagd *lagd, const void *messages, size_t length);
-void watch_changes(struct lagd *lagd);
+int open_changes(struct protocol *protocol);
+void receive_changes(struct protocol *protocol);
+void read_messages(struct protocol *protocol, const void *messages, size_t length);
+void watch_changes(struct protocol *protocol);
 void look_again(struct changes_private *own);
 void suspect_carriers(struct changes_private *own);
-void ask_links(struct lagd *lagd);
-void ask_now(struct lagd *lagd);
-void watch_carriers(struct lagd *lagd, bool all);
+void ask_links(struct protocol *protocol);
+void ask_now(struct protocol *protocol);
+void watch_carriers(struct protocol *protocol, bool all);
 
 /* keys.c */
-void choose_slots(struct lagd *lagd);
-void make_keys(struct lagd *lagd, uint16_t keys[static NIW_MOST_PORTS]);
+void choose_slots(struct protocol *protocol);
+void make_keys(struct protocol *protocol, uint16_t keys[static NIW_MOST_PORTS]);
 bool has_aggregator(const struct keys_private *own, uint16_t given);
-uint16_t free_key(struct lagd *lagd, uint16_t behind, const struct link *but);
-uint16_t choose_key(struct lagd *lagd, const struct link *link);
+uint16_t free_key(struct protocol *protocol, uint16_t behind, const struct link *but);
+uint16_t choose_key(struct protocol *protocol, const struct link *link);
 struct speed read_speed(int socket, const char *name);
 bool write_speed(int socket, const char *name, uint32_t megabits);
-void apply_speed(struct lagd *lagd, struct link *link, const char *interface);
+void apply_speed(struct protocol *protocol, struct link *link, const char *interface);
 const char *speed_text(const struct speed *speed, char room[static 40]);
 
 /* system.c */
-void make_system(struct lagd *lagd);
-size_t resume_system(struct lagd *lagd, struct niw_saved *saved, size_t count);
-void set_link(struct lagd *lagd, uint16_t port, bool up);
-bool apply_hold(struct lagd *lagd, uint16_t port) MUST_USE;
-bool hold_port(struct lagd *lagd, uint16_t port, bool hold);
-void lose_link(struct lagd *lagd, struct link *link);
-void send_due(struct lagd *lagd);
-void send_again(struct lagd *lagd);
-void pass_tick(struct lagd *lagd);
+void make_system(struct protocol *protocol);
+size_t resume_system(struct protocol *protocol, struct niw_saved *saved, size_t count);
+void set_link(struct protocol *protocol, uint16_t port, bool up);
+bool apply_hold(struct protocol *protocol, uint16_t port) MUST_USE;
+bool hold_port(struct protocol *protocol, uint16_t port, bool hold);
+void lose_link(struct protocol *protocol, struct link *link);
+void send_due(struct protocol *protocol);
+void send_again(struct protocol *protocol);
+bool pass_system_tick(struct protocol *protocol);
 uint64_t ticks_passed(const struct system_private *own);
 uint64_t seconds_passed(const struct system_private *own);
 uint64_t milliseconds(void);
 void expect_lacpdu(struct link *link);
-void tell_end(struct lagd *lagd);
-bool end_is_told(struct lagd *lagd);
-bool end_system(struct lagd *lagd);
+void tell_end(struct protocol *protocol);
+bool end_is_told(const struct ports *ports);
+bool end_system(struct protocol *protocol);
 
 /* membership.c */
 #define ORDER_ROOM 384
-uint16_t count_links(struct lagd *lagd);
-bool place_ports(struct lagd *lagd, struct settings *settings);
-void keep_left_ports(struct lagd *lagd);
-void leave_left_ports(struct lagd *lagd);
-void begin_link(struct lagd *lagd, uint16_t port);
-void join_port(struct lagd *lagd, uint16_t port, const struct port_settings *settings);
-void leave_port(struct lagd *lagd, uint16_t port);
-bool begin_hold(struct lagd *lagd, uint16_t port);
-void stay_port(struct lagd *lagd, uint16_t port);
-void pass_leaving_tick(struct lagd *lagd);
+uint16_t count_links(const struct ports *ports);
+bool place_ports(struct protocol *protocol, struct settings *settings);
+void keep_left_ports(struct protocol *protocol);
+void leave_left_ports(struct protocol *protocol);
+void begin_link(struct protocol *protocol, uint16_t port);
+void join_port(struct protocol *protocol, uint16_t port, const struct port_settings *settings);
+void leave_port(struct protocol *protocol, uint16_t port);
+bool begin_hold(struct protocol *protocol, uint16_t port);
+void stay_port(struct protocol *protocol, uint16_t port);
+void pass_leaving_tick(struct protocol *protocol);
 struct interface;
-bool may_put_in(struct lagd *lagd, const struct link *link);
-bool stays_outside(struct lagd *lagd, struct link *link, int master);
-void tell_taken_out(struct lagd *lagd, struct link *link);
-void follow_port(struct lagd *lagd, const struct interface *interface);
-bool take_name(struct lagd *lagd, const struct link *link, const struct interface *interface);
-void answer_order(struct lagd *lagd, char *order, char answer[static ORDER_ROOM]);
+bool may_put_in(struct protocol *protocol, const struct link *link);
+bool stays_outside(struct protocol *protocol, struct link *link, int master);
+void tell_taken_out(struct protocol *protocol, struct link *link);
+void follow_port(struct protocol *protocol, const struct interface *interface);
+bool accept_name(struct protocol *protocol, const struct link *link, const struct interface *interface);
+void answer_order(struct protocol *protocol, char *order, char answer[static ORDER_ROOM]);
 
 /* halt.c */
 bool is_halted(const struct halt_private *own);
 bool is_silent(const struct halt_private *own);
-void follow_device(struct lagd *lagd, bool up);
-void start_halt(struct lagd *lagd);
-void halt_if_down(struct lagd *lagd);
-void pass_halt_tick(struct lagd *lagd);
+void follow_device(struct protocol *protocol, bool up);
+void start_halt(struct protocol *protocol);
+void halt_if_down(struct protocol *protocol);
+void pass_halt_tick(struct protocol *protocol);
 
 /* ports.c */
-void read_views(struct lagd *lagd);
-void print_changes(struct lagd *lagd);
-bool print_change(struct lagd *lagd, struct link *link);
-struct facts facts_of(struct lagd *lagd, const struct link *link);
-bool carries(struct lagd *lagd, const struct link *link);
+void read_views(struct protocol *protocol);
+void print_all_changes(struct protocol *protocol);
+bool print_change(struct protocol *protocol, struct link *link);
+struct facts facts_of(struct protocol *protocol, const struct link *link);
+bool carries(struct protocol *protocol, const struct link *link);
 
 /* bundle.c */
-void go_on_as(struct lagd *lagd, const struct bundle *last);
-void choose_aggregator(struct lagd *lagd, struct bundle *now);
-bool is_as_good_as_any(struct lagd *lagd, uint16_t aggregator);
-void look_at_bundle(struct lagd *lagd);
-void allow_bundle_line(struct lagd *lagd);
-void end_bundle(struct lagd *lagd);
+void go_on_as(struct protocol *protocol, const struct bundle *last);
+void choose_aggregator(struct protocol *protocol, struct bundle *now);
+bool is_as_good_as_any(struct protocol *protocol, uint16_t aggregator);
+void look_at_bundle(struct protocol *protocol);
+void allow_bundle_line(struct bundle_private *own);
+void end_bundle(struct protocol *protocol);
 
 /* hook.c */
-void run_hook(struct lagd *lagd, const char *path, enum bundle_state before);
+void run_hook(struct protocol *protocol, const char *path, enum bundle_state before);
 
 /* reload.c */
-void reload(struct lagd *lagd, const char *file);
-
-/* folder.c */
-void open_folder(struct lagd *lagd, const char *folder);
-int folder_file(const struct folder_private *folder);
-unsigned long network_namespace(void);
+void reload(struct protocol *protocol, const char *file);
 
 /* kept.c */
 #define BOOT_ROOM 64
 const char *boot_id(char room[static BOOT_ROOM]);
+void forget_interface(int folder, const struct link *link);
+
+/* folder.c */
+int open_folder(const char *folder);
+unsigned long network_namespace(void);
+uint64_t namespace_cookie(void);
+
+/* bpf.c */
+void *make_map(uint32_t size, uint32_t count, int *map);
+int attach_program(int program, int index, bool egress);
+bool exchange_program(int attached, int program, int index);
+void *map_again(uint32_t size, uint32_t count, int map);
+void detach_program(int attached);
+uint32_t program_keeper(int attached);
 
 /* store.c */
-void open_store(struct lagd *lagd);
+void open_store(struct process *process);
 bool has_store(void);
-void put_stored(struct lagd *lagd, const char *kind, int number, int fd);
-int claim_stored(struct lagd *lagd, const char *kind, int number);
-void return_stored(struct lagd *lagd, const char *kind, int number, int fd);
-void drop_stored(struct lagd *lagd, const char *kind, int number);
-void close_stored(struct lagd *lagd, const char *kind, int number, int fd);
-void drop_unclaimed(struct lagd *lagd);
-void leave_store(struct lagd *lagd);
-int packet_socket(struct lagd *lagd, const char *kind, int of, int index, int type);
-
-/* state.c */
-uint64_t boottime(void);
-void recall_state(struct lagd *lagd);
-uint32_t first_marker_left(const struct inherited *inherited);
-bool was_away_briefly(const struct inherited *inherited);
-bool save_state(struct lagd *lagd);
-void keep_port(struct lagd *lagd, uint16_t number, uint16_t port);
-void end_state(struct lagd *lagd);
-
-/* resume.c */
-void begin_resuming(struct lagd *lagd);
-unsigned resume(struct lagd *lagd);
-void resume_data(struct lagd *lagd, unsigned count);
-void resume_conversations(struct lagd *lagd, bool goes_on);
-void release_former_members(struct lagd *lagd);
-void end_resuming(struct lagd *lagd);
-bool leave_state(struct lagd *lagd);
-
-/* status.c */
-/* A question has a name of an interface at most, with its words. */
-#define QUESTION_ROOM 256
-/* How the answer begins to who has no place. */
-#define REFUSAL "refused: "
-void open_status(struct lagd *lagd, const char *folder);
-void accept_callers(struct lagd *lagd);
-void serve_caller(struct lagd *lagd, uint32_t caller);
-void pass_tick_of_callers(struct lagd *lagd);
-void tell_watchers(struct status_private *own, const char *line, size_t length);
-void tell_watchers_of(struct lagd *lagd, const struct link *link);
-
-/* tap.c */
-int tap_index(const struct tap_private *own);
-void follow_tap(struct lagd *lagd, bool has_carrier, const char *discipline);
-
-/* carry.c */
-void look_at_carry(struct carry *carry);
-void settle_carry(struct lagd *lagd);
-void pass_carry_tick(struct lagd *lagd);
-
-/* host.c */
-void lose_device(struct lagd *lagd);
-void open_carry(struct lagd *lagd);
-void end_carry(struct lagd *lagd);
-void serve_data(struct lagd *lagd, uint32_t tag);
-void lose_data(struct lagd *lagd, uint16_t port);
-
-/* guard.c */
-void fit_queue(struct lagd *lagd, const struct link *link, const char *interface);
-
-/* members.c */
-bool open_member(struct lagd *lagd, struct link *link);
-void close_member(struct lagd *lagd, struct link *link);
-void forget_member(struct members_private *own, uint16_t port);
-void drain_member(struct lagd *lagd, uint16_t port);
-bool reopen_member(struct lagd *lagd, struct link *link);
-void follow_address(struct lagd *lagd, struct link *link, const uint8_t *mac);
-void send_new_marker(struct lagd *lagd, struct link *link, const uint8_t *frame);
-void follow_speed(struct lagd *lagd, const struct link *link, const char *interface);
-
-/* moves.c */
-void ask_moves(struct carry *carry);
-bool can_empty(struct lagd *lagd, uint16_t port);
-bool empty_port(struct lagd *lagd, uint16_t port);
-
-/* carry_show.c */
-void show_carry(struct lagd *lagd, enum form form);
-void show_member(struct lagd *lagd, const struct link *link, enum form form);
-void show_markers(struct lagd *lagd);
-void show_queues(struct lagd *lagd, const struct link *link, enum form form);
-void show_frames_waiting(struct lagd *lagd, enum form form);
-void show_waiting_buckets(struct lagd *lagd, enum form form);
-
-/* report.c: what is written for whoever asks. What 64 ports of the longest names have to tell has less than 2 MiB. */
-#define REPORT_ROOM 4194304
-struct report {
-    char text[REPORT_ROOM];
-    size_t length;
-};
-void add(struct report *report, const char *format, ...) __attribute__((format(printf, 2, 3)));
-void add_string(struct report *report, const char *text);
-
-/* show.c, json.c, metrics.c */
-struct view {
-    struct facts facts;
-    uint64_t receive, mux, current_while, wait_while;
-    struct niw_actor own;
-    uint8_t state; /* the state octet of its own side */
-    struct niw_info partner;
-};
-bool view_of(struct lagd *lagd, const struct link *link, struct view *view) MUST_USE;
-void write_text(struct lagd *lagd);
-void write_json(struct lagd *lagd);
-void write_json_event(struct lagd *lagd, const struct link *link);
-void write_metrics(struct lagd *lagd);
-void add_head(struct report *report, const char *name, const char *kind, const char *help);
-void add_bundle_value(struct lagd *lagd, const char *name, const char *kind, const char *help, uint64_t value);
-void add_value_of(struct report *report, const char *name, const char *bundle, uint64_t value);
-void add_port_value(struct lagd *lagd, const char *name, const struct link *link, uint64_t value);
-
-/* asking.c */
-int ask_daemons(struct lagd *lagd, const struct options *options);
+void put_stored(struct store_private *own, const char *kind, int number, int fd);
+int claim_stored(struct store_private *own, const char *kind, int number);
+void return_stored(struct store_private *own, const char *kind, int number, int fd);
+void drop_stored(struct store_private *own, const char *kind, int number);
+void close_stored(struct store_private *own, const char *kind, int number, int fd);
+void drop_unclaimed(struct store_private *own);
+void leave_store(struct store_private *own);
+int packet_socket(struct process *process, const char *kind, int of, int index, int type);
+int attach_stored(struct store_private *own, const char *kind, int program, int index, bool egress);
+void detach_stored(struct store_private *own, const char *kind, int index, int attached);
 
 /* service.c: the manager of services, if there is one */
-void notify_ready(struct lagd *lagd);
+void notify_ready(const struct bundle *bundle);
 void notify_reloading(void);
 void notify_stopping(void);
-void notify_state(struct lagd *lagd);
+void notify_state(const struct bundle *bundle);
 void notify_alive(void);
 
+/* possible.c */
+int fault_of_programs(const struct settings *settings);
+
 /* privileges.c */
-void drop_privileges(struct lagd *lagd);
+void drop_privileges(struct process *process);
 
 /* main.c */
 #define MOST_CALLERS 64
@@ -561,5 +516,41 @@ enum {
 bool await_input(int epoll_file, int fd, uint32_t tag);
 bool await_output(int epoll_file, int fd, uint32_t tag);
 void await_no_more(int epoll_file, int fd);
+
+/* daemon.c */
+void call_at_exit(struct process *process, void (*act)(void *what), void *what);
+
+/* options.c */
+const char *read_port(struct words *words, char *text, struct settings *settings);
+
+/* status.c */
+/* A question has a name of an interface at most, with its words. */
+#define QUESTION_ROOM 256
+/* How the answer begins to who has no place. */
+#define REFUSAL "refused: "
+void open_status(struct process *process, const char *folder);
+void accept_callers(struct process *process);
+void pass_tick_of_callers(struct process *process);
+void tell_watchers(struct status_private *own, const char *line, size_t length);
+void tell_watchers_of(struct control *control, const struct link *link);
+
+/* state.c, resume.c */
+uint64_t boottime(void);
+uint32_t first_marker_left(const struct inherited *inherited);
+bool was_away_briefly(const struct inherited *inherited);
+void begin_resuming(struct protocol *protocol);
+unsigned resume(struct protocol *protocol);
+void resume_data(struct protocol *protocol, unsigned count);
+void end_resuming(struct protocol *protocol);
+
+/* carry.c */
+void settle_carry(struct plane *plane);
+void pass_carry_tick(struct protocol *protocol);
+void open_carry(struct protocol *protocol);
+void end_carry(struct plane *plane);
+void remove_all_members(struct protocol *protocol);
+void fit_queue(const struct plane *plane, const struct link *link, const char *interface);
+bool reopen_member(struct plane *plane, struct link *link);
+void follow_address(struct plane *plane, struct link *link, const uint8_t *mac);
 
 #endif

@@ -11,7 +11,7 @@
 #include <sys/stat.h>
 #include <unistd.h>
 
-#include "daemon.h"
+#include "lagd.h"
 
 /* A pipe with room has at least so many octets of it. */
 #define LONGEST_LINE 512
@@ -31,25 +31,14 @@ size_t escape(char *text, size_t room, const char *from, size_t length, bool lin
     return used;
 }
 
-struct lines_private {
-    int opened; /* of output */
-};
-
-struct lines_private *make_lines_private(void) {
-    struct lines_private *made = make_room(sizeof *made);
-    made->opened = -1;
-    return made;
-}
-
 /* Standard output; of a pipe or a terminal an opening of our own, at which no write waits. */
-static int output(struct lagd *lagd) {
-    struct lines_private *own = lagd->lines;
+static int output(struct process *process) {
     struct stat file;
-    if (own->opened >= 0) return own->opened;
+    if (process->output >= 0) return process->output;
     if (isatty(STDOUT_FILENO) || (fstat(STDOUT_FILENO, &file) == 0 && S_ISFIFO(file.st_mode)))
-        own->opened = open("/proc/self/fd/1", O_WRONLY | O_NONBLOCK | O_NOCTTY | O_CLOEXEC);
-    if (own->opened < 0) own->opened = STDOUT_FILENO;
-    return own->opened;
+        process->output = open("/proc/self/fd/1", O_WRONLY | O_NONBLOCK | O_NOCTTY | O_CLOEXEC);
+    if (process->output < 0) process->output = STDOUT_FILENO;
+    return process->output;
 }
 
 /* Whether the journal reads standard output: then a line begins with its priority, and has no time of its own. */
@@ -94,61 +83,64 @@ void need(bool done, const char *what) {
 
 /* Whether the library did what it was called for. It refuses only what this program should not ask: then the loop tells the peers, and
  * ends; before the loop the program ends at once. */
-bool is_done(struct lagd *lagd, uint32_t status, const char *call) {
+bool is_done(struct process *process, uint32_t status, const char *call) {
     char why[64];
-    if (status == NIW_OK || lagd->broken) return status == NIW_OK;
+    if (status == NIW_OK || process->broken) return status == NIW_OK;
     snprintf(why, sizeof why, "refused with %" PRIu32, status);
-    if (!lagd->has_started) stop(REFUSED, call, why);
-    lagd->broken = true;
-    (void)say(lagd, LOG_ERR | ABOUT_REFUSAL, "%s: %s; the peers are told, and the daemon ends", call, why);
+    if (!process->has_started) stop(REFUSED, call, why);
+    process->broken = true;
+    (void)say(process, LOG_ERR | ABOUT_REFUSAL, "%s: %s; the peers are told, and the daemon ends", call, why);
     return false;
 }
 
 /* Writes what a reader of the library tells; answers whether it told it. */
-bool is_told(struct lagd *lagd, struct niw_number answer, const char *call, uint64_t *number) {
+bool is_told(struct process *process, struct niw_number answer, const char *call, uint64_t *number) {
     *number = answer.number;
-    return is_done(lagd, answer.status, call);
+    return is_done(process, answer.status, call);
 }
 
 /* Prints a text with the time, in UTC, or for the journal with its priority; watchers get it, too. Answers whether it was printed. */
-static bool say_text(struct lagd *lagd, int level, const char *text) {
+static bool say_text(struct process *process, int level, const char *text) {
     char line[LONGEST_LINE], time[32];
     struct timespec now;
     int used;
     clock_gettime(CLOCK_REALTIME, &now);
     used = snprintf(line, sizeof line, "%s.%03ldZ %s\n", time_text(now.tv_sec, time), now.tv_nsec / 1000000, text);
-    if (!(level & WATCHED)) tell_watchers(lagd->status, line, (size_t)used);
+    if (!(level & WATCHED)) tell_watchers(process->status, line, (size_t)used);
     if (in_journal()) {
-        enum journaled told = tell_journal(lagd, level, text);
+        enum journaled told = tell_journal(process, level, text);
         if (told != NOT_JOURNALED) return told == JOURNALED;
         used = snprintf(line, sizeof line, "<%d>%s\n", level & LOG_PRIMASK, text);
     }
-    return write_line(output(lagd), line, (size_t)used);
+    return write_line(output(process), line, (size_t)used);
+}
+
+/* Forms a text that a terminal only shows. */
+static void form(char text[static LONGEST_TEXT], const char *format, va_list given) {
+    char raw[LONGEST_TEXT];
+    int length = vsnprintf(raw, sizeof raw, format, given);
+    (void)escape(text, LONGEST_TEXT, raw, length < (int)sizeof raw ? (size_t)length : sizeof raw - 1, false);
 }
 
 /* Prints a line; answers whether it did. */
-bool say(struct lagd *lagd, int level, const char *format, ...) {
-    char raw[LONGEST_TEXT], text[LONGEST_TEXT];
+bool say(struct process *process, int level, const char *format, ...) {
+    char text[LONGEST_TEXT];
     va_list given;
-    int length;
     va_start(given, format);
-    length = vsnprintf(raw, sizeof raw, format, given);
+    form(text, format, given);
     va_end(given);
-    (void)escape(text, sizeof text, raw, length < (int)sizeof raw ? (size_t)length : sizeof raw - 1, false);
-    return say_text(lagd, level, text);
+    return say_text(process, level, text);
 }
 
 /* Tells what is wrong with a file: at the start on standard error, and later by a line. */
-void complain(struct lagd *lagd, const char *format, ...) {
-    char raw[LONGEST_TEXT], text[LONGEST_TEXT];
+void complain(struct process *process, const char *format, ...) {
+    char text[LONGEST_TEXT];
     va_list given;
-    int length;
     va_start(given, format);
-    length = vsnprintf(raw, sizeof raw, format, given);
+    form(text, format, given);
     va_end(given);
-    (void)escape(text, sizeof text, raw, length < (int)sizeof raw ? (size_t)length : sizeof raw - 1, false);
-    if (lagd->has_started)
-        (void)say_text(lagd, LOG_WARNING | ABOUT_FILE, text);
+    if (process->has_started)
+        (void)say_text(process, LOG_WARNING | ABOUT_FILE, text);
     else
         write_error(text);
 }

@@ -15,25 +15,25 @@
 #include <sys/socket.h>
 #include <unistd.h>
 
-#include "daemon.h"
+#include "lagd.h"
 
 /* How many ticks a failure is told of, so that a queue that is full now and then is one line. */
 #define TROUBLE_TICKS 50
 
-/* A packet socket of an interface, for the frames of the slow protocols alone; or -1, and errno. */
-static int open_socket(struct lagd *lagd, int index) {
+/* A packet socket of an interface, for the frames of the slow protocols alone; or -errno. */
+static int open_socket(struct process *process, int index) {
     struct sockaddr_ll address = {.sll_family = AF_PACKET, .sll_protocol = htons(ETH_P_SLOW), .sll_ifindex = index};
     struct packet_mreq member = {index, PACKET_MR_MULTICAST, 6, {0x01, 0x80, 0xc2, 0x00, 0x00, 0x02}};
-    int opened = packet_socket(lagd, "lacp", index, index, SOCK_RAW);
-    if (opened < 0) return -1;
+    int opened = packet_socket(process, "lacp", index, index, SOCK_RAW);
+    if (opened < 0) return opened;
     (void)setsockopt(opened, SOL_SOCKET, SO_PRIORITY, &(int){TC_PRIO_CONTROL}, sizeof(int)); /* before data */
     (void)setsockopt(opened, SOL_PACKET, PACKET_IGNORE_OUTGOING, &(int){1}, sizeof(int));
     if (setsockopt(opened, SOL_PACKET, PACKET_AUXDATA, &(int){1}, sizeof(int)) == 0
         && bind(opened, (struct sockaddr *)&address, sizeof address) == 0
         && setsockopt(opened, SOL_PACKET, PACKET_ADD_MEMBERSHIP, &member, sizeof member) == 0)
         return opened;
-    close_stored(lagd, "lacp", index, opened);
-    return -1;
+    close_stored(process->store, "lacp", index, opened);
+    return last_fault();
 }
 
 /* The queueing disciplines in which a frame of control passes data that waits: by its priority, or as the rare frame of a flow of its
@@ -102,37 +102,45 @@ bool has_new_carrier(struct link *link) {
     return true;
 }
 
-static void close_files(struct lagd *lagd, struct link *link) {
-    if (link->socket >= 0) close_stored(lagd, "lacp", link->index, link->socket);
-    if (link->lock >= 0) close_stored(lagd, "lock", link->index, link->lock);
+static void close_files(struct store_private *store, struct link *link) {
+    if (link->socket >= 0) close_stored(store, "lacp", link->index, link->socket);
+    if (link->lock >= 0) close_stored(store, "lock", link->index, link->lock);
     if (link->carrier_file >= 0) close(link->carrier_file);
     link->socket = link->lock = link->carrier_file = -1;
 }
 
-/* Takes up the interface of this number; answers whether it did, and else `trouble` has why not. */
-bool open_link(struct lagd *lagd, struct link *link, int index) {
-    bool taken;
-    link->lock = lock_interface(lagd, index);
-    link->socket = link->lock < 0 ? -1 : open_socket(lagd, index);
+/* Opens what an interface that is taken up has; answers 0, or -errno. */
+static int open_files(struct protocol *protocol, struct link *link, int index) {
     link->index = index;
-    taken = link->socket >= 0 && await_input(lagd->epoll_file, link->socket, link->settings.number) && lagd->plane.carrying->add(lagd, link);
-    link->trouble = taken ? 0 : errno;
-    if (taken) put_stored(lagd, "lock", index, link->lock);
-    if (taken) put_stored(lagd, "lacp", index, link->socket);
+    link->lock = lock_interface(protocol->process, index);
+    if (link->lock < 0) return link->lock;
+    link->socket = open_socket(protocol->process, index);
+    if (link->socket < 0) return link->socket;
+    if (!await_input(protocol->process->epoll_file, link->socket, link->settings.number)) return last_fault();
+    return protocol->plane->carrying->add(protocol->plane, link);
+}
+
+/* Takes up the interface of this number; answers whether it did, and else `trouble` has why not. */
+bool open_link(struct protocol *protocol, struct link *link, int index) {
+    bool taken;
+    link->trouble = -open_files(protocol, link, index);
+    taken = link->trouble == 0;
+    if (taken) put_stored(protocol->process->store, "lock", index, link->lock);
+    if (taken) put_stored(protocol->process->store, "lacp", index, link->socket);
     link->carrier_file = open_carrier(index);
     link->carrier_changes[0] = 0;
     link->trouble_ticks = TROUBLE_TICKS;
     link->unsent = link->queued = false;
     link->changed = true;
-    if (!taken) close_files(lagd, link);
+    if (!taken) close_files(protocol->process->store, link);
     return taken;
 }
 
 /* The interface is gone. */
-void close_link(struct lagd *lagd, struct link *link) {
-    lagd->plane.carrying->remove(lagd, link);
-    lagd->plane.carrying->follow_mtu(lagd, link, 0);
-    close_files(lagd, link);
+void close_link(struct protocol *protocol, struct link *link) {
+    CALL(protocol->plane->carrying->remove, protocol->plane, link);
+    CALL(protocol->plane->carrying->follow_mtu, protocol->plane, link, 0);
+    close_files(protocol->process->store, link);
     link->unsent = false;
     link->changed = true;
 }
@@ -164,7 +172,7 @@ static void keep_lacpdu(struct link *link, const uint8_t *frame) {
 
 /* Sends a frame, with the address that the interface has now. An LACPDU that the kernel does not take is sent again at each tick,
  * until a newer one is due; a response is lost, as on a wire. A response tells of what came before its marker, and may pass what goes. */
-void send_frame(struct lagd *lagd, struct link *link, const uint8_t *frame) {
+void send_frame(struct protocol *protocol, struct link *link, const uint8_t *frame) {
     bool is_lacpdu = frame[SUBTYPE_AT] == SUBTYPE_LACP;
     uint8_t sent[NIW_FRAME];
     if (link->socket < 0) return;
@@ -176,11 +184,11 @@ void send_frame(struct lagd *lagd, struct link *link, const uint8_t *frame) {
     memcpy(sent + 6, link->mac, 6);
     if (is_lacpdu) link->tried = true;
     if (give_past_data(link, sent)) {
-        if (is_done(lagd, niw_count_sent(&link->counters, sent, sizeof sent), "niw_count_sent") && is_lacpdu) note_lacpdu(link);
+        if (is_done(protocol->process, niw_count_sent(&link->counters, sent, sizeof sent), "niw_count_sent") && is_lacpdu) note_lacpdu(link);
         return;
     }
     link->counts[FAILED_SENT]++;
-    suspect_carriers(lagd->changes);
+    suspect_carriers(protocol->changes);
     if (errno != ENETDOWN && errno != ENXIO) { /* of a link that is down the kernel tells, too */
         link->trouble = errno;
         link->trouble_ticks = TROUBLE_TICKS;

@@ -10,7 +10,7 @@
 #include <sys/stat.h>
 #include <unistd.h>
 
-#include "daemon.h"
+#include "lagd.h"
 
 /* Below 0x0600 there are lengths in a frame, and no types; the kernel has no use of its own for this one. */
 #define PROTOCOL 0x05ac
@@ -26,14 +26,14 @@ static unsigned long inode_of(int fd) {
     return fd >= 0 && fstat(fd, &file) == 0 ? (unsigned long)file.st_ino : 0;
 }
 
-/* Finds the lock of an interface that is not this socket; answers whether the kernel told. */
-static bool find_lock(int index, int but, struct lock *found) {
+/* Finds the lock of an interface that is not this socket; answers 0, or -errno where the kernel does not tell. */
+static int find_lock(int index, int but, struct lock *found) {
     FILE *file = fopen("/proc/self/net/packet", "re");
     unsigned long own = inode_of(but);
     char line[256];
-    bool whole;
+    int fault;
     *found = (struct lock){0};
-    if (!file) return false;
+    if (!file) return last_fault();
     while (fgets(line, sizeof line, file)) {
         struct lock lock;
         unsigned protocol;
@@ -41,33 +41,31 @@ static bool find_lock(int index, int but, struct lock *found) {
         if (sscanf(line, "%*s %*s %*s %x %d %*s %*s %u %lu", &protocol, &at, &lock.user, &lock.inode) != 4) continue;
         if (protocol == PROTOCOL && at == index && lock.inode != own) *found = lock;
     }
-    whole = !ferror(file);
+    fault = ferror(file) ? -EIO : 0;
     fclose(file);
-    return whole;
+    return fault;
 }
 
-/* Takes the lock of an interface; or -1, and errno: EADDRINUSE where somebody has it. Of two that take it at once one at least sees the
+/* Takes the lock of an interface; or answers -errno: -EADDRINUSE where somebody has it. Of two that take it at once one at least sees the
  * other one, since each is bound before it looks. It looks twice: of a list that changes the kernel may leave one out. */
-int lock_interface(struct lagd *lagd, int index) {
+int lock_interface(struct process *process, int index) {
     struct sockaddr_ll address = {.sll_family = AF_PACKET, .sll_protocol = htons(PROTOCOL), .sll_ifindex = index};
-    int opened = packet_socket(lagd, "lock", index, index, SOCK_DGRAM);
-    struct lock other;
-    if (opened < 0) return -1;
-    if (bind(opened, (struct sockaddr *)&address, sizeof address) == 0 && find_lock(index, opened, &other)
-        && (other.inode != 0 || find_lock(index, opened, &other))) {
-        if (other.inode == 0) return opened;
-        errno = EADDRINUSE;
-    }
-    close_stored(lagd, "lock", index, opened);
-    return -1;
+    int opened = packet_socket(process, "lock", index, index, SOCK_DGRAM), fault;
+    struct lock other = {0};
+    if (opened < 0) return opened;
+    fault = bind(opened, (struct sockaddr *)&address, sizeof address) < 0 ? last_fault() : find_lock(index, opened, &other);
+    if (fault == 0 && other.inode == 0) fault = find_lock(index, opened, &other);
+    if (fault == 0 && other.inode == 0) return opened;
+    close_stored(process->store, "lock", index, opened);
+    return fault == 0 ? -EADDRINUSE : fault;
 }
 
 /* Who has the lock of an interface. */
-const char *holder_of(struct lagd *lagd, int index, char room[static HOLDER_ROOM]) {
+const char *holder_of(const struct ports *ports, int index, char room[static HOLDER_ROOM]) {
     struct lock lock;
     bool own = false;
-    if (!find_lock(index, -1, &lock) || lock.inode == 0) return "one that has left it now";
-    for (uint16_t i = 0; i < lagd->link_count; i++) own = own || inode_of(lagd->links[i].lock) == lock.inode;
+    if (find_lock(index, -1, &lock) < 0 || lock.inode == 0) return "one that has left it now";
+    EACH_LINK_AS_IS(link, ports) own = own || inode_of(link->lock) == lock.inode;
     snprintf(room, HOLDER_ROOM, own ? "this lagd, by another name" : "one of user %u", lock.user);
     return room;
 }

@@ -47,8 +47,8 @@ void await_no_more(int epoll_file, int fd) {
 }
 
 /* At the start, what cannot be waited for ends the program. */
-static void await_at_start(struct lagd *lagd, int fd, uint32_t tag) {
-    if (!await_input(lagd->epoll_file, fd, tag)) stop(REFUSED, "epoll", strerror(errno));
+static void await_at_start(struct process *process, int fd, uint32_t tag) {
+    if (!await_input(process->epoll_file, fd, tag)) stop(REFUSED, "epoll", strerror(errno));
 }
 
 static int open_clock(void) {
@@ -59,10 +59,32 @@ static int open_clock(void) {
 }
 
 /* Tells what changed. */
-static void tell_changes(struct lagd *lagd) {
-    read_views(lagd);
-    print_changes(lagd);
-    look_at_bundle(lagd);
+static void tell_changes(struct protocol *protocol) {
+    read_views(protocol);
+    print_all_changes(protocol);
+    look_at_bundle(protocol);
+}
+
+/* A second passed. */
+static void pass_second(struct lagd *lagd) {
+    EACH_LINK(link, &lagd->ports) {
+        if (link->lines < MOST_LINES) link->lines++;
+    }
+    look_for_twins(&lagd->protocol);
+    allow_bundle_line(lagd->protocol.bundle_private);
+    pass_revert_second(&lagd->protocol);
+    watch_changes(&lagd->protocol);
+    (void)save_state(lagd->state);
+    notify_alive();
+}
+
+/* 100 ms passed. */
+static void pass_tick(struct lagd *lagd) {
+    if (!pass_system_tick(&lagd->protocol)) return;
+    pass_halt_tick(&lagd->protocol);
+    pass_leaving_tick(&lagd->protocol);
+    pass_carry_tick(&lagd->protocol);
+    if (ticks_passed(lagd->protocol.system) % SECOND == 0) pass_second(lagd);
 }
 
 /* Makes up the ticks that passed, and then sends once. */
@@ -71,10 +93,10 @@ static void pass_time(struct lagd *lagd, int clock) {
     if (read(clock, &passed, sizeof passed) != sizeof passed) return;
     if (passed > MOST_TICKS) passed = MOST_TICKS;
     for (; passed > 0; passed--) pass_tick(lagd);
-    send_due(lagd);
-    send_again(lagd);
-    pass_tick_of_callers(lagd);
-    tell_changes(lagd);
+    send_due(&lagd->protocol);
+    send_again(&lagd->protocol);
+    pass_tick_of_callers(&lagd->process);
+    tell_changes(&lagd->protocol);
 }
 
 /* What is ready beside frames and callers. */
@@ -94,34 +116,46 @@ static struct ready ready_of(const struct epoll_event *events, int count) {
 }
 
 /* Takes the frames of all ports, and sends once what they made due. */
-static void serve_all_frames(struct lagd *lagd, const struct epoll_event *events, int count) {
+static void serve_all_frames(struct protocol *protocol, const struct epoll_event *events, int count) {
     bool taken = false;
     for (int i = 0; i < count; i++) {
         uint32_t port = events[i].data.u32;
-        if (port > NIW_MOST_PORTS || lagd->links[port - 1].socket < 0) continue;
-        receive_frames(lagd, (uint16_t)port);
+        if (port > NIW_MOST_PORTS || protocol->ports->links[port - 1].socket < 0) continue;
+        receive_frames(protocol, (uint16_t)port);
         taken = true;
     }
     if (!taken) return;
-    send_due(lagd);
-    look_at_carry(&lagd->carry);
+    send_due(protocol);
+    protocol->plane->changed = true;
 }
 
 /* Takes the data of all members, and then that of the host. */
-static void serve_all_data(struct lagd *lagd, const struct epoll_event *events, int count) {
-    bool host = is_cutting(lagd);
+static void serve_all_data(struct tap_plane *tap, const struct epoll_event *events, int count) {
+    bool host = is_cutting(tap);
     for (int i = 0; i < count; i++) {
         host |= events[i].data.u32 == HOST;
-        if (events[i].data.u32 >= MEMBERS) serve_data(lagd, events[i].data.u32);
+        if (events[i].data.u32 >= MEMBERS) serve_data(tap, events[i].data.u32);
     }
-    settle_carry(lagd);
-    if (host) serve_data(lagd, HOST);
+    settle_carry(tap->plane);
+    if (host) serve_data(tap, HOST);
 }
 
 /* Serves those who ask. */
-static void serve_callers(struct lagd *lagd, const struct epoll_event *events, int count) {
+static void serve_all_callers(struct control *control, const struct epoll_event *events, int count) {
     for (int i = 0; i < count; i++)
-        if (events[i].data.u32 >= CALLERS && events[i].data.u32 < HOST) serve_caller(lagd, events[i].data.u32 - CALLERS);
+        if (events[i].data.u32 >= CALLERS && events[i].data.u32 < HOST) serve_caller(control, events[i].data.u32 - CALLERS);
+}
+
+/* The next daemon is to go on: answers whether it can. */
+static bool leave_state(struct lagd *lagd) {
+    CALL(lagd->plane.carrying->keep_device, &lagd->plane, true);
+    lagd->process.has_left = save_state(lagd->state);
+    if (!lagd->process.has_left) CALL(lagd->plane.carrying->keep_device, &lagd->plane, false);
+    if (!lagd->process.has_left) return false;
+    leave_store(lagd->process.store);
+    (void)say(&lagd->process, LOG_NOTICE | ABOUT_HANDOVER, "the next daemon may go on from here; %u frames that waited are lost",
+        lagd->plane.carrying->frames_waiting(&lagd->plane));
+    return true;
 }
 
 /* Takes a signal; answers whether it ends the daemon. */
@@ -132,7 +166,7 @@ static bool is_end(struct lagd *lagd, int signals, const char *file) {
     case SIGUSR2: ask_moves(&lagd->carry); return false;
     case SIGUSR1: return !leave_state(lagd);
     case SIGHUP:
-        if (file) reload(lagd, file);
+        if (file) reload(&lagd->protocol, file);
         return !file;
     default: return true;
     }
@@ -140,23 +174,23 @@ static bool is_end(struct lagd *lagd, int signals, const char *file) {
 
 /* What came in a turn, the clock after the frames that waited. */
 static void serve(struct lagd *lagd, const struct epoll_event *events, int count, struct ready ready, int clock) {
-    if (ready.change) receive_changes(lagd);
-    serve_all_frames(lagd, events, count);
-    serve_all_data(lagd, events, count);
-    serve_callers(lagd, events, count);
-    if (ready.caller) accept_callers(lagd);
-    watch_carriers(lagd, ready.tick);
+    if (ready.change) receive_changes(&lagd->protocol);
+    serve_all_frames(&lagd->protocol, events, count);
+    serve_all_data(&lagd->tap, events, count);
+    serve_all_callers(&lagd->control, events, count);
+    if (ready.caller) accept_callers(&lagd->process);
+    watch_carriers(&lagd->protocol, ready.tick);
     if (ready.tick) pass_time(lagd, clock);
-    settle_carry(lagd);
+    settle_carry(&lagd->plane);
 }
 
 /* Waits for events. While many frames come, and none is left, it lets some gather before they are taken: each wake-up costs whoever sends
  * them, too. */
-static int wait_for(struct lagd *lagd, struct epoll_event *events) {
-    if (lagd->carry.taken >= MANY && !lagd->carry.more_waits) (void)nanosleep(&(struct timespec){0, GATHERS}, NULL);
-    lagd->carry.taken = 0;
-    lagd->carry.more_waits = false;
-    return epoll_wait(lagd->epoll_file, events, MOST_EVENTS, is_cutting(lagd) ? 0 : -1);
+static int wait_for(struct tap_plane *tap, struct epoll_event *events) {
+    if (tap->carry->taken >= MANY && !tap->carry->more_waits) (void)nanosleep(&(struct timespec){0, GATHERS}, NULL);
+    tap->carry->taken = 0;
+    tap->carry->more_waits = false;
+    return epoll_wait(tap->process->epoll_file, events, MOST_EVENTS, is_cutting(tap) ? 0 : -1);
 }
 
 /* Waits, and serves what comes. The first signal that ends it, or a refusal of the library, makes it tell the peers; it ends when they
@@ -164,20 +198,20 @@ static int wait_for(struct lagd *lagd, struct epoll_event *events) {
 static void run(struct lagd *lagd, int signals, int clock, const char *file) {
     struct epoll_event events[MOST_EVENTS];
     bool ends = false;
-    for (unsigned end_ticks = 0; !ends || (end_ticks < END_TICKS && !end_is_told(lagd));) {
-        int count = wait_for(lagd, events);
+    for (unsigned end_ticks = 0; !ends || (end_ticks < END_TICKS && !end_is_told(&lagd->ports));) {
+        int count = wait_for(&lagd->tap, events);
         struct ready ready = ready_of(events, count);
         bool ends_now = count < 0 && errno != EINTR;
         serve(lagd, events, count, ready, clock);
-        if (lagd->broken) end_carry(lagd);
+        if (lagd->process.broken) end_carry(&lagd->plane);
         if (ready.tick && ends) end_ticks++;
         if (ready.signal) ends_now = is_end(lagd, signals, ends ? NULL : file);
-        if (lagd->has_left || (ends && ends_now)) return;
-        if (ends || !(ends_now || lagd->broken)) continue;
+        if (lagd->process.has_left || (ends && ends_now)) return;
+        if (ends || !(ends_now || lagd->process.broken)) continue;
         ends = true;
         notify_stopping();
-        end_state(lagd);
-        tell_end(lagd);
+        end_state(lagd->state);
+        tell_end(&lagd->protocol);
     }
 }
 
@@ -195,45 +229,45 @@ static int run_daemon(struct lagd *lagd, const struct options *options) {
     lagd->settings = options->settings;
     (void)prctl(PR_SET_TIMERSLACK, TIMER_SLACK);
     signals = open_signals(&lagd->settings);
-    lagd->epoll_file = epoll_create1(EPOLL_CLOEXEC);
-    if (lagd->epoll_file < 0) stop(REFUSED, "epoll", strerror(errno));
+    lagd->process.epoll_file = epoll_create1(EPOLL_CLOEXEC);
+    if (lagd->process.epoll_file < 0) stop(REFUSED, "epoll", strerror(errno));
     if (lagd->settings.system_auto) read_own_address(&lagd->settings);
-    open_folder(lagd, options->folder);
-    open_store(lagd);
+    lagd->process.folder = open_folder(options->folder);
+    open_store(&lagd->process);
     choose_plane(&lagd->plane, &lagd->settings);
-    recall_state(lagd);
-    make_system(lagd);
-    begin_resuming(lagd);
-    open_carry(lagd);
-    start_halt(lagd);
-    await_at_start(lagd, open_changes(lagd), CHANGES);
-    open_status(lagd, options->folder);
+    recall_state(lagd->state);
+    make_system(&lagd->protocol);
+    begin_resuming(&lagd->protocol);
+    open_carry(&lagd->protocol);
+    start_halt(&lagd->protocol);
+    await_at_start(&lagd->process, open_changes(&lagd->protocol), CHANGES);
+    open_status(&lagd->process, options->folder);
     clock = open_clock();
-    await_at_start(lagd, signals, SIGNALS);
-    await_at_start(lagd, clock, CLOCK);
-    drop_privileges(lagd);
-    resumed = resume(lagd);
-    lagd->has_started = true;
-    resume_data(lagd, resumed);
-    halt_if_down(lagd);
-    leave_left_ports(lagd);
-    end_resuming(lagd);
-    (void)save_state(lagd);
-    tell_changes(lagd);
-    settle_carry(lagd);
-    notify_ready(lagd);
+    await_at_start(&lagd->process, signals, SIGNALS);
+    await_at_start(&lagd->process, clock, CLOCK);
+    drop_privileges(&lagd->process);
+    resumed = resume(&lagd->protocol);
+    lagd->process.has_started = true;
+    resume_data(&lagd->protocol, resumed);
+    halt_if_down(&lagd->protocol);
+    leave_left_ports(&lagd->protocol);
+    end_resuming(&lagd->protocol);
+    (void)save_state(lagd->state);
+    tell_changes(&lagd->protocol);
+    settle_carry(&lagd->plane);
+    notify_ready(&lagd->protocol.bundle);
     run(lagd, signals, clock, options->file);
-    if (lagd->has_left) return DONE;
-    end_carry(lagd);
-    return end_system(lagd) ? DONE : REFUSED;
+    if (lagd->process.has_left) return DONE;
+    end_carry(&lagd->plane);
+    return end_system(&lagd->protocol) ? DONE : REFUSED;
 }
 
 int main(int argc, char **argv) {
     struct lagd *lagd = make_lagd();
     const struct options *options;
     keep_standard_files();
-    options = read_options(lagd, argc, argv);
+    options = read_options(&lagd->control, argc, argv);
     if (options->action == RUN) return run_daemon(lagd, options);
-    if (options->action == CHECK) return check_machine(lagd, options);
-    return ask_daemons(lagd, options);
+    if (options->action == CHECK) return check_machine(&lagd->control, options);
+    return ask_daemons(&lagd->control, options);
 }

@@ -5,7 +5,7 @@
 #include <net/ethernet.h>
 #include <string.h>
 
-#include "daemon.h"
+#include "lagd.h"
 
 /* The milliseconds of a slot. The slots of a second are looked at, and the one that passes, so that no second has more responses. */
 #define SLOT 100
@@ -20,11 +20,11 @@ static bool is_from_partner(const struct link *link, const struct arrival *arriv
 }
 
 /* Reads a Marker PDU; answers whether the frame is a marker response. */
-bool read_response(struct lagd *lagd, const struct arrival *arrival, struct niw_pdu *pdu) {
+bool read_response(struct process *process, const struct arrival *arrival, struct niw_pdu *pdu) {
     struct niw_decoded decoded;
     if (arrival->length <= SUBTYPE_AT || arrival->frame[SUBTYPE_AT] != SUBTYPE_MARKER) return false;
     decoded = niw_decode(arrival->frame + ETH_HLEN, arrival->length - ETH_HLEN, pdu);
-    return decoded.status != NIW_BAD_PAYLOAD && is_done(lagd, decoded.status, "niw_decode") && pdu->tlv_type == NIW_MARKER_RESPONSE;
+    return decoded.status != NIW_BAD_PAYLOAD && is_done(process, decoded.status, "niw_decode") && pdu->tlv_type == NIW_MARKER_RESPONSE;
 }
 
 /* Whether a response is the partner's, to a marker of this port and system. The number is for whoever sent the marker. */
@@ -48,9 +48,9 @@ static void pass_slots(struct answered *answered, uint64_t slot) {
 
 /* Whether a marker is answered: any second has marker-responses of them at most, and a quarter at most of markers that are not the
  * partner's. */
-bool may_answer(struct lagd *lagd, struct link *link, const struct arrival *arrival) {
+bool may_answer(struct protocol *protocol, struct link *link, const struct arrival *arrival) {
     struct answered *answered = &link->markers.answered;
-    unsigned partner = 0, others = 0, most = lagd->settings.marker_responses * lagd->plane.queueing->markers_at_once;
+    unsigned partner = 0, others = 0, most = protocol->settings->marker_responses * protocol->plane->queueing->markers_at_once;
     bool other = !is_from_partner(link, arrival);
     pass_slots(answered, milliseconds() / SLOT);
     for (unsigned i = 0; i < ANSWERED_SLOTS; i++) {
@@ -63,14 +63,15 @@ bool may_answer(struct lagd *lagd, struct link *link, const struct arrival *arri
 }
 
 /* Tells of responses that are not the partner's, and of markers that are not answered: at once, and then every 10 s at most. */
-void tell_markers(struct lagd *lagd, struct link *link) {
+void tell_markers(struct protocol *protocol, struct link *link) {
     uint64_t foreign = link->counts[FOREIGN_RESPONSES], unanswered = link->counts[RESPONSES_UNSENT];
     char source[32];
-    if (foreign + unanswered == link->markers.told || ticks_passed(lagd->system) < link->markers.tell_at) return;
-    if (!say(lagd, LOG_WARNING | ABOUT_MARKERS, "port %u %s: Marker PDUs, last from %s: %" PRIu64 " responses that are not the partner's, "
+    if (foreign + unanswered == link->markers.told || ticks_passed(protocol->system) < link->markers.tell_at) return;
+    if (!say(protocol->process, LOG_WARNING | ABOUT_MARKERS,
+        "port %u %s: Marker PDUs, last from %s: %" PRIu64 " responses that are not the partner's, "
             "%" PRIu64 " markers not answered",
             link->settings.number, link->name, mac_text(link->markers.source, source), foreign, unanswered))
         return;
     link->markers.told = foreign + unanswered;
-    link->markers.tell_at = ticks_passed(lagd->system) + LINE_TICKS;
+    link->markers.tell_at = ticks_passed(protocol->system) + LINE_TICKS;
 }

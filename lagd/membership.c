@@ -7,9 +7,9 @@
 #include <stdio.h>
 #include <string.h>
 
-#include "daemon.h"
 #include "netlink.h"
-#include "team.h"
+#include "device.h"
+#include "state.h"
 
 /* For how long a port that goes still answers the markers of its peer, once nothing is on its way any more, in milliseconds. */
 #define LINGERS 1000
@@ -17,26 +17,26 @@
 #define MOST_WAIT 3000
 
 /* How many links the bundle has. */
-uint16_t count_links(struct lagd *lagd) {
+uint16_t count_links(const struct ports *ports) {
     uint16_t count = 0;
-    for (uint16_t i = 0; i < lagd->link_count; i++)
-        if (lagd->links[i].used && !lagd->links[i].leaving) count++;
+    EACH_LINK_AS_IS(link, ports)
+        if (link->used && !link->leaving) count++;
     return count;
 }
 
 /* The link of this name, or NULL. */
-static struct link *link_of(struct lagd *lagd, const char *name) {
-    for (uint16_t i = 0; i < lagd->link_count; i++)
-        if (lagd->links[i].used && strcmp(lagd->links[i].name, name) == 0) return &lagd->links[i];
+static struct link *link_of(struct ports *ports, const char *name) {
+    EACH_LINK(link, ports)
+        if (link->used && strcmp(link->name, name) == 0) return link;
     return NULL;
 }
 
 /* The number that a port has, or had in the last daemon; 0 for none. */
-static uint16_t number_of(struct lagd *lagd, const char *name) {
-    const struct link *link = link_of(lagd, name);
-    if (lagd->has_started) return link ? link->settings.number : 0;
-    for (unsigned i = 0; i < lagd->inherited.port_count; i++)
-        if (strcmp(lagd->inherited.ports[i].name, name) == 0) return lagd->inherited.ports[i].number;
+static uint16_t number_of(struct protocol *protocol, const char *name) {
+    const struct link *link = link_of(protocol->ports, name);
+    if (protocol->process->has_started) return link ? link->settings.number : 0;
+    for (unsigned i = 0; i < protocol->process->inherited->port_count; i++)
+        if (strcmp(protocol->process->inherited->ports[i].name, name) == 0) return protocol->process->inherited->ports[i].number;
     return 0;
 }
 
@@ -48,44 +48,47 @@ static bool has_carried(const struct inherited *inherited, const struct inherite
 }
 
 /* Marks the numbers that a new port does not get: those of ports that are there, or, where so asked, are still to leave. */
-static void mark_taken(struct lagd *lagd, bool *taken, bool with_left) {
-    for (uint16_t i = 0; lagd->has_started && i < lagd->link_count; i++) taken[i] = lagd->links[i].used;
-    for (unsigned i = 0; with_left && !lagd->has_started && i < lagd->inherited.port_count; i++)
-        if (lagd->inherited.ports[i].number <= lagd->slot_count && has_carried(&lagd->inherited, &lagd->inherited.ports[i]))
-            taken[lagd->inherited.ports[i].number - 1] = true;
+static void mark_taken(struct protocol *protocol, bool *taken, bool with_left) {
+    for (uint16_t i = 0; protocol->process->has_started && i < protocol->ports->count; i++) taken[i] = protocol->ports->links[i].used;
+    for (unsigned i = 0; with_left && !protocol->process->has_started && i < protocol->process->inherited->port_count; i++)
+        if (protocol->process->inherited->ports[i].number <= protocol->ports->slots
+            && has_carried(protocol->process->inherited, &protocol->process->inherited->ports[i]))
+            taken[protocol->process->inherited->ports[i].number - 1] = true;
 }
 
 /* The lowest number that no port has, which has it from now on; 0 where there is none. */
-static uint16_t claim_number(struct lagd *lagd, bool *taken) {
+static uint16_t claim_number(const struct ports *ports, bool *taken) {
     uint16_t number = 1;
-    while (number <= lagd->slot_count && taken[number - 1]) number++;
-    if (number > lagd->slot_count) return 0;
+    while (number <= ports->slots && taken[number - 1]) number++;
+    if (number > ports->slots) return 0;
     taken[number - 1] = true;
     return number;
 }
 
 /* Numbers these ports. One that is there, or was in the last daemon, keeps its number, and a new one has the lowest that is free. Answers whether
  * each found one. */
-static bool number_ports(struct lagd *lagd, const struct port_settings *given, uint16_t count, uint16_t *numbers, bool with_left) {
+static bool number_ports(struct protocol *protocol, const struct port_settings *given, uint16_t count, uint16_t *numbers, bool with_left) {
     bool taken[NIW_MOST_PORTS] = {false};
-    mark_taken(lagd, taken, with_left);
+    mark_taken(protocol, taken, with_left);
     for (uint16_t i = 0; i < count; i++) {
-        numbers[i] = number_of(lagd, given[i].name);
-        if (numbers[i] > lagd->slot_count) numbers[i] = 0;
+        numbers[i] = number_of(protocol, given[i].name);
+        if (numbers[i] > protocol->ports->slots) numbers[i] = 0;
         if (numbers[i] > 0) taken[numbers[i] - 1] = true;
     }
     for (uint16_t i = 0; i < count; i++)
-        if (numbers[i] == 0 && (numbers[i] = claim_number(lagd, taken)) == 0) return false;
+        if (numbers[i] == 0 && (numbers[i] = claim_number(protocol->ports, taken)) == 0) return false;
     return true;
 }
 
 /* Puts the ports of settings into the places of their numbers; answers whether each found one. Where there is no room beside ports that the last
  * daemon left, these give way at the start. */
-bool place_ports(struct lagd *lagd, struct settings *settings) {
+bool place_ports(struct protocol *protocol, struct settings *settings) {
     struct port_settings given[NIW_MOST_PORTS];
     uint16_t numbers[NIW_MOST_PORTS], count = settings->port_count;
     memcpy(given, settings->ports, sizeof given);
-    if (!number_ports(lagd, given, count, numbers, true) && (lagd->has_started || !number_ports(lagd, given, count, numbers, false))) return false;
+    if (!number_ports(protocol, given, count, numbers, true) && (protocol->process->has_started || !number_ports(protocol, given, count, numbers,
+        false)))
+        return false;
     for (uint16_t i = 0; i < NIW_MOST_PORTS; i++) settings->ports[i] = unset_port();
     settings->port_count = 0;
     for (uint16_t i = 0; i < count; i++) {
@@ -96,130 +99,130 @@ bool place_ports(struct lagd *lagd, struct settings *settings) {
 }
 
 /* Ports of the last daemon that the file has no more go on, so that their peers can be told, or as long as they are in the device. */
-void keep_left_ports(struct lagd *lagd) {
-    for (unsigned i = 0; i < lagd->inherited.port_count; i++) {
-        const struct inherited_port *port = &lagd->inherited.ports[i];
-        struct port_settings *settings = &lagd->settings.ports[port->number - 1];
-        if (port->number > lagd->slot_count || settings->name[0] || !has_carried(&lagd->inherited, port)) continue;
+void keep_left_ports(struct protocol *protocol) {
+    for (unsigned i = 0; i < protocol->process->inherited->port_count; i++) {
+        const struct inherited_port *port = &protocol->process->inherited->ports[i];
+        struct port_settings *settings = &protocol->settings->ports[port->number - 1];
+        if (port->number > protocol->ports->slots || settings->name[0] || !has_carried(protocol->process->inherited, port)) continue;
         memcpy(settings->name, port->name, sizeof settings->name);
-        if (port->number > lagd->settings.port_count) lagd->settings.port_count = port->number;
-        lagd->links[port->number - 1].left_over = !lagd->settings.follow;
-        lagd->links[port->number - 1].followed = lagd->settings.follow;
+        if (port->number > protocol->settings->port_count) protocol->settings->port_count = port->number;
+        protocol->ports->links[port->number - 1].left_over = !protocol->settings->follow;
+        protocol->ports->links[port->number - 1].followed = protocol->settings->follow;
     }
 }
 
 /* A port begins, as the settings have it. What the library tells of it stays. */
-void begin_link(struct lagd *lagd, uint16_t port) {
-    struct link *link = &lagd->links[port - 1];
-    *link = (struct link){.name = lagd->settings.ports[port - 1].name, .settings = port_of(&lagd->settings, port), .socket = -1, .lock = -1,
+void begin_link(struct protocol *protocol, uint16_t port) {
+    struct link *link = &protocol->ports->links[port - 1];
+    *link = (struct link){.name = protocol->settings->ports[port - 1].name, .settings = port_of(protocol->settings, port), .socket = -1, .lock = -1,
         .carrier_file = -1, .lines = MOST_LINES, .changed = true, .view = link->view, .left_over = link->left_over, .followed = link->followed};
     link->key = link->settings.key;
     link->used = link->name[0] != 0;
-    link->held = wants_hold(&lagd->settings, port);
-    forget_partner(&lagd->settings, link);
+    link->held = wants_hold(protocol->settings, port);
+    forget_partner(protocol->settings, link);
 }
 
 /* Gives the library what the settings have of a port; answers whether it took that. */
-static bool configure(struct lagd *lagd, struct link *link) {
-    struct niw_change change = {.key = choose_key(lagd, link), .priority = link->settings.priority, .aggregatable = link->settings.aggregatable};
+static bool configure(struct protocol *protocol, struct link *link) {
+    struct niw_change change = {.key = choose_key(protocol, link), .priority = link->settings.priority, .aggregatable = link->settings.aggregatable};
     uint16_t port = link->settings.number;
     link->settings.key = change.key;
-    return is_done(lagd, niw_configure(&lagd->own_system, port, &change).status, "niw_configure")
-        && is_done(lagd, niw_set_mode(&lagd->own_system, port, link->settings.active, link->settings.short_timeout), "niw_set_mode")
-        && apply_hold(lagd, port);
+    return is_done(protocol->process, niw_configure(&protocol->own_system, port, &change).status, "niw_configure")
+        && is_done(protocol->process, niw_set_mode(&protocol->own_system, port, link->settings.active, link->settings.short_timeout), "niw_set_mode")
+        && apply_hold(protocol, port);
 }
 
 /* Adds a port, of whose key aggregators were made, at its place. */
-void join_port(struct lagd *lagd, uint16_t port, const struct port_settings *settings) {
-    struct link *link = &lagd->links[port - 1];
-    lagd->settings.ports[port - 1] = *settings;
-    if (port > lagd->link_count) lagd->settings.port_count = lagd->link_count = port;
+void join_port(struct protocol *protocol, uint16_t port, const struct port_settings *settings) {
+    struct link *link = &protocol->ports->links[port - 1];
+    protocol->settings->ports[port - 1] = *settings;
+    if (port > protocol->ports->count) protocol->settings->port_count = protocol->ports->count = port;
     link->left_over = link->followed = false;
-    begin_link(lagd, port);
+    begin_link(protocol, port);
     link->puts_in = true;
-    forget_member(lagd->members, port);
-    if (!configure(lagd, link)) return;
-    (void)say(lagd, LOG_NOTICE | ABOUT_PORT, "port %u %s: it joins the bundle", port, link->name);
-    ask_now(lagd);
+    CALL(protocol->plane->carrying->forget, protocol->plane, port);
+    if (!configure(protocol, link)) return;
+    (void)say(protocol->process, LOG_NOTICE | ABOUT_PORT, "port %u %s: it joins the bundle", port, link->name);
+    ask_now(protocol);
 }
 
 /* The number of a port is free. Its interface is as it was before it was a member. */
-static void end_leaving(struct lagd *lagd, struct link *link) {
+static void end_leaving(struct protocol *protocol, struct link *link) {
     uint16_t port = link->settings.number;
     link->used = false; /* no line tells that its interface is missing */
-    if (link->socket >= 0) lose_link(lagd, link);
-    (void)say(lagd, LOG_NOTICE | ABOUT_PORT, "port %u %s: it left the bundle", port, link->name);
-    lagd->settings.ports[port - 1] = unset_port();
+    if (link->socket >= 0) lose_link(protocol, link);
+    (void)say(protocol->process, LOG_NOTICE | ABOUT_PORT, "port %u %s: it left the bundle", port, link->name);
+    protocol->settings->ports[port - 1] = unset_port();
     link->left_over = link->followed = false;
-    begin_link(lagd, port);
-    look_at_carry(&lagd->carry);
-    look_at_bundle(lagd);
+    begin_link(protocol, port);
+    protocol->plane->changed = true;
+    look_at_bundle(protocol);
 }
 
 /* A port is to be out of use, or to be used again; answers whether that is done. First its conversations move to others, behind markers, so that
  * nothing of ours is on its way there once the peer takes nothing more. */
-bool begin_hold(struct lagd *lagd, uint16_t port) {
-    struct link *link = &lagd->links[port - 1];
+bool begin_hold(struct protocol *protocol, uint16_t port) {
+    struct link *link = &protocol->ports->links[port - 1];
     link->leaves_since = milliseconds();
     link->left_at = 0;
-    link->emptying = (link->held || link->leaving) && lagd->plane.carrying->can_empty(lagd, port);
+    link->emptying = (link->held || link->leaving) && protocol->plane->carrying->can_empty(protocol->plane, port);
     if (link->emptying) {
-        look_at_carry(&lagd->carry);
+        protocol->plane->changed = true;
         return true;
     }
-    if (link->held || link->leaving) drain_member(lagd, port);
-    return apply_hold(lagd, port);
+    if (link->held || link->leaving) CALL(protocol->plane->carrying->drain, protocol->plane, port);
+    return apply_hold(protocol, port);
 }
 
 /* A port that is emptied is held, once it is empty, or after a while. */
-static void end_emptying(struct lagd *lagd, uint16_t port) {
-    struct link *link = &lagd->links[port - 1];
-    if (link->up && milliseconds() - link->leaves_since < MOST_WAIT && !empty_port(lagd, port)) return;
+static void end_emptying(struct protocol *protocol, uint16_t port) {
+    struct link *link = &protocol->ports->links[port - 1];
+    if (link->up && milliseconds() - link->leaves_since < MOST_WAIT && !protocol->plane->carrying->empty(protocol->plane, port)) return;
     link->emptying = false;
     link->leaves_since = milliseconds();
-    drain_member(lagd, port);
-    if (!apply_hold(lagd, port)) return;
-    send_due(lagd);
-    read_views(lagd);
-    look_at_carry(&lagd->carry);
+    CALL(protocol->plane->carrying->drain, protocol->plane, port);
+    if (!apply_hold(protocol, port)) return;
+    send_due(protocol);
+    read_views(protocol);
+    protocol->plane->changed = true;
 }
 
 /* A port goes: its peer is told, and its conversations leave it. One whose link is down is gone at once. */
-void leave_port(struct lagd *lagd, uint16_t port) {
-    struct link *link = &lagd->links[port - 1];
+void leave_port(struct protocol *protocol, uint16_t port) {
+    struct link *link = &protocol->ports->links[port - 1];
     if (link->leaving) return;
     link->leaving = true;
     if (!link->up) {
-        end_leaving(lagd, link);
+        end_leaving(protocol, link);
         return;
     }
-    (void)say(lagd, LOG_NOTICE | ABOUT_PORT, "port %u %s: it leaves the bundle", port, link->name);
-    if (!begin_hold(lagd, port)) return;
-    send_due(lagd);
-    read_views(lagd);
+    (void)say(protocol->process, LOG_NOTICE | ABOUT_PORT, "port %u %s: it leaves the bundle", port, link->name);
+    if (!begin_hold(protocol, port)) return;
+    send_due(protocol);
+    read_views(protocol);
     link->changed = true;
-    look_at_carry(&lagd->carry);
+    protocol->plane->changed = true;
 }
 
 /* A port that was to leave stays. */
-void stay_port(struct lagd *lagd, uint16_t port) {
-    struct link *link = &lagd->links[port - 1];
+void stay_port(struct protocol *protocol, uint16_t port) {
+    struct link *link = &protocol->ports->links[port - 1];
     if (!link->leaving) return;
     link->leaving = false;
     link->changed = true;
-    (void)say(lagd, LOG_NOTICE | ABOUT_PORT, "port %u %s: it stays in the bundle", port, link->name);
-    if (!begin_hold(lagd, port)) return;
-    send_due(lagd);
-    look_at_carry(&lagd->carry);
+    (void)say(protocol->process, LOG_NOTICE | ABOUT_PORT, "port %u %s: it stays in the bundle", port, link->name);
+    if (!begin_hold(protocol, port)) return;
+    send_due(protocol);
+    protocol->plane->changed = true;
 }
 
 /* Whether nothing of ours is on a link that is held, and its partner sends nothing more there, as far as it tells. */
-static bool is_quiet(struct lagd *lagd, const struct link *link) {
+static bool is_quiet(struct protocol *protocol, const struct link *link) {
     uint64_t load = 0, held = 0;
     bool stopped = link->view.defaulted || !(link->view.partner_state & (NIW_STATE_COLLECTING | NIW_STATE_DISTRIBUTING));
     if (!link->up) return true;
-    return stopped && is_told(lagd, niw_load(&lagd->own_system, link->settings.number), "niw_load", &load) && load == 0
-        && is_told(lagd, niw_held(&lagd->own_system, link->settings.number), "niw_held", &held) && held == 0;
+    return stopped && is_told(protocol->process, niw_load(&protocol->own_system, link->settings.number), "niw_load", &load) && load == 0
+        && is_told(protocol->process, niw_held(&protocol->own_system, link->settings.number), "niw_held", &held) && held == 0;
 }
 
 /* The longest that a port takes to be quiet. */
@@ -228,136 +231,139 @@ static uint64_t most_wait(const struct settings *settings) {
 }
 
 /* Whether a port has left: it is quiet, and was so while its peer may still ask for responses to its markers, or it was waited for long enough. */
-static bool has_left(struct lagd *lagd, struct link *link) {
+static bool has_left(struct protocol *protocol, struct link *link) {
     uint64_t now = milliseconds();
     if (!link->up) return true;
     if (link->emptying) return false;
-    if (link->left_at == 0 && (is_quiet(lagd, link) || now - link->leaves_since >= most_wait(&lagd->settings))) link->left_at = now;
+    if (link->left_at == 0 && (is_quiet(protocol, link) || now - link->leaves_since >= most_wait(protocol->settings))) link->left_at = now;
     return link->left_at != 0 && now - link->left_at >= LINGERS;
 }
 
 /* A port that the device alone had is one no more. */
-static void drop_followed(struct lagd *lagd) {
-    for (uint16_t i = 0; i < lagd->link_count; i++)
-        if (lagd->links[i].used && lagd->links[i].followed && lagd->links[i].outside && !lagd->links[i].leaving) leave_port(lagd, (uint16_t)(i + 1));
+static void drop_followed(struct protocol *protocol) {
+    EACH_LINK(link, protocol->ports)
+        if (link->used && link->followed && link->outside && !link->leaving) leave_port(protocol, link->settings.number);
 }
 
 /* 100 ms passed. */
-void pass_leaving_tick(struct lagd *lagd) {
-    if (lagd->settings.follow) drop_followed(lagd);
-    for (uint16_t i = 0; i < lagd->link_count && !lagd->broken; i++)
-        if (lagd->links[i].emptying) end_emptying(lagd, (uint16_t)(i + 1));
-    for (uint16_t i = 0; i < lagd->link_count && !lagd->broken; i++)
-        if (lagd->links[i].leaving && has_left(lagd, &lagd->links[i])) end_leaving(lagd, &lagd->links[i]);
+void pass_leaving_tick(struct protocol *protocol) {
+    if (protocol->settings->follow) drop_followed(protocol);
+    for (uint16_t i = 0; i < protocol->ports->count && !protocol->process->broken; i++)
+        if (protocol->ports->links[i].emptying) end_emptying(protocol, (uint16_t)(i + 1));
+    for (uint16_t i = 0; i < protocol->ports->count && !protocol->process->broken; i++)
+        if (protocol->ports->links[i].leaving && has_left(protocol, &protocol->ports->links[i])) end_leaving(protocol, &protocol->ports->links[i]);
 }
 
 /* The ports of the last daemon went on: those that the file has no more leave. */
-void leave_left_ports(struct lagd *lagd) {
-    for (uint16_t i = 0; i < lagd->link_count; i++)
-        if (lagd->links[i].used && lagd->links[i].left_over) leave_port(lagd, (uint16_t)(i + 1));
+void leave_left_ports(struct protocol *protocol) {
+    EACH_LINK(link, protocol->ports)
+        if (link->used && link->left_over) leave_port(protocol, link->settings.number);
 }
 
 /* Whether the daemon puts an interface into the device: where others choose its ports, only what the administrator asked for, and what a file has as
  * the device is made. */
-bool may_put_in(struct lagd *lagd, const struct link *link) {
-    return !lagd->settings.follow || link->puts_in || (!lagd->has_started && is_team_new(lagd->team));
+bool may_put_in(struct protocol *protocol, const struct link *link) {
+    return !protocol->settings->follow || link->puts_in || (!protocol->process->has_started && protocol->plane->carrying->is_new(protocol->plane));
 }
 
 /* Whether an interface is no port, as others choose the ports of the device and it is not in there. */
-bool stays_outside(struct lagd *lagd, struct link *link, int master) {
-    bool outside = !may_put_in(lagd, link) && master != tap_index(lagd->tap);
+bool stays_outside(struct protocol *protocol, struct link *link, int master) {
+    bool outside = !may_put_in(protocol, link) && master != tap_index(protocol->device);
     link->changed = link->changed || link->outside != outside;
     link->outside = outside;
     return outside;
 }
 
 /* Others took a port out of the device: its peer is told, as far as the interface still sends. */
-void tell_taken_out(struct lagd *lagd, struct link *link) {
+void tell_taken_out(struct protocol *protocol, struct link *link) {
     uint16_t port = link->settings.number;
-    if (!lagd->settings.follow || !lagd->has_started) return;
+    if (!protocol->settings->follow || !protocol->process->has_started) return;
     link->puts_in = false;
-    if (!is_done(lagd, niw_hold(&lagd->own_system, port, true), "niw_hold")) return;
-    send_due(lagd);
-    if (apply_hold(lagd, port)) link->changed = true;
+    if (!is_done(protocol->process, niw_hold(&protocol->own_system, port, true), "niw_hold")) return;
+    send_due(protocol);
+    if (apply_hold(protocol, port)) link->changed = true;
 }
 
 /* The kernel told of an interface that is no port. Where it is in a device whose ports others choose, it becomes one. That may be older than what was
  * done since, as one that leaves is taken out: it is asked. */
-void follow_port(struct lagd *lagd, const struct interface *interface) {
+void follow_port(struct protocol *protocol, const struct interface *interface) {
     struct port_settings settings = unset_port();
     struct interface now;
     uint16_t port = 1;
-    if (!lagd->settings.follow || interface->master == 0 || interface->master != tap_index(lagd->tap) || interface->type != ARPHRD_ETHER) return;
+    if (!protocol->settings->follow || interface->master == 0 || interface->master != tap_index(protocol->device)
+        || interface->type != ARPHRD_ETHER)
+        return;
     if (!ask_interface(interface->index, NULL, &now) || now.master != interface->master) return;
-    while (port <= lagd->slot_count && lagd->links[port - 1].used) port++;
-    if (port > lagd->slot_count) return;
+    while (port <= protocol->ports->slots && protocol->ports->links[port - 1].used) port++;
+    if (port > protocol->ports->slots) return;
     memcpy(settings.name, interface->name, sizeof interface->name);
-    join_port(lagd, port, &settings);
-    lagd->links[port - 1].followed = lagd->links[port - 1].present = true;
-    lagd->links[port - 1].puts_in = false; /* others did, and may have taken it out since */
+    join_port(protocol, port, &settings);
+    protocol->ports->links[port - 1].followed = protocol->ports->links[port - 1].present = true;
+    protocol->ports->links[port - 1].puts_in = false; /* others did, and may have taken it out since */
 }
 
 /* The interface of a port that the device alone has was given another name: it is the same port. Answers whether it is. */
-bool take_name(struct lagd *lagd, const struct link *link, const struct interface *interface) {
-    char *name = lagd->settings.ports[link->settings.number - 1].name;
-    if (!link->followed || link->leaving || interface->master != tap_index(lagd->tap) || link_of(lagd, interface->name)) return false;
-    (void)say(lagd, LOG_NOTICE | ABOUT_PORT, "port %u %s: its name is %s now", link->settings.number, name, interface->name);
+bool accept_name(struct protocol *protocol, const struct link *link, const struct interface *interface) {
+    char *name = protocol->settings->ports[link->settings.number - 1].name;
+    if (!link->followed || link->leaving || interface->master != tap_index(protocol->device) || link_of(protocol->ports, interface->name))
+        return false;
+    (void)say(protocol->process, LOG_NOTICE | ABOUT_PORT, "port %u %s: its name is %s now", link->settings.number, name, interface->name);
     memcpy(name, interface->name, sizeof interface->name);
-    tell_watchers_of(lagd, link);
+    tell_watchers_of(protocol->control, link);
     return true;
 }
 
 /* What keeps an interface from being a port now, or NULL. */
-static const char *fault_of(struct lagd *lagd, const char *name) {
+static const char *fault_of(struct protocol *protocol, const char *name) {
     struct interface interface;
     int lock;
-    if (strcmp(name, lagd->settings.carry) == 0) return "it is the device itself";
+    if (strcmp(name, protocol->settings->carry) == 0) return "it is the device itself";
     if (!ask_interface(0, name, &interface)) return "there is no such interface";
     if (interface.type != ARPHRD_ETHER) return "it is no Ethernet interface";
-    for (uint16_t i = 0; i < lagd->link_count; i++)
-        if (lagd->links[i].used && lagd->links[i].socket >= 0 && lagd->links[i].index == interface.index) return "it is a port by another name";
-    lock = lock_interface(lagd, interface.index);
-    if (lock < 0) return errno == EADDRINUSE ? "another lagd has it" : strerror(errno);
-    close_stored(lagd, "lock", interface.index, lock);
+    EACH_LINK(link, protocol->ports)
+        if (link->used && link->socket >= 0 && link->index == interface.index) return "it is a port by another name";
+    lock = lock_interface(protocol->process, interface.index);
+    if (lock < 0) return lock == -EADDRINUSE ? "another lagd has it" : strerror(-lock);
+    close_stored(protocol->process->store, "lock", interface.index, lock);
     return NULL;
 }
 
 /* Adds a port by INTERFACE[:WORD,..]; answers what is wrong, of which some is written into `room`, or NULL, and its number. */
-static const char *add_by_words(struct lagd *lagd, char *text, uint16_t *port, char room[static ORDER_ROOM]) {
+static const char *add_by_words(struct protocol *protocol, char *text, uint16_t *port, char room[static ORDER_ROOM]) {
     static const char no_room[] = "there is no room for one more port: a restart of this bundle makes it";
     struct settings wanted = {.port_count = 0};
-    const char *expected = read_port(lagd, text, &wanted), *fault;
-    struct link *known = expected ? NULL : link_of(lagd, wanted.ports[0].name);
+    const char *expected = read_port(&protocol->process->words, text, &wanted), *fault;
+    struct link *known = expected ? NULL : link_of(protocol->ports, wanted.ports[0].name);
     snprintf(room, ORDER_ROOM, "expected %s", expected ? expected : "");
     if (expected) return room;
     if (known && !known->leaving) return "it is a port already";
     if (known) {
         *port = known->settings.number;
-        stay_port(lagd, *port);
+        stay_port(protocol, *port);
         return NULL;
     }
-    fault = fault_of(lagd, wanted.ports[0].name);
+    fault = fault_of(protocol, wanted.ports[0].name);
     if (fault) return fault;
-    if (wanted.ports[0].key != AS_BUNDLE && !has_aggregator(lagd->keys, (uint16_t)wanted.ports[0].key))
+    if (wanted.ports[0].key != AS_BUNDLE && !has_aggregator(protocol->keys, (uint16_t)wanted.ports[0].key))
         return "no port had this key at the start: a restart of this bundle makes aggregators of it";
-    for (*port = 1; *port <= lagd->slot_count && lagd->links[*port - 1].used;) ++*port;
-    if (*port > lagd->slot_count) return no_room;
-    join_port(lagd, *port, &wanted.ports[0]);
+    for (*port = 1; *port <= protocol->ports->slots && protocol->ports->links[*port - 1].used;) ++*port;
+    if (*port > protocol->ports->slots) return no_room;
+    join_port(protocol, *port, &wanted.ports[0]);
     return NULL;
 }
 
 /* Puts a port out of use, or lets it be used again; answers whether it is done, as far as anything is on its way. */
-static bool hold_by_word(struct lagd *lagd, struct link *link, bool hold) {
+static bool hold_by_word(struct protocol *protocol, struct link *link, bool hold) {
     uint16_t port = link->settings.number;
     if (link->held != hold) {
-        (void)say(lagd, LOG_NOTICE | ABOUT_PORT, "port %u %s: it is %s", port, link->name, hold ? "held" : "used again");
-        if (!hold_port(lagd, port, hold)) return true;
-        lagd->settings.ports[port - 1].hold = hold;
-        send_due(lagd);
-        read_views(lagd);
-        look_at_carry(&lagd->carry);
+        (void)say(protocol->process, LOG_NOTICE | ABOUT_PORT, "port %u %s: it is %s", port, link->name, hold ? "held" : "used again");
+        if (!hold_port(protocol, port, hold)) return true;
+        protocol->settings->ports[port - 1].hold = hold;
+        send_due(protocol);
+        read_views(protocol);
+        protocol->plane->changed = true;
     }
-    return !hold || has_left(lagd, link);
+    return !hold || has_left(protocol, link);
 }
 
 /* Whether a port that was to leave has left. */
@@ -368,22 +374,22 @@ static const char *answer_removed(const struct link *link, bool *done) {
 
 /* Does what somebody asks for, `add`, `remove`, `hold` or `release` of an interface, and answers: `done`, `wait` where it is to be asked again, as
  * `removed` is, or a refusal, and a line end. */
-void answer_order(struct lagd *lagd, char *order, char answer[static ORDER_ROOM]) {
+void answer_order(struct protocol *protocol, char *order, char answer[static ORDER_ROOM]) {
     char *name = strchr(order, ' ') + 1, room[ORDER_ROOM];
     bool adds = strncmp(order, "add ", 4) == 0, removes = strncmp(order, "remove ", 7) == 0, holds = strncmp(order, "hold ", 5) == 0, done = true;
-    struct link *link = link_of(lagd, name);
+    struct link *link = link_of(protocol->ports, name);
     const char *fault = NULL;
     uint16_t port = link ? link->settings.number : 0;
-    if (adds) fault = add_by_words(lagd, name, &port, room);
+    if (adds) fault = add_by_words(protocol, name, &port, room);
     if (strncmp(order, "removed ", 8) == 0)
         fault = answer_removed(link, &done);
     else if (!adds && (!link || (link->leaving && !removes)))
         fault = "it is no port of this bundle";
     else if (!fault && removes) {
-        leave_port(lagd, port);
-        done = !lagd->links[port - 1].used;
+        leave_port(protocol, port);
+        done = !protocol->ports->links[port - 1].used;
     } else if (!fault && !adds)
-        done = hold_by_word(lagd, link, holds);
+        done = hold_by_word(protocol, link, holds);
     if (fault)
         snprintf(answer, ORDER_ROOM, REFUSAL "%.127s: %.180s\n", name, fault);
     else if (port > 0)

@@ -3,7 +3,7 @@
 #include <inttypes.h>
 #include <stdio.h>
 
-#include "daemon.h"
+#include "control.h"
 
 void add_head(struct report *report, const char *name, const char *kind, const char *help) {
     add(report, "# HELP lagd_%s %s\n# TYPE lagd_%s %s\n", name, help, name, kind);
@@ -26,75 +26,75 @@ void add_value_of(struct report *report, const char *name, const char *bundle, u
     add(report, "} %" PRIu64 "\n", value);
 }
 
-void add_bundle_value(struct lagd *lagd, const char *name, const char *kind, const char *help, uint64_t value) {
-    add_head(&lagd->report, name, kind, help);
-    add_value_of(&lagd->report, name, lagd->settings.name, value);
+void add_bundle_value(struct control *control, const char *name, const char *kind, const char *help, uint64_t value) {
+    add_head(control->report, name, kind, help);
+    add_value_of(control->report, name, control->settings->name, value);
 }
 
-void add_port_value(struct lagd *lagd, const char *name, const struct link *link, uint64_t value) {
-    add(&lagd->report, "lagd_%s{", name);
-    add_label(&lagd->report, "bundle", lagd->settings.name);
-    add(&lagd->report, ",");
-    add_label(&lagd->report, "interface", link->name);
-    add(&lagd->report, ",port=\"%u\"} %" PRIu64 "\n", link->settings.number, value);
+void add_port_value(struct control *control, const char *name, const struct link *link, uint64_t value) {
+    add(control->report, "lagd_%s{", name);
+    add_label(control->report, "bundle", control->settings->name);
+    add(control->report, ",");
+    add_label(control->report, "interface", link->name);
+    add(control->report, ",port=\"%u\"} %" PRIu64 "\n", link->settings.number, value);
 }
 
-static void add_bundle_states(struct lagd *lagd) {
-    add_head(&lagd->report, "bundle_state", "gauge", "1 for the state of the bundle, 0 for the others");
+static void add_bundle_states(struct control *control) {
+    add_head(control->report, "bundle_state", "gauge", "1 for the state of the bundle, 0 for the others");
     for (unsigned state = 0; state < BUNDLE_STATES; state++) {
-        add(&lagd->report, "lagd_bundle_state{");
-        add_label(&lagd->report, "bundle", lagd->settings.name);
-        add(&lagd->report, ",state=\"%s\"} %u\n", bundle_state_text(state), state == lagd->bundle.state);
+        add(control->report, "lagd_bundle_state{");
+        add_label(control->report, "bundle", control->settings->name);
+        add(control->report, ",state=\"%s\"} %u\n", bundle_state_text(state), state == control->protocol->bundle.state);
     }
-    add_head(&lagd->report, "bundle_state_changes_total", "counter", "how often the bundle came to be so");
+    add_head(control->report, "bundle_state_changes_total", "counter", "how often the bundle came to be so");
     for (unsigned state = 0; state < BUNDLE_STATES; state++) {
-        add(&lagd->report, "lagd_bundle_state_changes_total{");
-        add_label(&lagd->report, "bundle", lagd->settings.name);
-        add(&lagd->report, ",state=\"%s\"} %" PRIu64 "\n", bundle_state_text(state), lagd->bundle.counts[state]);
+        add(control->report, "lagd_bundle_state_changes_total{");
+        add_label(control->report, "bundle", control->settings->name);
+        add(control->report, ",state=\"%s\"} %" PRIu64 "\n", bundle_state_text(state), control->protocol->bundle.counts[state]);
     }
 }
 
-static uint64_t is_link_up(struct lagd *lagd, const struct link *link) {
-    (void)lagd;
+static uint64_t is_link_up(struct protocol *protocol, const struct link *link) {
+    (void)protocol;
     return link->up;
 }
 
-static uint64_t is_carrying(struct lagd *lagd, const struct link *link) {
-    return carries(lagd, link);
+static uint64_t is_carrying(struct protocol *protocol, const struct link *link) {
+    return carries(protocol, link);
 }
 
-static uint64_t has_partner(struct lagd *lagd, const struct link *link) {
-    (void)lagd;
+static uint64_t has_partner(struct protocol *protocol, const struct link *link) {
+    (void)protocol;
     return !link->view.defaulted;
 }
 
-static uint64_t status_number(struct lagd *lagd, const struct link *link) {
-    return facts_of(lagd, link).status;
+static uint64_t status_number(struct protocol *protocol, const struct link *link) {
+    return facts_of(protocol, link).status;
 }
 
-static uint64_t aggregator_number(struct lagd *lagd, const struct link *link) {
-    (void)lagd;
+static uint64_t aggregator_number(struct protocol *protocol, const struct link *link) {
+    (void)protocol;
     return link->view.aggregator;
 }
 
-static uint64_t change_time(struct lagd *lagd, const struct link *link) {
-    (void)lagd;
+static uint64_t change_time(struct protocol *protocol, const struct link *link) {
+    (void)protocol;
     return (uint64_t)link->changed_at;
 }
 
-static uint64_t is_actor_churning(struct lagd *lagd, const struct link *link) {
-    (void)lagd;
+static uint64_t is_actor_churning(struct protocol *protocol, const struct link *link) {
+    (void)protocol;
     return link->churn.actor.state == NIW_CHURN_CHURN;
 }
 
-static uint64_t is_partner_churning(struct lagd *lagd, const struct link *link) {
-    (void)lagd;
+static uint64_t is_partner_churning(struct protocol *protocol, const struct link *link) {
+    (void)protocol;
     return link->churn.partner.state == NIW_CHURN_CHURN;
 }
 
 static const struct {
     const char *name, *help;
-    uint64_t (*value)(struct lagd *lagd, const struct link *link);
+    uint64_t (*value)(struct protocol *protocol, const struct link *link);
 } GAUGES[] = {
     {"port_link_up", "whether the link is up", is_link_up},
     {"port_carrying", "whether the port carries", is_carrying},
@@ -107,24 +107,26 @@ static const struct {
 };
 
 /* All of it. */
-void write_metrics(struct lagd *lagd) {
-    add_bundle_states(lagd);
-    add_bundle_value(lagd, "bundle_links", "gauge", "how many links the bundle has", lagd->bundle.links);
-    add_bundle_value(lagd, "bundle_links_carrying", "gauge", "how many of them carry", lagd->bundle.carrying);
-    add_bundle_value(lagd, "bundle_min_links", "gauge", "with fewer the bundle is down", lagd->settings.min_links);
-    add_bundle_value(lagd, "bundle_last_change_timestamp_seconds", "gauge", "when the state of the bundle changed last",
-        (uint64_t)lagd->bundle.changed_at);
+void write_metrics(struct control *control) {
+    add_bundle_states(control);
+    add_bundle_value(control, "bundle_links", "gauge", "how many links the bundle has", control->protocol->bundle.links);
+    add_bundle_value(control, "bundle_links_carrying", "gauge", "how many of them carry", control->protocol->bundle.carrying);
+    add_bundle_value(control, "bundle_min_links", "gauge", "with fewer the bundle is down", control->settings->min_links);
+    add_bundle_value(control, "bundle_last_change_timestamp_seconds", "gauge", "when the state of the bundle changed last",
+        (uint64_t)control->protocol->bundle.changed_at);
     for (size_t gauge = 0; gauge < sizeof GAUGES / sizeof *GAUGES; gauge++) {
-        add_head(&lagd->report, GAUGES[gauge].name, "gauge", GAUGES[gauge].help);
-        for (uint16_t i = 0; i < lagd->link_count; i++)
-            if (lagd->links[i].used) add_port_value(lagd, GAUGES[gauge].name, &lagd->links[i], GAUGES[gauge].value(lagd, &lagd->links[i]));
+        add_head(control->report, GAUGES[gauge].name, "gauge", GAUGES[gauge].help);
+        for (uint16_t i = 0; i < control->ports->count; i++)
+            if (control->ports->links[i].used)
+                add_port_value(control, GAUGES[gauge].name, &control->ports->links[i],
+                    GAUGES[gauge].value(control->protocol, &control->ports->links[i]));
     }
     for (unsigned count = 0; count < ALL_COUNTS; count++) {
         char name[64];
         snprintf(name, sizeof name, "port_%s_total", count_name(count));
-        add_head(&lagd->report, name, "counter", count_help(count));
-        for (uint16_t i = 0; i < lagd->link_count; i++)
-            if (lagd->links[i].used) add_port_value(lagd, name, &lagd->links[i], count_at(&lagd->links[i], count));
+        add_head(control->report, name, "counter", count_help(count));
+        for (uint16_t i = 0; i < control->ports->count; i++)
+            if (control->ports->links[i].used) add_port_value(control, name, &control->ports->links[i], count_at(&control->ports->links[i], count));
     }
-    lagd->plane.carrying->show(lagd, AS_METRICS);
+    CALL(control->plane->carrying->show, control, AS_METRICS);
 }

@@ -6,8 +6,8 @@
 #include <string.h>
 #include <sys/socket.h>
 
-#include "daemon.h"
 #include "netlink.h"
+#include "lagd.h"
 
 /* The octets of a part of an answer: the kernel makes none longer. */
 #define PART_ROOM 65536

@@ -5,7 +5,7 @@
 #include <stdlib.h>
 #include <string.h>
 
-#include "daemon.h"
+#include "control.h"
 
 static const char HELP_BEGINS[] =
     "lagd: Link Aggregation Control Protocol for interfaces of Linux\n"
@@ -13,7 +13,7 @@ static const char HELP_BEGINS[] =
     "  lagd --config FILE [--folder FOLDER]\n"
     "  lagd --check FILE\n"
     "  lagd [OPTION..] KEY PRIORITY,MAC INTERFACE[:WORD,..]..\n"
-    "  lagd --status | --watch [--json] | --metrics [--folder FOLDER]\n"
+    "  lagd --status | --show-config | --watch [--json] | --metrics [--folder FOLDER]\n"
     "\n"
     "KEY is 0 to 65535. PRIORITY,MAC is the system, as 32768,02:00:00:00:00:01; auto stands for 32768 and the address of the first\n"
     "interface. The interfaces are ports 1, 2 and on, 1 to 64 of them. One that is missing is waited for. SIGTERM, SIGINT, SIGQUIT\n"
@@ -40,6 +40,7 @@ static const struct option_text BEFORE_KEYS[] = {
 static const struct option_text BEHIND_KEYS[] = {
     {'f', "folder", "FOLDER", "of status sockets; /run/lagd if not given"},
     {'s', "status", NULL, "prints the state of each lagd of this network namespace and folder"},
+    {'D', "show-config", NULL, "prints the settings that it has now, as a file has them"},
     {'w', "watch", NULL, "prints each change of one, as it happens"},
     {'j', "json", NULL, "prints either as JSON, a line for each"},
     {'M', "metrics", NULL, "prints counts and states in the form of Prometheus"},
@@ -108,12 +109,12 @@ static const char *port_word(size_t index) {
     return PORT_WORDS[index].word;
 }
 
-static void print_help(struct lagd *lagd) {
-    struct options_private *own = lagd->options;
+static void print_help(struct control *control) {
+    struct options_private *own = control->options;
     fputs(HELP_BEGINS, stdout);
     for (size_t i = 0; i < own->row_count; i++)
         if (own->rows[i].help) print_row(&own->rows[i]);
-    printf(HELP_ENDS, list_words(lagd, port_word, PORT_WORD_COUNT, ", ", ""));
+    printf(HELP_ENDS, list_words(&control->process->words, port_word, PORT_WORD_COUNT, ", ", ""));
 }
 
 /* A command line is one line. */
@@ -129,13 +130,13 @@ static void expect(const char *expected, const char *name, const char *value) {
 }
 
 /* An option that is a key of the bundle. */
-static void apply_option(struct lagd *lagd, int letter, const char *text) {
-    struct options_private *own = lagd->options;
+static void apply_option(struct control *control, int letter, const char *text) {
+    struct options_private *own = control->options;
     const struct option_text *row = own->rows;
     while (row->letter != letter) row++;
     text = row->value ? text : "yes";
     own->has_words = true;
-    expect(set_bundle(lagd, &own->options.settings, row->name, text, THE_LINE), row->name, text);
+    expect(set_bundle(&control->process->words, &own->options.settings, row->name, text, THE_LINE), row->name, text);
 }
 
 static void choose(struct options_private *own, enum action action) {
@@ -171,99 +172,100 @@ static _Noreturn void end_printing(void) {
 }
 
 /* One option. --help and --version end the program. */
-static void read_option(struct lagd *lagd, int option, const char *last) {
-    struct options_private *own = lagd->options;
+static void act_on_letter(struct control *control, int option, const char *last) {
+    struct options_private *own = control->options;
     const char letter[] = {'-', (char)optopt, 0};
     switch (option) {
-    case 'c': note_file(lagd->options, optarg); break;
-    case 'k': choose(lagd->options, CHECK); note_file(lagd->options, optarg); break;
+    case 'c': note_file(control->options, optarg); break;
+    case 'k': choose(control->options, CHECK); note_file(control->options, optarg); break;
     case 'f': own->options.folder = optarg; break;
-    case 's': choose(lagd->options, SHOW); break;
-    case 'w': choose(lagd->options, WATCH); break;
-    case 'M': choose(lagd->options, METRICS); break;
-    case 'I': choose_order(lagd->options, "add", optarg); break;
-    case 'E': choose_order(lagd->options, "remove", optarg); break;
-    case 'L': choose_order(lagd->options, "hold", optarg); break;
-    case 'G': choose_order(lagd->options, "release", optarg); break;
+    case 's': choose(control->options, SHOW); break;
+    case 'D': choose(control->options, SHOW_CONFIG); break;
+    case 'w': choose(control->options, WATCH); break;
+    case 'M': choose(control->options, METRICS); break;
+    case 'I': choose_order(control->options, "add", optarg); break;
+    case 'E': choose_order(control->options, "remove", optarg); break;
+    case 'L': choose_order(control->options, "hold", optarg); break;
+    case 'G': choose_order(control->options, "release", optarg); break;
     case 'j': own->options.json = true; break;
-    case 'h': print_help(lagd); end_printing();
+    case 'h': print_help(control); end_printing();
     case 'V': print_version(); end_printing();
     case '?': case ':': stop(WRONG_WORD, "not an option, or its word is missing", optopt ? letter : last);
-    default: apply_option(lagd, option, optarg); break;
+    default: apply_option(control, option, optarg); break;
     }
 }
 
 /* A word of an interface; answers NULL, or what was expected. */
-static const char *read_port_word(struct lagd *lagd, const char *word, struct port_settings *port) {
+static const char *read_port_word(struct words *words, const char *word, struct port_settings *port) {
     for (size_t i = 0; i < PORT_WORD_COUNT; i++) {
         const char *value = PORT_WORDS[i].value;
         size_t begin = strlen(PORT_WORDS[i].word) - 1; /* up to N */
         if (value ? strcmp(word, PORT_WORDS[i].word) == 0 : strncmp(word, PORT_WORDS[i].word, begin) == 0)
-            return set_port(lagd, port, PORT_WORDS[i].key, value ? value : word + begin);
+            return set_port(words, port, PORT_WORDS[i].key, value ? value : word + begin);
     }
-    return list_words(lagd, port_word, PORT_WORD_COUNT, " or ", "");
+    return list_words(words, port_word, PORT_WORD_COUNT, " or ", "");
 }
 
 /* INTERFACE[:WORD,..], for the next port of settings, which ends the name there; answers NULL, or what was expected. */
-const char *read_port(struct lagd *lagd, char *text, struct settings *settings) {
+const char *read_port(struct words *words, char *text, struct settings *settings) {
     size_t length = strcspn(text, ":");
     char *rest = text[length] ? text + length + 1 : NULL;
     const char *expected = add_port(settings, text, length);
     text[length] = 0;
     for (char *word; !expected && (word = strsep(&rest, ","));)
-        expected = read_port_word(lagd, word, &settings->ports[settings->port_count - 1]);
+        expected = read_port_word(words, word, &settings->ports[settings->port_count - 1]);
     return expected;
 }
 
 /* INTERFACE[:WORD,..], for the next port. */
-static void read_link(struct lagd *lagd, char *text) {
-    struct options_private *own = lagd->options;
+static void read_link(struct control *control, char *text) {
+    struct options_private *own = control->options;
     size_t length = strcspn(text, ":");
     char *rest = text[length] ? text + length + 1 : NULL;
     expect(add_port(&own->options.settings, text, length), NULL, text);
     for (char *word; (word = strsep(&rest, ","));)
-        expect(read_port_word(lagd, word, &own->options.settings.ports[own->options.settings.port_count - 1]), NULL, word);
+        expect(read_port_word(&control->process->words, word, &own->options.settings.ports[own->options.settings.port_count - 1]), NULL, word);
 }
 
 /* KEY PRIORITY,MAC INTERFACE[:WORD,..].. */
-static void read_words(struct lagd *lagd, int count, char **words) {
-    struct settings *given = &lagd->options->options.settings;
+static void read_words(struct control *control, int count, char **words) {
+    struct settings *given = &control->options->options.settings;
     struct lack lack;
     if (count < 3) stop(WRONG_WORD, "usage", "lagd [OPTION..] KEY PRIORITY,MAC INTERFACE.., or lagd --config FILE; lagd --help tells more");
-    expect(set_bundle(lagd, given, "key", words[0], THE_LINE), "KEY", words[0]);
-    expect(set_bundle(lagd, given, "system", words[1], THE_LINE), "system", words[1]);
-    for (int i = 2; i < count; i++) read_link(lagd, words[i]);
+    expect(set_bundle(&control->process->words, given, "key", words[0], THE_LINE), "KEY", words[0]);
+    expect(set_bundle(&control->process->words, given, "system", words[1], THE_LINE), "system", words[1]);
+    for (int i = 2; i < count; i++) read_link(control, words[i]);
     lack = lack_of(given);
     expect(lack.expected, NULL, lack.key);
     strcpy(given->name, given->ports[0].name);
 }
 
 /* Reads each option, by the rows. */
-static void read_rows(struct lagd *lagd, int argc, char **argv) {
-    struct options_private *own = lagd->options;
+static void read_rows(struct control *control, int argc, char **argv) {
+    struct options_private *own = control->options;
     struct option names[OPTION_ROOM + 1] = {{NULL, 0, NULL, 0}};
     char letters[2 * OPTION_ROOM + 1] = "";
     size_t length = 0;
-    make_rows(lagd->options);
+    make_rows(control->options);
     for (size_t i = 0; i < own->row_count; i++) {
         names[i] = (struct option){own->rows[i].name, own->rows[i].value ? required_argument : no_argument, NULL, own->rows[i].letter};
         letters[length++] = own->rows[i].letter;
         if (own->rows[i].value) letters[length++] = ':';
     }
     opterr = 0;
-    for (int option; (option = getopt_long(argc, argv, letters, names, NULL)) >= 0;) read_option(lagd, option, argv[optind - 1]);
+    for (int option; (option = getopt_long(argc, argv, letters, names, NULL)) >= 0;) act_on_letter(control, option, argv[optind - 1]);
 }
 
 /* Reads the command line, and the file that it names. */
-struct options *read_options(struct lagd *lagd, int argc, char **argv) {
-    struct options_private *own = lagd->options;
+struct options *read_options(struct control *control, int argc, char **argv) {
+    struct options_private *own = control->options;
     own->options.settings = usual_settings();
-    read_rows(lagd, argc, argv);
+    read_rows(control, argc, argv);
     if (own->options.json && own->options.action != SHOW && own->options.action != WATCH)
         stop(WRONG_WORD, "usage", "lagd --status --json, or lagd --watch --json");
     if ((own->options.action != RUN || own->options.file) && (optind < argc || own->has_words))
         stop(WRONG_WORD, "usage", "a file has all of its bundle, and a question has none of it; lagd --help tells more");
-    if (own->options.file && !read_file(lagd, own->options.file, &own->options.settings)) exit(WRONG_WORD);
-    if (own->options.action == RUN && !own->options.file) read_words(lagd, argc - optind, argv + optind);
+    if (own->options.file && !read_file(control->process, own->options.file, &own->options.settings)) exit(WRONG_WORD);
+    if (own->options.action == RUN && !own->options.file) read_words(control, argc - optind, argv + optind);
     return &own->options;
 }

@@ -1,115 +1,70 @@
 /* The tables of what carries the data, and the switch that chooses them. */
 #define _GNU_SOURCE
-#include "daemon.h"
-#include "team.h"
+#include "control.h"
 
 /* What is not done. */
-static void do_nothing(struct lagd *lagd) {
-    (void)lagd;
-}
-
-static void do_nothing_of(struct lagd *lagd, bool given) {
-    (void)lagd;
-    (void)given;
-}
-
-static bool is_never(struct lagd *lagd) {
-    (void)lagd;
+static bool is_never(struct plane *plane) {
+    (void)plane;
     return false;
 }
 
-static bool is_always(struct lagd *lagd) {
-    (void)lagd;
+static bool is_always(struct plane *plane) {
+    (void)plane;
     return true;
 }
 
-static bool give_no_carrier(struct lagd *lagd, bool on) {
-    (void)lagd;
+static bool give_no_carrier(struct plane *plane, bool on) {
+    (void)plane;
     (void)on;
     return true;
 }
 
-static bool ignore_link(struct lagd *lagd, struct link *link) {
-    (void)lagd;
+static int add_nothing(struct plane *plane, struct link *link) {
+    (void)plane;
+    (void)link;
+    return 0;
+}
+
+static bool ignore_link(struct plane *plane, struct link *link) {
+    (void)plane;
     (void)link;
     return true;
 }
 
-static void let_link_go(struct lagd *lagd, struct link *link) {
-    (void)lagd;
-    (void)link;
-}
-
-static void ignore_address(struct lagd *lagd, struct link *link, const uint8_t *mac) {
-    (void)lagd;
-    (void)link;
-    (void)mac;
-}
-
-static void ignore_mtu(struct lagd *lagd, struct link *link, uint32_t mtu) {
-    (void)lagd;
-    (void)link;
-    (void)mtu;
-}
-
-static void ignore_speed(struct lagd *lagd, const struct link *link, const char *interface) {
-    (void)lagd;
-    (void)link;
-    (void)interface;
-}
-
-static bool cannot_empty(struct lagd *lagd, uint16_t port) {
-    (void)lagd;
+static bool cannot_empty(struct plane *plane, uint16_t port) {
+    (void)plane;
     (void)port;
     return false;
 }
 
-static uint64_t hear_nothing(struct lagd *lagd, bool counts_now) {
-    (void)lagd;
+static bool has_nothing(struct plane *plane, uint16_t port) {
+    (void)plane;
+    (void)port;
+    return true;
+}
+
+static bool keeps_ports(struct plane *plane, const struct link *link, int master) {
+    (void)plane;
+    (void)link;
+    (void)master;
+    return true;
+}
+
+static uint64_t hear_nothing(struct plane *plane, bool counts_now) {
+    (void)plane;
     (void)counts_now;
     return 0;
 }
 
-static int has_no_member(struct lagd *lagd, uint16_t number) {
-    (void)lagd;
+static int has_no_member(struct plane *plane, uint16_t number) {
+    (void)plane;
     (void)number;
     return 0;
 }
 
-static unsigned has_none_waiting(struct lagd *lagd) {
-    (void)lagd;
+static unsigned has_none_waiting(struct plane *plane) {
+    (void)plane;
     return 0;
-}
-
-static void show_nothing(struct lagd *lagd, enum form form) {
-    (void)lagd;
-    (void)form;
-}
-
-static void show_nothing_of(struct lagd *lagd, const struct link *link, enum form form) {
-    (void)lagd;
-    (void)link;
-    (void)form;
-}
-
-static void ignore_device(int index) {
-    (void)index;
-}
-
-static void withdraw_nothing(struct lagd *lagd, uint16_t port) {
-    (void)lagd;
-    (void)port;
-}
-
-static void note_nothing(struct lagd *lagd, unsigned packets, bool drained) {
-    (void)lagd;
-    (void)packets;
-    (void)drained;
-}
-
-static void ignore_discipline(struct lagd *lagd, const char *discipline) {
-    (void)lagd;
-    (void)discipline;
 }
 
 static unsigned has_one_queue(int index) {
@@ -117,48 +72,47 @@ static unsigned has_one_queue(int index) {
     return 1;
 }
 
-static void mark_nothing(struct lagd *lagd, uint16_t port, uint16_t number, struct msghdr *message) {
-    (void)lagd;
-    (void)port;
+/* The same where a TAP device carries the data. */
+static int passes_nothing(struct tap_plane *tap, uint16_t number) {
+    (void)tap;
     (void)number;
-    (void)message;
+    return 0;
+}
+
+static bool keeps_queues(struct tap_plane *tap, struct link *link) {
+    (void)tap;
+    (void)link;
+    return true;
 }
 
 static const struct carrying NO_DEVICE = {
-    .open = do_nothing, .end = do_nothing, .lose_device = do_nothing, .keep_device = do_nothing_of, .has_made_device = is_never,
-    .give_carrier = give_no_carrier, .settle_mtu = do_nothing, .add = ignore_link, .remove = let_link_go, .renew = ignore_link,
-    .move = ignore_address, .follow_mtu = ignore_mtu, .follow_speed = ignore_speed, .can_empty = cannot_empty, .settle = do_nothing,
-    .tick = do_nothing, .keeps_aggregator = is_always, .frames_heard = hear_nothing, .tell_host = do_nothing, .resume = do_nothing_of,
-    .go_on = do_nothing, .member_of = has_no_member, .end_resuming = do_nothing, .frames_waiting = has_none_waiting,
-    .show = show_nothing, .show_member = show_nothing_of, .show_markers = do_nothing, .show_waiting = show_nothing,
+    .has_made_device = is_never, .give_carrier = give_no_carrier, .add = add_nothing, .renew = ignore_link, .can_empty = cannot_empty,
+    .empty = has_nothing, .is_new = is_never, .still_has = keeps_ports, .keeps_aggregator = is_always, .frames_heard = hear_nothing,
+    .member_of = has_no_member, .frames_waiting = has_none_waiting,
 };
 
 static const struct carrying TAP_DEVICE = {
     .open = open_tap_plane, .end = end_tap_plane, .lose_device = lose_device, .keep_device = keep_tap, .has_made_device = tap_persists,
     .give_carrier = give_tap_carrier, .settle_mtu = settle_tap_mtu, .add = open_member, .remove = close_member, .renew = renew_for_discipline,
-    .move = move_member, .follow_mtu = follow_member_mtu, .follow_speed = follow_speed, .can_empty = can_empty, .settle = settle_frames,
-    .tick = pass_tick_of_frames, .keeps_aggregator = hears_peer, .frames_heard = frames_handed_up, .tell_host = tell_speed_and_carrier,
-    .resume = resume_conversations, .go_on = settle_carry, .member_of = passing_member_of, .end_resuming = release_former_members,
-    .frames_waiting = count_frames_waiting, .show = show_carry, .show_member = show_member, .show_markers = show_markers,
-    .show_waiting = show_frames_waiting, .end_count = CARRY_COUNTS, .member_counts = MEMBER_COUNTS, .keeps_members = true,
+    .move = move_member, .follow_mtu = follow_member_mtu, .follow_speed = follow_speed, .can_empty = can_empty, .empty = empty_port,
+    .drain = drain_member, .lose = lose_data, .forget = forget_member, .send_marker = send_new_marker, .note_response = note_response,
+    .is_new = is_never, .still_has = keeps_ports, .settle = settle_frames, .tick = pass_tick_of_frames, .keeps_aggregator = hears_peer,
+    .frames_heard = frames_handed_up, .tell_host = tell_speed_and_carrier, .resume = resume_conversations, .go_on = settle_carry,
+    .member_of = passing_member_of, .end_resuming = release_former_members, .frames_waiting = count_frames_waiting, .show = show_carry,
+    .show_member = show_member, .show_markers = show_markers, .show_waiting = show_frames_waiting, .end_count = CARRY_COUNTS,
+    .member_counts = MEMBER_COUNTS, .keeps_members = true,
 };
 
 static const struct carrying TEAM_DEVICE = {
-    .open = open_team, .end = end_team_plane, .lose_device = lose_device, .keep_device = do_nothing_of, .has_made_device = has_made_team,
-    .give_carrier = give_team_carrier, .settle_mtu = do_nothing, .add = open_team_port, .remove = close_team_port, .renew = ignore_link,
-    .move = ignore_address, .follow_mtu = ignore_mtu, .follow_speed = follow_speed, .can_empty = cannot_empty, .settle = settle_team,
-    .tick = pass_tick_of_team, .keeps_aggregator = hears_peer, .frames_heard = team_frames_received, .tell_host = do_nothing,
-    .resume = resume_conversations, .go_on = choose_ports, .member_of = bucket_member_of, .end_resuming = release_former_members,
-    .frames_waiting = has_none_waiting, .show = show_carry, .show_member = show_member, .show_markers = do_nothing,
+    .open = open_team, .end = end_team_plane, .lose_device = lose_device, .has_made_device = has_made_team, .give_carrier = give_team_carrier,
+    .add = open_team_port, .remove = close_team_port, .renew = ignore_link, .can_empty = cannot_empty, .empty = has_nothing,
+    .is_new = is_team_new, .still_has = is_still_team_port, .settle = settle_team, .tick = pass_tick_of_team, .keeps_aggregator = hears_peer,
+    .frames_heard = team_frames_received, .resume = resume_conversations, .go_on = choose_ports, .member_of = bucket_member_of,
+    .end_resuming = release_former_members, .frames_waiting = has_none_waiting, .show = show_carry, .show_member = show_member,
     .show_waiting = show_waiting_buckets, .first_count = MOVES, .end_count = WOKEN + 1,
 };
 
-static const struct passing BY_DAEMON = {
-    .start = do_nothing, .end = do_nothing, .set_up_device = ignore_device, .run_programs = keep_from_stack, .count = do_nothing,
-    .withdraw = do_nothing, .withdraw_port = withdraw_nothing, .pass_on = do_nothing, .note_read = note_nothing,
-    .open_host = do_nothing_of, .follow_discipline = ignore_discipline, .set_collecting = do_nothing, .read_host = do_nothing,
-    .tick = do_nothing, .member_of = has_no_member, .resume = do_nothing,
-};
+static const struct passing BY_DAEMON = {.run_programs = keep_from_stack, .member_of = passes_nothing};
 
 static const struct passing BY_KERNEL = {
     .start = start_fast, .end = end_fast, .set_up_device = give_no_queue, .run_programs = run_fast_programs, .count = count_fast_frames,
@@ -168,9 +122,8 @@ static const struct passing BY_KERNEL = {
 };
 
 static const struct queueing ONE_QUEUE = {
-    .start = do_nothing, .fifos_of = has_one_queue, .set = join_queues, .set_again = look_at_discipline, .follow = ignore_link,
-    .watch = do_nothing, .mark = mark_nothing, .send_marker = send_by_one_queue, .accept_response = accept_response, .answer = answer_at_once,
-    .show = show_nothing_of, .text = "", .markers_at_once = 1,
+    .fifos_of = has_one_queue, .set = join_queues, .set_again = look_at_discipline, .follow = keeps_queues,
+    .send_marker = send_by_one_queue, .accept_response = accept_only_response, .answer = answer_at_once, .text = "", .markers_at_once = 1,
 };
 
 static const struct queueing ALL_QUEUES = {

@@ -7,83 +7,99 @@
 #include <stdint.h>
 
 struct arrival;
+struct carry;
+struct control;
+struct device;
 struct guard;
-struct lagd;
 struct link;
 struct msghdr;
+struct plane;
 struct settings;
+struct tap_plane;
+struct team_plane;
+
+/* Calls a function of a table. One that gives nothing back may be missing where there is nothing to do. */
+#define CALL(function, ...) do { if (function) (function)(__VA_ARGS__); } while (0)
 
 /* How something is told to whoever asks. */
 enum form { AS_TEXT, AS_JSON, AS_METRICS };
 
 /* The device, what is done with an interface that is a port, and where conversations go: by nothing, a TAP device or a team device. */
 struct carrying {
-    void (*open)(struct lagd *lagd);                  /* makes the device, or takes that of the last daemon; a fault ends the program */
-    void (*end)(struct lagd *lagd);                   /* nothing goes or comes from here on, and members are as they were */
-    void (*lose_device)(struct lagd *lagd);           /* it was deleted, or moved to another namespace */
-    void (*keep_device)(struct lagd *lagd, bool keeps); /* it outlives the daemon, or goes with it */
-    bool (*has_made_device)(struct lagd *lagd);       /* whether the next daemon is to take it away at its end */
-    bool (*give_carrier)(struct lagd *lagd, bool on); /* whether the kernel does so */
-    void (*settle_mtu)(struct lagd *lagd);            /* the device has the longest MTU that each member takes, or a lower one of an administrator */
-    bool (*add)(struct lagd *lagd, struct link *link); /* whether an interface is taken up, and else errno tells why not */
-    void (*remove)(struct lagd *lagd, struct link *link); /* it is a member no more, and has what it had before */
-    bool (*renew)(struct lagd *lagd, struct link *link); /* it has another queueing discipline: whether it is still taken up */
-    void (*move)(struct lagd *lagd, struct link *link, const uint8_t *mac); /* it has another MAC address */
-    void (*follow_mtu)(struct lagd *lagd, struct link *link, uint32_t mtu); /* it has this one; 0 of one that is a member no more */
-    void (*follow_speed)(struct lagd *lagd, const struct link *link, const char *interface); /* its link is up, and may have another speed */
-    bool (*can_empty)(struct lagd *lagd, uint16_t port); /* whether its conversations can move behind markers */
-    void (*settle)(struct lagd *lagd);                 /* calls may have changed something */
-    void (*tick)(struct lagd *lagd);                   /* 100 ms passed */
-    bool (*keeps_aggregator)(struct lagd *lagd);       /* whether the active one stays where another one has as many ports */
-    uint64_t (*frames_heard)(struct lagd *lagd, bool counts_now); /* how many of the peer came, as was counted last, or now */
-    void (*tell_host)(struct lagd *lagd);              /* the active aggregator is chosen */
-    void (*resume)(struct lagd *lagd, bool goes_on);   /* the ports were taken over, and data goes on where it was */
-    void (*go_on)(struct lagd *lagd);                  /* in the aggregator of the last daemon */
-    int (*member_of)(struct lagd *lagd, uint16_t number); /* the interface by which the kernel has a conversation go, or 0 */
-    void (*end_resuming)(struct lagd *lagd);           /* what were members of the last daemon, and are no more, have what they had before */
-    unsigned (*frames_waiting)(struct lagd *lagd);     /* in the daemon, as far as that is known */
-    void (*show)(struct lagd *lagd, enum form form);   /* the device and its counts */
-    void (*show_member)(struct lagd *lagd, const struct link *link, enum form form);
-    void (*show_markers)(struct lagd *lagd);           /* in a line of text */
-    void (*show_waiting)(struct lagd *lagd, enum form form); /* what waits to go, or to move */
+    void (*open)(struct plane *plane);                  /* makes the device, or takes that of the last daemon; a fault ends the program */
+    void (*end)(struct plane *plane);                   /* nothing goes or comes from here on, and members are as they were */
+    void (*lose_device)(struct plane *plane);           /* it was deleted, or moved to another namespace */
+    void (*keep_device)(struct plane *plane, bool keeps); /* it outlives the daemon, or goes with it */
+    bool (*has_made_device)(struct plane *plane);       /* whether the next daemon is to take it away at its end */
+    bool (*give_carrier)(struct plane *plane, bool on); /* whether the kernel does so */
+    void (*settle_mtu)(struct plane *plane); /* the longest MTU that each member takes, or a lower one of an administrator */
+    int (*add)(struct plane *plane, struct link *link); /* takes an interface up: 0, or -errno */
+    void (*remove)(struct plane *plane, struct link *link); /* it is a member no more, and has what it had before */
+    bool (*renew)(struct plane *plane, struct link *link); /* it has another queueing discipline: whether it is still taken up */
+    void (*move)(struct plane *plane, struct link *link, const uint8_t *mac); /* it has another MAC address */
+    void (*follow_mtu)(struct plane *plane, struct link *link, uint32_t mtu); /* it has this one; 0 of one that is a member no more */
+    void (*follow_speed)(struct plane *plane, const struct link *link, const char *interface); /* its link is up, and may have another speed */
+    bool (*can_empty)(struct plane *plane, uint16_t port); /* whether its conversations can move behind markers */
+    bool (*empty)(struct plane *plane, uint16_t port);   /* moves them to other ports: whether none is left, or can leave so */
+    void (*drain)(struct plane *plane, uint16_t port);   /* hands up what waits at a port that is to be held */
+    void (*lose)(struct plane *plane, uint16_t port);    /* its link goes down */
+    void (*forget)(struct plane *plane, uint16_t port);  /* another interface is to be this port: its counts begin anew */
+    void (*send_marker)(struct plane *plane, struct link *link, const uint8_t *marker); /* one is due */
+    void (*note_response)(struct plane *plane, const struct link *link); /* its partner answered a marker */
+    bool (*is_new)(struct plane *plane);                 /* whether this start made the device, into which it puts the ports of the file */
+    bool (*still_has)(struct plane *plane, const struct link *link, int master); /* whether an interface of this master is a port still */
+    void (*settle)(struct plane *plane);                 /* calls may have changed something */
+    void (*tick)(struct plane *plane);                   /* 100 ms passed */
+    bool (*keeps_aggregator)(struct plane *plane);       /* whether the active one stays where another one has as many ports */
+    uint64_t (*frames_heard)(struct plane *plane, bool counts_now); /* how many of the peer came, as was counted last, or now */
+    void (*tell_host)(struct plane *plane);              /* the active aggregator is chosen */
+    void (*resume)(struct plane *plane, bool goes_on);   /* the ports were taken over, and data goes on where it was */
+    void (*go_on)(struct plane *plane);                  /* in the aggregator of the last daemon */
+    int (*member_of)(struct plane *plane, uint16_t number); /* the interface by which the kernel has a conversation go, or 0 */
+    void (*end_resuming)(struct plane *plane);           /* what were members of the last daemon, and are no more, have what they had before */
+    unsigned (*frames_waiting)(struct plane *plane);     /* in the daemon, as far as that is known */
+    void (*show)(struct control *control, enum form form);   /* the device and its counts */
+    void (*show_member)(struct control *control, const struct link *link, enum form form);
+    void (*show_markers)(struct control *control);           /* in a line of text */
+    void (*show_waiting)(struct control *control, enum form form); /* what waits to go, or to move */
     unsigned first_count, end_count, member_counts;    /* the counts that it has, and how many of a member */
     bool keeps_members; /* whether what the last daemon set of members may be of use */
 };
 
 /* Who passes frames on: the daemon alone, or the kernel, too (`fast`). */
 struct passing {
-    void (*start)(struct lagd *lagd);                         /* loads what the kernel is to run; a fault ends the program */
-    void (*end)(struct lagd *lagd);                           /* the kernel passes nothing on any more */
+    void (*start)(struct tap_plane *tap);                         /* loads what the kernel is to run; a fault ends the program */
+    void (*end)(struct tap_plane *tap);                           /* the kernel passes nothing on any more */
     void (*set_up_device)(int index);                         /* it is new */
-    void (*run_programs)(struct lagd *lagd, const struct link *link, struct guard *guard); /* at a member */
-    void (*count)(struct lagd *lagd);                         /* what the kernel did since the last time */
-    void (*withdraw)(struct lagd *lagd);                      /* what is not, or no longer, where the kernel passes it on */
-    void (*withdraw_port)(struct lagd *lagd, uint16_t port);  /* its link goes down */
-    void (*pass_on)(struct lagd *lagd);                       /* all that was put was sent */
-    void (*note_read)(struct lagd *lagd, unsigned packets, bool drained); /* of the device */
-    void (*open_host)(struct lagd *lagd, bool open);          /* frames of the host are taken for a while */
-    void (*follow_discipline)(struct lagd *lagd, const char *discipline); /* of the device */
-    void (*set_collecting)(struct lagd *lagd);                /* frames go up from the ports that collect now, and from no other one */
-    void (*read_host)(struct lagd *lagd);                     /* takes what waits in the device, each 100 ms: what is not there was lost */
-    void (*tick)(struct lagd *lagd);                          /* 100 ms passed */
-    int (*member_of)(struct lagd *lagd, uint16_t number);     /* the interface by which the kernel has a conversation go, or 0 */
-    void (*resume)(struct lagd *lagd);                        /* what the kernel passed on for the last daemon stays, where its port does */
+    void (*run_programs)(struct tap_plane *tap, const struct link *link, struct guard *guard); /* at a member */
+    void (*count)(struct tap_plane *tap);                         /* what the kernel did since the last time */
+    void (*withdraw)(struct tap_plane *tap);                      /* what is not, or no longer, where the kernel passes it on */
+    void (*withdraw_port)(struct tap_plane *tap, uint16_t port);  /* its link goes down */
+    void (*pass_on)(struct tap_plane *tap);                       /* all that was put was sent */
+    void (*note_read)(struct tap_plane *tap, unsigned packets, bool drained); /* of the device */
+    void (*open_host)(struct tap_plane *tap, bool open);          /* frames of the host are taken for a while */
+    void (*follow_discipline)(struct tap_plane *tap, const char *discipline); /* of the device */
+    void (*set_collecting)(struct tap_plane *tap);                /* frames go up from the ports that collect now, and from no other one */
+    void (*read_host)(struct tap_plane *tap);                     /* takes what waits in the device, each 100 ms: what is not there was lost */
+    void (*tick)(struct tap_plane *tap);                          /* 100 ms passed */
+    int (*member_of)(struct tap_plane *tap, uint16_t number);     /* the interface by which the kernel has a conversation go, or 0 */
+    void (*resume)(struct tap_plane *tap);                        /* what the kernel passed on for the last daemon stays, where its port does */
     bool steers; /* whether one processor has to take what a member of one queue receives */
 };
 
 /* By how many queues of a member its data goes: one, or all. */
 struct queueing {
-    void (*start)(struct lagd *lagd); /* a fault ends the program */
+    void (*start)(struct tap_plane *tap); /* a fault ends the program */
     unsigned (*fifos_of)(int index); /* how many disciplines that keep the order a member gets */
-    bool (*set)(struct lagd *lagd, struct link *link, struct guard *guard); /* false where that is looked at again once it has queues */
-    void (*set_again)(struct lagd *lagd, struct link *link, struct guard *guard); /* after its discipline changed */
-    bool (*follow)(struct lagd *lagd, struct link *link); /* a discipline changed: whether the member is still taken up */
-    void (*watch)(struct lagd *lagd); /* 100 ms passed: a member whose queues others changed is taken up anew */
-    void (*mark)(struct lagd *lagd, uint16_t port, uint16_t number, struct msghdr *message); /* which queue a frame of a conversation goes by */
-    bool (*send_marker)(struct lagd *lagd, struct link *link, const uint8_t *marker, bool again); /* false where not all of it went */
-    void (*accept_response)(struct lagd *lagd, struct link *link, const struct arrival *arrival, uint32_t id); /* to the marker of this identifier */
-    bool (*answer)(struct lagd *lagd, struct link *link, const uint8_t *response); /* false where too many wait */
-    void (*show)(struct lagd *lagd, const struct link *link, enum form form);
+    bool (*set)(struct tap_plane *tap, struct link *link, struct guard *guard); /* false where that is looked at again once it has queues */
+    void (*set_again)(struct tap_plane *tap, struct link *link, struct guard *guard); /* after its discipline changed */
+    bool (*follow)(struct tap_plane *tap, struct link *link); /* a discipline changed: whether the member is still taken up */
+    void (*watch)(struct tap_plane *tap); /* 100 ms passed: a member whose queues others changed is taken up anew */
+    void (*mark)(struct tap_plane *tap, uint16_t port, uint16_t number, struct msghdr *message); /* which queue a frame of a conversation goes by */
+    bool (*send_marker)(struct tap_plane *tap, struct link *link, const uint8_t *marker, bool again); /* false where not all of it went */
+    void (*accept_response)(struct tap_plane *tap, struct link *link, const struct arrival *arrival, uint32_t id);
+    bool (*answer)(struct tap_plane *tap, struct link *link, const uint8_t *response); /* false where too many wait */
+    void (*show)(struct control *control, const struct link *link, enum form form);
     const char *text;         /* behind the way, in the status */
     unsigned markers_at_once; /* how many come in the place of one, of a peer whose members are like ours */
 };
@@ -95,6 +111,12 @@ struct plane {
     bool segments;   /* whether frames of several segments are passed */
     bool wants_fifo; /* whether members get a queueing discipline that keeps the order */
     bool renews;     /* whether a member with another one is taken up anew */
+    bool changed;    /* whether the library may answer otherwise now, so that conversations go or come */
+    /* What the functions of the tables work with. Nobody else looks into these. */
+    struct device *device;
+    struct carry *carry;
+    struct tap_plane *tap;
+    struct team_plane *team;
 };
 
 /* plane.c */

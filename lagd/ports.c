@@ -4,30 +4,30 @@
 #include <stdio.h>
 #include <string.h>
 
-#include "daemon.h"
+#include "lagd.h"
 
 /* The status of a port, with what the library does not know of it. */
-static uint8_t status_of(struct lagd *lagd, const struct link *link) {
+static uint8_t status_of(struct protocol *protocol, const struct link *link) {
     uint8_t status = link->view.port_status;
     if (link->socket < 0) return link->outside ? OUTSIDE : MISSING;
-    if (is_halted(lagd->halt)) return DEVICE_DOWN;
+    if (is_halted(protocol->halt)) return DEVICE_DOWN;
     if (link->leaving) return LEAVES;
     if (link->waits) return RESTORING;
     if (status != NIW_PORT_STATUS_DISTRIBUTING || !link->view.defaulted) return status;
-    return lagd->settings.partner_required ? PARTNER_WANTED : WITHOUT_PARTNER;
+    return protocol->settings->partner_required ? PARTNER_WANTED : WITHOUT_PARTNER;
 }
 
 /* Whether a port carries, as far as LACP is concerned. */
-bool carries(struct lagd *lagd, const struct link *link) {
-    uint8_t status = status_of(lagd, link);
+bool carries(struct protocol *protocol, const struct link *link) {
+    uint8_t status = status_of(protocol, link);
     return status == NIW_PORT_STATUS_DISTRIBUTING || status == WITHOUT_PARTNER;
 }
 
 /* What there is to print of a port. */
-struct facts facts_of(struct lagd *lagd, const struct link *link) {
+struct facts facts_of(struct protocol *protocol, const struct link *link) {
     const struct niw_view *view = &link->view;
     struct facts facts = {
-        .status = status_of(lagd, link),
+        .status = status_of(protocol, link),
         .aggregator = view->aggregator,
         .defaulted = view->defaulted,
         .partner = {.priority = view->partner_priority},
@@ -52,15 +52,15 @@ static void count_change(const struct settings *settings, struct link *link, con
 }
 
 /* Takes what the library tells of the ports that changed. */
-void read_views(struct lagd *lagd) {
+void read_views(struct protocol *protocol) {
     struct niw_view views[NIW_MOST_PORTS];
     uint64_t changed;
-    if (!is_told(lagd, niw_views(&lagd->own_system, views, NIW_MOST_PORTS), "niw_views", &changed)) return;
-    for (uint16_t i = 0; i < lagd->link_count; i++) {
+    if (!is_told(protocol->process, niw_views(&protocol->own_system, views, NIW_MOST_PORTS), "niw_views", &changed)) return;
+    for (uint16_t i = 0; i < protocol->ports->count; i++) {
         if (!(changed >> i & 1)) continue;
-        count_change(&lagd->settings, &lagd->links[i], &views[i]);
-        lagd->links[i].view = views[i];
-        lagd->links[i].changed = true;
+        count_change(protocol->settings, &protocol->ports->links[i], &views[i]);
+        protocol->ports->links[i].view = views[i];
+        protocol->ports->links[i].changed = true;
     }
 }
 
@@ -73,39 +73,39 @@ static bool is_same(const struct facts *one, const struct facts *other) {
 }
 
 /* Why a port is in trouble, behind a comma. */
-static const char *trouble_text(struct lagd *lagd, const struct link *link, char *room, size_t size) {
+static const char *trouble_text(const struct ports *ports, const struct link *link, char *room, size_t size) {
     char holder[HOLDER_ROOM];
     room[0] = 0;
     if (link->trouble == EADDRINUSE)
-        snprintf(room, size, ", another lagd has the interface: %s", holder_of(lagd, link->index, holder));
+        snprintf(room, size, ", another lagd has the interface: %s", holder_of(ports, link->index, holder));
     else if (link->trouble)
         snprintf(room, size, ", %s", strerror(link->trouble));
     return room;
 }
 
 /* Prints a port; answers whether it could. */
-static bool print_facts(struct lagd *lagd, const struct link *link, const struct facts *facts, bool watched) {
+static bool print_facts(struct protocol *protocol, const struct link *link, const struct facts *facts, bool watched) {
     char whose[96] = "no partner", system[32], trouble[128];
     int level = (facts->status == NIW_PORT_STATUS_DISTRIBUTING ? LOG_NOTICE : LOG_WARNING) | (watched ? WATCHED : 0) | ABOUT_PORT;
     if (!facts->defaulted)
         snprintf(whose, sizeof whose, "partner %s key %u port %u", system_text(&facts->partner, system), facts->partner_key,
             facts->partner_port);
-    return say(lagd, level, "port %u %s: %s, aggregator %u, %s%s", link->settings.number, link->name, status_text(facts->status),
-        facts->aggregator, whose, trouble_text(lagd, link, trouble, sizeof trouble));
+    return say(protocol->process, level, "port %u %s: %s, aggregator %u, %s%s", link->settings.number, link->name, status_text(facts->status),
+        facts->aggregator, whose, trouble_text(protocol->ports, link, trouble, sizeof trouble));
 }
 
 /* Looks at a port, and prints it if it changed; answers whether it did. What could not be printed is looked at again. */
-bool print_change(struct lagd *lagd, struct link *link) {
-    struct facts facts = facts_of(lagd, link);
+bool print_change(struct protocol *protocol, struct link *link) {
+    struct facts facts = facts_of(protocol, link);
     bool same = link->told && is_same(&facts, &link->printed), watched = link->watched && is_same(&facts, &link->shown);
-    if (!lagd->has_started || !link->used) return false;
+    if (!protocol->process->has_started || !link->used) return false;
     if (!same && !watched) {
         link->changed_at = time(NULL);
-        tell_watchers_of(lagd, link);
+        tell_watchers_of(protocol->control, link);
     }
     link->watched = true;
     link->shown = facts;
-    link->changed = !same && !print_facts(lagd, link, &facts, watched);
+    link->changed = !same && !print_facts(protocol, link, &facts, watched);
     if (same || link->changed) return false;
     link->told = true;
     link->printed = facts;
@@ -113,11 +113,10 @@ bool print_change(struct lagd *lagd, struct link *link) {
 }
 
 /* Prints the ports that changed. What is printed too often is printed later. */
-void print_changes(struct lagd *lagd) {
-    for (uint16_t i = 0; i < lagd->link_count; i++) {
-        struct link *link = &lagd->links[i];
-        if (link->changed && link->lines > 0 && print_change(lagd, link)) link->lines--;
-        tell_strangers(lagd, link);
-        tell_markers(lagd, link);
+void print_all_changes(struct protocol *protocol) {
+    EACH_LINK(link, protocol->ports) {
+        if (link->changed && link->lines > 0 && print_change(protocol, link)) link->lines--;
+        tell_strangers(protocol, link);
+        tell_markers(protocol, link);
     }
 }

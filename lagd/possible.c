@@ -8,16 +8,15 @@
 #include <sys/syscall.h>
 #include <unistd.h>
 
-#include "daemon.h"
-#include "team.h"
+#include "control.h"
 
 /* No interface has this index. */
 #define NO_INDEX INT_MAX
 #define NO_PROGRAMS "the kernel has no program of an interface, which Linux has from 6.6 on"
 
 /* Tells what is lacking, or not known, for a key of the file. */
-static void tell(struct lagd *lagd, const struct options *options, const char *key, const char *what) {
-    complain(lagd, "%s:%u: %s: %s", options->file, line_of(&options->settings, key), key, what);
+static void tell(struct process *process, const struct options *options, const char *key, const char *what) {
+    complain(process, "%s:%u: %s: %s", options->file, line_of(&options->settings, key), key, what);
 }
 
 /* Whether the kernel has a program run at an interface, as Linux does from 6.6 on: then it misses the interface alone. 0, or errno. */
@@ -30,49 +29,49 @@ int fault_of_programs(const struct settings *settings) {
 }
 
 /* Whether the kernel can pass data on by itself: answers how the program ends. */
-static int check_fast(struct lagd *lagd, const struct options *options) {
-    int fault = fault_of_programs(&lagd->settings);
+static int check_fast(struct process *process, const struct options *options) {
+    int fault = fault_of_programs(process->settings);
     if (fault == EPERM) {
-        tell(lagd, options, "fast", "not known without CAP_BPF and CAP_NET_ADMIN");
+        tell(process, options, "fast", "not known without CAP_BPF and CAP_NET_ADMIN");
         return DONE;
     }
     if (fault != 0) {
-        tell(lagd, options, "fast", NO_PROGRAMS);
+        tell(process, options, "fast", NO_PROGRAMS);
         return REFUSED;
     }
     if (syscall(SYS_membarrier, MEMBARRIER_CMD_GLOBAL, 0, 0) == 0) return DONE;
-    tell(lagd, options, "fast", "the kernel cannot wait for its programs (membarrier)");
+    tell(process, options, "fast", "the kernel cannot wait for its programs (membarrier)");
     return REFUSED;
 }
 
 /* Whether the kernel has a program choose the queue of a frame: answers how the program ends. */
-static int check_queues(struct lagd *lagd, const struct options *options) {
-    int fault = fault_of_programs(&lagd->settings);
+static int check_queues(struct process *process, const struct options *options) {
+    int fault = fault_of_programs(process->settings);
     if (fault == 0) return DONE;
-    tell(lagd, options, "queues", fault == EPERM ? "not known without CAP_BPF and CAP_NET_ADMIN" : NO_PROGRAMS);
+    tell(process, options, "queues", fault == EPERM ? "not known without CAP_BPF and CAP_NET_ADMIN" : NO_PROGRAMS);
     return fault == EPERM ? DONE : REFUSED;
 }
 
 /* Whether the kernel has the team driver, and its mode, which is another module: answers how the program ends. The mode is tried in a network
  * namespace that ends with the program, where that may be made. */
-static int check_team(struct lagd *lagd, const struct options *options) {
-    bool is_apart = unshare(CLONE_NEWNET) == 0, has_driver = find_team_driver(lagd->team_netlink);
+static int check_team(struct team_plane *team, const struct options *options) {
+    bool is_apart = unshare(CLONE_NEWNET) == 0, has_driver = find_team_driver(team->team_netlink);
     if (!has_driver && errno == EPERM) {
-        tell(lagd, options, "plane", "not known without CAP_NET_ADMIN");
+        tell(team->process, options, "plane", "not known without CAP_NET_ADMIN");
         return DONE;
     }
-    if (has_driver && (!is_apart || has_team_mode(lagd->team_netlink))) return DONE;
-    tell(lagd, options, "plane", has_driver ? "the team driver of this kernel has no mode loadbalance" : "this kernel has no team driver");
+    if (has_driver && (!is_apart || has_team_mode(team->team_netlink))) return DONE;
+    tell(team->process, options, "plane", has_driver ? "the team driver of this kernel has no mode loadbalance" : "this kernel has no team driver");
     return REFUSED;
 }
 
 /* Says what this machine lacks for a file that is right: answers how the program ends. */
-int check_machine(struct lagd *lagd, const struct options *options) {
-    if (options->settings.plane == PLANE_TEAM) return check_team(lagd, options);
+int check_machine(struct control *control, const struct options *options) {
+    if (options->settings.plane == PLANE_TEAM) return check_team(control->team, options);
     if (options->settings.carry[0] && access("/dev/net/tun", F_OK) < 0) {
-        tell(lagd, options, "carry", "there is no /dev/net/tun");
+        tell(control->process, options, "carry", "there is no /dev/net/tun");
         return REFUSED;
     }
-    if (options->settings.fast && check_fast(lagd, options) != DONE) return REFUSED;
-    return options->settings.all_queues ? check_queues(lagd, options) : DONE;
+    if (options->settings.fast && check_fast(control->process, options) != DONE) return REFUSED;
+    return options->settings.all_queues ? check_queues(control->process, options) : DONE;
 }

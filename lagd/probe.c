@@ -2,7 +2,7 @@
 #define _GNU_SOURCE
 #include <string.h>
 
-#include "daemon.h"
+#include "tap/tap.h"
 
 /* How long the peer may take, when the marker is sent again, and when a peer that does not answer is asked again, in milliseconds. */
 #define PATIENCE 1000
@@ -30,10 +30,10 @@ enum answering peer_answering(const struct probe_private *own) {
 }
 
 /* The last daemon found that out of this partner. */
-void go_on_answering(struct lagd *lagd, enum answering last) {
-    struct probe_private *own = lagd->probe;
-    if (lagd->carry.active == 0 || (last != ANSWERS && last != MUTE)) return;
-    look_at_partner(lagd);
+void go_on_answering(struct carry *carry, enum answering last) {
+    struct probe_private *own = carry->probe;
+    if (carry->active == 0 || (last != ANSWERS && last != MUTE)) return;
+    look_at_partner(carry);
     own->peer = own->told = last;
 }
 
@@ -43,11 +43,11 @@ void suspect_partner(struct probe_private *own) {
 }
 
 /* Another partner may answer markers where the last one did not. */
-void look_at_partner(struct lagd *lagd) {
-    struct probe_private *own = lagd->probe;
+void look_at_partner(struct carry *carry) {
+    struct probe_private *own = carry->probe;
     const struct niw_view *view;
-    if (lagd->carry.active == 0) return;
-    view = &lagd->links[lagd->carry.ports[0] - 1].view;
+    if (carry->active == 0) return;
+    view = &carry->ports->links[carry->active_ports[0] - 1].view;
     if (view->partner_key == own->partner_key && view->partner_priority == own->partner.priority
         && memcmp(view->partner_mac, own->partner.mac, sizeof own->partner.mac) == 0)
         return;
@@ -60,66 +60,67 @@ void look_at_partner(struct lagd *lagd) {
 }
 
 /* Sends a marker behind the data of a port of the active aggregator. There is none while no identifier is left, or the link is down. */
-static void ask_peer(struct lagd *lagd) {
-    struct probe_private *own = lagd->probe;
+static void ask_peer(struct carry *carry) {
+    struct probe_private *own = carry->probe;
     uint8_t marker[NIW_FRAME];
-    struct niw_sent asked = niw_probe(&lagd->own_system, lagd->carry.ports[0], marker, sizeof marker);
-    if (!is_done(lagd, asked.status, "niw_probe") || !asked.is) return;
+    struct niw_sent asked = niw_probe(&carry->protocol->own_system, carry->active_ports[0], marker, sizeof marker);
+    if (!is_done(carry->process, asked.status, "niw_probe") || !asked.is) return;
     own->asking = true;
     if (own->peer == NOT_ASKED) own->peer = ASKED;
-    own->asked_on = lagd->carry.ports[0];
-    own->asked_at = own->sent_at = lagd->carry.time;
-    send_new_marker(lagd, &lagd->links[own->asked_on - 1], marker);
+    own->asked_on = carry->active_ports[0];
+    own->asked_at = own->sent_at = carry->time;
+    send_new_marker(carry->plane, &carry->ports->links[own->asked_on - 1], marker);
 }
 
 /* Sends the marker again: a cable may lose one. */
-static void ask_again(struct lagd *lagd) {
-    struct probe_private *own = lagd->probe;
-    if (lagd->carry.time - own->sent_at < AGAIN) return;
-    own->sent_at = lagd->carry.time;
-    if (send_marker_again(lagd, own->asked_on)) lagd->carry.counts[MARKERS_AGAIN]++;
+static void ask_again(struct tap_plane *tap) {
+    struct probe_private *own = tap->carry->probe;
+    if (tap->carry->time - own->sent_at < AGAIN) return;
+    own->sent_at = tap->carry->time;
+    if (send_marker_again(tap, own->asked_on)) tap->carry->counts[MARKERS_AGAIN]++;
 }
 
 /* It is known whether the peer answers: says so, if that is new. */
-static void judge(struct lagd *lagd, enum answering now) {
-    struct probe_private *own = lagd->probe;
+static void judge(struct carry *carry, enum answering now) {
+    struct probe_private *own = carry->probe;
     own->asking = false;
     own->peer = now;
     if (own->peer == own->told) return;
     own->told = own->peer;
     if (own->peer == ANSWERS)
-        (void)say(lagd, LOG_NOTICE | ABOUT_MARKERS, "carry %s: the peer answers markers", lagd->settings.carry);
+        (void)say(carry->process, LOG_NOTICE | ABOUT_MARKERS, "carry %s: the peer answers markers", carry->settings->carry);
     else
-        (void)say(lagd, LOG_WARNING | ABOUT_MARKERS,
-            "carry %s: the peer answers no markers, so conversations move once they rested for %u ms", lagd->settings.carry,
-            lagd->settings.flight);
+        (void)say(carry->process, LOG_WARNING | ABOUT_MARKERS,
+            "carry %s: the peer answers no markers, so conversations move once they rested for %u ms", carry->settings->carry,
+            carry->settings->flight);
 }
 
 /* The partner sent a response on a link: to the last marker there, however late, or to another one. */
-void note_response(struct lagd *lagd, const struct link *link) {
+void note_response(struct plane *plane, const struct link *link) {
+    struct carry *carry = plane->carry;
     uint16_t port = link->settings.number;
     uint64_t answers;
-    if (lagd->probe->asked_on != port || !is_told(lagd, niw_answers(&lagd->own_system, port), "niw_answers", &answers)) return;
-    if (answers == NIW_ANSWERS_ANSWERED) judge(lagd, ANSWERS);
+    if (carry->probe->asked_on != port || !is_told(carry->process, niw_answers(&carry->protocol->own_system, port), "niw_answers", &answers)) return;
+    if (answers == NIW_ANSWERS_ANSWERED) judge(carry, ANSWERS);
 }
 
 /* No response came yet. A peer whose link went meanwhile is asked again. */
-static void go_on_asking(struct lagd *lagd) {
-    struct probe_private *own = lagd->probe;
-    if (lagd->links[own->asked_on - 1].view.port_status != NIW_PORT_STATUS_DISTRIBUTING) {
+static void go_on_asking(struct tap_plane *tap) {
+    struct probe_private *own = tap->carry->probe;
+    if (tap->ports->links[own->asked_on - 1].view.port_status != NIW_PORT_STATUS_DISTRIBUTING) {
         own->asking = false;
         own->peer = NOT_ASKED;
-    } else if (lagd->carry.time - own->asked_at >= PATIENCE) {
-        judge(lagd, MUTE);
+    } else if (tap->carry->time - own->asked_at >= PATIENCE) {
+        judge(tap->carry, MUTE);
     } else {
-        ask_again(lagd);
+        ask_again(tap);
     }
 }
 
 /* 100 ms passed. */
-void pass_probe_tick(struct lagd *lagd) {
-    struct probe_private *own = lagd->probe;
-    if (own->asking) go_on_asking(lagd);
-    if (own->asking || lagd->carry.port_count == 0) return;
-    if (own->peer == NOT_ASKED || (own->peer == MUTE && lagd->carry.time - own->asked_at >= LATER)) ask_peer(lagd);
+void pass_probe_tick(struct tap_plane *tap) {
+    struct probe_private *own = tap->carry->probe;
+    if (own->asking) go_on_asking(tap);
+    if (own->asking || tap->carry->active_count == 0) return;
+    if (own->peer == NOT_ASKED || (own->peer == MUTE && tap->carry->time - own->asked_at >= LATER)) ask_peer(tap->carry);
 }

@@ -3,7 +3,7 @@
 #include <stdarg.h>
 #include <stdio.h>
 
-#include "daemon.h"
+#include "control.h"
 
 /* Adds to the report, as far as there is room. */
 void add(struct report *report, const char *format, ...) {
@@ -30,19 +30,19 @@ void add_string(struct report *report, const char *text) {
 }
 
 /* Writes what there is to tell of a port; answers whether the library told it. */
-bool view_of(struct lagd *lagd, const struct link *link, struct view *view) {
+bool view_of(struct protocol *protocol, const struct link *link, struct view *view) {
     uint16_t port = link->settings.number;
     uint64_t state = 0;
     bool told;
-    view->facts = facts_of(lagd, link);
-    view->own = niw_party(&lagd->own_system, port);
-    view->partner = niw_partner(&lagd->own_system, port);
-    told = is_done(lagd, view->own.status, "niw_party") && is_done(lagd, view->partner.status, "niw_partner")
-        && is_told(lagd, niw_receive_state(&lagd->own_system, port), "niw_receive_state", &view->receive)
-        && is_told(lagd, niw_mux_state(&lagd->own_system, port), "niw_mux_state", &view->mux)
-        && is_told(lagd, niw_current_while(&lagd->own_system, port), "niw_current_while", &view->current_while)
-        && is_told(lagd, niw_wait_while(&lagd->own_system, port), "niw_wait_while", &view->wait_while)
-        && is_told(lagd, niw_state(&lagd->own_system, port), "niw_state", &state);
+    view->facts = facts_of(protocol, link);
+    view->own = niw_party(&protocol->own_system, port);
+    view->partner = niw_partner(&protocol->own_system, port);
+    told = is_done(protocol->process, view->own.status, "niw_party") && is_done(protocol->process, view->partner.status, "niw_partner")
+        && is_told(protocol->process, niw_receive_state(&protocol->own_system, port), "niw_receive_state", &view->receive)
+        && is_told(protocol->process, niw_mux_state(&protocol->own_system, port), "niw_mux_state", &view->mux)
+        && is_told(protocol->process, niw_current_while(&protocol->own_system, port), "niw_current_while", &view->current_while)
+        && is_told(protocol->process, niw_wait_while(&protocol->own_system, port), "niw_wait_while", &view->wait_while)
+        && is_told(protocol->process, niw_state(&protocol->own_system, port), "niw_state", &state);
     view->state = (uint8_t)state;
     return told;
 }

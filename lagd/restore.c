@@ -1,20 +1,21 @@
 /* A link that comes back while others carry: it is up once its carrier was steady for a while. */
+#include "lagd.h"
 #define _GNU_SOURCE
-#include "daemon.h"
 
 /* Whether so few links carry that none may be kept waiting. One on defaults may lead nowhere. */
-static bool is_short_of_links(struct lagd *lagd) {
+static bool is_short_of_links(struct protocol *protocol) {
     struct bundle now = {0};
     unsigned sure = 0;
-    choose_aggregator(lagd, &now);
-    for (uint16_t i = 0; now.aggregator != 0 && i < lagd->link_count; i++)
-        sure += lagd->links[i].view.aggregator == now.aggregator && carries(lagd, &lagd->links[i]) && !lagd->links[i].view.defaulted;
-    return sure < lagd->settings.min_links;
+    choose_aggregator(protocol, &now);
+    for (uint16_t i = 0; now.aggregator != 0 && i < protocol->ports->count; i++)
+        sure += protocol->ports->links[i].view.aggregator == now.aggregator && carries(protocol, &protocol->ports->links[i])
+            && !protocol->ports->links[i].view.defaulted;
+    return sure < protocol->settings->min_links;
 }
 
 /* Whether a link that waits has waited long enough. */
-static bool is_over(struct lagd *lagd, const struct link *link) {
-    return milliseconds() - link->steady_since >= lagd->settings.wait_to_restore * (uint64_t)1000 || is_short_of_links(lagd);
+static bool is_over(struct protocol *protocol, const struct link *link) {
+    return milliseconds() - link->steady_since >= protocol->settings->wait_to_restore * (uint64_t)1000 || is_short_of_links(protocol);
 }
 
 static void set_waiting(struct link *link, bool waits) {
@@ -24,10 +25,10 @@ static void set_waiting(struct link *link, bool waits) {
 
 /* The carrier of a link is there, and was so since the last call; answers whether the link is up, or has to wait. What is there at the start
  * does not wait. */
-bool is_restored(struct lagd *lagd, struct link *link) {
-    if (link->up || !lagd->has_started) return true;
+bool is_restored(struct protocol *protocol, struct link *link) {
+    if (link->up || !protocol->process->has_started) return true;
     if (!link->waits) link->steady_since = milliseconds();
-    set_waiting(link, !is_over(lagd, link));
+    set_waiting(link, !is_over(protocol, link));
     return !link->waits;
 }
 
@@ -37,6 +38,6 @@ void forget_carrier(struct link *link) {
 }
 
 /* Whether a link waits no longer: the kernel is asked then whether its carrier is still there. */
-bool has_waited(struct lagd *lagd, const struct link *link) {
-    return link->waits && is_over(lagd, link);
+bool has_waited(struct protocol *protocol, const struct link *link) {
+    return link->waits && is_over(protocol, link);
 }

@@ -1,6 +1,5 @@
 /* The keys of a bundle and of a port, and their values. The command line and the file have the same ones. */
 #define _GNU_SOURCE
-#include "daemon.h"
 #include "settings.h"
 
 #include <ctype.h>
@@ -9,6 +8,8 @@
 #include <string.h>
 #include <sys/stat.h>
 #include <unistd.h>
+
+#include "lagd.h"
 
 #define EACH_KEY_ONCE "each key once"
 #define A_NUMBER "a number from 0 to 65535"
@@ -56,12 +57,22 @@ static bool read_system(const char *text, struct system_id *into) {
     return read_number(priority, 0, UINT16_MAX, &into->priority) && read_mac(text + digits + 1, into->mac);
 }
 
-static bool parse_key(const char *text, struct settings *settings) {
-    return read_number(text, 0, UINT16_MAX, &settings->key);
+/* Where a key has its value. */
+static void *value_in(const struct bundle_key *key, const struct settings *settings) {
+    return (char *)settings + key->at;
 }
 
-static bool parse_system(const char *text, struct settings *settings) {
+static bool parse_number(const struct bundle_key *key, const char *text, struct settings *settings) {
+    return read_number(text, key->least, key->most, value_in(key, settings));
+}
+
+static bool parse_choice(const struct bundle_key *key, const char *text, struct settings *settings) {
+    return read_choice(text, key->first, key->second, value_in(key, settings));
+}
+
+static bool parse_system(const struct bundle_key *key, const char *text, struct settings *settings) {
     struct system_id own = {.priority = USUAL_PRIORITY};
+    (void)key;
     settings->system_auto = strcmp(text, "auto") == 0;
     if (!settings->system_auto && !read_system(text, &own)) return false;
     settings->config.priority = own.priority;
@@ -69,54 +80,16 @@ static bool parse_system(const char *text, struct settings *settings) {
     return true;
 }
 
-static bool parse_partner(const char *text, struct settings *settings) {
+static bool parse_partner(const struct bundle_key *key, const char *text, struct settings *settings) {
     bool any, named = !read_choice(text, "any", "first", &any);
+    (void)key;
     settings->policy = named ? PARTNER_GIVEN : any ? PARTNER_ANY : PARTNER_FIRST;
     return !named || read_system(text, &settings->partner);
 }
 
-static bool parse_partner_required(const char *text, struct settings *settings) {
-    return read_choice(text, "yes", "no", &settings->partner_required);
-}
-
-static bool parse_key_by_speed(const char *text, struct settings *settings) {
-    return read_choice(text, "yes", "no", &settings->key_by_speed);
-}
-
-static bool parse_min_links(const char *text, struct settings *settings) {
-    return read_number(text, 1, NIW_MOST_PORTS, &settings->min_links);
-}
-
-static bool parse_max_links(const char *text, struct settings *settings) {
-    return read_number(text, 0, NIW_MOST_PORTS, &settings->config.max_links);
-}
-
-static bool parse_revert(const char *text, struct settings *settings) {
-    return read_choice(text, "yes", "no", &settings->revert);
-}
-
-static bool parse_wait_to_restore(const char *text, struct settings *settings) {
-    return read_number(text, 0, LONGEST_WAIT, &settings->wait_to_restore);
-}
-
-static bool parse_port_priority(const char *text, struct settings *settings) {
-    return read_number(text, 0, UINT16_MAX, &settings->port_priority);
-}
-
-static bool parse_timeout(const char *text, struct settings *settings) {
-    return read_choice(text, "short", "long", &settings->short_timeout);
-}
-
-static bool parse_activity(const char *text, struct settings *settings) {
-    return read_choice(text, "active", "passive", &settings->active);
-}
-
-static bool parse_marker_responses(const char *text, struct settings *settings) {
-    return read_number(text, 0, 10000, &settings->marker_responses);
-}
-
-static bool parse_hook(const char *text, struct settings *settings) {
+static bool parse_hook(const struct bundle_key *key, const char *text, struct settings *settings) {
     struct stat found;
+    (void)key;
     if (text[0] != '/' || strlen(text) >= sizeof settings->hook) return false;
     if (stat(text, &found) < 0 || !S_ISREG(found.st_mode) || access(text, X_OK) < 0) return false;
     strcpy(settings->hook, text);
@@ -130,22 +103,20 @@ static bool is_name(const char *text, size_t length) {
     return right;
 }
 
-static bool parse_carry(const char *text, struct settings *settings) {
+static bool parse_carry(const struct bundle_key *key, const char *text, struct settings *settings) {
     size_t length = strlen(text);
+    (void)key;
     if (length >= sizeof settings->carry || strchr(text, '%') || !is_name(text, length)) return false;
     memset(settings->carry, 0, sizeof settings->carry);
     memcpy(settings->carry, text, length);
     return true;
 }
 
-static bool parse_plane(const char *text, struct settings *settings) {
+static bool parse_plane(const struct bundle_key *key, const char *text, struct settings *settings) {
     bool tap, known = read_choice(text, "tap", "team", &tap);
+    (void)key;
     settings->plane = tap ? PLANE_TAP : PLANE_TEAM;
     return known;
-}
-
-static bool parse_members(const char *text, struct settings *settings) {
-    return read_choice(text, "follow", "given", &settings->follow);
 }
 
 /* By what data goes. */
@@ -162,7 +133,8 @@ const char *hash_text(enum hash hash) {
     return HASHES[hash];
 }
 
-static bool parse_hash(const char *text, struct settings *settings) {
+static bool parse_hash(const struct bundle_key *key, const char *text, struct settings *settings) {
+    (void)key;
     for (size_t i = 0; i < sizeof HASHES / sizeof *HASHES; i++) {
         if (strcmp(text, HASHES[i]) != 0) continue;
         settings->hash = (enum hash)i;
@@ -171,73 +143,57 @@ static bool parse_hash(const char *text, struct settings *settings) {
     return false;
 }
 
-static bool parse_hash_seed(const char *text, struct settings *settings) {
-    return read_number(text, 0, UINT16_MAX, &settings->hash_seed);
-}
-
-static bool parse_offload(const char *text, struct settings *settings) {
-    return read_choice(text, "yes", "no", &settings->offload);
-}
-
-static bool parse_fast(const char *text, struct settings *settings) {
-    return read_choice(text, "yes", "no", &settings->fast);
-}
-
-static bool parse_flight(const char *text, struct settings *settings) {
-    return read_number(text, 1, 60000, &settings->flight);
-}
-
-static bool parse_queues(const char *text, struct settings *settings) {
-    return read_choice(text, "all", "one", &settings->all_queues);
-}
-
-static bool parse_answer_after(const char *text, struct settings *settings) {
-    return read_number(text, 1, 500, &settings->answer_after);
-}
-
 /* The keys of a bundle, in the order of the help. */
+#define NUMBER(field, least, most) offsetof(struct settings, field), least, most, NULL, NULL
+#define CHOICE(field, first, second) offsetof(struct settings, field), 0, 0, first, second
+#define OF_ITS_OWN 0, 0, 0, NULL, NULL
 static const struct bundle_key BUNDLE_KEYS[] = {
-    {"key", A_NUMBER, parse_key, 0, NULL, NULL},
-    {"system", "auto or " A_SYSTEM, parse_system, 0, NULL, NULL},
-    {"port-priority", A_NUMBER, parse_port_priority, 'p', "N", "0 to 65535; 32768 if not given"},
-    {"timeout", "short or long", parse_timeout, 't', "short|long",
-        "what is asked of the peers: an LACPDU each second, as if not given, or each 30 seconds"},
-    {"activity", "active or passive", parse_activity, 'a', "active|passive", "whether it speaks first: active, if not given"},
-    {"max-links", "a number from 0 to 64", parse_max_links, 'm', "N",
-        "the most links of an aggregator, 1 to 64; 0, as if not given: no limit"},
-    {"min-links", "a number from 1 to 64", parse_min_links, 'n', "N",
-        "with fewer links that carry the bundle is down: 1 to 64; 1, if not given"},
-    {"revert", YES_OR_NO, parse_revert, 'R', NULL,
-        "with max-links the ports with the lowest priorities are used, not those that come first"},
-    {"wait-to-restore", "a number of seconds from 0 to 3600", parse_wait_to_restore, 'W', "SECONDS",
-        "how long the carrier of a link that comes back has to be steady; 0 if not given"},
+    {"key", A_NUMBER, parse_number, 0, NULL, NULL, NUMBER(key, 0, UINT16_MAX)},
+    {"system", "auto or " A_SYSTEM, parse_system, 0, NULL, NULL, OF_ITS_OWN},
+    {"port-priority", A_NUMBER, parse_number, 'p', "N", "0 to 65535; 32768 if not given", NUMBER(port_priority, 0, UINT16_MAX)},
+    {"timeout", "short or long", parse_choice, 't', "short|long",
+        "what is asked of the peers: an LACPDU each second, as if not given, or each 30 seconds", CHOICE(short_timeout, "short", "long")},
+    {"activity", "active or passive", parse_choice, 'a', "active|passive", "whether it speaks first: active, if not given",
+        CHOICE(active, "active", "passive")},
+    {"max-links", "a number from 0 to 64", parse_number, 'm', "N",
+        "the most links of an aggregator, 1 to 64; 0, as if not given: no limit", NUMBER(config.max_links, 0, NIW_MOST_PORTS)},
+    {"min-links", "a number from 1 to 64", parse_number, 'n', "N",
+        "with fewer links that carry the bundle is down: 1 to 64; 1, if not given", NUMBER(min_links, 1, NIW_MOST_PORTS)},
+    {"revert", YES_OR_NO, parse_choice, 'R', NULL,
+        "with max-links the ports with the lowest priorities are used, not those that come first", CHOICE(revert, "yes", "no")},
+    {"wait-to-restore", "a number of seconds from 0 to 3600", parse_number, 'W', "SECONDS",
+        "how long the carrier of a link that comes back has to be steady; 0 if not given", NUMBER(wait_to_restore, 0, LONGEST_WAIT)},
     {"partner", "any, first or " A_SYSTEM, parse_partner, 'r', "any|first|PRIORITY,MAC",
-        "whose LACPDUs are taken: any, if not given; first: of whom is learnt first, until the\nlink goes down"},
-    {"partner-required", YES_OR_NO, parse_partner_required, 'q', NULL, "a port without a partner does not carry"},
-    {"key-by-speed", YES_OR_NO, parse_key_by_speed, 'b', NULL,
-        "links of another speed or duplex have another key, so that they share no group"},
-    {"marker-responses", "a number from 0 to 10000", parse_marker_responses, 'o', "N",
-        "the most that a port sends in a second; 10 if not given"},
+        "whose LACPDUs are taken: any, if not given; first: of whom is learnt first, until the\nlink goes down", OF_ITS_OWN},
+    {"partner-required", YES_OR_NO, parse_choice, 'q', NULL, "a port without a partner does not carry", CHOICE(partner_required, "yes", "no")},
+    {"key-by-speed", YES_OR_NO, parse_choice, 'b', NULL,
+        "links of another speed or duplex have another key, so that they share no group", CHOICE(key_by_speed, "yes", "no")},
+    {"marker-responses", "a number from 0 to 10000", parse_number, 'o', "N",
+        "the most that a port sends in a second; 10 if not given", NUMBER(marker_responses, 0, 10000)},
     {"hook", "a path that begins with /, of at most 191 characters, of a program that may be run", parse_hook, 'x', "PROGRAM",
-        "is run when the bundle becomes up, degraded or down"},
+        "is run when the bundle becomes up, degraded or down", OF_ITS_OWN},
     {"carry", "a name of an interface of at most 15 characters", parse_carry, 'C', "NAME",
-        "carries the data of a device of this name, which it makes, with the MAC address of the system"},
+        "carries the data of a device of this name, which it makes, with the MAC address of the system", OF_ITS_OWN},
     {"plane", "tap or team", parse_plane, 'P', "tap|team",
-        "what that device is: a TAP device, as if not given, or one of the kernel's team driver,\nby which the kernel carries"},
-    {"members", "given or follow", parse_members, 'B', "given|follow",
+        "what that device is: a TAP device, as if not given, or one of the kernel's team driver,\nby which the kernel carries", OF_ITS_OWN},
+    {"members", "given or follow", parse_choice, 'B', "given|follow",
         "with --plane team, who says which interfaces are ports: given here, or follow: whoever puts\n"
-        "them into the device or takes them out, as the network manager does"},
+        "them into the device or takes them out, as the network manager does", CHOICE(follow, "follow", "given")},
     {"hash", "layer2, layer2+3, layer3+4, encap3+4 or vlan+srcmac", parse_hash, 'H', "layer2|layer2+3|layer3+4|encap3+4|vlan+srcmac",
-        "what frames of one conversation have in common; layer2, if not given"},
-    {"hash-seed", A_NUMBER, parse_hash_seed, 'S', "N", "another number spreads conversations in another way, but by layer2; 0 if not given"},
-    {"flight", "a number of milliseconds from 1 to 60000", parse_flight, 'F', "MILLISECONDS",
-        "how long a frame can be on its way; 500 if not given"},
-    {"offload", YES_OR_NO, parse_offload, 'O', NULL, "passes frames of several segments, which the kernel or the card cuts"},
-    {"fast", YES_OR_NO, parse_fast, 'K', NULL, "the kernel passes data on by itself (Linux 6.6), of several segments too"},
-    {"queues", "one or all", parse_queues, 'Q', "one|all",
-        "how many queues of its members data goes by: one, if not given; all (Linux 6.6): each\nconversation by one of them"},
-    {"answer-after", "a number of milliseconds from 1 to 500", parse_answer_after, 'A', "MILLISECONDS",
-        "how long a response to a marker waits with --queues all; 50 if not given"},
+        "what frames of one conversation have in common; layer2, if not given", OF_ITS_OWN},
+    {"hash-seed", A_NUMBER, parse_number, 'S', "N", "another number spreads conversations in another way, but by layer2; 0 if not given",
+        NUMBER(hash_seed, 0, UINT16_MAX)},
+    {"flight", "a number of milliseconds from 1 to 60000", parse_number, 'F', "MILLISECONDS",
+        "how long a frame can be on its way; 500 if not given", NUMBER(flight, 1, 60000)},
+    {"offload", YES_OR_NO, parse_choice, 'O', NULL, "passes frames of several segments, which the kernel or the card cuts",
+        CHOICE(offload, "yes", "no")},
+    {"fast", YES_OR_NO, parse_choice, 'K', NULL, "the kernel passes data on by itself (Linux 6.6), of several segments too",
+        CHOICE(fast, "yes", "no")},
+    {"queues", "one or all", parse_choice, 'Q', "one|all",
+        "how many queues of its members data goes by: one, if not given; all (Linux 6.6): each\nconversation by one of them",
+        CHOICE(all_queues, "all", "one")},
+    {"answer-after", "a number of milliseconds from 1 to 500", parse_number, 'A', "MILLISECONDS",
+        "how long a response to a marker waits with --queues all; 50 if not given", NUMBER(answer_after, 1, 500)},
 };
 
 enum { BUNDLE_KEY_COUNT = sizeof BUNDLE_KEYS / sizeof *BUNDLE_KEYS };
@@ -246,6 +202,38 @@ _Static_assert(BUNDLE_KEY_COUNT <= MOST_BUNDLE_KEYS, "each key has room for its 
 /* A key of the bundle, from 0 on; NULL behind the last one. */
 const struct bundle_key *bundle_key(size_t index) {
     return index < BUNDLE_KEY_COUNT ? &BUNDLE_KEYS[index] : NULL;
+}
+
+/* Writes the value that a key has, as it is read; nothing where it has none. */
+static void write_value(const struct bundle_key *key, const struct settings *settings, char text[static PATH_ROOM]) {
+    struct system_id own = {.priority = settings->config.priority};
+    char room[32];
+    memcpy(own.mac, settings->config.mac, sizeof own.mac);
+    text[0] = 0;
+    if (key->parse == parse_number) snprintf(text, PATH_ROOM, "%u", *(const uint16_t *)value_in(key, settings));
+    if (key->parse == parse_choice) snprintf(text, PATH_ROOM, "%s", *(const bool *)value_in(key, settings) ? key->first : key->second);
+    if (key->parse == parse_system) snprintf(text, PATH_ROOM, "%s", system_text(&own, room));
+    if (key->parse == parse_partner) snprintf(text, PATH_ROOM, "%s", settings->policy == PARTNER_FIRST ? "first" : "any");
+    if (key->parse == parse_partner && settings->policy == PARTNER_GIVEN)
+        snprintf(text, PATH_ROOM, "%s", system_text(&settings->partner, room));
+    if (key->parse == parse_hook) snprintf(text, PATH_ROOM, "%s", settings->hook);
+    if (key->parse == parse_carry) snprintf(text, PATH_ROOM, "%s", settings->carry);
+    if (key->parse == parse_plane) snprintf(text, PATH_ROOM, "%s", settings->plane == PLANE_TEAM ? "team" : "tap");
+    if (key->parse == parse_hash) snprintf(text, PATH_ROOM, "%s", hash_text(settings->hash));
+}
+
+/* Writes what is not as it is if nothing is given, and what has to be given: `KEY=VALUE` of this key, from 0 on, or nothing. Answers whether there
+ * is such a key. */
+bool write_bundle_key(const struct settings *settings, size_t index, char text[static LINE_ROOM]) {
+    const struct settings usual = usual_settings();
+    const struct bundle_key *key = bundle_key(index);
+    char value[PATH_ROOM], without[PATH_ROOM];
+    text[0] = 0;
+    if (!key) return false;
+    write_value(key, settings, value);
+    write_value(key, &usual, without);
+    if (key->letter == 0 || strcmp(value, without) != 0) snprintf(text, LINE_ROOM, "%s=%s", key->name, value);
+    return true;
 }
 
 /* The keys of a port: a number, or one of two words, the first of which stands for 1. */
@@ -276,36 +264,27 @@ static const char *name_of_port_key(size_t index) {
     return PORT_KEYS[index].name;
 }
 
-struct settings_private {
-    char text[512]; /* of list_words */
-};
-
-struct settings_private *make_settings_private(void) {
-    return make_room(sizeof(struct settings_private));
-}
-
 /* Words in a row, with `before_last` before the last one and `end` behind it. They stand until the next call. */
-const char *list_words(struct lagd *lagd, const char *(*word)(size_t index), size_t count, const char *before_last, const char *end) {
-    struct settings_private *own = lagd->settings_private;
+const char *list_words(struct words *words, const char *(*word)(size_t index), size_t count, const char *before_last, const char *end) {
     size_t length = 0;
-    for (size_t i = 0; i < count && length < sizeof own->text; i++) {
+    for (size_t i = 0; i < count && length < sizeof words->text; i++) {
         const char *joint = i == 0 ? "" : i + 1 < count ? ", " : before_last;
-        length += (size_t)snprintf(own->text + length, sizeof own->text - length, "%s%s", joint, word(i));
+        length += (size_t)snprintf(words->text + length, sizeof words->text - length, "%s%s", joint, word(i));
     }
-    if (length < sizeof own->text) snprintf(own->text + length, sizeof own->text - length, "%s", end);
-    return own->text;
+    if (length < sizeof words->text) snprintf(words->text + length, sizeof words->text - length, "%s", end);
+    return words->text;
 }
 
 /* Gives a key of the bundle a value, in a line from 1; answers NULL, or what was expected. A command line is one line: of a key that
  * stands there twice the last value holds. */
-const char *set_bundle(struct lagd *lagd, struct settings *settings, const char *name, const char *text, unsigned line) {
+const char *set_bundle(struct words *words, struct settings *settings, const char *name, const char *text, unsigned line) {
     for (size_t i = 0; i < BUNDLE_KEY_COUNT; i++) {
         if (strcmp(name, BUNDLE_KEYS[i].name) != 0) continue;
         if (settings->lines[i] && settings->lines[i] < line) return EACH_KEY_ONCE;
         settings->lines[i] = line;
-        return BUNDLE_KEYS[i].take(text, settings) ? NULL : BUNDLE_KEYS[i].expected;
+        return BUNDLE_KEYS[i].parse(&BUNDLE_KEYS[i], text, settings) ? NULL : BUNDLE_KEYS[i].expected;
     }
-    return list_words(lagd, name_of_bundle_key, BUNDLE_KEY_COUNT, " or ", " as a key of [Bundle]");
+    return list_words(words, name_of_bundle_key, BUNDLE_KEY_COUNT, " or ", " as a key of [Bundle]");
 }
 
 /* The line that gives a key of the bundle, or 0. */
@@ -316,13 +295,13 @@ unsigned line_of(const struct settings *settings, const char *name) {
 }
 
 /* Gives a key of a port a value; answers NULL, or what was expected. */
-const char *set_port(struct lagd *lagd, struct port_settings *port, const char *name, const char *text) {
+const char *set_port(struct words *words, struct port_settings *port, const char *name, const char *text) {
     size_t i = 0;
     uint16_t number;
     bool is_first;
     int *value;
     while (i < PORT_KEY_COUNT && strcmp(name, PORT_KEYS[i].name) != 0) i++;
-    if (i == PORT_KEY_COUNT) return list_words(lagd, name_of_port_key, PORT_KEY_COUNT, " or ", " as a key of [Port]");
+    if (i == PORT_KEY_COUNT) return list_words(words, name_of_port_key, PORT_KEY_COUNT, " or ", " as a key of [Port]");
     value = value_at(port, i);
     if (*value != AS_BUNDLE) return EACH_KEY_ONCE;
     if (!PORT_KEYS[i].first) {
@@ -333,6 +312,20 @@ const char *set_port(struct lagd *lagd, struct port_settings *port, const char *
         *value = is_first;
     }
     return NULL;
+}
+
+/* The same of a key of a port. */
+bool write_port_key(const struct port_settings *port, size_t index, char text[static LINE_ROOM]) {
+    struct port_settings own = *port;
+    int value;
+    text[0] = 0;
+    if (index >= PORT_KEY_COUNT) return false;
+    value = *value_at(&own, index);
+    if (value != AS_BUNDLE && PORT_KEYS[index].first)
+        snprintf(text, LINE_ROOM, "%s=%s", PORT_KEYS[index].name, value ? PORT_KEYS[index].first : PORT_KEYS[index].second);
+    else if (value != AS_BUNDLE)
+        snprintf(text, LINE_ROOM, "%s=%d", PORT_KEYS[index].name, value);
+    return true;
 }
 
 /* A port of which nothing is given. */

@@ -9,8 +9,7 @@
 #include "lag.h"
 #include "shared.h"
 
-/* What one daemon is (daemon.h). */
-struct lagd;
+struct process;
 
 /* The room of a name of an interface, of its alternative names too: ALTIFNAMSIZ of linux/if.h. */
 #define NAME_ROOM 128
@@ -54,7 +53,7 @@ struct port_settings {
 };
 
 /* What carries the data. */
-enum device {
+enum plane_kind {
     PLANE_TAP,  /* a TAP device, and the daemon or programs of the kernel */
     PLANE_TEAM, /* the team driver of the kernel */
 };
@@ -74,7 +73,7 @@ struct settings {
     uint16_t marker_responses;
     char hook[PATH_ROOM]; /* the program that is run where the bundle changes, or empty */
     char carry[DEVICE_ROOM]; /* the device whose data is carried, or empty */
-    enum device plane;        /* what that is */
+    enum plane_kind plane;        /* what that is */
     bool follow;             /* whether its ports are those that the device has, whoever put them there */
     enum hash hash;          /* of that data */
     uint16_t hash_seed;      /* by which bundles with the same hash differ; not of layer2 */
@@ -92,9 +91,12 @@ struct settings {
 /* A key of a bundle: the file and the long option have its name. */
 struct bundle_key {
     const char *name, *expected; /* `expected`: of its value */
-    bool (*take)(const char *text, struct settings *settings); /* whether the text is a value of the key */
+    bool (*parse)(const struct bundle_key *key, const char *text, struct settings *settings); /* whether the text is a value of the key */
     char letter;                 /* of its option; 0: the command line gives it by its place */
     const char *value, *help;    /* in the help: the word for its value, NULL where the option alone says yes; and its lines */
+    size_t at;            /* of its value in struct settings, if that is a number or one of two words, */
+    uint16_t least, most; /* of the number, */
+    const char *first, *second; /* or the words for true and false */
 };
 
 /* What is wrong with all of it: what was expected, and the key that says otherwise; NULL where nothing is, or no key does. */
@@ -102,14 +104,24 @@ struct lack {
     const char *expected, *key;
 };
 
+/* Words in a row, as list_words makes them. */
+struct words {
+    char text[512];
+};
+
+/* The room of a line of a key with its value. */
+#define LINE_ROOM (PATH_ROOM + 32)
+
 struct settings usual_settings(void);
 const char *hash_text(enum hash hash);
 const char *way_text(const struct settings *settings);
 const struct bundle_key *bundle_key(size_t index);
-const char *list_words(struct lagd *lagd, const char *(*word)(size_t index), size_t count, const char *before_last, const char *end);
-const char *set_bundle(struct lagd *lagd, struct settings *settings, const char *name, const char *text, unsigned line);
+const char *list_words(struct words *words, const char *(*word)(size_t index), size_t count, const char *before_last, const char *end);
+const char *set_bundle(struct words *words, struct settings *settings, const char *name, const char *text, unsigned line);
 unsigned line_of(const struct settings *settings, const char *name);
-const char *set_port(struct lagd *lagd, struct port_settings *port, const char *name, const char *text);
+const char *set_port(struct words *words, struct port_settings *port, const char *name, const char *text);
+bool write_bundle_key(const struct settings *settings, size_t index, char text[static LINE_ROOM]);
+bool write_port_key(const struct port_settings *port, size_t index, char text[static LINE_ROOM]);
 struct port_settings unset_port(void);
 const char *add_port(struct settings *settings, const char *name, size_t length);
 struct lack lack_of(const struct settings *settings);
@@ -117,6 +129,6 @@ struct niw_port port_of(const struct settings *settings, uint16_t port);
 bool wants_hold(const struct settings *settings, uint16_t port);
 
 /* file.c */
-bool read_file(struct lagd *lagd, const char *path, struct settings *wanted);
+bool read_file(struct process *process, const char *path, struct settings *wanted);
 
 #endif

@@ -3,36 +3,37 @@
 #include <inttypes.h>
 #include <string.h>
 
-#include "daemon.h"
+#include "control.h"
 
 static void add_time(struct report *report, const char *name, time_t time) {
     char text[32];
     if (time) add(report, "  %s: %sZ\n", name, time_text(time, text));
 }
 
-static void add_policy(struct lagd *lagd) {
+static void add_policy(struct control *control) {
     char text[32];
-    const char *whom = lagd->settings.policy == PARTNER_ANY ? "any" : lagd->settings.policy == PARTNER_FIRST ? "first"
-                                                                                                  : system_text(&lagd->settings.partner,
+    const char *whom = control->settings->policy == PARTNER_ANY ? "any" : control->settings->policy == PARTNER_FIRST ? "first"
+                                                                                                  : system_text(&control->settings->partner,
                                                                                                   text);
-    add(&lagd->report, "  partner: %s%s\n", whom, lagd->settings.partner_required ? ", required" : "");
+    add(control->report, "  partner: %s%s\n", whom, control->settings->partner_required ? ", required" : "");
 }
 
-static void add_bundle(struct lagd *lagd) {
+static void add_bundle(struct control *control) {
     char mac[32];
-    add(&lagd->report, "---- %s ----\n", lagd->settings.name);
-    add(&lagd->report, "  status: %s, %u of %u links carry\n", bundle_state_text(lagd->bundle.state), lagd->bundle.carrying, lagd->bundle.links);
-    add(&lagd->report, "  sys_id: %s\n  sys_priority: %u\n", mac_text(lagd->settings.config.mac, mac), lagd->settings.config.priority);
-    add(&lagd->report, "  aggregation key: %u\n  lacp_time: %s\n", lagd->settings.key, lagd->settings.short_timeout ? "fast" : "slow");
-    add(&lagd->report, "  aggregator: %u\n  min_links: %u\n  max_links: %u\n", lagd->bundle.aggregator, lagd->settings.min_links,
-        lagd->settings.config.max_links);
-    add_policy(lagd);
-    add_time(&lagd->report, "last change", lagd->bundle.changed_at);
-    add(&lagd->report, "  uptime: %" PRIu64 " s, lagd %s\n", seconds_passed(lagd->system), VERSION);
+    add(control->report, "---- %s ----\n", control->settings->name);
+    add(control->report, "  status: %s, %u of %u links carry\n", bundle_state_text(control->protocol->bundle.state),
+        control->protocol->bundle.carrying, control->protocol->bundle.links);
+    add(control->report, "  sys_id: %s\n  sys_priority: %u\n", mac_text(control->settings->config.mac, mac), control->settings->config.priority);
+    add(control->report, "  aggregation key: %u\n  lacp_time: %s\n", control->settings->key, control->settings->short_timeout ? "fast" : "slow");
+    add(control->report, "  aggregator: %u\n  min_links: %u\n  max_links: %u\n", control->protocol->bundle.aggregator, control->settings->min_links,
+        control->settings->config.max_links);
+    add_policy(control);
+    add_time(control->report, "last change", control->protocol->bundle.changed_at);
+    add(control->report, "  uptime: %" PRIu64 " s, lagd %s\n", seconds_passed(control->protocol->system), VERSION);
 }
 
 /* One end of a port. */
-static void add_end(struct report *report, const char *whose, const uint8_t *mac, const unsigned numbers[static 4], uint8_t state) {
+static void add_side(struct report *report, const char *whose, const uint8_t *mac, const unsigned numbers[static 4], uint8_t state) {
     char text[32];
     add(report, "\n  %s sys_id: %s\n  %s sys_priority: %u\n", whose, mac_text(mac, text), whose, numbers[0]);
     add(report, "  %s port_id: %u\n  %s port_priority: %u\n", whose, numbers[1], whose, numbers[2]);
@@ -42,12 +43,12 @@ static void add_end(struct report *report, const char *whose, const uint8_t *mac
     add(report, "\n");
 }
 
-static void add_strangers(struct lagd *lagd, const struct link *link) {
+static void add_strangers(struct control *control, const struct link *link) {
     char system[32], source[32];
-    if (link->pinned) add(&lagd->report, "  pinned to: %s\n", system_text(&link->partner, system));
-    if (link->twin > 0) add(&lagd->report, "  partner port: that of %s, too\n", lagd->links[link->twin - 1].name);
+    if (link->pinned) add(control->report, "  pinned to: %s\n", system_text(&link->partner, system));
+    if (link->twin > 0) add(control->report, "  partner port: that of %s, too\n", control->ports->links[link->twin - 1].name);
     if (!link->strangers.seen) return;
-    add(&lagd->report, "  other system: %s from %s\n", system_text(&link->strangers.system, system), mac_text(link->strangers.source, source));
+    add(control->report, "  other system: %s from %s\n", system_text(&link->strangers.system, system), mac_text(link->strangers.source, source));
 }
 
 static void add_counts(struct report *report, const struct link *link) {
@@ -58,35 +59,51 @@ static void add_counts(struct report *report, const struct link *link) {
     }
 }
 
-static void add_member(struct lagd *lagd, const struct link *link) {
+static void add_member(struct control *control, const struct link *link) {
     struct view view;
     const struct niw_actor *own = &view.own;
     const struct niw_info *partner = &view.partner;
     char mac[32], speed[40];
-    if (!view_of(lagd, link, &view)) return;
-    add(&lagd->report, "\nmember: %s: %s, %s\n", link->name, niw_receive_state_text((uint32_t)view.receive), niw_mux_state_text((uint32_t)view.mux));
-    add(&lagd->report, "  status: %s\n  may_enable: %s\n", status_text(view.facts.status), carries(lagd, link) ? "true" : "false");
-    if (link->trouble) add(&lagd->report, "  trouble: %s\n", strerror(link->trouble));
-    add(&lagd->report, "  link: %s\n  address: %s\n", link_name(link), mac_text(link->mac, mac));
-    add(&lagd->report, "  port_id: %u\n  port_priority: %u\n", own->port, own->port_priority);
-    add(&lagd->report, "  aggregator: %u\n", view.facts.aggregator);
-    add(&lagd->report, "  current_while: %" PRIu64 "\n  wait_while: %" PRIu64 "\n", view.current_while, view.wait_while);
-    add(&lagd->report, "  actor_churn: %s\n  partner_churn: %s\n", niw_churn_state_text(link->churn.actor.state),
+    if (!view_of(control->protocol, link, &view)) return;
+    add(control->report, "\nmember: %s: %s, %s\n", link->name, niw_receive_state_text((uint32_t)view.receive),
+        niw_mux_state_text((uint32_t)view.mux));
+    add(control->report, "  status: %s\n  may_enable: %s\n", status_text(view.facts.status), carries(control->protocol, link) ? "true" : "false");
+    if (link->trouble) add(control->report, "  trouble: %s\n", strerror(link->trouble));
+    add(control->report, "  link: %s\n  address: %s\n", link_name(link), mac_text(link->mac, mac));
+    add(control->report, "  port_id: %u\n  port_priority: %u\n", own->port, own->port_priority);
+    add(control->report, "  aggregator: %u\n", view.facts.aggregator);
+    add(control->report, "  current_while: %" PRIu64 "\n  wait_while: %" PRIu64 "\n", view.current_while, view.wait_while);
+    add(control->report, "  actor_churn: %s\n  partner_churn: %s\n", niw_churn_state_text(link->churn.actor.state),
         niw_churn_state_text(link->churn.partner.state));
-    if (link->has_speed) add(&lagd->report, "  speed: %s\n", speed_text(&link->speed, speed));
-    add_time(&lagd->report, "last change", link->changed_at);
-    add_strangers(lagd, link);
-    add_end(&lagd->report, "actor", own->system_mac, (unsigned[]){own->system_priority, own->port, own->port_priority, own->key}, view.state);
-    add_end(&lagd->report, "partner", partner->system_mac,
+    if (link->has_speed) add(control->report, "  speed: %s\n", speed_text(&link->speed, speed));
+    add_time(control->report, "last change", link->changed_at);
+    add_strangers(control, link);
+    add_side(control->report, "actor", own->system_mac, (unsigned[]){own->system_priority, own->port, own->port_priority, own->key}, view.state);
+    add_side(control->report, "partner", partner->system_mac,
         (unsigned[]){partner->system_priority, partner->port, partner->port_priority, partner->key}, partner->state);
-    add_counts(&lagd->report, link);
-    lagd->plane.carrying->show_member(lagd, link, AS_TEXT);
+    add_counts(control->report, link);
+    CALL(control->plane->carrying->show_member, control, link, AS_TEXT);
 }
 
 /* The whole status. */
-void write_text(struct lagd *lagd) {
-    add_bundle(lagd);
-    lagd->plane.carrying->show(lagd, AS_TEXT);
-    for (uint16_t i = 0; i < lagd->link_count; i++)
-        if (lagd->links[i].used) add_member(lagd, &lagd->links[i]);
+void write_text(struct control *control) {
+    add_bundle(control);
+    CALL(control->plane->carrying->show, control, AS_TEXT);
+    EACH_LINK(link, control->ports)
+        if (link->used) add_member(control, link);
+}
+
+/* The settings that hold now, as a file has them: without ports that leave, and those that the device alone has. */
+void write_config(struct control *control) {
+    char text[LINE_ROOM];
+    add(control->report, "# %s\n[Bundle]\n", control->settings->name);
+    for (size_t i = 0; write_bundle_key(control->settings, i, text); i++)
+        if (text[0]) add(control->report, "%s\n", text);
+    EACH_LINK(link, control->ports) {
+        const struct port_settings *port = &control->settings->ports[link - control->ports->links];
+        if (!link->used || link->leaving || link->followed) continue;
+        add(control->report, "\n[Port %s]\n", port->name);
+        for (size_t i = 0; write_port_key(port, i, text); i++)
+            if (text[0]) add(control->report, "%s\n", text);
+    }
 }

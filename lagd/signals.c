@@ -5,7 +5,7 @@
 #include <string.h>
 #include <sys/signalfd.h>
 
-#include "daemon.h"
+#include "lagd.h"
 
 /* Signals that would end the program at once, but for those of a fault in it. */
 static const int ENDS[] = {SIGHUP, SIGINT, SIGQUIT, SIGALRM, SIGVTALRM, SIGPROF, SIGIO, SIGPWR, SIGXCPU, SIGSTKFLT};

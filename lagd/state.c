@@ -9,8 +9,7 @@
 #include <sys/stat.h>
 #include <unistd.h>
 
-#include "daemon.h"
-#include "team.h"
+#include "team/team.h"
 
 /* It rises with each change of the file, and of what programs of the kernel share with the daemon. */
 #define FORM_VERSION 2
@@ -24,7 +23,9 @@
 /* For how long frames may have waited, in milliseconds: with the second in which a state is written. */
 #define MOST_AWAY 3000
 
-struct state_private {
+struct state {
+    struct carry *carry; /* what is saved, as far as it concerns data */
+    struct team_plane *team;
     int file; /* the state that was written last, or -1 */
     int members[CONVERSATIONS]; /* the interface of each conversation that it has, or 0 */
     bool over; /* whether the peers are told of the end */
@@ -32,8 +33,10 @@ struct state_private {
     char name[NAME_ROOM + 32], new_name[NAME_ROOM + 40];
 };
 
-struct state_private *make_state_private(void) {
-    struct state_private *made = make_room(sizeof *made);
+struct state *make_state(struct carry *carry, struct team_plane *team) {
+    struct state *made = make_room(sizeof *made);
+    made->carry = carry;
+    made->team = team;
     made->file = -1;
     return made;
 }
@@ -72,113 +75,109 @@ static void write_link(FILE *file, const struct link *link) {
 }
 
 /* Writes which port has which number. */
-static void write_ports(struct lagd *lagd, FILE *file) {
-    for (uint16_t i = 0; i < lagd->link_count; i++) {
-        const struct link *link = &lagd->links[i];
+static void write_ports(const struct ports *ports, FILE *file) {
+    for (uint16_t i = 0; i < ports->count; i++) {
+        const struct link *link = &ports->links[i];
         if (link->used) fprintf(file, "port %u %d %s\n", i + 1, link->socket >= 0 ? link->index : 0, link->name);
     }
 }
 
 /* Writes the interface of each conversation: the one that it leaves, while it is held. */
-static void write_conversations(struct lagd *lagd, FILE *file) {
+static void write_conversations(struct state *own, FILE *file) {
     for (uint16_t number = 0; number < CONVERSATIONS; number++) {
-        struct niw_assignment state;
-        uint16_t home = lagd->carry.conversations[number].home;
-        if (home == 0 || !ask_state(lagd, home, number, &state) || state.what == NIW_CONVERSATION_FREE) continue;
-        if (state.port == 0 || state.port > lagd->link_count) continue;
-        lagd->state->members[number] = lagd->links[state.port - 1].index;
-        fprintf(file, "on %u %d\n", number, lagd->state->members[number]);
+        struct niw_assignment assigned;
+        uint16_t home = own->carry->conversations[number].home;
+        if (home == 0 || !ask_state(own->carry->protocol, home, number, &assigned) || assigned.what == NIW_CONVERSATION_FREE) continue;
+        if (assigned.port == 0 || assigned.port > own->carry->ports->count) continue;
+        own->members[number] = own->carry->ports->links[assigned.port - 1].index;
+        fprintf(file, "on %u %d\n", number, own->members[number]);
     }
 }
 
-static void write_state(struct lagd *lagd, FILE *file) {
-    struct niw_marker marker = niw_next_marker(&lagd->own_system);
+static void write_state(struct state *own, FILE *file) {
+    struct niw_marker marker = niw_next_marker(&own->carry->protocol->own_system);
     char boot[BOOT_ROOM], room[WAY_ROOM];
-    fprintf(file, "lagd %u\nboot %s\nway %s\n", FORM_VERSION, boot_id(boot), way(&lagd->settings, room));
-    fprintf(file, "written %" PRIu64 "\n", boottime());
-    fprintf(file, "marker %" PRIu32 "\n", is_done(lagd, marker.status, "niw_next_marker") && marker.left ? marker.id : 0);
-    fprintf(file, "bundle %u %u %lld\n", lagd->bundle.state, lagd->bundle.aggregator, (long long)lagd->bundle.changed_at);
-    if (tap_index(lagd->tap) != 0)
-        fprintf(file, "tap %d %d %" PRIu32 " %u\n", tap_index(lagd->tap), lagd->plane.carrying->has_made_device(lagd),
-            mtu_of_administrator(lagd->tap), peer_answering(lagd->probe));
-    write_ports(lagd, file);
-    for (uint16_t i = 0; i < lagd->link_count; i++)
-        if (lagd->links[i].socket >= 0) write_link(file, &lagd->links[i]);
-    memset(lagd->state->members, 0, sizeof lagd->state->members);
-    write_conversations(lagd, file);
+    fprintf(file, "lagd %u\nboot %s\nway %s\n", FORM_VERSION, boot_id(boot), way(own->carry->settings, room));
+    fprintf(file, "space %" PRIu64 "\nwritten %" PRIu64 "\n", namespace_cookie(), boottime());
+    fprintf(file, "marker %" PRIu32 "\n", is_done(own->carry->process, marker.status, "niw_next_marker") && marker.left ? marker.id : 0);
+    fprintf(file, "bundle %u %u %lld\n", own->carry->protocol->bundle.state, own->carry->protocol->bundle.aggregator,
+        (long long)own->carry->protocol->bundle.changed_at);
+    if (tap_index(own->carry->device) != 0)
+        fprintf(file, "tap %d %d %" PRIu32 " %u\n", tap_index(own->carry->device), own->carry->plane->carrying->has_made_device(own->carry->plane),
+            mtu_of_administrator(own->carry->device), peer_answering(own->carry->probe));
+    write_ports(own->carry->ports, file);
+    EACH_LINK(link, own->carry->ports)
+        if (link->socket >= 0) write_link(file, link);
+    memset(own->members, 0, sizeof own->members);
+    write_conversations(own, file);
     fputs("end\n", file);
 }
 
 /* The file of this descriptor, or none for -1, is the state that was written last. */
-static void keep_file(struct state_private *own, int file) {
+static void keep_file(struct state *own, int file) {
     if (own->file >= 0) close(own->file);
     own->file = file;
 }
 
 /* Puts a whole file in the place of the last one; answers whether it did. */
-static bool replace_file(struct lagd *lagd) {
-    struct state_private *own = lagd->state;
-    int fd = openat(folder_file(lagd->folder), own->new_name, O_WRONLY | O_CREAT | O_TRUNC | O_APPEND | O_NOFOLLOW | O_CLOEXEC, 0600);
+static bool replace_file(struct state *own) {
+    int fd = openat(own->carry->process->folder, own->new_name, O_WRONLY | O_CREAT | O_TRUNC | O_APPEND | O_NOFOLLOW | O_CLOEXEC, 0600);
     FILE *file = fd < 0 ? NULL : fdopen(fd, "a");
     bool written;
     if (!file) {
         if (fd >= 0) close(fd);
         return false;
     }
-    write_state(lagd, file);
-    written = fflush(file) == 0 && !ferror(file) && !lagd->broken;
+    write_state(own, file);
+    written = fflush(file) == 0 && !ferror(file) && !own->carry->process->broken;
     keep_file(own, written ? fcntl(fd, F_DUPFD_CLOEXEC, 0) : -1);
     written = fclose(file) == 0 && own->file >= 0;
-    return written && renameat(folder_file(lagd->folder), own->new_name, folder_file(lagd->folder), own->name) == 0;
+    return written && renameat(own->carry->process->folder, own->new_name, own->carry->process->folder, own->name) == 0;
 }
 
 /* It could not be written: there is none. */
-static void lose_file(struct lagd *lagd) {
-    struct state_private *own = lagd->state;
+static void lose_file(struct state *own) {
     if (!own->failed)
-        (void)say(lagd, LOG_WARNING | ABOUT_HANDOVER, "its state cannot be kept, so the next daemon starts anew: %s", strerror(errno));
+        (void)say(own->carry->process, LOG_WARNING | ABOUT_HANDOVER, "its state cannot be kept, so the next daemon starts anew: %s", strerror(errno));
     own->failed = true;
     keep_file(own, -1);
-    (void)unlinkat(folder_file(lagd->folder), own->new_name, 0);
-    (void)unlinkat(folder_file(lagd->folder), own->name, 0);
+    (void)unlinkat(own->carry->process->folder, own->new_name, 0);
+    (void)unlinkat(own->carry->process->folder, own->name, 0);
 }
 
 /* Writes the state; answers whether it did. Where that fails there is none. */
-bool save_state(struct lagd *lagd) {
-    struct state_private *own = lagd->state;
-    if (own->over || lagd->broken || !lagd->has_started) return false;
-    if (replace_file(lagd)) {
+bool save_state(struct state *own) {
+    if (own->over || own->carry->process->broken || !own->carry->process->has_started) return false;
+    if (replace_file(own)) {
         own->failed = false;
         return true;
     }
-    lose_file(lagd);
+    lose_file(own);
     return false;
 }
 
 /* The next frame of a conversation goes on this port: a daemon that goes on from here has to know. */
-void keep_port(struct lagd *lagd, uint16_t number, uint16_t port) {
-    struct state_private *own = lagd->state;
-    int index = lagd->links[port - 1].index;
+void keep_port(struct state *own, uint16_t number, uint16_t port) {
+    int index = own->carry->ports->links[port - 1].index;
     char line[32];
     int length;
     if (own->file < 0 || own->members[number] == index) return;
     own->members[number] = index;
     length = snprintf(line, sizeof line, "on %u %d\n", number, index);
-    if (write(own->file, line, (size_t)length) != length) lose_file(lagd);
+    if (write(own->file, line, (size_t)length) != length) lose_file(own);
 }
 
 /* The peers are told of the end: no daemon goes on from here. */
-void end_state(struct lagd *lagd) {
-    struct state_private *own = lagd->state;
+void end_state(struct state *own) {
     int emptied;
     own->over = true;
     keep_file(own, -1);
-    if (unlinkat(folder_file(lagd->folder), own->name, 0) == 0 || errno == ENOENT) return;
-    emptied = openat(folder_file(lagd->folder), own->name, O_WRONLY | O_TRUNC | O_NOFOLLOW | O_CLOEXEC);
+    if (unlinkat(own->carry->process->folder, own->name, 0) == 0 || errno == ENOENT) return;
+    emptied = openat(own->carry->process->folder, own->name, O_WRONLY | O_TRUNC | O_NOFOLLOW | O_CLOEXEC);
     if (emptied >= 0)
         close(emptied);
     else
-        (void)say(lagd, LOG_ERR | ABOUT_HANDOVER,
+        (void)say(own->carry->process, LOG_ERR | ABOUT_HANDOVER,
             "its state cannot be removed: %s: remove %s, or start no daemon for as long as a partner is waited for", strerror(errno), own->name);
 }
 
@@ -191,7 +190,7 @@ static bool read_hex(const char *text, uint8_t *octets) {
     return true;
 }
 
-static bool read_link(struct inherited *inherited, FILE *file) {
+static bool read_link_line(struct inherited *inherited, FILE *file) {
     struct inherited_link *link = &inherited->links[inherited->link_count];
     char mac[32], own[32], hex[HEX_ROOM];
     unsigned octets[6];
@@ -252,6 +251,7 @@ static bool read_rest(struct inherited *inherited, FILE *file) {
     while (fscanf(file, "%15s", word) == 1) {
         bool read = false;
         if (strcmp(word, "end") == 0) return true;
+        if (strcmp(word, "space") == 0) read = fscanf(file, "%" SCNu64, &inherited->space) == 1;
         if (strcmp(word, "written") == 0) read = fscanf(file, "%" SCNu64, &inherited->written) == 1;
         if (strcmp(word, "marker") == 0) read = fscanf(file, "%" SCNu32, &inherited->marker) == 1;
         if (strcmp(word, "bundle") == 0) read = read_bundle(inherited, file);
@@ -260,7 +260,7 @@ static bool read_rest(struct inherited *inherited, FILE *file) {
                 &inherited->answering) == 4
                 && inherited->answering <= MUTE;
         if (strcmp(word, "port") == 0) read = read_port_number(inherited, file);
-        if (strcmp(word, "link") == 0) read = read_link(inherited, file);
+        if (strcmp(word, "link") == 0) read = read_link_line(inherited, file);
         if (strcmp(word, "on") == 0) read = read_conversation(inherited, file);
         if (!read) return false;
     }
@@ -269,39 +269,42 @@ static bool read_rest(struct inherited *inherited, FILE *file) {
 
 /* By other settings nothing goes on: what stays to be done is to put back what the last daemon changed. It has a line once these interfaces
  * are found. */
-static void keep_interfaces(struct lagd *lagd, bool team) {
-    lagd->inherited.others = true;
+static void keep_interfaces(struct state *own, bool team) {
+    struct inherited *inherited = own->carry->process->inherited;
+    inherited->others = true;
     if (team)
-        leave_team(lagd, lagd->inherited.tap, lagd->inherited.persists);
-    else if (lagd->inherited.persists)
-        end_tap(lagd->inherited.tap);
-    for (unsigned i = 0; i < lagd->inherited.link_count; i++) lagd->inherited.links[i].carried = false;
-    memset(lagd->inherited.members, 0, sizeof lagd->inherited.members);
-    lagd->inherited.port_count = 0;
-    lagd->inherited.bundle = (struct bundle){0};
-    lagd->inherited.answering = NOT_ASKED;
-    lagd->inherited.tap = lagd->inherited.persists = 0;
-    lagd->inherited.mtu = 0;
+        leave_team(own->team, inherited->tap, inherited->persists);
+    else if (inherited->persists)
+        end_tap(inherited->tap);
+    for (unsigned i = 0; i < inherited->link_count; i++) inherited->links[i].carried = false;
+    memset(inherited->members, 0, sizeof inherited->members);
+    inherited->port_count = 0;
+    inherited->bundle = (struct bundle){0};
+    inherited->answering = NOT_ASKED;
+    inherited->tap = inherited->persists = 0;
+    inherited->mtu = 0;
 }
 
-/* Reads a state; answers NULL, or why it counts for nothing. */
-static const char *read_state(struct lagd *lagd, FILE *file) {
+/* Reads a state; answers NULL, or why it counts for nothing. In another network namespace its numbers of interfaces are those of others. */
+static const char *read_state(struct state *own, FILE *file) {
+    struct inherited *inherited = own->carry->process->inherited;
     unsigned version;
     char boot[BOOT_ROOM], now[BOOT_ROOM], given[WAY_ROOM], room[WAY_ROOM];
     if (fscanf(file, "lagd %u", &version) != 1) return "it is no state of lagd";
     if (version != FORM_VERSION) return "it is of another version";
     if (fscanf(file, " boot %63s way %95s", boot, given) != 2) return "it is cut off";
     if (strcmp(boot, boot_id(now)) != 0) return "it is of another boot";
-    if (!read_rest(&lagd->inherited, file)) return "it is cut off, or wrong";
-    read_changes(&lagd->inherited, file);
-    if (strcmp(given, way(&lagd->settings, room)) != 0) keep_interfaces(lagd, is_way_of_team(given));
+    if (!read_rest(inherited, file)) return "it is cut off, or wrong";
+    if (inherited->space != 0 && inherited->space != namespace_cookie()) return "it is of another network namespace";
+    read_changes(inherited, file);
+    if (strcmp(given, way(own->carry->settings, room)) != 0) keep_interfaces(own, is_way_of_team(given));
     return NULL;
 }
 
 /* Opens the file, if it is one of root or of this user, who alone may write it. */
-static FILE *open_state(struct lagd *lagd) {
+static FILE *open_state(struct state *own) {
     struct stat found;
-    int fd = openat(folder_file(lagd->folder), lagd->state->name, O_RDONLY | O_NOFOLLOW | O_NONBLOCK | O_CLOEXEC);
+    int fd = openat(own->carry->process->folder, own->name, O_RDONLY | O_NOFOLLOW | O_NONBLOCK | O_CLOEXEC);
     FILE *file = NULL;
     if (fd >= 0 && fstat(fd, &found) == 0 && S_ISREG(found.st_mode) && (found.st_uid == 0 || found.st_uid == geteuid())
         && !(found.st_mode & (S_IWGRP | S_IWOTH)))
@@ -311,19 +314,18 @@ static FILE *open_state(struct lagd *lagd) {
 }
 
 /* Reads what the last daemon left. What counts for nothing has a line, and the daemon starts anew. */
-void recall_state(struct lagd *lagd) {
-    struct state_private *own = lagd->state;
+void recall_state(struct state *own) {
     const char *fault;
     FILE *file;
-    snprintf(own->name, sizeof own->name, "%lu.%s.state", network_namespace(), lagd->settings.name);
+    snprintf(own->name, sizeof own->name, "%lu.%s.state", network_namespace(), own->carry->settings->name);
     snprintf(own->new_name, sizeof own->new_name, "%s.new", own->name);
-    file = open_state(lagd);
+    file = open_state(own);
     if (!file) return;
-    fault = read_state(lagd, file);
+    fault = read_state(own, file);
     fclose(file);
     if (!fault) return;
-    lagd->inherited = (struct inherited){0};
-    (void)say(lagd, LOG_WARNING | ABOUT_HANDOVER, "the state that the last daemon left is not used: %s", fault);
+    *own->carry->process->inherited = (struct inherited){0};
+    (void)say(own->carry->process, LOG_WARNING | ABOUT_HANDOVER, "the state that the last daemon left is not used: %s", fault);
 }
 
 /* Whether there was no daemon for a moment only: what waits in sockets and in the TAP device is still of use. */

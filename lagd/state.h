@@ -2,7 +2,7 @@
 #ifndef LAGD_STATE_H
 #define LAGD_STATE_H
 
-#include "carry.h"
+#include "lagd.h"
 
 /* Of a link. Times are milliseconds of CLOCK_BOOTTIME. */
 struct inherited_link {
@@ -29,6 +29,7 @@ struct inherited {
     struct inherited_link links[NIW_MOST_PORTS];
     unsigned port_count;
     struct inherited_port ports[NIW_MOST_PORTS];
+    uint64_t space;               /* the namespace_cookie of its network namespace, or 0 */
     uint64_t written;             /* when it was written, in milliseconds of CLOCK_BOOTTIME */
     uint32_t marker;              /* the identifier of the next one */
     struct bundle bundle;         /* its state, aggregator and time of the last change */
@@ -38,5 +39,16 @@ struct inherited {
     uint32_t mtu;                 /* a lower one than its members take, which an administrator set, or 0 */
     int members[CONVERSATIONS];   /* of each conversation the interface that it was on, or 0 */
 };
+
+struct carry;
+struct state;
+struct team_plane;
+
+/* state.c */
+struct state *make_state(struct carry *carry, struct team_plane *team);
+void recall_state(struct state *own);
+bool save_state(struct state *own);
+void keep_port(struct state *own, uint16_t number, uint16_t port);
+void end_state(struct state *own);
 
 #endif

@@ -9,7 +9,7 @@
 #include <sys/un.h>
 #include <unistd.h>
 
-#include "daemon.h"
+#include "control.h"
 
 /* The most connections of one user, so that none takes all of them; how many of these may watch, so that the others can ask; and how many
  * of all are root's alone. */
@@ -88,12 +88,12 @@ static void refuse(int fd, const char *why) {
     (void)send(fd, text, (size_t)length, MSG_NOSIGNAL | MSG_DONTWAIT);
 }
 
-static void accept_one(struct lagd *lagd, int fd) {
+static void accept_one(struct process *process, int fd) {
     struct ucred who = {0};
     socklen_t length = sizeof who;
     const char *why = NULL;
-    struct caller *place = getsockopt(fd, SOL_SOCKET, SO_PEERCRED, &who, &length) == 0 ? place_for(lagd->status, who.uid, &why) : NULL;
-    if (!place || !await_input(lagd->epoll_file, fd, CALLERS + (uint32_t)(place - lagd->status->callers))) {
+    struct caller *place = getsockopt(fd, SOL_SOCKET, SO_PEERCRED, &who, &length) == 0 ? place_for(process->status, who.uid, &why) : NULL;
+    if (!place || !await_input(process->epoll_file, fd, CALLERS + (uint32_t)(place - process->status->callers))) {
         refuse(fd, why ? why : strerror(errno));
         close(fd);
         return;
@@ -102,21 +102,21 @@ static void accept_one(struct lagd *lagd, int fd) {
 }
 
 /* Takes connections, in the order in which they came. Those for which there is no room now are taken at the next tick. */
-void accept_callers(struct lagd *lagd) {
-    struct status_private *own = lagd->status;
+void accept_callers(struct process *process) {
+    struct status_private *own = process->status;
     while (own->left_in_tick > 0) {
         int fd = accept4(own->listener, NULL, NULL, SOCK_NONBLOCK | SOCK_CLOEXEC);
         if (fd < 0 && (errno == EAGAIN || errno == EINTR || errno == ECONNABORTED)) return;
         if (fd < 0) break; /* without a file for it, it waits for the next tick */
         own->left_in_tick--;
-        accept_one(lagd, fd);
+        accept_one(process, fd);
     }
-    if (own->listens) await_no_more(lagd->epoll_file, own->listener);
+    if (own->listens) await_no_more(process->epoll_file, own->listener);
     own->listens = false;
 }
 
 /* Sends what is left of an answer, as far as the socket has room, and closes the connection behind it. */
-static void send_rest(struct lagd *lagd, struct caller *caller) {
+static void send_rest(struct process *process, struct caller *caller) {
     ssize_t sent = send(caller->fd, caller->rest + caller->sent, caller->answer_length - caller->sent, MSG_NOSIGNAL | MSG_DONTWAIT);
     bool waits = sent >= 0 || errno == EAGAIN || errno == EINTR;
     if (sent > 0) {
@@ -124,7 +124,7 @@ static void send_rest(struct lagd *lagd, struct caller *caller) {
         caller->ticks = PATIENCE;
     }
     if (!waits || caller->sent == caller->answer_length
-        || !await_output(lagd->epoll_file, caller->fd, CALLERS + (uint32_t)(caller - lagd->status->callers)))
+        || !await_output(process->epoll_file, caller->fd, CALLERS + (uint32_t)(caller - process->status->callers)))
         close_caller(caller);
 }
 
@@ -137,23 +137,23 @@ static bool is_order(const char *asked) {
 }
 
 /* Does what root asks for, and tells what became of it. */
-static void obey(struct lagd *lagd, struct caller *caller) {
+static void obey(struct control *control, struct caller *caller) {
     char answer[ORDER_ROOM];
     if (caller->user != 0) {
         refuse(caller->fd, "root alone may change a bundle");
     } else {
-        answer_order(lagd, caller->question, answer);
+        answer_order(control->protocol, caller->question, answer);
         (void)send(caller->fd, answer, strlen(answer), MSG_NOSIGNAL | MSG_DONTWAIT);
     }
     close_caller(caller);
 }
 
 /* Answers a question, a word of one line, or an order. */
-static void answer_caller(struct lagd *lagd, struct caller *caller) {
+static void answer_caller(struct control *control, struct caller *caller) {
     const char *asked = caller->question;
-    unsigned watching = count_of(lagd->status, caller->user, true);
+    unsigned watching = count_of(control->process->status, caller->user, true);
     if (is_order(asked)) {
-        obey(lagd, caller);
+        obey(control, caller);
         return;
     }
     caller->watches = strcmp(asked, "watch") == 0 || strcmp(asked, "watch-json") == 0;
@@ -164,28 +164,29 @@ static void answer_caller(struct lagd *lagd, struct caller *caller) {
         return;
     }
     if (caller->watches) return;
-    lagd->report.length = 0;
-    if (strcmp(asked, "text") == 0) write_text(lagd);
-    if (strcmp(asked, "json") == 0) write_json(lagd);
-    if (strcmp(asked, "metrics") == 0) write_metrics(lagd);
-    if (lagd->broken) lagd->report.length = 0; /* what the library refuses to tell is not told half */
-    caller->rest = lagd->report.length > 0 ? malloc(lagd->report.length) : NULL;
-    caller->answer_length = lagd->report.length;
-    if (caller->rest) memcpy(caller->rest, lagd->report.text, lagd->report.length);
+    control->report->length = 0;
+    if (strcmp(asked, "text") == 0) write_text(control);
+    if (strcmp(asked, "config") == 0) write_config(control);
+    if (strcmp(asked, "json") == 0) write_json(control);
+    if (strcmp(asked, "metrics") == 0) write_metrics(control);
+    if (control->process->broken) control->report->length = 0; /* what the library refuses to tell is not told half */
+    caller->rest = control->report->length > 0 ? malloc(control->report->length) : NULL;
+    caller->answer_length = control->report->length;
+    if (caller->rest) memcpy(caller->rest, control->report->text, control->report->length);
     if (caller->rest)
-        send_rest(lagd, caller);
+        send_rest(control->process, caller);
     else
         close_caller(caller);
 }
 
 /* Takes what somebody sends, or goes on with an answer. Who watches sends nothing more, but for the end. */
-void serve_caller(struct lagd *lagd, uint32_t number) {
-    struct caller *caller = &lagd->status->callers[number];
+void serve_caller(struct control *control, uint32_t number) {
+    struct caller *caller = &control->process->status->callers[number];
     char *end, scrap[64];
     ssize_t got;
     if (caller->fd < 0) return;
     if (caller->rest) {
-        send_rest(lagd, caller);
+        send_rest(control->process, caller);
         return;
     }
     if (caller->watches) {
@@ -199,18 +200,18 @@ void serve_caller(struct lagd *lagd, uint32_t number) {
     end = strchr(caller->question, '\n');
     if (end) *end = 0;
     if (end)
-        answer_caller(lagd, caller);
+        answer_caller(control, caller);
     else if (got <= 0 || caller->length == sizeof caller->question - 1)
         close_caller(caller);
 }
 
 /* 100 ms passed: who asked nothing for 2 s is let go, and more may come. */
-void pass_tick_of_callers(struct lagd *lagd) {
-    struct status_private *own = lagd->status;
+void pass_tick_of_callers(struct process *process) {
+    struct status_private *own = process->status;
     for (unsigned i = 0; i < MOST_CALLERS; i++)
         if (own->callers[i].fd >= 0 && !own->callers[i].watches && --own->callers[i].ticks == 0) close_caller(&own->callers[i]);
     own->left_in_tick = MOST_IN_TICK;
-    if (!own->listens) own->listens = await_input(lagd->epoll_file, own->listener, STATUS);
+    if (!own->listens) own->listens = await_input(process->epoll_file, own->listener, STATUS);
 }
 
 /* Tells those who watch; who does not keep up is let go. */
@@ -228,18 +229,19 @@ void tell_watchers(struct status_private *own, const char *line, size_t length) 
 }
 
 /* Tells those who watch in JSON how a port is now, or the bundle, where `link` is null. */
-void tell_watchers_of(struct lagd *lagd, const struct link *link) {
-    struct status_private *own = lagd->status;
+void tell_watchers_of(struct control *control, const struct link *link) {
+    struct status_private *own = control->process->status;
     bool any = false;
     for (unsigned i = 0; i < MOST_CALLERS; i++) any = any || (own->callers[i].fd >= 0 && own->callers[i].watches && own->callers[i].json);
     if (!any) return;
-    lagd->report.length = 0;
-    write_json_event(lagd, link);
-    if (!lagd->broken) tell(lagd->status, lagd->report.text, lagd->report.length, true);
+    control->report->length = 0;
+    write_json_event(control, link);
+    if (!control->process->broken) tell(control->process->status, control->report->text, control->report->length, true);
 }
 
-static void remove_socket(struct lagd *lagd) {
-    (void)unlinkat(folder_file(lagd->folder), lagd->status->own_name, 0);
+static void remove_socket(void *given) {
+    const struct process *process = given;
+    (void)unlinkat(process->folder, process->status->own_name, 0);
 }
 
 /* Whether somebody listens at an address. */
@@ -252,23 +254,23 @@ static bool is_taken(const struct sockaddr_un *address) {
 
 /* The status socket, named for the namespace and the bundle: one that is left there, at which nobody listens, is nobody's. Its user and
  * group may ask, whatever the umask is. */
-void open_status(struct lagd *lagd, const char *folder) {
-    struct status_private *own = lagd->status;
+void open_status(struct process *process, const char *folder) {
+    struct status_private *own = process->status;
     struct sockaddr_un address = {.sun_family = AF_UNIX};
     int length, fault;
     mode_t mask;
     for (unsigned i = 0; i < MOST_CALLERS; i++) own->callers[i].fd = -1;
-    snprintf(own->own_name, sizeof own->own_name, "%lu.%.*s.sock", network_namespace(), LONGEST_NAME, lagd->settings.name);
-    length = snprintf(address.sun_path, sizeof address.sun_path, "/proc/self/fd/%d/%s", folder_file(lagd->folder), own->own_name);
+    snprintf(own->own_name, sizeof own->own_name, "%lu.%.*s.sock", network_namespace(), LONGEST_NAME, process->settings->name);
+    length = snprintf(address.sun_path, sizeof address.sun_path, "/proc/self/fd/%d/%s", process->folder, own->own_name);
     if (length >= (int)sizeof address.sun_path) stop(WRONG_WORD, "too long", own->own_name);
-    if (is_taken(&address)) stop(REFUSED, "another lagd has this bundle", lagd->settings.name);
-    (void)unlinkat(folder_file(lagd->folder), own->own_name, 0);
+    if (is_taken(&address)) stop(REFUSED, "another lagd has this bundle", process->settings->name);
+    (void)unlinkat(process->folder, own->own_name, 0);
     own->listener = socket(AF_UNIX, SOCK_STREAM | SOCK_NONBLOCK | SOCK_CLOEXEC, 0);
     mask = umask(0117);
     fault = own->listener < 0 || bind(own->listener, (struct sockaddr *)&address, sizeof address) < 0 || listen(own->listener, 64) < 0
         ? errno : 0;
     umask(mask);
     if (fault) stop(REFUSED, folder, strerror(fault));
-    (void)call_at_exit(lagd, remove_socket);
-    own->listens = await_input(lagd->epoll_file, own->listener, STATUS);
+    call_at_exit(process, remove_socket, process);
+    own->listens = await_input(process->epoll_file, own->listener, STATUS);
 }

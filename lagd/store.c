@@ -3,6 +3,13 @@
 #define _GNU_SOURCE
 #ifdef HAVE_SYSTEMD
 #include <systemd/sd-daemon.h>
+#define HAS_LIBRARY true
+#else
+#define HAS_LIBRARY false
+#define sd_pid_notify_with_fds(...) 0
+#define sd_notifyf(...) 0
+#define sd_listen_fds_with_names(...) 0
+#define SD_LISTEN_FDS_START 3
 #endif
 #include <errno.h>
 #include <linux/if_packet.h>
@@ -13,9 +20,8 @@
 #include <sys/socket.h>
 #include <unistd.h>
 
-#include "daemon.h"
+#include "lagd.h"
 
-#ifdef HAVE_SYSTEMD
 #define NAME_OF_FILE 64
 /* What the unit lets it keep. */
 #define MOST_FILES 512
@@ -30,9 +36,7 @@ struct store_private {
     bool stays; /* whether the next daemon gets what is there */
 };
 
-struct store_private *make_store_private(void) {
-    return make_room(sizeof(struct store_private));
-}
+MAKES_ROOM(store)
 
 static void name_stored(const char *kind, int number, char room[static NAME_OF_FILE]) {
     snprintf(room, NAME_OF_FILE, "%s-%lu-%d", kind, network_namespace(), number);
@@ -48,35 +52,34 @@ static void tell_store(const char *what, const char *kind, int number, int fd) {
 /* Whether there is a manager that keeps files: systemd says so from 254 on, and the unit does. */
 bool has_store(void) {
     const char *manager = getenv("NOTIFY_SOCKET"), *most = getenv("FDSTORE");
-    return manager && manager[0] && most && atoi(most) > 0;
+    return HAS_LIBRARY && manager && manager[0] && most && atoi(most) > 0;
 }
 
 /* Whether the manager keeps this file already. Where the kernel cannot compare files (kcmp), it would keep it twice. */
-static bool is_stored(struct lagd *lagd, const char *kind, int number, int fd) {
+static bool is_stored(struct store_private *own, const char *kind, int number, int fd) {
     char name[NAME_OF_FILE];
     name_stored(kind, number, name);
-    for (size_t i = 0; i < lagd->store->count; i++)
-        if (lagd->store->stored[i].taken == fd && strcmp(lagd->store->stored[i].name, name) == 0) return true;
+    for (size_t i = 0; i < own->count; i++)
+        if (own->stored[i].taken == fd && strcmp(own->stored[i].name, name) == 0) return true;
     return false;
 }
 
 /* The manager keeps a file, too, until drop_stored. */
-void put_stored(struct lagd *lagd, const char *kind, int number, int fd) {
-    if (has_store() && !is_stored(lagd, kind, number, fd)) tell_store("FDSTORE", kind, number, fd);
+void put_stored(struct store_private *own, const char *kind, int number, int fd) {
+    if (has_store() && !is_stored(own, kind, number, fd)) tell_store("FDSTORE", kind, number, fd);
 }
 
 /* The manager keeps it no more. */
-void drop_stored(struct lagd *lagd, const char *kind, int number) {
+void drop_stored(struct store_private *own, const char *kind, int number) {
     char name[NAME_OF_FILE];
     name_stored(kind, number, name);
-    for (size_t i = 0; i < lagd->store->count; i++)
-        if (strcmp(lagd->store->stored[i].name, name) == 0) lagd->store->stored[i].taken = -1;
+    for (size_t i = 0; i < own->count; i++)
+        if (strcmp(own->stored[i].name, name) == 0) own->stored[i].taken = -1;
     if (has_store()) tell_store("FDSTOREREMOVE", kind, number, -1);
 }
 
 /* Takes a file that the last daemon left; or -1. */
-int claim_stored(struct lagd *lagd, const char *kind, int number) {
-    struct store_private *own = lagd->store;
+int claim_stored(struct store_private *own, const char *kind, int number) {
     char name[NAME_OF_FILE];
     name_stored(kind, number, name);
     for (size_t i = 0; i < own->count; i++) {
@@ -90,8 +93,7 @@ int claim_stored(struct lagd *lagd, const char *kind, int number) {
 }
 
 /* Gives back what was taken, for who takes it next. The manager closes what it is to keep no more a moment later, and a lock is held until then. */
-void return_stored(struct lagd *lagd, const char *kind, int number, int fd) {
-    struct store_private *own = lagd->store;
+void return_stored(struct store_private *own, const char *kind, int number, int fd) {
     char name[NAME_OF_FILE];
     name_stored(kind, number, name);
     for (size_t i = 0; i < own->count; i++) {
@@ -104,52 +106,51 @@ void return_stored(struct lagd *lagd, const char *kind, int number, int fd) {
 }
 
 /* Whether a file keeps a program that one in use keeps, too: the manager may hand over the same file twice. */
-static bool is_twin(struct lagd *lagd, int fd) {
+static bool is_twin(struct store_private *own, int fd) {
     uint32_t number = program_keeper(fd);
-    for (size_t i = 0; number != 0 && i < lagd->store->count; i++)
-        if (lagd->store->stored[i].taken >= 0 && program_keeper(lagd->store->stored[i].taken) == number) return true;
+    for (size_t i = 0; number != 0 && i < own->count; i++)
+        if (own->stored[i].taken >= 0 && program_keeper(own->stored[i].taken) == number) return true;
     return false;
 }
 
 /* The manager keeps again what is in use, where it was told to forget all files of a name. */
-static void put_again(struct lagd *lagd, const char *name) {
+static void put_again(struct store_private *own, const char *name) {
     char text[NAME_OF_FILE + 32];
     snprintf(text, sizeof text, "FDSTORE=1\nFDPOLL=0\nFDNAME=%s", name);
-    for (size_t i = 0; i < lagd->store->count; i++)
-        if (lagd->store->stored[i].taken >= 0 && strcmp(lagd->store->stored[i].name, name) == 0)
-            (void)sd_pid_notify_with_fds(0, 0, text, &lagd->store->stored[i].taken, 1);
+    for (size_t i = 0; i < own->count; i++)
+        if (own->stored[i].taken >= 0 && strcmp(own->stored[i].name, name) == 0)
+            (void)sd_pid_notify_with_fds(0, 0, text, &own->stored[i].taken, 1);
 }
 
-static void drop_at(struct lagd *lagd, size_t place) {
-    struct store_private *own = lagd->store;
+static void drop_at(struct store_private *own, size_t place) {
     if (own->stored[place].fd < 0) return;
     (void)sd_notifyf(0, "FDSTOREREMOVE=1\nFDNAME=%s", own->stored[place].name);
-    put_again(lagd, own->stored[place].name);
-    if (!is_twin(lagd, own->stored[place].fd)) detach_program(own->stored[place].fd);
+    put_again(own, own->stored[place].name);
+    if (!is_twin(own, own->stored[place].fd)) detach_program(own->stored[place].fd);
     close(own->stored[place].fd);
     own->stored[place].fd = -1;
 }
 
 /* What nobody took is kept no more. */
-void drop_unclaimed(struct lagd *lagd) {
-    for (size_t i = 0; i < lagd->store->count; i++) drop_at(lagd, i);
+void drop_unclaimed(struct store_private *own) {
+    for (size_t i = 0; i < own->count; i++) drop_at(own, i);
 }
 
 /* The next daemon goes on with what there is. */
-void leave_store(struct lagd *lagd) {
-    lagd->store->stays = true;
+void leave_store(struct store_private *own) {
+    own->stays = true;
 }
 
 /* The program ends, by whatever it is refused: nothing goes on without it, as the carrier of its device. */
-static void empty_store(struct lagd *lagd) {
-    struct store_private *own = lagd->store;
+static void empty_store(void *given) {
+    struct store_private *own = given;
     if (own->stays) return;
     for (size_t i = 0; i < own->count; i++) (void)sd_notifyf(0, "FDSTOREREMOVE=1\nFDNAME=%s", own->stored[i].name);
 }
 
 /* Takes over what the last daemon left with the manager. */
-void open_store(struct lagd *lagd) {
-    struct store_private *own = lagd->store;
+void open_store(struct process *process) {
+    struct store_private *own = process->store;
     char **names = NULL;
     int found = sd_listen_fds_with_names(1, &names);
     for (int i = 0; i < found; i++) {
@@ -162,61 +163,13 @@ void open_store(struct lagd *lagd) {
     }
     for (int i = 0; i < found; i++) free(names[i]);
     free(names);
-    if (call_at_exit(lagd, empty_store) != 0) stop(REFUSED, "no memory", "for what is stored");
+    call_at_exit(process, empty_store, own);
 }
-#else
-struct store_private *make_store_private(void) {
-    return NULL;
-}
-
-bool has_store(void) {
-    return false;
-}
-
-void put_stored(struct lagd *lagd, const char *kind, int number, int fd) {
-    (void)lagd;
-    (void)kind;
-    (void)number;
-    (void)fd;
-}
-
-void drop_stored(struct lagd *lagd, const char *kind, int number) {
-    (void)lagd;
-    (void)kind;
-    (void)number;
-}
-
-int claim_stored(struct lagd *lagd, const char *kind, int number) {
-    (void)lagd;
-    (void)kind;
-    (void)number;
-    return -1;
-}
-
-void return_stored(struct lagd *lagd, const char *kind, int number, int fd) {
-    (void)lagd;
-    (void)kind;
-    (void)number;
-    close(fd);
-}
-
-void drop_unclaimed(struct lagd *lagd) {
-    (void)lagd;
-}
-
-void leave_store(struct lagd *lagd) {
-    (void)lagd;
-}
-
-void open_store(struct lagd *lagd) {
-    (void)lagd;
-}
-#endif
 
 /* Closes a file that the manager keeps, too, and leaves errno as it is. */
-void close_stored(struct lagd *lagd, const char *kind, int number, int fd) {
+void close_stored(struct store_private *own, const char *kind, int number, int fd) {
     int fault = errno;
-    drop_stored(lagd, kind, number);
+    drop_stored(own, kind, number);
     close(fd);
     errno = fault;
 }
@@ -229,25 +182,26 @@ static bool is_of(int fd, int index) {
 }
 
 /* A packet socket for an interface, stored for a link with an index: the one that the last daemon left, with what came meanwhile unless that
- * is old, or a new one, which takes nothing before it is bound; or -1, and errno. */
-int packet_socket(struct lagd *lagd, const char *kind, int of, int index, int type) {
-    int fd = claim_stored(lagd, kind, of);
-    if (fd >= 0 && is_of(fd, index) && (type == SOCK_DGRAM || was_away_briefly(&lagd->inherited))) return fd;
-    if (fd >= 0) close_stored(lagd, kind, of, fd);
-    return socket(AF_PACKET, type | SOCK_NONBLOCK | SOCK_CLOEXEC, 0);
+ * is old, or a new one, which takes nothing before it is bound; or -errno. */
+int packet_socket(struct process *process, const char *kind, int of, int index, int type) {
+    int fd = claim_stored(process->store, kind, of);
+    if (fd >= 0 && is_of(fd, index) && (type == SOCK_DGRAM || was_away_briefly(process->inherited))) return fd;
+    if (fd >= 0) close_stored(process->store, kind, of, fd);
+    fd = socket(AF_PACKET, type | SOCK_NONBLOCK | SOCK_CLOEXEC, 0);
+    return fd < 0 ? -errno : fd;
 }
 
 /* As attach_program, in the place of the program of the last daemon, where that left one; the manager of services keeps it, too. */
-int attach_stored(struct lagd *lagd, const char *kind, int program, int index, bool egress) {
-    int attached = claim_stored(lagd, kind, index);
+int attach_stored(struct store_private *own, const char *kind, int program, int index, bool egress) {
+    int attached = claim_stored(own, kind, index);
     if (attached >= 0 && exchange_program(attached, program, index)) return attached;
-    if (attached >= 0) detach_stored(lagd, kind, index, attached);
+    if (attached >= 0) detach_stored(own, kind, index, attached);
     attached = attach_program(program, index, egress);
-    if (attached >= 0) put_stored(lagd, kind, index, attached);
+    if (attached >= 0) put_stored(own, kind, index, attached);
     return attached;
 }
 
-void detach_stored(struct lagd *lagd, const char *kind, int index, int attached) {
+void detach_stored(struct store_private *own, const char *kind, int index, int attached) {
     detach_program(attached);
-    close_stored(lagd, kind, index, attached);
+    close_stored(own, kind, index, attached);
 }

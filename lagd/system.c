@@ -4,7 +4,7 @@
 #include <sys/random.h>
 #include <unistd.h>
 
-#include "daemon.h"
+#include "lagd.h"
 
 struct system_private {
     uint64_t ticks;
@@ -12,9 +12,7 @@ struct system_private {
     uint16_t keys[NIW_MOST_PORTS]; /* of the aggregators */
 };
 
-struct system_private *make_system_private(void) {
-    return make_room(sizeof(struct system_private));
-}
+MAKES_ROOM(system)
 
 /* How many ticks passed since the start. */
 uint64_t ticks_passed(const struct system_private *own) {
@@ -47,31 +45,31 @@ static uint32_t random_marker(void) {
 }
 
 /* Holds a port that nothing may use, whatever its link does, or lets it go; answers whether that is done. */
-bool apply_hold(struct lagd *lagd, uint16_t port) {
-    const struct link *link = &lagd->links[port - 1];
+bool apply_hold(struct protocol *protocol, uint16_t port) {
+    const struct link *link = &protocol->ports->links[port - 1];
     bool hold = (link->held || link->leaving) && !link->emptying;
-    return is_done(lagd, niw_hold(&lagd->own_system, port, hold || is_halted(lagd->halt)), "niw_hold");
+    return is_done(protocol->process, niw_hold(&protocol->own_system, port, hold || is_halted(protocol->halt)), "niw_hold");
 }
 
 /* The file takes a port out of use, or lets it be used again; answers whether that is done. */
-bool hold_port(struct lagd *lagd, uint16_t port, bool hold) {
-    lagd->links[port - 1].held = hold;
-    return begin_hold(lagd, port);
+bool hold_port(struct protocol *protocol, uint16_t port, bool hold) {
+    protocol->ports->links[port - 1].held = hold;
+    return begin_hold(protocol, port);
 }
 
 /* Puts a system into the empty handle, whose ports have their settings and keys of now: a warm one, where some of them were saved. */
-static struct niw_made put_system(struct lagd *lagd, const struct niw_saved *saved, size_t count) {
-    const struct niw_config *config = &lagd->settings.config;
+static struct niw_made put_system(struct protocol *protocol, const struct niw_saved *saved, size_t count) {
+    const struct niw_config *config = &protocol->settings->config;
     struct niw_port ports[NIW_MOST_PORTS];
-    for (uint16_t i = 0; i < lagd->slot_count; i++) ports[i] = lagd->links[i].settings;
-    if (count == 0) return niw_new(&lagd->own_system, config, lagd->system->keys, lagd->aggregator_count, ports, lagd->slot_count);
-    return niw_resume(&lagd->own_system, config, lagd->system->keys, lagd->aggregator_count, ports, lagd->slot_count, saved, count);
+    for (uint16_t i = 0; i < protocol->ports->slots; i++) ports[i] = protocol->ports->links[i].settings;
+    if (count == 0) return niw_new(&protocol->own_system, config, protocol->system->keys, protocol->aggregator_count, ports, protocol->ports->slots);
+    return niw_resume(&protocol->own_system, config, protocol->system->keys, protocol->aggregator_count, ports, protocol->ports->slots, saved, count);
 }
 
 /* Holds the ports that are to be held. */
-static void hold_ports(struct lagd *lagd) {
-    for (uint16_t port = 1; port <= lagd->link_count; port++)
-        if (lagd->links[port - 1].held && !apply_hold(lagd, port)) return;
+static void hold_by_settings(struct protocol *protocol) {
+    for (uint16_t port = 1; port <= protocol->ports->count; port++)
+        if (protocol->ports->links[port - 1].held && !apply_hold(protocol, port)) return;
 }
 
 /* Drops a port from those that were saved; answers how many are left. One that is not among them leaves none. */
@@ -84,89 +82,89 @@ static size_t drop_saved(struct niw_saved *saved, size_t count, uint64_t port) {
 }
 
 /* Makes the system anew, with these ports as they were. One that the library refuses comes up as the others do. Answers how many are back. */
-size_t resume_system(struct lagd *lagd, struct niw_saved *saved, size_t count) {
+size_t resume_system(struct protocol *protocol, struct niw_saved *saved, size_t count) {
     struct niw_made made;
-    if (count == 0 || !is_done(lagd, niw_free(&lagd->own_system), "niw_free")) return 0;
+    if (count == 0 || !is_done(protocol->process, niw_free(&protocol->own_system), "niw_free")) return 0;
     for (;;) {
-        made = put_system(lagd, saved, count);
+        made = put_system(protocol, saved, count);
         if (made.status != NIW_STALE && made.status != NIW_NOT_DISTRIBUTING) break;
         count = drop_saved(saved, count, made.place);
     }
-    if (!is_done(lagd, made.status, "niw_resume")) return 0;
-    hold_ports(lagd);
+    if (!is_done(protocol->process, made.status, "niw_resume")) return 0;
+    hold_by_settings(protocol);
     return count;
 }
 
 /* Makes the system of the settings. */
-void make_system(struct lagd *lagd) {
-    clock_gettime(CLOCK_MONOTONIC, &lagd->system->began);
-    lagd->settings.config.first_marker = first_marker_left(&lagd->inherited);
-    if (lagd->settings.config.first_marker == 0) lagd->settings.config.first_marker = random_marker();
-    choose_slots(lagd);
-    if (!place_ports(lagd, &lagd->settings)) stop(WRONG_WORD, "too many interfaces", lagd->settings.name);
-    keep_left_ports(lagd);
-    lagd->link_count = lagd->settings.port_count;
-    for (uint16_t port = 1; port <= NIW_MOST_PORTS; port++) begin_link(lagd, port);
-    make_keys(lagd, lagd->system->keys);
-    if (!is_done(lagd, put_system(lagd, NULL, 0).status, "niw_new")) return;
-    hold_ports(lagd);
-    read_views(lagd);
+void make_system(struct protocol *protocol) {
+    clock_gettime(CLOCK_MONOTONIC, &protocol->system->began);
+    protocol->settings->config.first_marker = first_marker_left(protocol->process->inherited);
+    if (protocol->settings->config.first_marker == 0) protocol->settings->config.first_marker = random_marker();
+    choose_slots(protocol);
+    if (!place_ports(protocol, protocol->settings)) stop(WRONG_WORD, "too many interfaces", protocol->settings->name);
+    keep_left_ports(protocol);
+    protocol->ports->count = protocol->settings->port_count;
+    for (uint16_t port = 1; port <= NIW_MOST_PORTS; port++) begin_link(protocol, port);
+    make_keys(protocol, protocol->system->keys);
+    if (!is_done(protocol->process, put_system(protocol, NULL, 0).status, "niw_new")) return;
+    hold_by_settings(protocol);
+    read_views(protocol);
 }
 
 /* Sends what is due on a port. */
-static void send_due_of(struct lagd *lagd, uint16_t port) {
+static void send_due_of(struct protocol *protocol, uint16_t port) {
     uint8_t frame[NIW_FRAME];
     for (;;) {
-        struct niw_sent due = niw_transmit(&lagd->own_system, port, frame, sizeof frame);
-        if (!is_done(lagd, due.status, "niw_transmit") || !due.is) return;
+        struct niw_sent due = niw_transmit(&protocol->own_system, port, frame, sizeof frame);
+        if (!is_done(protocol->process, due.status, "niw_transmit") || !due.is) return;
         if (due.what == NIW_SENT_MARKER)
-            send_new_marker(lagd, &lagd->links[port - 1], frame);
+            CALL(protocol->plane->carrying->send_marker, protocol->plane, &protocol->ports->links[port - 1], frame);
         else
-            send_frame(lagd, &lagd->links[port - 1], frame);
+            send_frame(protocol, &protocol->ports->links[port - 1], frame);
     }
 }
 
 /* Sends what is due: after each call that may change anything, since one about a port may make a frame due on another. */
-void send_due(struct lagd *lagd) {
+void send_due(struct protocol *protocol) {
     uint64_t due;
-    if (lagd->resuming) return;
-    if (!is_told(lagd, niw_due(&lagd->own_system), "niw_due", &due)) return;
-    for (uint16_t i = 0; i < lagd->link_count; i++)
-        if (due >> i & 1) send_due_of(lagd, (uint16_t)(i + 1));
+    if (protocol->process->resuming) return;
+    if (!is_told(protocol->process, niw_due(&protocol->own_system), "niw_due", &due)) return;
+    for (uint16_t i = 0; i < protocol->ports->count; i++)
+        if (due >> i & 1) send_due_of(protocol, (uint16_t)(i + 1));
 }
 
 /* Sends again what did not go before this tick, if nothing newer was due since. */
-void send_again(struct lagd *lagd) {
-    for (uint16_t i = 0; i < lagd->link_count; i++)
-        if (lagd->links[i].unsent && !lagd->links[i].tried) send_frame(lagd, &lagd->links[i], lagd->links[i].frame);
+void send_again(struct protocol *protocol) {
+    EACH_LINK(link, protocol->ports)
+        if (link->unsent && !link->tried) send_frame(protocol, link, link->frame);
 }
 
 /* The link of a port is up or down now. */
-void set_link(struct lagd *lagd, uint16_t port, bool up) {
-    struct link *link = &lagd->links[port - 1];
+void set_link(struct protocol *protocol, uint16_t port, bool up) {
+    struct link *link = &protocol->ports->links[port - 1];
     if (link->up == up) return;
     link->up = up;
     link->unsent = false;
     link->changed = true;
     if (!up) {
-        if (!is_silent(lagd->halt)) link->counts[LOSSES]++;
-        forget_partner(&lagd->settings, link);
+        if (!is_silent(protocol->halt)) link->counts[LOSSES]++;
+        forget_partner(protocol->settings, link);
     }
-    if (!up) lose_data(lagd, port);
-    if (lagd->resuming) return;
-    if (!is_done(lagd, niw_set_link(&lagd->own_system, port, up), "niw_set_link")) return;
-    look_at_carry(&lagd->carry);
-    send_due(lagd);
-    read_views(lagd);
-    (void)print_change(lagd, link);
+    if (!up) CALL(protocol->plane->carrying->lose, protocol->plane, port);
+    if (protocol->process->resuming) return;
+    if (!is_done(protocol->process, niw_set_link(&protocol->own_system, port, up), "niw_set_link")) return;
+    protocol->plane->changed = true;
+    send_due(protocol);
+    read_views(protocol);
+    (void)print_change(protocol, link);
 }
 
 /* The interface of a port is gone, or has another name now. */
-void lose_link(struct lagd *lagd, struct link *link) {
+void lose_link(struct protocol *protocol, struct link *link) {
     forget_carrier(link);
-    set_link(lagd, link->settings.number, false);
-    close_link(lagd, link);
-    (void)print_change(lagd, link);
+    set_link(protocol, link->settings.number, false);
+    close_link(protocol, link);
+    (void)print_change(protocol, link);
 }
 
 /* 100 ms passed for a link: what failed is forgotten after a while. */
@@ -177,36 +175,22 @@ static void pass_tick_of(struct link *link) {
     link->changed = true;
 }
 
-static void pass_second(struct lagd *lagd) {
-    for (uint16_t i = 0; i < lagd->link_count; i++) {
-        if (lagd->links[i].lines < MOST_LINES) lagd->links[i].lines++;
-    }
-    look_for_twins(lagd);
-    allow_bundle_line(lagd);
-    pass_revert_second(lagd);
-    watch_changes(lagd);
-    (void)save_state(lagd);
-    notify_alive();
-}
-
 /* 100 ms passed for churn detection: by what the library tells of the ports after its own tick. */
-static void watch_churn(struct lagd *lagd) {
-    read_views(lagd);
-    for (uint16_t i = 0; i < lagd->link_count; i++) {
-        const struct niw_view *view = &lagd->links[i].view;
-        if (!is_done(lagd, niw_churn_tick(&lagd->links[i].churn, view->up, view->state, view->partner_state), "niw_churn_tick")) return;
+static void watch_churn(struct protocol *protocol) {
+    read_views(protocol);
+    EACH_LINK(link, protocol->ports) {
+        const struct niw_view *view = &link->view;
+        if (!is_done(protocol->process, niw_churn_tick(&link->churn, view->up, view->state, view->partner_state), "niw_churn_tick")) return;
     }
 }
 
-/* 100 ms passed. */
-void pass_tick(struct lagd *lagd) {
-    if (!is_done(lagd, niw_tick(&lagd->own_system), "niw_tick")) return;
-    watch_churn(lagd);
-    for (uint16_t i = 0; i < lagd->link_count; i++) pass_tick_of(&lagd->links[i]);
-    pass_halt_tick(lagd);
-    pass_leaving_tick(lagd);
-    pass_carry_tick(lagd);
-    if (++lagd->system->ticks % SECOND == 0) pass_second(lagd);
+/* 100 ms passed; answers whether the library took that. */
+bool pass_system_tick(struct protocol *protocol) {
+    if (!is_done(protocol->process, niw_tick(&protocol->own_system), "niw_tick")) return false;
+    watch_churn(protocol);
+    EACH_LINK(link, protocol->ports) pass_tick_of(link);
+    protocol->system->ticks++;
+    return true;
 }
 
 /* A port is about to leave its aggregator: its peer has to be told, if it has one. */
@@ -216,30 +200,31 @@ void expect_lacpdu(struct link *link) {
 }
 
 /* Takes each port out of its aggregator, by a key that none has, and so tells the peers that they have to stop. */
-void tell_end(struct lagd *lagd) {
-    struct niw_change leave = {.key = free_key(lagd, 0, NULL)};
-    for (uint16_t port = 1; port <= lagd->link_count; port++) {
-        struct link *link = &lagd->links[port - 1];
+void tell_end(struct protocol *protocol) {
+    struct niw_change leave = {.key = free_key(protocol, 0, NULL)};
+    for (uint16_t port = 1; port <= protocol->ports->count; port++) {
+        struct link *link = &protocol->ports->links[port - 1];
         expect_lacpdu(link);
         leave.priority = link->settings.priority;
         leave.aggregatable = link->settings.aggregatable;
-        link->to_tell = is_done(lagd, niw_configure(&lagd->own_system, port, &leave).status, "niw_configure") && link->to_tell;
+        link->to_tell = is_done(protocol->process, niw_configure(&protocol->own_system, port, &leave).status, "niw_configure") && link->to_tell;
     }
-    send_due(lagd);
+    send_due(protocol);
 }
 
 /* Whether each peer was told. Where three LACPDUs were sent within a second, the next one waits. */
-bool end_is_told(struct lagd *lagd) {
-    for (uint16_t i = 0; i < lagd->link_count; i++)
-        if (lagd->links[i].to_tell && lagd->links[i].up && lagd->links[i].counters.lacpdus_sent == lagd->links[i].sent_before_end)
+bool end_is_told(const struct ports *ports) {
+    EACH_LINK_AS_IS(link, ports)
+        if (link->to_tell && link->up && link->counters.lacpdus_sent == link->sent_before_end)
             return false;
     return true;
 }
 
 /* Says of each port that the daemon has ended, and frees the system; answers whether the library never refused a call. */
-bool end_system(struct lagd *lagd) {
-    for (uint16_t i = 0; i < lagd->link_count; i++)
-        if (lagd->links[i].used) (void)say(lagd, LOG_NOTICE | ABOUT_END, "port %u %s: ended", i + 1, lagd->links[i].name);
-    end_bundle(lagd);
-    return is_done(lagd, niw_free(&lagd->own_system), "niw_free") && !lagd->broken;
+bool end_system(struct protocol *protocol) {
+    for (uint16_t i = 0; i < protocol->ports->count; i++)
+        if (protocol->ports->links[i].used)
+            (void)say(protocol->process, LOG_NOTICE | ABOUT_END, "port %u %s: ended", i + 1, protocol->ports->links[i].name);
+    end_bundle(protocol);
+    return is_done(protocol->process, niw_free(&protocol->own_system), "niw_free") && !protocol->process->broken;
 }

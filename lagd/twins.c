@@ -2,7 +2,7 @@
 #define _GNU_SOURCE
 #include <string.h>
 
-#include "daemon.h"
+#include "lagd.h"
 
 /* For how many seconds they do so before they are told of: cables may have been changed over, and the LACPDUs of one tell of it first. */
 #define SECONDS 5
@@ -14,27 +14,27 @@ static bool has_same_partner(const struct niw_view *one, const struct niw_view *
 }
 
 /* The first other port whose partner names the same port, or 0. */
-static uint16_t twin_of(struct lagd *lagd, const struct link *link) {
-    for (uint16_t i = 0; i < lagd->link_count; i++)
-        if (&lagd->links[i] != link && has_same_partner(&link->view, &lagd->links[i].view)) return lagd->links[i].settings.number;
+static uint16_t twin_of(const struct ports *ports, const struct link *link) {
+    for (uint16_t i = 0; i < ports->count; i++)
+        if (&ports->links[i] != link && has_same_partner(&link->view, &ports->links[i].view)) return ports->links[i].settings.number;
     return 0;
 }
 
-static void tell_twin(struct lagd *lagd, const struct link *link) {
-    struct facts facts = facts_of(lagd, link);
+static void tell_twin(struct protocol *protocol, const struct link *link) {
+    struct facts facts = facts_of(protocol, link);
     char system[32];
-    (void)say(lagd, LOG_WARNING | ABOUT_STRANGER,
+    (void)say(protocol->process, LOG_WARNING | ABOUT_STRANGER,
         "port %u %s: its partner is port %u of %s, and so is that of port %u %s: two hosts may have this system",
         link->settings.number, link->name, facts.partner_port, system_text(&facts.partner, system), link->twin,
-            lagd->links[link->twin - 1].name);
+            protocol->ports->links[link->twin - 1].name);
 }
 
 /* A second passed. */
-void look_for_twins(struct lagd *lagd) {
-    for (uint16_t i = 0; i < lagd->link_count; i++) {
-        uint16_t twin = twin_of(lagd, &lagd->links[i]);
-        lagd->links[i].twin_seconds = twin == 0 ? 0 : lagd->links[i].twin_seconds + 1;
-        if (twin == 0 || lagd->links[i].twin_seconds >= SECONDS) lagd->links[i].twin = twin;
-        if (lagd->links[i].twin_seconds == SECONDS) tell_twin(lagd, &lagd->links[i]);
+void look_for_twins(struct protocol *protocol) {
+    EACH_LINK(link, protocol->ports) {
+        uint16_t twin = twin_of(protocol->ports, link);
+        link->twin_seconds = twin == 0 ? 0 : link->twin_seconds + 1;
+        if (twin == 0 || link->twin_seconds >= SECONDS) link->twin = twin;
+        if (link->twin_seconds == SECONDS) tell_twin(protocol, link);
     }
 }

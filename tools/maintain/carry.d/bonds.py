@@ -18,7 +18,7 @@ from typing import Callable, Iterator, Sequence, TypedDict
 from checking import Failed, Skipped, check, command, within
 from daemon import OTHER, SYSTEM, Daemon
 from lateness import since, waited
-from linking import DAEMON, STRICT, build, build_daemon
+from linking import DAEMON, STRICT, build, build_daemon, sources_of
 from repository import CACHE, MAINTAIN, TOP, WARNINGS
 from spaces import OURS, THEIRS, inside, ip, within_space
 
@@ -70,9 +70,9 @@ def build_programs(folder: str, libraries: list[str], words: Sequence[str] = ())
     little_memory = build_daemon(folder, libraries, "lagd-little-memory", [f"{here}/little_memory.c"], ["-Wl,--wrap=writev", *words])
     without_wait = build_daemon(folder, libraries, "lagd-without-wait", [f"{here}/without_wait.c"], ["-Wl,--wrap=syscall"])
     own = {name: build(f"{folder}/{name}", [f"{here}/{name}.c"], [], "-std=c11", *WARNINGS) for name in ("flows", "cables")}
-    sources = [f"{here}/conversations.c", f"{DAEMON}/hash.c"]
+    sources = [f"{here}/conversations.c", *sources_of("hash")]
     hashing = build(f"{folder}/conversations", sources, libraries, *STRICT, "-fsanitize=address,undefined", f"-I{DAEMON}")
-    bucket_sources = [f"{here}/buckets.c", f"{DAEMON}/team_hash.c"]
+    bucket_sources = [f"{here}/buckets.c", *sources_of("team_hash")]
     buckets = build(f"{folder}/buckets", bucket_sources, [], *STRICT, "-fsanitize=address,undefined", f"-I{DAEMON}")
     return Programs(folder, build_daemon(folder, libraries, words=words), forcing, old_kernel, little_memory, without_wait, conversations=hashing,
                     buckets=buckets, **own)

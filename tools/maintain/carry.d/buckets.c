@@ -7,7 +7,7 @@
 #include <sys/socket.h>
 
 #include "daemon.h"
-#include "team.h"
+#include "team/team.h"
 
 #define BITS 8
 #define ROOM 2048

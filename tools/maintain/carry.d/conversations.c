@@ -12,6 +12,7 @@ static struct lagd tested, *lagd = &tested;
 int main(int argc, char **argv) {
     char line[4096];
     if (argc != 3) return 2;
+    join_parts(lagd);
     lagd->settings.hash = (enum hash)atoi(argv[1]);
     lagd->settings.hash_seed = (uint16_t)atoi(argv[2]);
     while (fgets(line, sizeof line, stdin)) {
@@ -21,7 +22,7 @@ int main(int argc, char **argv) {
             const char digits[] = {line[2 * i], line[2 * i + 1], 0};
             frame[i] = (uint8_t)strtoul(digits, NULL, 16);
         }
-        if (frame) printf("%u\n", (unsigned)conversation_of(lagd, frame, length).number);
+        if (frame) printf("%u\n", (unsigned)conversation_of(&lagd->protocol, frame, length).number);
         free(frame);
     }
     return 0;

@@ -1,4 +1,4 @@
-/* The protocol between the daemon and the programs of the kernel (lagd/fast.c), for one conversation and two links, over all
+/* The protocol between the daemon and the programs of the kernel (lagd/tap/fast.c), for one conversation and two links, over all
  * interleavings: no frame passes one that was sent before, none comes twice, and each one comes or is counted.
  *
  * The host sends frames 1, 2 and on, one behind the other. Its program reads the row and counts the frame in one step; then it puts the

@@ -6,6 +6,7 @@ import contextlib
 import fcntl
 import glob
 import os
+import re
 import signal
 import socket
 import time
@@ -443,6 +444,32 @@ def handover_anew(programs: Programs) -> None:
                 ours.stop()
 
 
+def handover_foreign(programs: Programs) -> None:
+    """A namespace that is made anew may have the number of one that is gone, and a device of others the number of the one that was left there."""
+    left = f"{programs.folder}/run/{{}}.a0.state"
+    with cables(programs, ()):
+        ours = End(programs, OURS)
+        path = left.format(os.stat(f"/run/netns/{OURS}").st_ino)
+        check(within(ENDS, lambda: tells_of_device(path)), "the state tells of the device", ours.printed())
+        ours.process.kill()
+        ours.process.wait(ENDS)
+    with cables(programs, ()):
+        ip(OURS, "tuntap", "add", "foreign0", "mode", "tap")
+        number = inside(OURS, "cat", "/sys/class/net/foreign0/ifindex").stdout.strip()
+        with open(path, encoding="ascii") as state:
+            text = re.sub(r"^tap \d+ \d", f"tap {number} 1", state.read(), flags=re.M)
+        os.remove(path)
+        with open(left.format(os.stat(f"/run/netns/{OURS}").st_ino), "w", encoding="ascii", opener=lambda name, flags: os.open(name, flags, 0o600)) as state:
+            state.write(text)
+        ours = End(programs, OURS, options=("--fast",))
+        try:
+            said = within(ENDS, lambda: "of another network namespace" in ours.printed())
+            check(said, "a line says that the state is of another network namespace", ours.printed())
+            check(inside(OURS, "ip", "link", "show", "foreign0").returncode == 0, "the device of others is still there", ours.printed())
+        finally:
+            ours.stop()
+
+
 def handover_old_kernel(programs: Programs) -> None:
     """A kernel that gives the device a carrier as it is opened: it has none while nothing flows."""
     with managed(replace(programs, daemon=programs.old_kernel), (), has_manager=False) as (kept, peer):
@@ -551,4 +578,4 @@ def print_restarts(programs: Programs) -> None:
 
 
 PARTS = {it.__name__: it for it in (handover_plain, handover_offload, handover_fast, handover_alone, handover_changes, handover_released, killed_in_moves,
-                                   handover_elsewhere, handover_anew, handover_old_kernel, handover_unit, handed_twice)}
+                                   handover_elsewhere, handover_anew, handover_foreign, handover_old_kernel, handover_unit, handed_twice)}

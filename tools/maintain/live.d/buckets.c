@@ -1,4 +1,4 @@
-/* The buckets of the team driver (lagd/buckets.c) over a driver in memory, and a library of four calls: links come and go, frames are sent,
+/* The buckets of the team driver (lagd/team/buckets.c) over a driver in memory, and a library of four calls: links come and go, frames are sent,
  * the driver counts late, others change what it has, and it refuses. After each turn buckets are on ports that carry, and those alone are
  * enabled. A bucket leaves a port that carries only if the driver counted no frame of it for `flight`.
  *
@@ -11,7 +11,7 @@
 #include "checks.h"
 #include "daemon.h"
 #include "netlink.h"
-#include "team.h"
+#include "team/team.h"
 
 #define PORTS 3
 #define INDEX 10 /* of the interface of a port: so much above its number */
@@ -58,8 +58,8 @@ struct niw_number lagffi_offer_conversation(struct niw_system *handle, uint16_t 
     struct niw_number answer = {.status = NIW_OK};
     (void)handle;
     if (on[agg][conv] != 0 && !is_on(agg, conv)) answer.status = NIW_HELD;
-    if (on[agg][conv] == 0 && lagd->carry.port_count == 0) answer.status = NIW_NONE_DISTRIBUTING;
-    if (answer.status == NIW_OK && on[agg][conv] == 0) on[agg][conv] = lagd->carry.ports[conv % lagd->carry.port_count];
+    if (on[agg][conv] == 0 && lagd->carry.active_count == 0) answer.status = NIW_NONE_DISTRIBUTING;
+    if (answer.status == NIW_OK && on[agg][conv] == 0) on[agg][conv] = lagd->carry.active_ports[conv % lagd->carry.active_count];
     answer.number = on[agg][conv];
     return answer;
 }
@@ -78,8 +78,8 @@ uint32_t lagffi_rest(struct niw_system *handle, uint16_t agg, uint16_t conv) {
     return has ? NIW_OK : NIW_NOT_ASSIGNED;
 }
 
-bool ask_state(struct lagd *lagd, uint16_t agg, uint16_t number, struct niw_assignment *state) {
-    (void)lagd;
+bool ask_state(struct protocol *protocol, uint16_t agg, uint16_t number, struct niw_assignment *state) {
+    (void)protocol;
     *state = (struct niw_assignment){.port = on[agg][number], .what = NIW_CONVERSATION_FREE};
     if (on[agg][number] != 0) state->what = is_on(agg, number) ? NIW_CONVERSATION_ON : NIW_CONVERSATION_WANTED;
     return true;
@@ -89,8 +89,8 @@ bool is_held(const struct niw_assignment *state) {
     return state->what == NIW_CONVERSATION_WANTED;
 }
 
-bool is_done(struct lagd *lagd, uint32_t status, const char *call) {
-    (void)lagd;
+bool is_done(struct process *process, uint32_t status, const char *call) {
+    (void)process;
     if (status == NIW_OK) return true;
     check(false, call, "the library does it");
     exit(tell_checks());
@@ -109,7 +109,7 @@ bool set_port_enabled(const struct team_netlink_private *own, int index, int por
     if (index != DEVICE || !is_port[number] || refuses()) return false;
     for (uint16_t bucket = 0; !wanted && bucket < CONVERSATIONS; bucket++) {
         if (member_of[bucket] != port) continue;
-        stranded = stranded || lagd->carry.port_count > 0;
+        stranded = stranded || lagd->carry.active_count > 0;
         member_of[bucket] = 0;
     }
     enabled[number] = wanted;
@@ -155,56 +155,53 @@ uint64_t ticks_passed(const struct system_private *own) {
     (void)own;
     return lagd->carry.time / TICK;
 }
-int tap_index(const struct tap_private *own) {
+int tap_index(const struct device *own) {
     (void)own;
     return DEVICE;
 }
-bool is_team_port(const struct team_private *own, uint16_t port) {
+bool is_team_port(const struct team_plane *own, uint16_t port) {
     (void)own;
     return is_port[port];
 }
-void give_team_addresses(struct lagd *lagd) {
-    (void)lagd;
-}
-void look_at_carry(struct carry *carry) {
-    carry->changed = true;
+void give_team_addresses(struct team_plane *team) {
+    (void)team;
 }
 void look_again(struct changes_private *own) {
     (void)own;
 }
-void set_carrier(struct lagd *lagd, bool on) {
-    (void)lagd;
+void set_carrier(struct device *device, bool on) {
+    (void)device;
     carrier = on;
 }
-bool say(struct lagd *lagd, int level, const char *format, ...) {
-    (void)lagd;
+bool say(struct process *process, int level, const char *format, ...) {
+    (void)process;
     (void)level;
     unread_told += strstr(format, "does not tell") != NULL;
     return true;
 }
 
 static void choose_distributing(void) {
-    lagd->carry.port_count = 0;
+    lagd->carry.active_count = 0;
     for (uint16_t port = 1; port <= PORTS; port++)
-        if (distributes[port]) lagd->carry.ports[lagd->carry.port_count++] = port;
-    lagd->carry.active = lagd->carry.port_count > 0 ? aggregator : 0;
+        if (distributes[port]) lagd->carry.active_ports[lagd->carry.active_count++] = port;
+    lagd->carry.active = lagd->carry.active_count > 0 ? aggregator : 0;
 }
 
 /* The driver refused something of a port: its link is lost, and so is its place. */
-void lose_link(struct lagd *lagd, struct link *link) {
-    uint16_t port = (uint16_t)(link - lagd->links + 1);
+void lose_link(struct protocol *protocol, struct link *link) {
+    uint16_t port = (uint16_t)(link - protocol->ports->links + 1);
     lost++;
     distributes[port] = is_port[port] = enabled[port] = false;
     for (uint16_t bucket = 0; bucket < CONVERSATIONS; bucket++)
         if (member_of[bucket] == port + INDEX) member_of[bucket] = 0;
-    forget_port(lagd, port);
+    forget_port(&lagd->team, port);
 }
 
 /* An interface becomes a port again: the driver enables it. */
 static void take_port(uint16_t port) {
     if (is_port[port]) return;
     is_port[port] = enabled[port] = true;
-    forget_port(lagd, port);
+    forget_port(&lagd->team, port);
 }
 
 /* The driver counts what was sent. */
@@ -220,7 +217,7 @@ static void send_some(void) {
     for (uint16_t number = 0; number < CONVERSATIONS; number++) {
         if (random_below(8) == 0) sends[number] = random_below(3) == 0;
         if (random_below(1000) == 0) all_sent += 60; /* by the queue that the frame asks for, and so by no bucket */
-        if (!sends[number] || lagd->carry.port_count == 0) continue;
+        if (!sends[number] || lagd->carry.active_count == 0) continue;
         sent[number] += 60;
         all_sent += 60;
         last_sent[number] = lagd->carry.time;
@@ -234,15 +231,15 @@ static void happen(void) {
     if (random_below(100) == 0) aggregator = 3 - aggregator;
     if (random_below(200) == 0) refusals = 1 + random_below(2);
     if (random_below(50) == 0 && is_port[port] && !distributes[port]) enabled[port] = true;
-    if (random_below(50) == 0 && enabled[port] && lagd->carry.port_count > 0 && !distributes[port]) member_of[bucket] = port + INDEX;
+    if (random_below(50) == 0 && enabled[port] && lagd->carry.active_count > 0 && !distributes[port]) member_of[bucket] = port + INDEX;
 }
 
 static void settle(void) {
     for (unsigned turn = 0; turn < 8; turn++) {
-        lagd->carry.changed = false;
+        lagd->plane.changed = false;
         choose_distributing();
-        settle_buckets(lagd);
-        if (!lagd->carry.changed) break;
+        settle_buckets(&lagd->team);
+        if (!lagd->plane.changed) break;
     }
     if (lagd->carry.active != 0) placed_in = aggregator;
 }
@@ -254,16 +251,16 @@ static void pass(bool eventful) {
     if (eventful) send_some();
     if (!eventful || random_below(4) > 0) count();
     choose_distributing();
-    pass_bucket_tick(lagd);
+    pass_bucket_tick(&lagd->team);
     settle();
 }
 
 static bool are_placed(void) {
-    bool right = carrier == (lagd->carry.port_count > 0);
+    bool right = carrier == (lagd->carry.active_count > 0);
     for (uint16_t bucket = 0; bucket < CONVERSATIONS; bucket++) {
         uint16_t port = on[aggregator][bucket];
         right = right && on[3 - aggregator][bucket] == 0;
-        right = right && (lagd->carry.port_count == 0 || (port != 0 && member_of[bucket] == port + INDEX && distributes[port]));
+        right = right && (lagd->carry.active_count == 0 || (port != 0 && member_of[bucket] == port + INDEX && distributes[port]));
     }
     for (uint16_t port = 1; port <= PORTS; port++) right = right && (!is_port[port] || enabled[port] == distributes[port]);
     return right;
@@ -271,8 +268,8 @@ static bool are_placed(void) {
 
 /* Whether each bucket is on the port of its number. */
 static bool are_spread(void) {
-    for (uint16_t bucket = 0; lagd->carry.port_count > 0 && bucket < CONVERSATIONS; bucket++)
-        if (member_of[bucket] != lagd->carry.ports[bucket % lagd->carry.port_count] + INDEX) return false;
+    for (uint16_t bucket = 0; lagd->carry.active_count > 0 && bucket < CONVERSATIONS; bucket++)
+        if (member_of[bucket] != lagd->carry.active_ports[bucket % lagd->carry.active_count] + INDEX) return false;
     return true;
 }
 
@@ -314,14 +311,15 @@ static void check_unread(void) {
 
 int main(void) {
     unsigned wrong = 0, unspread = 0, calms = 0;
-    lagd->buckets = make_buckets_private();
+    join_parts(lagd);
+    lagd->team.buckets = make_buckets_private();
     lagd->settings.flight = FLIGHT;
-    lagd->link_count = PORTS;
+    lagd->ports.count = PORTS;
     srandom(1);
     lagd->carry.time = 1000;
-    for (uint16_t i = 0; i < PORTS; i++) lagd->links[i] = (struct link){.name = "port", .index = i + 1 + INDEX};
+    for (uint16_t i = 0; i < PORTS; i++) lagd->ports.links[i] = (struct link){.name = "port", .index = i + 1 + INDEX};
     for (uint16_t port = 1; port <= PORTS; port++) take_port(port);
-    start_buckets(lagd);
+    start_buckets(&lagd->team);
     for (unsigned turn = 0; turn < TURNS; turn++) {
         bool calm = turn % 200 >= 200 - 2 * CALM;
         for (uint16_t port = 1; calm && port <= PORTS; port++) take_port(port);

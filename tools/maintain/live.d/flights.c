@@ -1,4 +1,4 @@
-/* The markers of each queue, and the responses that wait (lagd/queues.c, lagd/answers.c), alone, over members and a clock in memory: a marker
+/* The markers of each queue, and the responses that wait (lagd/tap/queues.c, lagd/tap/answers.c), alone, over members and a clock in memory: a marker
  * goes by each queue that has frames which no response has told of, and counts as answered once each of these queues is.
  *
  * It prints a line for each check that fails, and then 'flights: N passed, M failed'; status 1 if one failed. */
@@ -52,13 +52,13 @@ void stop(int status, const char *what, const char *which) {
     _Exit(status);
 }
 
-void receive_data(struct lagd *lagd, uint16_t port) {
-    (void)lagd;
+void receive_data(struct tap_plane *tap, uint16_t port) {
+    (void)tap;
     (void)port;
 }
 
-void send_frame(struct lagd *lagd, struct link *link, const uint8_t *frame) {
-    (void)lagd;
+void send_frame(struct protocol *protocol, struct link *link, const uint8_t *frame) {
+    (void)protocol;
     (void)link;
     (void)frame;
     answered++;
@@ -71,9 +71,9 @@ static uint32_t mark_of(struct msghdr *message) {
     return mark;
 }
 
-bool give_marker(struct lagd *lagd, struct link *link, const uint8_t *marker, struct msghdr *message) {
+bool give_marker(struct tap_plane *tap, struct link *link, const uint8_t *marker, struct msghdr *message) {
     const uint8_t *at = marker + AT;
-    (void)lagd;
+    (void)tap;
     (void)link;
     ids[sent % 64] = (uint32_t)at[0] << 24 | (uint32_t)at[1] << 16 | (uint32_t)at[2] << 8 | at[3];
     marks[sent++ % 64] = mark_of(message);
@@ -84,7 +84,7 @@ bool give_marker(struct lagd *lagd, struct link *link, const uint8_t *marker, st
 /* A frame of a conversation goes; answers the mark that it has. */
 static uint32_t go(uint16_t number) {
     struct msghdr message = {0};
-    mark_conversation(lagd, PORT, number, &message);
+    mark_conversation(&lagd->tap, PORT, number, &message);
     return mark_of(&message);
 }
 
@@ -94,17 +94,17 @@ static unsigned ask(uint32_t id, bool again) {
     set_identifier(frame, id);
     sent = by_mark = 0;
     lagd->carry.time = now;
-    (void)send_by_queues(lagd, &lagd->links[PORT - 1], frame, again);
+    (void)send_by_queues(&lagd->tap, &lagd->ports.links[PORT - 1], frame, again);
     return sent;
 }
 
 /* A response comes; answers the identifier that the library gets, or 0 where it gets none. */
 static uint32_t hear(uint32_t id) {
-    return ends_flight(lagd->queues, &lagd->links[PORT - 1], &id) ? id : 0;
+    return ends_flight(lagd->tap.queues, &lagd->ports.links[PORT - 1], &id) ? id : 0;
 }
 
 static void try_one_flight(void) {
-    begin_queues(lagd->queues, PORT, 4);
+    begin_queues(lagd->tap.queues, PORT, 4);
     check(ask(0x51234567, false) == 4, __func__, "nobody knows what a new member has in its queues: a marker goes by each");
     check(ids[0] == 0x01234567 && ids[1] == 0x11234567 && ids[3] == 0x31234567, __func__, "its identifier has the queue");
     check(marks[0] == (QUEUE_MARK | 1) && marks[3] == (QUEUE_MARK | 4), __func__, "its mark has the queue, from 1 on");
@@ -135,49 +135,50 @@ static void try_dirty(void) {
 }
 
 static void try_many(void) {
-    begin_queues(lagd->queues, PORT, 1);
+    begin_queues(lagd->tap.queues, PORT, 1);
     for (uint32_t id = 21; id < 27; id++) check(ask(id, false) == 1 && by_mark == 0, __func__, "by one queue a marker has no mark");
     check(hear(21) == 0 && hear(22) == 0 && hear(23) == 23 && hear(26) == 26, __func__, "the last four markers may be answered");
-    begin_queues(lagd->queues, PORT, 16);
+    begin_queues(lagd->tap.queues, PORT, 16);
     check(ask(30, false) == 16 && ids[15] == 0xf000001e, __func__, "there are sixteen queues at most");
 }
 
 static void try_answers(void) {
     uint8_t frame[NIW_FRAME] = {0};
     unsigned taken = 0;
-    start_answers(lagd);
-    while (taken < 100 && answer_later(lagd, &lagd->links[PORT - 1], frame)) taken++;
+    start_answers(&lagd->tap);
+    while (taken < 100 && answer_later(&lagd->tap, &lagd->ports.links[PORT - 1], frame)) taken++;
     check(taken == 64, __func__, "sixty-four responses wait, and no more");
-    serve_answers(lagd);
+    serve_answers(&lagd->tap);
     check(answered == 0, __func__, "none goes before its time");
     now += AFTER + 1;
-    serve_answers(lagd);
+    serve_answers(&lagd->tap);
     check(answered == 0, __func__, "nor while its socket may have what came before");
-    note_unread(lagd->answers, PORT, 64, false);
-    serve_answers(lagd);
+    note_unread(lagd->tap.answers, PORT, 64, false);
+    serve_answers(&lagd->tap);
     check(answered == 0, __func__, "or was not read to its end");
-    note_unread(lagd->answers, PORT, 3, true);
-    serve_answers(lagd);
+    note_unread(lagd->tap.answers, PORT, 3, true);
+    serve_answers(&lagd->tap);
     check(answered == 64, __func__, "then all go");
-    check(answer_later(lagd, &lagd->links[PORT - 1], frame), __func__, "there is room again");
-    forget_answers(lagd->answers, PORT);
+    check(answer_later(&lagd->tap, &lagd->ports.links[PORT - 1], frame), __func__, "there is room again");
+    forget_answers(lagd->tap.answers, PORT);
     now += 10 * AFTER;
-    note_unread(lagd->answers, PORT, 0, true);
-    serve_answers(lagd);
+    note_unread(lagd->tap.answers, PORT, 0, true);
+    serve_answers(&lagd->tap);
     check(answered == 64, __func__, "with the link down none goes");
-    check(answer_later(lagd, &lagd->links[PORT - 1], frame), __func__, "there is room then");
+    check(answer_later(&lagd->tap, &lagd->ports.links[PORT - 1], frame), __func__, "there is room then");
     now += AFTER + 1;
-    for (unsigned read = 0; read < 32768; read += 64) note_unread(lagd->answers, PORT, 64, false);
-    serve_answers(lagd);
+    for (unsigned read = 0; read < 32768; read += 64) note_unread(lagd->tap.answers, PORT, 64, false);
+    serve_answers(&lagd->tap);
     check(answered == 65, __func__, "a flood of data does not hold a response for ever");
 }
 
 int main(void) {
-    lagd->answers = make_answers_private();
-    lagd->queues = make_queues_private();
+    join_parts(lagd);
+    lagd->tap.answers = make_answers_private();
+    lagd->tap.queues = make_queues_private();
     lagd->settings.answer_after = AFTER;
-    lagd->link_count = PORT;
-    for (uint16_t i = 0; i < lagd->link_count; i++) lagd->links[i].settings.number = (uint16_t)(i + 1);
+    lagd->ports.count = PORT;
+    for (uint16_t i = 0; i < lagd->ports.count; i++) lagd->ports.links[i].settings.number = (uint16_t)(i + 1);
     try_one_flight();
     try_dirty();
     try_many();

@@ -14,7 +14,7 @@
 
 #include "daemon.h"
 #include "netlink.h"
-#include "team.h"
+#include "team/team.h"
 
 /* The daemon. What is wrapped gets none. */
 static struct lagd *lagd;
@@ -53,7 +53,7 @@ static size_t least(size_t one, size_t other) {
 /* A frame with auxiliary data. The first octet says what kind of packet it is, the second one how many octets of auxiliary data follow;
  * the others are the frame. */
 ssize_t __wrap_recvmsg(int fd, struct msghdr *message, int flags) {
-    struct sockaddr_ll from = {.sll_family = AF_PACKET, .sll_ifindex = lagd->links[0].index};
+    struct sockaddr_ll from = {.sll_family = AF_PACKET, .sll_ifindex = lagd->ports.links[0].index};
     size_t more, frame;
     if (fd != wire[0]) return __real_recvmsg(fd, message, flags);
     errno = EAGAIN;
@@ -82,14 +82,14 @@ static void make_ports(void) {
     lagd->settings.config.mac[0] = 2;
     (void)add_port(&lagd->settings, "fuzz0", 5);
     (void)add_port(&lagd->settings, "fuzz1", 5);
-    make_system(lagd);
+    make_system(&lagd->protocol);
     if (!mkdtemp(folder) || socketpair(AF_UNIX, SOCK_DGRAM | SOCK_NONBLOCK, 0, wire) < 0) abort();
     (void)atexit(remove_folder);
-    open_folder(lagd, folder);
-    open_status(lagd, folder);
-    lagd->has_started = true;
-    set_link(lagd, 1, true);
-    set_link(lagd, 2, true);
+    lagd->process.folder = open_folder(folder);
+    open_status(&lagd->process, folder);
+    lagd->process.has_started = true;
+    set_link(&lagd->protocol, 1, true);
+    set_link(&lagd->protocol, 2, true);
 }
 
 static void fuzz_file(const uint8_t *octets, size_t length) {
@@ -98,31 +98,31 @@ static void fuzz_file(const uint8_t *octets, size_t length) {
     int file = memfd_create("fuzz", MFD_CLOEXEC);
     if (file >= 0 && write(file, octets, length) == (ssize_t)length) {
         snprintf(path, sizeof path, "/proc/self/fd/%d", file);
-        (void)read_file(lagd, path, &read);
+        (void)read_file(&lagd->process, path, &read);
     }
     close(file);
 }
 
 static void fuzz_frame(const uint8_t *octets, size_t length) {
-    struct arrival arrival = {octets, length, PACKET_MULTICAST, lagd->links[0].index, false};
-    accept_frame(lagd, &lagd->links[0], &arrival);
-    send_due(lagd);
+    struct arrival arrival = {octets, length, PACKET_MULTICAST, lagd->ports.links[0].index, false};
+    accept_frame(&lagd->protocol, &lagd->ports.links[0], &arrival);
+    send_due(&lagd->protocol);
 }
 
 static void fuzz_auxiliary(const uint8_t *octets, size_t length) {
     char scrap[NIW_FRAME];
-    lagd->links[0].socket = wire[0];
+    lagd->ports.links[0].socket = wire[0];
     waiting = octets;
     waiting_length = length;
-    receive_frames(lagd, 1);
+    receive_frames(&lagd->protocol, 1);
     waiting = NULL;
-    lagd->links[0].socket = -1;
+    lagd->ports.links[0].socket = -1;
     while (recv(wire[1], scrap, sizeof scrap, MSG_DONTWAIT) > 0) continue;
 }
 
 static void serve_all(void) {
-    accept_callers(lagd);
-    for (uint32_t caller = 0; caller < MOST_CALLERS; caller++) serve_caller(lagd, caller);
+    accept_callers(&lagd->process);
+    for (uint32_t caller = 0; caller < MOST_CALLERS; caller++) serve_caller(&lagd->control, caller);
 }
 
 /* What somebody sends to the status socket, in two parts: the first octet tells the length of the first one. */
@@ -140,10 +140,10 @@ static void fuzz_caller(const uint8_t *octets, size_t length) {
     (void)send(asker, octets + 1 + first, length - 1 - first, MSG_NOSIGNAL);
     serve_all();
     for (int part = 0; part < 4 && recv(asker, scrap, sizeof scrap, 0) > 0; part++) serve_all();
-    set_link(lagd, 2, !lagd->links[1].up); /* whoever watches is told */
+    set_link(&lagd->protocol, 2, !lagd->ports.links[1].up); /* whoever watches is told */
     close(asker);
     serve_all();
-    pass_tick_of_callers(lagd);
+    pass_tick_of_callers(&lagd->process);
 }
 
 /* What the last daemon left, behind the number of this boot; and a daemon that goes on from it. */
@@ -158,10 +158,10 @@ static void fuzz_state(const uint8_t *octets, size_t length) {
     (void)fwrite(octets, 1, length, file);
     fclose(file);
     lagd->inherited = (struct inherited){0};
-    recall_state(lagd);
+    recall_state(lagd->state);
     (void)unlink(name);
-    begin_resuming(lagd);
-    resume_data(lagd, resume(lagd));
+    begin_resuming(&lagd->protocol);
+    resume_data(&lagd->protocol, resume(&lagd->protocol));
 }
 
 /* The kernel gets no question. */
@@ -192,7 +192,7 @@ static void fuzz_answers(const uint8_t *octets, size_t length) {
     waiting = octets;
     (void)ask_interface(1, NULL, &interface);
     waiting = octets;
-    (void)read_team(lagd->team_netlink, 1, &now);
+    (void)read_team(lagd->team.team_netlink, 1, &now);
     waiting = octets;
     drop_classifier(1);
     waiting = NULL;
@@ -203,7 +203,7 @@ static void fuzz_messages(const uint8_t *octets, size_t length) {
     uint8_t *messages = malloc(length);
     if (!messages) return;
     memcpy(messages, octets, length);
-    read_messages(lagd, messages, length);
+    read_messages(&lagd->protocol, messages, length);
     free(messages);
 }
 

@@ -1,4 +1,4 @@
-/* Fills the queues in which the daemon holds frames (lagd/held.c), in place of lagd/carry.c. A frame that is refused keeps no slot: a
+/* Fills the queues in which the daemon holds frames (lagd/tap/held.c), in place of lagd/tap/data.c. A frame that is refused keeps no slot: a
  * conversation that gets many more frames than it may hold leaves room for the others. Each frame comes out with its octets and its time.
  *
  * It prints a line for each check that fails, and then 'held: N passed, M failed'; status 1 if one failed. */
@@ -26,15 +26,15 @@ void stop(int status, const char *what, const char *which) {
     exit(status);
 }
 
-bool is_done(struct lagd *lagd, uint32_t status, const char *call) {
-    (void)lagd;
+bool is_done(struct process *process, uint32_t status, const char *call) {
+    (void)process;
     if (status != NIW_OK) stop(1, call, niw_status_text(status));
     return true;
 }
 
-bool is_told(struct lagd *lagd, struct niw_number answer, const char *call, uint64_t *number) {
+bool is_told(struct process *process, struct niw_number answer, const char *call, uint64_t *number) {
     *number = answer.number;
-    return is_done(lagd, answer.status, call);
+    return is_done(process, answer.status, call);
 }
 
 size_t packet_room(void) {
@@ -44,20 +44,20 @@ size_t packet_room(void) {
 /* Whether so many frames of a conversation wait. */
 static bool waits(uint16_t conversation, uint64_t wanted) {
     uint64_t waiting;
-    return count_held(lagd, conversation, &waiting) && waiting == wanted && none_held(lagd, conversation) == (wanted == 0);
+    return count_held(&lagd->tap, conversation, &waiting) && waiting == wanted && none_held(&lagd->tap, conversation) == (wanted == 0);
 }
 
 /* Whether so many wait in all. */
 static bool all_wait(uint64_t wanted) {
     uint64_t waiting;
-    return count_all_held(lagd, &waiting) && waiting == wanted;
+    return count_all_held(&lagd->tap, &waiting) && waiting == wanted;
 }
 
 /* Puts a frame with this number into its first octets. */
 static bool put(uint16_t conversation, uint32_t number, size_t length) {
     static uint8_t packet[LARGE_OCTETS];
     memcpy(packet, &number, sizeof number);
-    return put_held(lagd, conversation, packet, length);
+    return put_held(&lagd->tap, conversation, packet, length);
 }
 
 /* Takes the oldest frame out; answers its number, or UINT32_MAX where none waits. */
@@ -65,7 +65,7 @@ static uint32_t take(uint16_t conversation, size_t wanted) {
     size_t length;
     const uint8_t *packet;
     uint32_t number;
-    packet = remove_held(lagd, conversation, &length);
+    packet = remove_held(&lagd->tap, conversation, &length);
     if (!packet) return UINT32_MAX;
     memcpy(&number, packet, sizeof number);
     CHECK(length == wanted);
@@ -83,27 +83,27 @@ static uint32_t put_many(uint16_t conversation, uint32_t count, size_t length) {
 static uint32_t lose(uint16_t conversations) {
     uint32_t lost = 0;
     for (uint16_t number = 0; number < conversations; number++)
-        while (drop_held(lagd, number, QUEUE_FULL)) lost++;
+        while (drop_held(&lagd->tap, number, QUEUE_FULL)) lost++;
     return lost;
 }
 
 /* Frames leave in their order, each with its time. */
 static void check_order(void) {
     uint64_t came = 0;
-    CHECK(!oldest_held(lagd, 7, &came) && came == 0 && waits(7, 0) && !drop_held(lagd, 7, QUEUE_FULL));
+    CHECK(!oldest_held(&lagd->tap, 7, &came) && came == 0 && waits(7, 0) && !drop_held(&lagd->tap, 7, QUEUE_FULL));
     for (uint32_t number = 0; number < 4; number++) {
         lagd->carry.time = 1000 + number;
         CHECK(put(7, number, SMALL_OCTETS + number) && waits(7, number + 1) && waits(8, 0));
     }
     for (uint32_t number = 0; number < 4; number++) {
-        CHECK(oldest_held(lagd, 7, &came) && came == 1000 + number && waits(7, 4 - number) && all_wait(4 - number));
+        CHECK(oldest_held(&lagd->tap, 7, &came) && came == 1000 + number && waits(7, 4 - number) && all_wait(4 - number));
         if (number % 2 == 0)
             CHECK(take(7, SMALL_OCTETS + number) == number);
         else
-            CHECK(drop_held(lagd, 7, HELD_TOO_LONG));
+            CHECK(drop_held(&lagd->tap, 7, HELD_TOO_LONG));
     }
     CHECK(lagd->carry.counts[HELD_TOO_LONG] == 2 && waits(7, 0));
-    free_left(lagd->held);
+    free_left(lagd->tap.held);
 }
 
 /* A full conversation gets many frames more: each is refused, or the oldest one is lost for it. Then there is room for as many frames of
@@ -113,13 +113,13 @@ static void check_refused(bool loses) {
     CHECK(put_many(0, EACH, SMALL_OCTETS) == EACH);
     for (uint32_t number = EACH; number < EACH + MANY; number++) {
         kept += put(0, number, SMALL_OCTETS);
-        if (loses) kept += drop_held(lagd, 0, QUEUE_FULL) && put(0, number, SMALL_OCTETS);
+        if (loses) kept += drop_held(&lagd->tap, 0, QUEUE_FULL) && put(0, number, SMALL_OCTETS);
     }
     CHECK(kept == (loses ? MANY : 0) && waits(0, EACH) && all_wait(EACH));
     for (uint16_t number = 1; number < ALL / EACH; number++) others += put_many(number, EACH + 1, SMALL_OCTETS);
     CHECK(others == ALL - EACH && all_wait(ALL) && put_many(ALL / EACH, MANY, SMALL_OCTETS) == 0);
     CHECK(take(0, SMALL_OCTETS) == (loses ? MANY : 0));
-    free_left(lagd->held);
+    free_left(lagd->tap.held);
     CHECK(put(0, 0, SMALL_OCTETS) && lose(CONVERSATIONS) == ALL && all_wait(0));
 }
 
@@ -128,19 +128,20 @@ static void check_large(void) {
     CHECK(put_many(0, EACH, SMALL_OCTETS) == EACH && put_many(0, MANY, LARGE_OCTETS) == 0);
     CHECK(put_many(1, EACH, LARGE_OCTETS) == LARGE_FRAMES && put_many(2, 1, LARGE_OCTETS) == 0 && put_many(2, 1, SMALL_OCTETS) == 1);
     CHECK(take(1, LARGE_OCTETS) == 0 && put_many(2, 1, LARGE_OCTETS) == 0);
-    free_left(lagd->held);
+    free_left(lagd->tap.held);
     CHECK(put_many(2, 2, LARGE_OCTETS) == 1 && lose(CONVERSATIONS) == EACH + LARGE_FRAMES + 1);
 }
 
 int main(void) {
-    lagd->held = make_held_private();
-    start_held(lagd);
+    join_parts(lagd);
+    lagd->tap.held = make_held_private();
+    start_held(&lagd->tap);
     check_order();
     for (unsigned times = 0; times < 2; times++) {
         check_refused(false);
         check_refused(true);
         check_large();
     }
-    end_held(lagd);
+    end_held(&lagd->tap);
     return tell_checks();
 }

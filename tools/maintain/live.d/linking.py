@@ -70,8 +70,17 @@ def build_calls(folder: str, libraries: Sequence[str]) -> str:
     return build(os.path.join(folder, "calls"), sources, libraries, *words)
 
 
+# The folders of the daemon's sources: its own, and one of each plane.
+FOLDERS = [DAEMON, *(os.path.join(DAEMON, plane) for plane in ("tap", "team"))]
+
+
 def daemon_sources() -> list[str]:
-    return sorted(glob.glob(f"{DAEMON}/*.c"))
+    return sorted(path for folder in FOLDERS for path in glob.glob(f"{folder}/*.c"))
+
+
+def sources_of(*names: str) -> list[str]:
+    """The sources of the daemon that have these names, without their ending."""
+    return [path for path in daemon_sources() if os.path.basename(path)[:-2] in names]
 
 
 # How a program is built that ends at the first fault of memory, and the first behaviour that C does not define; under an emulator the latter.
@@ -82,7 +91,7 @@ SANITIZED = ["-fsanitize=undefined", "-fsanitize-undefined-trap-on-error"] if RU
 def build_daemon(folder: str, libraries: Sequence[str], name: str = "lagd", more: Sequence[str] = (), words: Sequence[str] = ()) -> str:
     """Builds the daemon; answers its path."""
     compiled, linked = daemon_words()
-    return build(os.path.join(folder, name), [*daemon_sources(), *more], [*libraries, *linked], *STRICT, *compiled, *words)
+    return build(os.path.join(folder, name), [*daemon_sources(), *more], [*libraries, *linked], *STRICT, f"-I{DAEMON}", *compiled, *words)
 
 
 def has_subagent() -> bool:
@@ -106,26 +115,26 @@ def build_subagent(folder: str, words: Sequence[str] = FAULTS) -> str:
 
 def build_held(folder: str, libraries: Sequence[str]) -> str:
     """Builds the queues of the daemon's held frames alone, with ASan and UBSan; answers the path of the program."""
-    sources = [f"{MAINTAIN}/live.d/held.c", f"{MAINTAIN}/live.d/checks.c", f"{DAEMON}/held.c"]
+    sources = [f"{MAINTAIN}/live.d/held.c", f"{MAINTAIN}/live.d/checks.c", *sources_of("held")]
     return build(os.path.join(folder, "held-frames"), sources, libraries, *STRICT, f"-I{DAEMON}", *SANITIZED)
 
 
 def build_markers(folder: str, libraries: Sequence[str]) -> str:
     """Builds what the daemon makes of Marker PDUs alone, with ASan and UBSan; answers the path of the program."""
-    sources = [*(f"{MAINTAIN}/live.d/{name}.c" for name in ("markers", "checks")), *(f"{DAEMON}/{name}.c" for name in ("markers", "probe"))]
+    sources = [*(f"{MAINTAIN}/live.d/{name}.c" for name in ("markers", "checks")), *sources_of("markers", "probe")]
     wraps = [f"-Wl,--wrap=lagffi_{name}" for name in ("probe", "answers")]
     return build(os.path.join(folder, "markers"), sources, libraries, *STRICT, f"-I{DAEMON}", *SANITIZED, *wraps)
 
 
 def build_flights(folder: str) -> str:
     """Builds the markers of each queue and the responses that wait alone, with ASan and UBSan; answers the path of the program."""
-    sources = [*(f"{MAINTAIN}/live.d/{name}.c" for name in ("flights", "checks")), *(f"{DAEMON}/{name}.c" for name in ("queues", "answers"))]
+    sources = [*(f"{MAINTAIN}/live.d/{name}.c" for name in ("flights", "checks")), *sources_of("queues", "answers")]
     return build(os.path.join(folder, "flights"), sources, [], *STRICT, f"-I{DAEMON}", *SANITIZED)
 
 
 def build_segments(folder: str) -> str:
     """Builds what cuts frames and puts them together alone, with ASan and UBSan, over a device in memory; answers the path of the program."""
-    sources = [*(f"{MAINTAIN}/live.d/{name}.c" for name in ("segments", "checks")), *(f"{DAEMON}/{name}.c" for name in ("gro", "gso", "packets", "sums"))]
+    sources = [*(f"{MAINTAIN}/live.d/{name}.c" for name in ("segments", "checks")), *sources_of("gro", "gso", "packets", "sums")]
     return build(os.path.join(folder, "segments"), sources, [], *STRICT, f"-I{DAEMON}", *SANITIZED)
 
 
@@ -136,7 +145,7 @@ def has_mnl() -> bool:
 
 def build_lists(folder: str) -> str:
     """Builds what reads the lists of the kernel alone, with ASan and UBSan; answers the path of the program."""
-    sources = [*(f"{MAINTAIN}/live.d/{name}.c" for name in ("lists", "checks")), f"{DAEMON}/netlink.c"]
+    sources = [*(f"{MAINTAIN}/live.d/{name}.c" for name in ("lists", "checks")), *sources_of("netlink")]
     wraps = [f"-Wl,--wrap=mnl_socket_{name}" for name in ("sendto", "recvfrom")]
     return build(os.path.join(folder, "lists"), sources, ["-lmnl"], *STRICT, f"-I{DAEMON}", *SANITIZED, *wraps)
 
@@ -144,8 +153,8 @@ def build_lists(folder: str) -> str:
 def build_policy(folder: str, libraries: Sequence[str]) -> str:
     """Builds what the daemon decides of data alone, with ASan and UBSan, over cables in memory; answers the path of the program. What it is
     not linked with it does not call."""
-    decides = ("bundle", "carry", "flight", "frames", "held", "markers", "moves", "names", "probe")
-    sources = [*(f"{MAINTAIN}/live.d/{name}.c" for name in ("policy", "checks")), *(f"{DAEMON}/{name}.c" for name in decides)]
+    decides = ("bundle", "carry", "data", "flight", "frames", "held", "markers", "moves", "names", "probe")
+    sources = [*(f"{MAINTAIN}/live.d/{name}.c" for name in ("policy", "checks")), *sources_of(*decides)]
     return build(os.path.join(folder, "policy"), sources, libraries, *STRICT, f"-I{DAEMON}", *SANITIZED)
 
 
@@ -158,13 +167,13 @@ def build_memory(folder: str, libraries: Sequence[str]) -> str:
 def build_buckets(folder: str) -> str:
     """Builds where the daemon puts the buckets of the team driver alone, with ASan and UBSan, over a driver and a library in memory; answers
     the path of the program."""
-    sources = [*(f"{MAINTAIN}/live.d/{name}.c" for name in ("buckets", "checks")), f"{DAEMON}/buckets.c"]
+    sources = [*(f"{MAINTAIN}/live.d/{name}.c" for name in ("buckets", "checks")), *sources_of("buckets")]
     return build(os.path.join(folder, "buckets"), sources, [], *STRICT, f"-I{DAEMON}", *SANITIZED)
 
 
 def build_kernel(folder: str, libraries: Sequence[str]) -> str:
     """Builds what runs the programs of the kernel for frames, with ASan and UBSan; answers the path of the program."""
-    sources = [*(f"{MAINTAIN}/live.d/{name}.c" for name in ("programs", "checks")), *(f"{DAEMON}/{name}.c" for name in ("hash", "bpf", "programs", "settings"))]
+    sources = [*(f"{MAINTAIN}/live.d/{name}.c" for name in ("programs", "checks")), *sources_of("hash", "bpf", "programs", "settings")]
     compiled, linked = daemon_words()
     words = [*STRICT, *compiled, "-isystem", kernel_programs("tagging", f"{MAINTAIN}/live.d"), f"-I{DAEMON}", *SANITIZED]
     return build(os.path.join(folder, "programs"), sources, [*libraries, *linked], *words)
@@ -226,5 +235,5 @@ def check_warnings() -> None:
     checked = {"files of the daemon": [*daemon_sources(), *subagents], "examples in C": sorted(glob.glob(f"{EXAMPLES}/*.c"))}
     for compiler in filter(shutil.which, ("gcc", "clang")):
         for what, sources in checked.items():
-            read = command(compiler, *STRICT, "-O2", INCLUDE, *daemon_words()[0], "-fsyntax-only", *sources)
+            read = command(compiler, *STRICT, "-O2", INCLUDE, f"-I{DAEMON}", *daemon_words()[0], "-fsyntax-only", *sources)
             check(read.returncode == 0, f"{compiler} has no warning for the {len(sources)} {what}", read.stderr)

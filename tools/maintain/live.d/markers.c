@@ -39,20 +39,20 @@ uint64_t ticks_passed(const struct system_private *own) {
     return now / TICK;
 }
 
-bool is_done(struct lagd *lagd, uint32_t status, const char *call) {
-    (void)lagd;
+bool is_done(struct process *process, uint32_t status, const char *call) {
+    (void)process;
     if (status == NIW_OK) return true;
     printf("markers: %s: %s\n", call, niw_status_text(status));
     exit(1);
 }
 
-bool is_told(struct lagd *lagd, struct niw_number answer, const char *call, uint64_t *number) {
+bool is_told(struct process *process, struct niw_number answer, const char *call, uint64_t *number) {
     *number = answer.number;
-    return is_done(lagd, answer.status, call);
+    return is_done(process, answer.status, call);
 }
 
-bool say(struct lagd *lagd, int level, const char *format, ...) {
-    (void)lagd;
+bool say(struct process *process, int level, const char *format, ...) {
+    (void)process;
     (void)level;
     (void)format;
     lines++;
@@ -64,15 +64,15 @@ const char *mac_text(const uint8_t *mac, char room[static 32]) {
     return room[0] = 0, room;
 }
 
-void send_new_marker(struct lagd *lagd, struct link *link, const uint8_t *frame) {
-    (void)lagd;
+void send_new_marker(struct plane *plane, struct link *link, const uint8_t *frame) {
+    (void)plane;
     (void)link;
     (void)frame;
     sent++;
 }
 
-bool send_marker_again(struct lagd *lagd, uint16_t port) {
-    (void)lagd;
+bool send_marker_again(struct tap_plane *tap, uint16_t port) {
+    (void)tap;
     (void)port;
     return again++, true;
 }
@@ -109,13 +109,13 @@ static bool respond(const uint8_t *source, uint16_t port, uint32_t id) {
     struct arrival arrival = {.frame = frame, .length = sizeof frame};
     struct niw_pdu response;
     write_frame(frame, source, NIW_MARKER_RESPONSE, port, id);
-    CHECK(read_response(lagd, &arrival, &response));
-    if (!is_partners_response(&lagd->settings, &lagd->links[0], &arrival, &response)) {
-        note_odd_marker(&lagd->links[0], &arrival, FOREIGN_RESPONSES);
+    CHECK(read_response(&lagd->process, &arrival, &response));
+    if (!is_partners_response(&lagd->settings, &lagd->ports.links[0], &arrival, &response)) {
+        note_odd_marker(&lagd->ports.links[0], &arrival, FOREIGN_RESPONSES);
         return false;
     }
     answered = answered || (port == 1 && id == last_id);
-    note_response(lagd, &lagd->links[0]);
+    note_response(&lagd->plane, &lagd->ports.links[0]);
     return true;
 }
 
@@ -123,61 +123,61 @@ static void pass(unsigned ticks) {
     for (; ticks > 0; ticks--) {
         now += TICK;
         lagd->carry.time = now;
-        pass_probe_tick(lagd);
+        pass_probe_tick(&lagd->tap);
     }
 }
 
 /* A peer that nobody asked yet, on a link whose partner is known. */
 static void begin(void) {
-    memset(lagd->links, 0, sizeof lagd->links);
-    lagd->links[0].settings.number = 1;
-    lagd->links[0].heard = true;
-    memcpy(lagd->links[0].source, PARTNER, sizeof PARTNER);
-    lagd->carry.active = lagd->carry.port_count = lagd->carry.ports[0] = 1;
-    lagd->links[0].view.partner_key++;
+    memset(lagd->ports.links, 0, sizeof lagd->ports.links);
+    lagd->ports.links[0].settings.number = 1;
+    lagd->ports.links[0].heard = true;
+    memcpy(lagd->ports.links[0].source, PARTNER, sizeof PARTNER);
+    lagd->carry.active = lagd->carry.active_count = lagd->carry.active_ports[0] = 1;
+    lagd->ports.links[0].view.partner_key++;
     now += MINUTE;
     lagd->carry.time = now;
-    look_at_partner(lagd);
-    lagd->links[0].view.partner_key = (uint16_t)now;
-    look_at_partner(lagd);
+    look_at_partner(&lagd->carry);
+    lagd->ports.links[0].view.partner_key = (uint16_t)now;
+    look_at_partner(&lagd->carry);
     sent = again = lines = 0;
-    CHECK(peer_answering(lagd->probe) == NOT_ASKED);
+    CHECK(peer_answering(lagd->carry.probe) == NOT_ASKED);
 }
 
 /* A peer that answers after three ticks answers markers, and nothing else is said meanwhile. */
 static void check_slow(void) {
     begin();
     pass(4);
-    CHECK(peer_answering(lagd->probe) == ASKED && lines == 0 && sent == 1 && again == 1);
-    CHECK(respond(PARTNER, 1, last_id) && peer_answering(lagd->probe) == ANSWERS && lines == 1);
+    CHECK(peer_answering(lagd->carry.probe) == ASKED && lines == 0 && sent == 1 && again == 1);
+    CHECK(respond(PARTNER, 1, last_id) && peer_answering(lagd->carry.probe) == ANSWERS && lines == 1);
     pass(1200);
-    CHECK(peer_answering(lagd->probe) == ANSWERS && lines == 1 && sent == 1);
+    CHECK(peer_answering(lagd->carry.probe) == ANSWERS && lines == 1 && sent == 1);
 }
 
 /* A peer that never answers is told of once, and is not taken for another one while it is asked again, each minute. */
 static void check_mute(void) {
     begin();
     pass(12);
-    CHECK(peer_answering(lagd->probe) == MUTE && lines == 1 && sent == 1);
+    CHECK(peer_answering(lagd->carry.probe) == MUTE && lines == 1 && sent == 1);
     for (unsigned tick = 0; tick < 2400; tick++) {
         pass(1);
-        CHECK(peer_answering(lagd->probe) == MUTE);
+        CHECK(peer_answering(lagd->carry.probe) == MUTE);
     }
     CHECK(lines == 1 && sent == 4 + 1);
-    CHECK(respond(PARTNER, 1, last_id) && peer_answering(lagd->probe) == ANSWERS && lines == 2);
+    CHECK(respond(PARTNER, 1, last_id) && peer_answering(lagd->carry.probe) == ANSWERS && lines == 2);
 }
 
 /* No response of another one, of another port or of another number makes a mute peer one that answers; a late one does. */
 static void check_forged(void) {
     begin();
     pass(12);
-    CHECK(!respond(STRANGER, 1, last_id) && !respond(PARTNER, 2, last_id) && !respond(STRANGER, 0, 0) && peer_answering(lagd->probe) == MUTE);
-    for (uint32_t id = 0; id < 1000; id++) CHECK(respond(PARTNER, 1, id) && peer_answering(lagd->probe) == MUTE);
-    CHECK(lines == 1 && lagd->links[0].counts[FOREIGN_RESPONSES] == 3);
-    tell_markers(lagd, &lagd->links[0]);
-    tell_markers(lagd, &lagd->links[0]);
+    CHECK(!respond(STRANGER, 1, last_id) && !respond(PARTNER, 2, last_id) && !respond(STRANGER, 0, 0) && peer_answering(lagd->carry.probe) == MUTE);
+    for (uint32_t id = 0; id < 1000; id++) CHECK(respond(PARTNER, 1, id) && peer_answering(lagd->carry.probe) == MUTE);
+    CHECK(lines == 1 && lagd->ports.links[0].counts[FOREIGN_RESPONSES] == 3);
+    tell_markers(&lagd->protocol, &lagd->ports.links[0]);
+    tell_markers(&lagd->protocol, &lagd->ports.links[0]);
     CHECK(lines == 2);
-    CHECK(respond(PARTNER, 1, last_id) && peer_answering(lagd->probe) == ANSWERS);
+    CHECK(respond(PARTNER, 1, last_id) && peer_answering(lagd->carry.probe) == ANSWERS);
 }
 
 /* Markers come each `step` milliseconds for a minute; the most that were answered within any second, and how many in all. */
@@ -189,7 +189,7 @@ static unsigned most_answered(const uint8_t *source, unsigned step, unsigned *al
     write_frame(frame, source, NIW_MARKER_INFORMATION, 1, 1);
     for (unsigned passed = 0; passed < MINUTE; passed += step) {
         now += step;
-        if (may_answer(lagd, &lagd->links[0], &arrival)) times[count++] = now;
+        if (may_answer(&lagd->protocol, &lagd->ports.links[0], &arrival)) times[count++] = now;
     }
     for (unsigned first = 0; first < count; first++) {
         unsigned end = first;
@@ -220,16 +220,17 @@ static void check_budgets(void) {
         uint8_t marker[NIW_FRAME];
         struct arrival arrival = {.frame = marker, .length = sizeof marker};
         write_frame(marker, PARTNER, NIW_MARKER_INFORMATION, 1, turn);
-        for (unsigned forged = 0; forged < 30; forged++, now += 5) (void)may_answer(lagd, &lagd->links[0], &strange);
-        CHECK(may_answer(lagd, &lagd->links[0], &arrival));
+        for (unsigned forged = 0; forged < 30; forged++, now += 5) (void)may_answer(&lagd->protocol, &lagd->ports.links[0], &strange);
+        CHECK(may_answer(&lagd->protocol, &lagd->ports.links[0], &arrival));
     }
-    lagd->links[0].heard = false;
+    lagd->ports.links[0].heard = false;
     now += MINUTE;
     CHECK(most_answered(STRANGER, 3, &all) == 10);
 }
 
 int main(void) {
-    lagd->probe = make_probe_private();
+    join_parts(lagd);
+    lagd->carry.probe = make_probe_private();
     lagd->plane.queueing = &ONE_QUEUE;
     memcpy(lagd->settings.config.mac, OWN, sizeof OWN);
     check_slow();

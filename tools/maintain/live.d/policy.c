@@ -1,4 +1,4 @@
-/* Two ends of a bundle in memory: what the daemon decides of data (lagd/carry.c, moves.c, flight.c, probe.c, held.c, bundle.c, and what it
+/* Two ends of a bundle in memory: what the daemon decides of data (lagd/carry.c, probe.c, bundle.c, lagd/tap/data.c, moves.c, flight.c, held.c, and what it
  * takes of Marker PDUs: frames.c, markers.c), over the library, with a clock and cables of its own. Random events come: frames of the hosts,
  * links that go and come, ticks that are late, peers that answer no markers, or late, or by the wrong link, and sends that fail. After each
  * one no frame goes on a port while one of its conversation can still come by another one, none comes twice or behind a later one, each is
@@ -98,8 +98,9 @@ static unsigned below(unsigned bound) {
     return (unsigned)(random_number() % bound);
 }
 
-static struct end *end_of(struct lagd *lagd) {
-    return lagd == &ends[0].lagd ? &ends[0] : &ends[1];
+/* The end that a part of a daemon is of. */
+static struct end *end_of(const void *part) {
+    return (const struct end *)part < &ends[1] ? &ends[0] : &ends[1];
 }
 
 static struct end *other_of(struct end *end) {
@@ -147,7 +148,7 @@ static bool put_on_wire(struct end *end, uint16_t port, const uint8_t *frame, si
 }
 
 static void put_slow(struct end *end, uint16_t port, uint8_t *frame) {
-    memcpy(frame + ETH_ALEN, end->lagd.links[port - 1].mac, ETH_ALEN);
+    memcpy(frame + ETH_ALEN, end->lagd.ports.links[port - 1].mac, ETH_ALEN);
     (void)put_on_wire(end, port, frame, NIW_FRAME);
 }
 
@@ -164,34 +165,34 @@ uint64_t boottime(void) {
 }
 
 /* data and markers, */
-void put_data(struct lagd *lagd, uint16_t port, uint16_t number, uint8_t *packet, size_t length) {
-    struct end *end = end_of(lagd);
+void put_data(struct tap_plane *tap, uint16_t port, uint16_t number, uint8_t *packet, size_t length) {
+    struct end *end = end_of(tap);
     CHECK(number == conversation_at(packet) && length == OCTETS && port >= 1 && port <= PORTS && number_at(packet) > end->put[number]);
     end->put[number] = number_at(packet);
     end->given++;
-    if (end->out_count == sizeof end->out / sizeof *end->out) flush_data(lagd);
+    if (end->out_count == sizeof end->out / sizeof *end->out) flush_data(tap);
     end->out[end->out_count++] = (struct waiting_packet){port, packet};
 }
-void flush_data(struct lagd *lagd) {
-    struct end *end = end_of(lagd);
+void flush_data(struct tap_plane *tap) {
+    struct end *end = end_of(tap);
     for (unsigned i = 0; i < end->out_count; i++) (void)put_on_wire(end, end->out[i].port, end->out[i].packet, OCTETS);
     end->out_count = 0;
-    free_left(lagd->held);
+    free_left(tap->held);
 }
-void send_new_marker(struct lagd *lagd, struct link *link, const uint8_t *frame) {
-    struct end *end = end_of(lagd);
-    flush_data(lagd);
+void send_new_marker(struct plane *plane, struct link *link, const uint8_t *frame) {
+    struct end *end = end_of(plane);
+    flush_data(plane->tap);
     memcpy(end->marker[link->settings.number], frame, NIW_FRAME);
     put_slow(end, link->settings.number, end->marker[link->settings.number]);
 }
-bool send_marker_again(struct lagd *lagd, uint16_t port) {
-    struct end *end = end_of(lagd);
-    flush_data(lagd);
+bool send_marker_again(struct tap_plane *tap, uint16_t port) {
+    struct end *end = end_of(tap);
+    flush_data(tap);
     put_slow(end, port, end->marker[port]);
     return true;
 }
-void send_frame(struct lagd *lagd, struct link *link, const uint8_t *frame) {
-    struct end *end = end_of(lagd);
+void send_frame(struct protocol *protocol, struct link *link, const uint8_t *frame) {
+    struct end *end = end_of(protocol);
     uint8_t sent[NIW_FRAME];
     memcpy(sent, frame, sizeof sent);
     if (sent[SUBTYPE_AT] == SUBTYPE_MARKER && (weather.mute || now < end->mute_until)) return;
@@ -203,72 +204,72 @@ void send_frame(struct lagd *lagd, struct link *link, const uint8_t *frame) {
     }
     put_slow(end, link->settings.number, sent);
 }
-void put_host(struct lagd *lagd, uint8_t *packet, size_t length) {
-    struct end *end = end_of(lagd);
+void put_host(struct tap_plane *tap, uint8_t *packet, size_t length) {
+    struct end *end = end_of(tap);
     uint16_t number = conversation_at(packet);
     CHECK(length == OCTETS && number_at(packet) > end->got[number]);
     end->got[number] = number_at(packet);
     end->arrived++;
-    lagd->carry.counts[HANDED_UP]++;
+    tap->carry->counts[HANDED_UP]++;
 }
 
 /* lines, and the carrier of the device, */
-bool say(struct lagd *lagd, int level, const char *format, ...) {
-    (void)lagd;
+bool say(struct process *process, int level, const char *format, ...) {
+    (void)process;
     (void)level;
     (void)format;
     return true;
 }
 static bool any_distributes(struct lagd *lagd) {
     for (uint16_t port = 1; port <= PORTS; port++)
-        if (niw_distributes(&lagd->own_system, port).is) return true;
+        if (niw_distributes(&lagd->protocol.own_system, port).is) return true;
     return false;
 }
-void set_carrier(struct lagd *lagd, bool on) {
-    CHECK(!on || (lagd->carry.port_count > 0 && any_distributes(lagd)));
-    end_of(lagd)->carrier = on;
+void set_carrier(struct device *device, bool on) {
+    CHECK(!on || (end_of(device)->lagd.carry.active_count > 0 && any_distributes(&end_of(device)->lagd)));
+    end_of(device)->carrier = on;
 }
-void notify_state(struct lagd *lagd) {
-    CHECK(lagd->bundle.state == BUNDLE_DOWN || any_distributes(lagd));
+void notify_state(const struct bundle *bundle) {
+    CHECK(bundle->state == BUNDLE_DOWN || any_distributes(&end_of(bundle)->lagd));
 }
 
-void keep_port(struct lagd *lagd, uint16_t number, uint16_t port) {
-    (void)lagd;
+void keep_port(struct state *state, uint16_t number, uint16_t port) {
+    (void)state;
     (void)number;
     (void)port;
 }
 
 /* the library, */
-bool is_done(struct lagd *lagd, uint32_t status, const char *call) {
-    (void)lagd;
+bool is_done(struct process *process, uint32_t status, const char *call) {
+    (void)process;
     if (status != NIW_OK) check(false, call, niw_status_text(status));
     return status == NIW_OK;
 }
-bool is_told(struct lagd *lagd, struct niw_number answer, const char *call, uint64_t *number) {
+bool is_told(struct process *process, struct niw_number answer, const char *call, uint64_t *number) {
     *number = answer.number;
-    return is_done(lagd, answer.status, call);
+    return is_done(process, answer.status, call);
 }
-bool carries(struct lagd *lagd, const struct link *link) {
-    (void)lagd;
+bool carries(struct protocol *protocol, const struct link *link) {
+    (void)protocol;
     return link->view.port_status == NIW_PORT_STATUS_DISTRIBUTING;
 }
-void read_views(struct lagd *lagd) {
+void read_views(struct protocol *protocol) {
     struct niw_view views[NIW_MOST_PORTS];
     uint64_t changed;
-    if (!is_told(lagd, niw_views(&lagd->own_system, views, NIW_MOST_PORTS), "niw_views", &changed)) return;
+    if (!is_told(protocol->process, niw_views(&protocol->own_system, views, NIW_MOST_PORTS), "niw_views", &changed)) return;
     for (uint16_t i = 0; i < PORTS; i++)
-        if (changed >> i & 1) lagd->links[i].view = views[i];
+        if (changed >> i & 1) protocol->ports->links[i].view = views[i];
 }
-void send_due(struct lagd *lagd) {
+void send_due(struct protocol *protocol) {
     uint8_t frame[NIW_FRAME];
     for (uint16_t port = 1; port <= PORTS; port++) {
         for (;;) {
-            struct niw_sent due = niw_transmit(&lagd->own_system, port, frame, sizeof frame);
-            if (!is_done(lagd, due.status, "niw_transmit") || !due.is) break;
+            struct niw_sent due = niw_transmit(&protocol->own_system, port, frame, sizeof frame);
+            if (!is_done(protocol->process, due.status, "niw_transmit") || !due.is) break;
             if (due.what == NIW_SENT_MARKER)
-                send_new_marker(lagd, &lagd->links[port - 1], frame);
+                send_new_marker(protocol->plane, &protocol->ports->links[port - 1], frame);
             else
-                put_slow(end_of(lagd), port, frame);
+                put_slow(end_of(protocol), port, frame);
         }
     }
 }
@@ -293,39 +294,32 @@ bool has_right_length(const uint8_t *packet, size_t length, uint32_t mtu) {
     (void)packet;
     return length <= mtu + ETH_HLEN;
 }
-uint32_t longest_payload(const struct tap_private *own) {
+uint32_t longest_payload(const struct device *own) {
     (void)own;
     return ETH_DATA_LEN;
 }
-struct niw_number conversation_of(struct lagd *lagd, const uint8_t *frame, size_t length) {
-    (void)lagd;
+struct niw_number conversation_of(struct protocol *protocol, const uint8_t *frame, size_t length) {
+    (void)protocol;
     (void)length;
     return (struct niw_number){.status = NIW_OK, .number = conversation_at(frame)};
 }
 
 /* and what is of members with several queues, of which there are none here; */
-static bool answer(struct lagd *lagd, struct link *link, const uint8_t *response) {
-    send_frame(lagd, link, response);
+static bool answer(struct tap_plane *tap, struct link *link, const uint8_t *response) {
+    send_frame(tap->protocol, link, response);
     return true;
 }
-bool ends_flight(struct queues_private *own, const struct link *link, uint32_t *id) {
-    (void)own;
-    (void)link;
+static void accept(struct tap_plane *tap, struct link *link, const struct arrival *arrival, uint32_t id) {
     (void)id;
-    return false;
-}
-void set_identifier(uint8_t *frame, uint32_t id) {
-    (void)frame;
-    (void)id;
+    accept_response(tap->protocol, link, arrival);
 }
 
 /* and what is not here: the settings of the device. */
-#define NOTHING(name) \
-    void name(struct lagd *lagd) { (void)lagd; }
-NOTHING(count_losses)
-NOTHING(pass_announcing_tick)
-NOTHING(pass_tap_tick)
-static NOTHING(nothing)
+#define NOTHING(name, part) \
+    void name(struct part *of) { (void)of; }
+NOTHING(count_losses, tap_plane)
+NOTHING(pass_announcing_tick, carry)
+NOTHING(pass_tap_tick, device)
 void announce_soon(struct announce_private *own) {
     (void)own;
 }
@@ -333,16 +327,16 @@ void note_taken(struct conversation *conversation, uint32_t segments) {
     (void)conversation;
     (void)segments;
 }
-uint32_t sum_speeds(struct lagd *lagd) {
-    (void)lagd;
+uint32_t sum_speeds(struct tap_plane *tap) {
+    (void)tap;
     return 1000;
 }
-void set_speed(struct lagd *lagd, uint32_t megabits) {
-    (void)lagd;
+void set_speed(struct device *device, uint32_t megabits) {
+    (void)device;
     (void)megabits;
 }
-void run_hook(struct lagd *lagd, const char *path, enum bundle_state before) {
-    (void)lagd;
+void run_hook(struct protocol *protocol, const char *path, enum bundle_state before) {
+    (void)protocol;
     (void)path;
     (void)before;
 }
@@ -352,13 +346,13 @@ bool is_halted(const struct halt_private *own) {
     return false;
 }
 
-uint16_t count_links(struct lagd *lagd) {
-    (void)lagd;
+uint16_t count_links(const struct ports *ports) {
+    (void)ports;
     return PORTS;
 }
 
-void tell_watchers_of(struct lagd *lagd, const struct link *link) {
-    (void)lagd;
+void tell_watchers_of(struct control *control, const struct link *link) {
+    (void)control;
     (void)link;
 }
 _Noreturn void stop(int status, const char *what, const char *which) {
@@ -368,38 +362,40 @@ _Noreturn void stop(int status, const char *what, const char *which) {
 
 /* The plane: frames come here alone, and members have one queue. */
 static const struct carrying FRAMES = {.settle = settle_frames, .tick = pass_tick_of_frames, .keeps_aggregator = hears_peer,
-    .frames_heard = frames_handed_up, .tell_host = tell_speed_and_carrier, .go_on = settle_carry};
-static const struct passing BY_DAEMON = {.count = nothing, .withdraw = nothing, .pass_on = nothing, .set_collecting = nothing,
-    .read_host = nothing, .tick = nothing};
-static const struct queueing ONE_QUEUE = {.watch = nothing, .accept_response = accept_response, .answer = answer, .markers_at_once = 1};
+    .frames_heard = frames_handed_up, .tell_host = tell_speed_and_carrier, .go_on = settle_carry,
+    .note_response = note_response};
+static const struct passing BY_DAEMON = {0};
+static const struct queueing ONE_QUEUE = {.accept_response = accept, .answer = answer, .markers_at_once = 1};
 
 /* The link of a port is up or down for an end. */
 static void set_link_of(struct end *end, uint16_t port, bool up) {
-    struct link *link = &end->lagd.links[port - 1];
+    struct link *link = &end->lagd.ports.links[port - 1];
     if (link->up == up) return;
     link->up = up;
     if (!up) forget_partner(&end->lagd.settings, link);
-    if (!is_done(&end->lagd, niw_set_link(&end->lagd.own_system, port, up), "niw_set_link")) return;
-    look_at_carry(&end->lagd.carry);
-    send_due(&end->lagd);
-    read_views(&end->lagd);
-    settle_carry(&end->lagd);
+    if (!is_done(&end->lagd.process, niw_set_link(&end->lagd.protocol.own_system, port, up), "niw_set_link")) return;
+    end->lagd.plane.changed = true;
+    send_due(&end->lagd.protocol);
+    read_views(&end->lagd.protocol);
+    settle_carry(&end->lagd.plane);
 }
 
 static void make_end(struct end *end, uint8_t which) {
     struct lagd *lagd = &end->lagd;
     struct niw_port ports[PORTS];
     const uint16_t keys[KEYS] = {1, 2};
-    lagd->bundle_private = make_bundle_private();
-    lagd->carry_private = make_carry_private();
-    lagd->flight = make_flight_private();
-    lagd->held = make_held_private();
-    lagd->probe = make_probe_private();
+    lagd->device = (struct device *)(void *)end;
+    join_parts(lagd);
+    lagd->protocol.bundle_private = make_bundle_private();
+    lagd->carry.carry_private = make_carry_private();
+    lagd->tap.flight = make_flight_private();
+    lagd->tap.held = make_held_private();
+    lagd->carry.probe = make_probe_private();
     lagd->plane.carrying = &FRAMES;
     lagd->plane.passing = &BY_DAEMON;
     lagd->plane.queueing = &ONE_QUEUE;
-    lagd->carry.changed = lagd->has_started = true;
-    lagd->link_count = lagd->settings.port_count = PORTS;
+    lagd->plane.changed = lagd->process.has_started = true;
+    lagd->ports.count = lagd->settings.port_count = PORTS;
     lagd->settings.flight = FLIGHT;
     lagd->settings.min_links = 1;
     lagd->settings.marker_responses = 50;
@@ -407,12 +403,12 @@ static void make_end(struct end *end, uint8_t which) {
     for (uint16_t i = 0; i < PORTS; i++) {
         ports[i] = (struct niw_port){.number = (uint16_t)(i + 1), .priority = 1, .mac = {2, which, (uint8_t)i},
             .key = keys[i * KEYS / PORTS], .aggregatable = true, .active = true, .short_timeout = true};
-        lagd->links[i].settings = ports[i];
-        memcpy(lagd->links[i].mac, ports[i].mac, sizeof ports[i].mac);
+        lagd->ports.links[i].settings = ports[i];
+        memcpy(lagd->ports.links[i].mac, ports[i].mac, sizeof ports[i].mac);
         end->wires[i + 1].delay = 20;
     }
-    CHECK(niw_new(&lagd->own_system, &lagd->settings.config, keys, KEYS, ports, PORTS).status == NIW_OK);
-    start_held(lagd);
+    CHECK(niw_new(&lagd->protocol.own_system, &lagd->settings.config, keys, KEYS, ports, PORTS).status == NIW_OK);
+    start_held(&lagd->tap);
     end->next_tick = now + below(TICK);
 }
 
@@ -420,7 +416,7 @@ static void make_end(struct end *end, uint8_t which) {
 static void check_counts(struct end *end) {
     const uint64_t *counts = end->lagd.carry.counts;
     uint64_t waiting = 0;
-    CHECK(count_all_held(&end->lagd, &waiting));
+    CHECK(count_all_held(&end->lagd.tap, &waiting));
     CHECK(counts[FROM_HOST] == counts[UNFIT] + counts[NONE_CARRIES] + counts[QUEUE_FULL] + counts[HELD_TOO_LONG] + waiting + end->given);
     CHECK(end->out_count == 0 && counts[UNFIT] == 0);
     if (waiting > most_waited) most_waited = waiting;
@@ -430,7 +426,7 @@ static void check_counts(struct end *end) {
 static void check_waiting(struct end *end) {
     uint64_t came;
     for (uint16_t number = 0; number < CONVERSATIONS; number++)
-        if (oldest_held(&end->lagd, number, &came)) CHECK(now - came < FLIGHT + 1000);
+        if (oldest_held(&end->lagd.tap, number, &came)) CHECK(now - came < FLIGHT + 1000);
 }
 
 /* Frames of the host come. */
@@ -447,30 +443,30 @@ static void send_burst(struct end *end, unsigned most) {
         end->made[number]++;
         memcpy(packet + CONVERSATION_AT, &number, sizeof number);
         memcpy(packet + NUMBER_AT, &end->made[number], sizeof end->made[number]);
-        accept_from_host(&end->lagd, packet, OCTETS);
+        accept_from_host(&end->lagd.tap, packet, OCTETS);
         events++;
     }
-    flush_data(&end->lagd);
+    flush_data(&end->lagd.tap);
 }
 
 /* A frame comes to an end. */
 static void take(struct end *end, uint16_t port, uint8_t *frame, size_t length) {
     struct lagd *lagd = &end->lagd;
-    struct link *link = &lagd->links[port - 1];
+    struct link *link = &lagd->ports.links[port - 1];
     struct arrival arrival = {frame, length, PACKET_MULTICAST, link->index, false};
     struct niw_received received;
     uint8_t response[NIW_FRAME];
     events++;
     if (is_slow(frame)) {
-        accept_frame(lagd, link, &arrival);
-        lagd->carry.changed = true;
-        send_due(lagd);
+        accept_frame(&lagd->protocol, link, &arrival);
+        lagd->plane.changed = true;
+        send_due(&lagd->protocol);
     } else {
-        received = niw_receive(&lagd->own_system, port, frame, length, response, sizeof response);
-        if (is_done(lagd, received.status, "niw_receive") && received.what == NIW_RECEIVED_HANDED_UP)
-            hand_up(lagd, received.number, frame, length);
+        received = niw_receive(&lagd->protocol.own_system, port, frame, length, response, sizeof response);
+        if (is_done(&lagd->process, received.status, "niw_receive") && received.what == NIW_RECEIVED_HANDED_UP)
+            hand_up(&lagd->tap, received.number, frame, length);
     }
-    settle_carry(lagd);
+    settle_carry(&lagd->plane);
 }
 
 /* Takes what has come by a cable. */
@@ -512,46 +508,46 @@ static void change_cable(uint16_t port) {
 
 /* A port is held, or let go, by the host. */
 static void hold(struct end *end, uint16_t port, bool held) {
-    struct link *link = &end->lagd.links[port - 1];
+    struct link *link = &end->lagd.ports.links[port - 1];
     link->emptying = false;
-    CHECK(niw_hold(&end->lagd.own_system, port, held) == NIW_OK);
-    read_views(&end->lagd);
-    end->lagd.carry.changed = true;
-    send_due(&end->lagd);
-    settle_carry(&end->lagd);
+    CHECK(niw_hold(&end->lagd.protocol.own_system, port, held) == NIW_OK);
+    read_views(&end->lagd.protocol);
+    end->lagd.plane.changed = true;
+    send_due(&end->lagd.protocol);
+    settle_carry(&end->lagd.plane);
     events++;
 }
 
 /* A port is to be held: it is emptied first, where that can be, as lagd/membership.c does. */
 static void begin_to_hold(struct end *end, uint16_t port) {
-    struct link *link = &end->lagd.links[port - 1];
-    link->emptying = can_empty(&end->lagd, port);
-    end->lagd.carry.changed = true;
+    struct link *link = &end->lagd.ports.links[port - 1];
+    link->emptying = can_empty(&end->lagd.plane, port);
+    end->lagd.plane.changed = true;
     if (!link->emptying) hold(end, port, true);
 }
 
 /* The ports that are emptied are held then. */
 static void end_emptying(struct end *end) {
     for (uint16_t port = 1; port <= PORTS; port++)
-        if (end->lagd.links[port - 1].emptying && empty_port(&end->lagd, port)) hold(end, port, true);
+        if (end->lagd.ports.links[port - 1].emptying && empty_port(&end->lagd.plane, port)) hold(end, port, true);
 }
 
 /* Some ticks passed, and are made up, as lagd/main.c does. */
 static void pass_time(struct end *end, unsigned ticks) {
     struct lagd *lagd = &end->lagd;
     for (; ticks > 0; ticks--) {
-        CHECK(niw_tick(&lagd->own_system) == NIW_OK);
-        read_views(lagd);
-        pass_carry_tick(lagd);
+        CHECK(niw_tick(&lagd->protocol.own_system) == NIW_OK);
+        read_views(&lagd->protocol);
+        pass_carry_tick(&lagd->protocol);
         end_emptying(end);
-        if (now / 1000 != (now - TICK) / 1000) allow_bundle_line(lagd);
+        if (now / 1000 != (now - TICK) / 1000) allow_bundle_line(lagd->protocol.bundle_private);
         events++;
     }
     check_waiting(end);
-    send_due(lagd);
-    read_views(lagd);
-    look_at_bundle(lagd);
-    settle_carry(lagd);
+    send_due(&lagd->protocol);
+    read_views(&lagd->protocol);
+    look_at_bundle(&lagd->protocol);
+    settle_carry(&lagd->plane);
     CHECK(!end->carrier || any_distributes(lagd));
 }
 
@@ -622,7 +618,7 @@ static void calm_down(void) {
     for (until = now + 12000; now < until;) step(true);
     for (unsigned which = 0; which < 2; which++) {
         arrived[which] = ends[which].arrived;
-        CHECK(ends[which].carrier && ends[which].lagd.bundle.state != BUNDLE_DOWN && !ends[which].lagd.carry.waiting);
+        CHECK(ends[which].carrier && ends[which].lagd.protocol.bundle.state != BUNDLE_DOWN && !ends[which].lagd.carry.waiting);
         send_burst(&ends[which], 1);
     }
     for (until = now + 2000; now < until;) step(true);

@@ -90,7 +90,7 @@ static void print_conversations(const uint8_t *frame, size_t length) {
     bool is_tagged = length >= ETH_HLEN + TAG_OCTETS && ((frame[12] == 0x81 && frame[13] == 0) || (frame[12] == 0x88 && frame[13] == 0xa8));
     int found = run(sender, frame, length) == REFUSED_FRAME ? -1 : counted_row();
     if (is_tagged && run_beside(frame, length) != REFUSED_FRAME && counted_row() != found && found >= 0) found = -2;
-    printf("%u %d\n", (unsigned)conversation_of(lagd, frame, length).number, found);
+    printf("%u %d\n", (unsigned)conversation_of(&lagd->protocol, frame, length).number, found);
 }
 
 static int print_all(void) {
@@ -317,7 +317,7 @@ static bool make_own_system(void) {
     struct settings usual = usual_settings();
     struct niw_port port = {.number = 1, .key = 1, .aggregatable = true, .active = true};
     usual.config.mac[0] = 2;
-    return niw_new(&lagd->own_system, &usual.config, &port.key, 1, &port, 1).status == NIW_OK;
+    return niw_new(&lagd->protocol.own_system, &usual.config, &port.key, 1, &port, 1).status == NIW_OK;
 }
 
 static bool load_all(void) {
@@ -333,7 +333,7 @@ static bool load_all(void) {
 
 int main(int argc, char **argv) {
     int status = 3;
-    lagd->settings_private = make_settings_private();
+    join_parts(lagd);
     if (argc != 2 && argc != 3) return 2;
     if (argc == 3) {
         lagd->settings.hash_seed = (uint16_t)atoi(argv[2]);
@@ -344,6 +344,6 @@ int main(int argc, char **argv) {
         status = argc == 3 ? print_all() : check_all(argv[1]);
     }
     tagging__destroy(tagging);
-    (void)niw_free(&lagd->own_system);
+    (void)niw_free(&lagd->protocol.own_system);
     return status;
 }

@@ -111,6 +111,7 @@ def begins_anew(part: Part) -> None:
     rows: list[tuple[str, str, Callable[[], None]]] = [
         ("of another version", "of another version", lambda: changed(state_file(ours), lambda text: re.sub(r"^lagd \d+", "lagd 99", text))),
         ("of another boot", "of another boot", lambda: changed(state_file(ours), lambda text: re.sub(r"boot \S+", "boot other", text))),
+        ("of another namespace", "of another network namespace", lambda: changed(state_file(ours), lambda text: re.sub(r"space \d+", "space 1", text))),
         ("of another system", "other settings", lambda: changed(state_file(ours), lambda text: re.sub(r"way \d+", "way 1", text))),
         ("no text of lagd", "no state of lagd", lambda: changed(state_file(ours), lambda text: "\0" * 100)),
         ("as old as the timeout", "0 of 2 links go on", lambda: time.sleep(TIMEOUT + 0.2)),

@@ -1,4 +1,4 @@
-/* Frames of several segments that are cut, and frames that are put together (lagd/gso.c, lagd/gro.c), alone, over a device in memory: what is
+/* Frames of several segments that are cut, and frames that are put together (lagd/tap/gso.c, lagd/tap/gro.c), alone, over a device in memory: what is
  * cut has the headers and checksums that each segment has by itself; what goes up together is, cut again, what came, in its order; and what is
  * no part of a stream, was damaged, or is refused together, goes up as it came.
  *
@@ -9,7 +9,8 @@
 #include <sys/uio.h>
 
 #include "checks.h"
-#include "segments.h"
+#include "tap/segments.h"
+#include "daemon.h"
 
 #define HEAD 10
 #define ROUNDS 3000
@@ -33,10 +34,10 @@ void stop(int status, const char *what, const char *which) {
     _Exit(status);
 }
 
-bool give_host(struct lagd *lagd, const struct iovec *parts, unsigned count, size_t length) {
+bool give_host(struct tap_plane *tap, const struct iovec *parts, unsigned count, size_t length) {
     uint8_t *packet = malloc(length);
     size_t at = 0;
-    (void)lagd;
+    (void)tap;
     for (unsigned i = 0; i < count; at += parts[i++].iov_len) {
         CHECK(at + parts[i].iov_len <= length);
         memcpy(packet + at, parts[i].iov_base, parts[i].iov_len);
@@ -162,8 +163,8 @@ static void check_taken(uint32_t count) {
 
 static void put_rooms(uint32_t count) {
     uint64_t before = lagd->carry.counts[HANDED_UP] + lagd->carry.counts[HOST_UNTAKEN];
-    for (uint32_t i = 0; i < count; i++) put_host(lagd, rooms[i], room_lengths[i]);
-    flush_host(lagd);
+    for (uint32_t i = 0; i < count; i++) put_host(&lagd->tap, rooms[i], room_lengths[i]);
+    flush_host(&lagd->tap);
     CHECK(lagd->carry.counts[HANDED_UP] + lagd->carry.counts[HOST_UNTAKEN] == before + count);
 }
 
@@ -288,8 +289,8 @@ static void check_rubbish(void) {
             for (uint32_t i = 0; i < cut.count; i++) CHECK(put_segment(&cut, i, rooms[0]) <= length);
         finish_sum(packet, length);
         if (below(2)) memset(packet, 0, HEAD);
-        if (length >= HEAD + ETH_HLEN) put_host(lagd, packet, length);
-        flush_host(lagd);
+        if (length >= HEAD + ETH_HLEN) put_host(&lagd->tap, packet, length);
+        flush_host(&lagd->tap);
         forget_taken();
         free(packet);
         free(whole);
@@ -297,7 +298,8 @@ static void check_rubbish(void) {
 }
 
 int main(void) {
-    lagd->gro = make_gro_private();
+    join_parts(lagd);
+    lagd->tap.gro = make_gro_private();
     for (unsigned i = 0; i < 2 * BATCH; i++) rooms[i] = malloc(MOST);
     for (unsigned round = 0; round < ROUNDS; round++) check_round();
     check_differences();

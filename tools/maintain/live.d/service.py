@@ -325,6 +325,60 @@ def stuck_state(part: Part) -> None:
         command("umount", "-l", place)
 
 
+EVERY_KEY = """[Bundle]
+key=23
+system=32768,02:00:00:00:00:01
+port-priority=100
+timeout=long
+activity=passive
+max-links=4
+min-links=2
+revert=yes
+wait-to-restore=3
+partner=32768,02:00:00:00:00:02
+partner-required=yes
+key-by-speed=yes
+marker-responses=20
+hook=/bin/true
+hash=layer3+4
+hash-seed=9
+flight=700
+carry=lag0
+queues=all
+answer-after=70
+
+[Port a0]
+priority=5
+timeout=short
+individual=yes
+
+[Port a1]
+key=8
+activity=active
+hold=yes
+"""
+
+
+def shows_settings(part: Part) -> None:
+    """--show-config prints the settings that hold as a file has them, and a daemon of that file has the same."""
+    path = os.path.join(part.folder, "uplink.conf")
+    write(path, EVERY_KEY)
+    ours = Filed(part, path)
+    shown = lambda: inside(OURS, ours.program, "--folder", ours.folder, "--show-config").stdout
+    check(within(ENDS, lambda: "[Port a1]" in shown()), "a daemon shows its settings", ours.printed())
+    sections = lambda text: [set(filter(None, it.splitlines()[1:])) for it in text.split("[")[1:]]
+    check(sections(shown()) == sections(EVERY_KEY), "they are those of the file", shown())
+    held = inside(OURS, ours.program, "--folder", ours.folder, "--hold", "a0")
+    check(held.returncode == 0 and "hold=yes" in sections(shown())[1], "an order changes what is shown", held.stderr, shown())
+    told = shown()
+    ours.ends("the daemon")
+    write(path, told)
+    check(inside(OURS, ours.program, "--check", path).returncode == 0, "what was shown is a file of a bundle", told)
+    ours = Filed(part, path)
+    check(within(ENDS, lambda: shown() == told), "a daemon of this file shows the same", told, shown())
+    ours.ends("the daemon of this file")
+
+
 def running_settings(part: Part) -> None:
     """SIGHUP changes activity, timeout, max-links and which ports are held, without a link that goes down."""
     path = os.path.join(part.folder, "uplink.conf")
@@ -582,6 +636,7 @@ PARTS: dict[str, Callable[[Part], None]] = {
     "the address of an interface": own_address,
     "a reload": reloads,
     "settings of a running bundle": running_settings,
+    "settings that are shown": shows_settings,
     "ports that come and go": ports_change,
     "questions": questions,
     "a state that stays": stuck_state,

@@ -58,8 +58,11 @@ def without_daemon(guest: Guest) -> float:
 
 
 def handed_over(guest: Guest, what: str, outcomes: list[Outcome], most: int, ordered: bool = True) -> str:
-    """The same where another daemon goes on."""
+    """The same where another daemon goes on: all links do only where it is there SOON (LAGD, "An upgrade, a restart, a crash"), which a loaded machine
+    may keep it from."""
     away = without_daemon(guest)
+    check(away <= BACK, f"{what}: another daemon goes on within {BACK} s ({away:.1f} s)", journal(guest))
+    most = most if away <= SOON else max(most, ANEW)
     return f"{orderly(guest, what, outcomes, most, ordered)}, {away:.1f} s without a daemon"
 
 
@@ -130,8 +133,9 @@ def peer_is_stopped(guest: Guest) -> str:
     return f"{up_again(guest):.1f} s"
 
 
-def peer_is_killed(guest: Guest) -> str:
-    guest.run("systemctl kill --signal=SIGKILL far; sleep 1; systemctl reset-failed far; systemctl start far")
+def peer_is_killed(guest: Guest, after: str = "") -> str:
+    """The far daemon is killed, something happens there, and it is started again."""
+    guest.run(f"systemctl kill --signal=SIGKILL far; sleep 1; {after}systemctl reset-failed far; systemctl start far")
     took = up_again(guest)
     check(ping(guest).status == 0, "a peer that was killed and started carries again", journal(guest))
     return f"{took:.1f} s"

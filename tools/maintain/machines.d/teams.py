@@ -2,6 +2,7 @@
 
 from __future__ import annotations
 
+from functools import partial
 from typing import Callable
 
 from checking import Failed, check
@@ -243,7 +244,8 @@ ROWS: dict[str, Callable[[Guest], str]] = {
     "the near end alone loses a carrier": near_carrier_goes,
     "a card is pulled": card_is_pulled,
     "the peer is stopped: up again after": peer_is_stopped,
-    "the peer is killed: up again after": peer_is_killed,
+    # The driver would go on without its daemon.
+    "the peer is killed: up again after": partial(peer_is_killed, after="ip -n far link del lag0; "),
     "systemctl restart": restarts,
     "SIGKILL": is_killed,
     "an upgrade, and a restart": is_upgraded,

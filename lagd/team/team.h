@@ -21,6 +21,24 @@ struct team_now {
     bool enabled[MOST_TEAM_PORTS];
 };
 
+#define EACH_FILE_OF_TEAM(DO) DO(buckets, buckets) DO(team_netlink, team_netlink)
+struct team_plane {
+    struct process *process;
+    const struct settings *settings;
+    struct ports *ports;
+    struct protocol *protocol;
+    struct device *device;
+    struct plane *plane;
+    struct carry *carry;
+    bool opened;
+    bool made; /* whether a daemon made the device, so that it goes at the end */
+    bool is_new; /* whether this one did */
+    bool taken[NIW_MOST_PORTS]; /* whether the interface of a port is a port of the device */
+    int lock, locked; /* by which no other lagd has the device, whatever members are there; and its index */
+    EACH_FILE_OF_TEAM(KEEPS)
+};
+EACH_FILE_OF_TEAM(MAKES)
+
 /* team_netlink.c */
 bool find_team_driver(struct team_netlink_private *own);
 bool make_team_device(const char *name, const uint8_t *mac, uint32_t mtu);
@@ -41,29 +59,29 @@ bool read_team(struct team_netlink_private *own, int index, struct team_now *now
 size_t make_team_hash(const struct settings *settings, struct sock_filter steps[static MOST_HASH_STEPS]);
 
 /* team.c */
-bool has_made_team(struct lagd *lagd);
-bool is_team_new(const struct team_private *own);
+bool has_made_team(struct plane *plane);
+bool is_team_new(struct plane *plane);
 bool has_team_mode(const struct team_netlink_private *own);
-void open_team(struct lagd *lagd);
-void end_team_plane(struct lagd *lagd);
-bool give_team_carrier(struct lagd *lagd, bool on);
-void settle_team(struct lagd *lagd);
-void pass_tick_of_team(struct lagd *lagd);
-bool open_team_port(struct lagd *lagd, struct link *link);
-void close_team_port(struct lagd *lagd, struct link *link);
-bool is_team_port(const struct team_private *own, uint16_t port);
-bool is_still_team_port(struct lagd *lagd, const struct link *link, int master);
-void give_team_addresses(struct lagd *lagd);
-void leave_team(struct lagd *lagd, int index, bool with_device);
-void leave_team_port(struct lagd *lagd, int index);
+void open_team(struct plane *plane);
+void end_team_plane(struct plane *plane);
+bool give_team_carrier(struct plane *plane, bool on);
+void settle_team(struct plane *plane);
+void pass_tick_of_team(struct plane *plane);
+int open_team_port(struct plane *plane, struct link *link);
+void close_team_port(struct plane *plane, struct link *link);
+bool is_team_port(const struct team_plane *own, uint16_t port);
+bool is_still_team_port(struct plane *plane, const struct link *link, int master);
+void give_team_addresses(struct team_plane *team);
+void leave_team(struct team_plane *team, int index, bool with_device);
+void leave_team_port(struct team_plane *team, int index);
 
 /* buckets.c */
-void start_buckets(struct lagd *lagd);
-void settle_buckets(struct lagd *lagd);
-void pass_bucket_tick(struct lagd *lagd);
-void forget_port(struct lagd *lagd, uint16_t port);
-int bucket_member_of(struct lagd *lagd, uint16_t number);
-uint64_t team_frames_received(struct lagd *lagd, bool looks);
-unsigned count_waiting_buckets(struct lagd *lagd);
+void start_buckets(struct team_plane *team);
+void settle_buckets(struct team_plane *team);
+void pass_bucket_tick(struct team_plane *team);
+void forget_port(struct team_plane *team, uint16_t port);
+int bucket_member_of(struct plane *plane, uint16_t number);
+uint64_t team_frames_received(struct plane *plane, bool looks);
+unsigned count_waiting_buckets(struct team_plane *team);
 
 #endif

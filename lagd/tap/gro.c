@@ -19,9 +19,7 @@ struct gro_private {
     bool open;     /* whether one more may follow */
 };
 
-struct gro_private *make_gro_private(void) {
-    return make_room(sizeof(struct gro_private));
-}
+MAKES_ROOM(gro)
 
 /* Whether a header of IP is usual, of a packet of TCP with so many octets behind it; answers the octets of the header, or 0. */
 static size_t ip_octets(unsigned type, const uint8_t *ip, size_t length) {
@@ -80,7 +78,7 @@ static bool has_same_headers(const uint8_t *one, const uint8_t *other, const str
 }
 
 /* Whether a packet follows those that wait. */
-static bool follows(const struct gro_private *own, const uint8_t *packet, const struct tcp_packet *tcp) {
+static bool continues_stream(const struct gro_private *own, const uint8_t *packet, const struct tcp_packet *tcp) {
     const uint8_t *first = own->packets[0].iov_base;
     struct tcp_packet alone = own->all;
     alone.length = own->packets[0].iov_len;
@@ -91,8 +89,8 @@ static bool follows(const struct gro_private *own, const uint8_t *packet, const 
 }
 
 /* Hands up as one what waits; answers whether the device took it. */
-static bool give_all(struct lagd *lagd) {
-    struct gro_private *own = lagd->gro;
+static bool give_all(struct tap_plane *tap) {
+    struct gro_private *own = tap->gro;
     const struct tcp_packet *all = &own->all;
     const uint8_t *first = own->packets[0].iov_base, *last = own->packets[own->count - 1].iov_base;
     bool six = has_ipv6(first, all);
@@ -112,25 +110,25 @@ static bool give_all(struct lagd *lagd) {
         uint8_t *packet = own->packets[i].iov_base;
         parts[1 + i] = (struct iovec){packet + all->payload, own->packets[i].iov_len - all->payload};
     }
-    return give_host(lagd, parts, 1 + own->count, all->length);
+    return give_host(tap, parts, 1 + own->count, all->length);
 }
 
 /* Hands up what waits. */
-void flush_host(struct lagd *lagd) {
-    struct gro_private *own = lagd->gro;
-    unsigned given = own->count > 1 && give_all(lagd) ? own->count : 0, first = given;
-    for (unsigned i = first; i < own->count; i++) given += give_host(lagd, &own->packets[i], 1, own->packets[i].iov_len);
-    lagd->carry.counts[HANDED_UP] += given;
-    lagd->carry.counts[HOST_UNTAKEN] += own->count - given;
+void flush_host(struct tap_plane *tap) {
+    struct gro_private *own = tap->gro;
+    unsigned given = own->count > 1 && give_all(tap) ? own->count : 0, first = given;
+    for (unsigned i = first; i < own->count; i++) given += give_host(tap, &own->packets[i], 1, own->packets[i].iov_len);
+    tap->carry->counts[HANDED_UP] += given;
+    tap->carry->counts[HOST_UNTAKEN] += own->count - given;
     own->count = 0;
 }
 
 /* Puts a packet behind those that wait to go up. It stays where it is until flush_host. */
-void put_host(struct lagd *lagd, uint8_t *packet, size_t length) {
-    struct gro_private *own = lagd->gro;
+void put_host(struct tap_plane *tap, uint8_t *packet, size_t length) {
+    struct gro_private *own = tap->gro;
     struct tcp_packet tcp;
     bool joins = read_tcp(packet, length, &tcp);
-    if (own->count > 0 && !(joins && follows(own, packet, &tcp))) flush_host(lagd);
+    if (own->count > 0 && !(joins && continues_stream(own, packet, &tcp))) flush_host(tap);
     if (joins && own->count == 0) own->all = tcp;
     if (joins && own->count > 0) own->all.length += length - tcp.payload;
     own->packets[own->count++] = (struct iovec){packet, length};

@@ -10,7 +10,7 @@
 #include <sys/uio.h>
 #include <unistd.h>
 
-#include "daemon.h"
+#include "tap.h"
 
 /* Of the frames that wait in a socket. */
 #define SOCKET_ROOM (8 << 20)
@@ -44,8 +44,8 @@ struct members_private *make_members_private(void) {
     return made;
 }
 
-static struct member *member_of(struct lagd *lagd, const struct link *link) {
-    return &lagd->members->members[link - lagd->links];
+static struct member *member_of(struct tap_plane *tap, const struct link *link) {
+    return &tap->members->members[link - tap->ports->links];
 }
 
 uint64_t member_count(const struct members_private *own, uint16_t port, enum member_count count) {
@@ -110,12 +110,12 @@ static bool set_ways(int fd, bool in_order) {
         && setsockopt(fd, SOL_PACKET, PACKET_AUXDATA, &(int){1}, sizeof(int)) == 0;
 }
 
-/* A packet socket for the data of an interface, and its markers; or -1, and errno. Where the kernel hands up what comes, it only sends. */
-static int open_data(struct lagd *lagd, int index, const struct guard *guard) {
+/* A packet socket for the data of an interface, and its markers; or -errno. Where the kernel hands up what comes, it only sends. */
+static int open_data(struct process *process, int index, const struct guard *guard) {
     struct sockaddr_ll address = {.sll_family = AF_PACKET, .sll_protocol = htons(ETH_P_ALL), .sll_ifindex = index};
     struct packet_mreq all = {index, PACKET_MR_PROMISC, 0, {0}};
-    int fd = packet_socket(lagd, "data", index, index, SOCK_RAW);
-    if (fd < 0) return -1;
+    int fd = packet_socket(process, "data", index, index, SOCK_RAW);
+    if (fd < 0) return fd;
     enlarge(fd, SO_RCVBUFFORCE, SO_RCVBUF);
     enlarge(fd, SO_SNDBUFFORCE, SO_SNDBUF);
     (void)setsockopt(fd, SOL_PACKET, PACKET_IGNORE_OUTGOING, &(int){1}, sizeof(int));
@@ -123,24 +123,24 @@ static int open_data(struct lagd *lagd, int index, const struct guard *guard) {
         && bind(fd, (struct sockaddr *)&address, sizeof address) == 0
         && setsockopt(fd, SOL_PACKET, PACKET_ADD_MEMBERSHIP, &all, sizeof all) == 0)
         return fd;
-    close_stored(lagd, "data", index, fd);
-    return -1;
+    close_stored(process->store, "data", index, fd);
+    return last_fault();
 }
 
 /* A packet socket for the markers that the kernel hands up to the TAP device, behind the data of this port, or, with 0, for those that come
- * to a member while no data goes up; or -1, and errno. A socket for all protocols has them before the filters and bridges of an administrator, which
+ * to a member while no data goes up; or -errno. A socket for all protocols has them before the filters and bridges of an administrator, which
  * may take frames away there. */
-static int open_markers(struct lagd *lagd, const struct link *link, int index, uint16_t port) {
+static int open_markers(struct process *process, const struct link *link, int index, uint16_t port) {
     struct sockaddr_ll address = {.sll_family = AF_PACKET, .sll_protocol = htons(port > 0 ? ETH_P_ALL : ETH_P_SLOW), .sll_ifindex = index};
     const char *kind = port > 0 ? "markers" : "direct";
-    int fd = packet_socket(lagd, kind, link->index, index, SOCK_RAW);
-    if (fd < 0) return -1;
+    int fd = packet_socket(process, kind, link->index, index, SOCK_RAW);
+    if (fd < 0) return fd;
     (void)setsockopt(fd, SOL_PACKET, PACKET_IGNORE_OUTGOING, &(int){1}, sizeof(int));
     if ((port > 0 ? filter_marked(fd, port) : filter(fd, true)) && setsockopt(fd, SOL_PACKET, PACKET_AUXDATA, &(int){1}, sizeof(int)) == 0
         && bind(fd, (struct sockaddr *)&address, sizeof address) == 0)
         return fd;
-    close_stored(lagd, kind, link->index, fd);
-    return -1;
+    close_stored(process->store, kind, link->index, fd);
+    return last_fault();
 }
 
 /* Makes room for what comes by members. */
@@ -148,56 +148,56 @@ void start_members(struct members_private *own) {
     own->member_packets = make_rooms();
 }
 
-static void close_sockets(struct lagd *lagd, struct member *member) {
-    int index = lagd->links[member - lagd->members->members].index, fault = errno;
-    if (member->socket >= 0) close_stored(lagd, "data", index, member->socket);
-    if (member->markers >= 0) close_stored(lagd, "markers", index, member->markers);
-    if (member->direct >= 0) close_stored(lagd, "direct", index, member->direct);
+static void close_sockets(struct tap_plane *tap, struct member *member) {
+    int index = tap->ports->links[member - tap->members->members].index;
+    if (member->socket >= 0) close_stored(tap->process->store, "data", index, member->socket);
+    if (member->markers >= 0) close_stored(tap->process->store, "markers", index, member->markers);
+    if (member->direct >= 0) close_stored(tap->process->store, "direct", index, member->direct);
     member->socket = member->markers = member->direct = -1;
-    errno = fault;
 }
 
 /* The manager of services keeps the sockets of a member, too. */
-static void store_sockets(struct lagd *lagd, const struct member *member, int index) {
-    put_stored(lagd, "data", index, member->socket);
-    if (member->markers >= 0) put_stored(lagd, "markers", index, member->markers);
-    if (member->direct >= 0) put_stored(lagd, "direct", index, member->direct);
+static void store_sockets(struct store_private *store, const struct member *member, int index) {
+    put_stored(store, "data", index, member->socket);
+    if (member->markers >= 0) put_stored(store, "markers", index, member->markers);
+    if (member->direct >= 0) put_stored(store, "direct", index, member->direct);
 }
 
-/* Opens the sockets of a member; answers whether it did. */
-static bool open_sockets(struct lagd *lagd, struct member *member, const struct link *link) {
-    bool fast = member->guard.fast;
-    uint32_t tag = MEMBERS + (uint32_t)(member - lagd->members->members);
-    member->socket = open_data(lagd, link->index, &member->guard);
-    if (member->socket < 0 || !fast) return member->socket >= 0 && await_input(lagd->epoll_file, member->socket, tag);
-    member->markers = open_markers(lagd, link, tap_index(lagd->tap), link->settings.number);
-    member->direct = open_markers(lagd, link, link->index, 0);
-    return member->markers >= 0 && member->direct >= 0 && await_input(lagd->epoll_file, member->markers, tag)
-        && await_input(lagd->epoll_file, member->direct, tag);
+/* Opens the sockets of a member; answers 0, or -errno. */
+static int open_member_sockets(struct tap_plane *tap, struct member *member, const struct link *link) {
+    int epoll_file = tap->process->epoll_file;
+    uint32_t tag = MEMBERS + (uint32_t)(member - tap->members->members);
+    member->socket = open_data(tap->process, link->index, &member->guard);
+    if (member->socket < 0) return member->socket;
+    if (!member->guard.fast) return await_input(epoll_file, member->socket, tag) ? 0 : last_fault();
+    member->markers = open_markers(tap->process, link, tap_index(tap->device), link->settings.number);
+    if (member->markers < 0) return member->markers;
+    member->direct = open_markers(tap->process, link, link->index, 0);
+    if (member->direct < 0) return member->direct;
+    return await_input(epoll_file, member->markers, tag) && await_input(epoll_file, member->direct, tag) ? 0 : last_fault();
 }
 
-/* Opens the sockets of a member whose programs run; answers whether it did. Else, it is no member any more, and errno tells why. */
-static bool open_or_close(struct lagd *lagd, struct member *member, const struct link *link) {
-    int fault;
-    if (open_sockets(lagd, member, link)) {
-        store_sockets(lagd, member, link->index);
-        begin_queues(lagd->queues, link->settings.number, member->guard.queues);
-        return true;
+/* Opens the sockets of a member whose programs run; answers 0, or -errno, and then it is no member any more. */
+static int open_or_close(struct tap_plane *tap, struct member *member, const struct link *link) {
+    int fault = open_member_sockets(tap, member, link);
+    if (fault == 0) {
+        store_sockets(tap->process->store, member, link->index);
+        begin_queues(tap->queues, link->settings.number, member->guard.queues);
+    } else {
+        close_sockets(tap, member);
+        close_guard(tap, link, &member->guard);
     }
-    fault = errno;
-    close_sockets(lagd, member);
-    close_guard(lagd, link, &member->guard);
-    errno = fault;
-    return false;
+    return fault;
 }
 
-/* Takes up an interface for data; answers whether it did, and else errno tells why not. */
-bool open_member(struct lagd *lagd, struct link *link) {
-    struct member *member = member_of(lagd, link);
-    if (!filter(link->socket, false)) return false;
-    open_guard(lagd, link, &member->guard);
+/* Takes up an interface for data; answers 0, or -errno. */
+int open_member(struct plane *plane, struct link *link) {
+    struct tap_plane *tap = plane->tap;
+    struct member *member = member_of(tap, link);
+    if (!filter(link->socket, false)) return last_fault();
+    open_guard(tap, link, &member->guard);
     member->has_marker = false;
-    return open_or_close(lagd, member, link);
+    return open_or_close(tap, member, link);
 }
 
 /* Frames that came while the socket was full. */
@@ -209,72 +209,74 @@ static void count_loss(struct member *member) {
 }
 
 /* The programs and sockets of a member are chosen anew; answers whether it is still taken up. */
-static bool renew_member(struct lagd *lagd, struct link *link) {
-    struct member *member = member_of(lagd, link);
-    lagd->plane.passing->withdraw_port(lagd, link->settings.number);
+static bool renew_member(struct tap_plane *tap, struct link *link) {
+    struct member *member = member_of(tap, link);
+    CALL(tap->plane->passing->withdraw_port, tap, link->settings.number);
     count_loss(member);
-    close_sockets(lagd, member);
-    reopen_guard(lagd, link, &member->guard);
-    look_at_carry(&lagd->carry);
-    return open_or_close(lagd, member, link);
+    close_sockets(tap, member);
+    reopen_guard(tap, link, &member->guard);
+    tap->plane->changed = true;
+    return open_or_close(tap, member, link) == 0;
 }
 
 /* The interface has another queueing discipline: how data is sent is seen anew. Answers whether the member is still taken up. */
-bool reopen_member(struct lagd *lagd, struct link *link) {
+bool reopen_member(struct plane *plane, struct link *link) {
     char before[DISCIPLINE_ROOM];
     memcpy(before, link->discipline, sizeof before);
     if (!read_discipline(link->index, link->discipline) || strcmp(before, link->discipline) == 0) return true;
-    return lagd->plane.carrying->renew(lagd, link);
+    return plane->carrying->renew(plane, link);
 }
 
 /* The same of a member. */
-bool renew_for_discipline(struct lagd *lagd, struct link *link) {
-    struct member *member = member_of(lagd, link);
+bool renew_for_discipline(struct plane *plane, struct link *link) {
+    struct tap_plane *tap = plane->tap;
+    struct member *member = member_of(tap, link);
     if (member->socket < 0) return true;
-    if (lagd->plane.renews) return renew_member(lagd, link);
-    look_at_discipline(lagd, link, &member->guard);
+    if (plane->renews) return renew_member(tap, link);
+    look_at_discipline(tap, link, &member->guard);
     return set_bypass(member->socket, member->guard.in_order);
 }
 
 /* An interface has this MAC address now. */
-void follow_address(struct lagd *lagd, struct link *link, const uint8_t *mac) {
+void follow_address(struct plane *plane, struct link *link, const uint8_t *mac) {
     if (memcmp(link->mac, mac, sizeof link->mac) == 0) return;
-    lagd->plane.carrying->move(lagd, link, mac);
+    CALL(plane->carrying->move, plane, link, mac);
     memcpy(link->mac, mac, sizeof link->mac);
 }
 
 /* What a member had before it was one stays known by its new MAC address, also where this daemon is killed. */
-void move_member(struct lagd *lagd, struct link *link, const uint8_t *mac) {
-    struct member *member = member_of(lagd, link);
+void move_member(struct plane *plane, struct link *link, const uint8_t *mac) {
+    struct tap_plane *tap = plane->tap;
+    struct member *member = member_of(tap, link);
     if (member->socket < 0) return;
-    move_former(lagd->folder, link, mac);
-    write_settings(lagd, link, &member->guard.before);
+    move_former(tap->process->folder, link, mac);
+    write_settings(tap->process, link, &member->guard.before);
 }
 
 /* A queueing discipline of an interface came, changed or went: where each queue has one of the daemon, others may have put another one there,
  * or taken theirs away. Answers whether the member is still taken up. */
-bool follow_member_queues(struct lagd *lagd, struct link *link) {
-    struct member *member = member_of(lagd, link);
+bool follow_member_queues(struct tap_plane *tap, struct link *link) {
+    struct member *member = member_of(tap, link);
     bool kept = link->has_fifos ? have_order(link->index) : member->guard.in_order || !may_have_order(link->index);
     if (member->socket < 0 || kept) return true;
-    (void)say(lagd, LOG_NOTICE | ABOUT_DATA, "port %u %s: its queues were changed", link->settings.number, link->name);
-    return renew_member(lagd, link);
+    (void)say(tap->process, LOG_NOTICE | ABOUT_DATA, "port %u %s: its queues were changed", link->settings.number, link->name);
+    return renew_member(tap, link);
 }
 
 /* Looks at the queues of all members, each second: one whose queues others changed is taken up anew, and one that has the number of queues of
  * the others by now. */
-void watch_queues(struct lagd *lagd) {
-    struct members_private *own = lagd->members;
-    if (ticks_passed(lagd->system) % SECOND != 0) return;
-    for (uint16_t i = 0; i < lagd->link_count; i++) {
-        struct link *link = &lagd->links[i];
+void watch_queues(struct tap_plane *tap) {
+    struct members_private *own = tap->members;
+    if (ticks_passed(tap->protocol->system) % SECOND != 0) return;
+    for (uint16_t i = 0; i < tap->ports->count; i++) {
+        struct link *link = &tap->ports->links[i];
         const struct guard *guard = &own->members[i].guard;
-        bool anew = own->members[i].socket >= 0 && is_spread_anew(lagd->system, link, guard);
-        if (anew) (void)say(lagd, LOG_NOTICE | ABOUT_DATA, "port %u %s: its queues were changed", link->settings.number, link->name);
-        anew = anew || (own->members[i].socket >= 0 && guard->unusual && has_usual_queues(lagd, guard));
-        if (!anew || renew_member(lagd, link)) continue;
-        look_again(lagd->changes);
-        lose_link(lagd, link);
+        bool anew = own->members[i].socket >= 0 && is_spread_anew(tap->protocol->system, link, guard);
+        if (anew) (void)say(tap->process, LOG_NOTICE | ABOUT_DATA, "port %u %s: its queues were changed", link->settings.number, link->name);
+        anew = anew || (own->members[i].socket >= 0 && guard->unusual && has_usual_queues(tap, guard));
+        if (!anew || renew_member(tap, link)) continue;
+        look_again(tap->protocol->changes);
+        lose_link(tap->protocol, link);
     }
 }
 
@@ -288,83 +290,86 @@ bool has_fast_member(const struct members_private *own, uint16_t port) {
     return own->members[port - 1].socket >= 0 && own->members[port - 1].guard.fast;
 }
 
-void count_losses(struct lagd *lagd) {
-    for (uint16_t i = 0; i < lagd->link_count; i++) count_loss(&lagd->members->members[i]);
+void count_losses(struct tap_plane *tap) {
+    for (uint16_t i = 0; i < tap->ports->count; i++) count_loss(&tap->members->members[i]);
 }
 
 /* The interface is gone, or the daemon ends. */
-void close_member(struct lagd *lagd, struct link *link) {
-    struct member *member = member_of(lagd, link);
+void close_member(struct plane *plane, struct link *link) {
+    struct tap_plane *tap = plane->tap;
+    struct member *member = member_of(tap, link);
     if (member->socket < 0) return;
-    lagd->plane.passing->withdraw_port(lagd, link->settings.number);
-    forget_answers(lagd->answers, link->settings.number);
+    CALL(plane->passing->withdraw_port, tap, link->settings.number);
+    forget_answers(tap->answers, link->settings.number);
     count_loss(member);
-    close_sockets(lagd, member);
-    close_guard(lagd, link, &member->guard);
+    close_sockets(tap, member);
+    close_guard(tap, link, &member->guard);
 }
 
 /* Another interface is to be this member: its counts begin anew. */
-void forget_member(struct members_private *own, uint16_t port) {
-    struct member *member = &own->members[port - 1];
+void forget_member(struct plane *plane, uint16_t port) {
+    struct member *member = &plane->tap->members->members[port - 1];
     memset(member->counts, 0, sizeof member->counts);
     member->mtu = member->megabits = 0;
     member->has_marker = false;
 }
 
 /* The program ends, by whatever it is refused, and no other one goes on: its members get what they had. */
-void put_back_members(struct lagd *lagd) {
-    struct members_private *own = lagd->members;
-    if (lagd->has_left) return;
-    for (uint16_t i = 0; i < lagd->link_count; i++) {
+void put_back_members(void *given) {
+    struct tap_plane *tap = given;
+    struct members_private *own = tap->members;
+    if (tap->process->has_left) return;
+    for (uint16_t i = 0; i < tap->ports->count; i++) {
         if (own->members[i].socket < 0) continue;
-        close_sockets(lagd, &own->members[i]);
-        close_guard(lagd, &lagd->links[i], &own->members[i].guard);
+        close_sockets(tap, &own->members[i]);
+        close_guard(tap, &tap->ports->links[i], &own->members[i].guard);
     }
 }
 
 /* The TAP device takes what each member takes; 0: there is no such member any more. */
-void follow_member_mtu(struct lagd *lagd, struct link *link, uint32_t mtu) {
-    struct members_private *own = lagd->members;
+void follow_member_mtu(struct plane *plane, struct link *link, uint32_t mtu) {
+    struct tap_plane *tap = plane->tap;
+    struct members_private *own = tap->members;
     uint32_t least = 0;
-    if (member_of(lagd, link)->mtu == mtu) return;
-    member_of(lagd, link)->mtu = mtu;
-    for (uint16_t i = 0; i < lagd->link_count; i++)
+    if (member_of(tap, link)->mtu == mtu) return;
+    member_of(tap, link)->mtu = mtu;
+    for (uint16_t i = 0; i < tap->ports->count; i++)
         if (own->members[i].mtu > 0 && (least == 0 || own->members[i].mtu < least)) least = own->members[i].mtu;
-    if (least != 0) limit_mtu(lagd, least);
+    if (least != 0) limit_mtu(tap->device, least);
 }
 
 /* The kernel told of an interface whose link is up, which may have another speed. */
-void follow_speed(struct lagd *lagd, const struct link *link, const char *interface) {
+void follow_speed(struct plane *plane, const struct link *link, const char *interface) {
     uint32_t now = read_speed(link->socket, interface).megabits;
-    member_of(lagd, link)->megabits = now == (uint32_t)SPEED_UNKNOWN ? 0 : now;
-    look_at_carry(&lagd->carry);
+    member_of(plane->tap, link)->megabits = now == (uint32_t)SPEED_UNKNOWN ? 0 : now;
+    plane->changed = true;
 }
 
 /* How fast the ports that carry are together, in Mb/s. One whose speed is not known counts nothing; where none is, that is SPEED_UNKNOWN. */
-uint32_t sum_speeds(struct lagd *lagd) {
+uint32_t sum_speeds(struct tap_plane *tap) {
     uint64_t sum = 0;
-    for (uint16_t i = 0; i < lagd->carry.port_count; i++) sum += lagd->members->members[lagd->carry.ports[i] - 1].megabits;
+    for (uint16_t i = 0; i < tap->carry->active_count; i++) sum += tap->members->members[tap->carry->active_ports[i] - 1].megabits;
     if (sum == 0) return (uint32_t)SPEED_UNKNOWN;
     return sum < INT32_MAX ? (uint32_t)sum : INT32_MAX;
 }
 
 /* What the kernel alone handed up, or lost, of what came on a port, since the last time. */
-void add_fast_counts(struct lagd *lagd, uint16_t port, const struct fast_member *more) {
-    uint64_t *counts = lagd->members->members[port - 1].counts;
+void add_fast_counts(struct tap_plane *tap, uint16_t port, const struct fast_member *more) {
+    uint64_t *counts = tap->members->members[port - 1].counts;
     counts[DATA_RECEIVED] += more->passed_up + more->uncollected + more->wrong_length;
     counts[PASSED_UP] += more->passed_up;
     counts[UNCOLLECTED] += more->uncollected;
     counts[WRONG_LENGTH] += more->wrong_length;
-    lagd->carry.counts[HANDED_UP] += more->passed_up;
-    if (more->uncollected > 0) suspect_aggregator(lagd, lagd->links[port - 1].view.aggregator);
+    tap->carry->counts[HANDED_UP] += more->passed_up;
+    if (more->uncollected > 0) suspect_aggregator(tap->carry, tap->ports->links[port - 1].view.aggregator);
 }
 
 /* So many frames more were passed on by the kernel alone, on a port. */
-void note_passed(struct lagd *lagd, uint16_t port, uint64_t frames) {
-    struct members_private *own = lagd->members;
+void note_passed(struct tap_plane *tap, uint16_t port, uint64_t frames) {
+    struct members_private *own = tap->members;
     own->members[port - 1].counts[DATA_SENT] += frames;
     own->members[port - 1].counts[PASSED_ON] += frames;
-    lagd->carry.counts[FROM_HOST] += frames;
+    tap->carry->counts[FROM_HOST] += frames;
 }
 
 /* Sends what waits for a member. A frame that the kernel does not take is lost, as on a wire. */
@@ -381,26 +386,26 @@ static void flush_member(struct changes_private *own, struct member *member) {
 }
 
 /* Sends what waits for any member. */
-void flush_data(struct lagd *lagd) {
-    struct members_private *own = lagd->members;
-    for (uint16_t i = 0; i < lagd->link_count; i++)
-        if (own->members[i].out > 0) flush_member(lagd->changes, &own->members[i]);
-    free_left(lagd->held);
+void flush_data(struct tap_plane *tap) {
+    struct members_private *own = tap->members;
+    for (uint16_t i = 0; i < tap->ports->count; i++)
+        if (own->members[i].out > 0) flush_member(tap->protocol->changes, &own->members[i]);
+    free_left(tap->held);
 }
 
 /* Puts a packet of a conversation behind those that wait for a port. It stays where it is until flush_data. */
-void put_data(struct lagd *lagd, uint16_t port, uint16_t number, uint8_t *packet, size_t length) {
-    struct member *member = &lagd->members->members[port - 1];
-    if (member->out == BATCH) flush_member(lagd->changes, member);
+void put_data(struct tap_plane *tap, uint16_t port, uint16_t number, uint8_t *packet, size_t length) {
+    struct member *member = &tap->members->members[port - 1];
+    if (member->out == BATCH) flush_member(tap->protocol->changes, member);
     member->parts[member->out] = (struct iovec){packet, length};
     member->messages[member->out].msg_hdr = (struct msghdr){.msg_iov = &member->parts[member->out], .msg_iovlen = 1};
-    lagd->plane.queueing->mark(lagd, port, number, &member->messages[member->out].msg_hdr);
+    CALL(tap->plane->queueing->mark, tap, port, number, &member->messages[member->out].msg_hdr);
     member->out++;
 }
 
 /* Gives the kernel a marker for a member, as the message has it beside the frame; answers whether it took it. */
-bool give_marker(struct lagd *lagd, struct link *link, const uint8_t *marker, struct msghdr *message) {
-    const struct member *member = member_of(lagd, link);
+bool give_marker(struct tap_plane *tap, struct link *link, const uint8_t *marker, struct msghdr *message) {
+    const struct member *member = member_of(tap, link);
     uint8_t sent[sizeof(struct virtio_net_hdr) + NIW_FRAME] = {0};
     struct iovec part = {sent, head_octets() + NIW_FRAME};
     message->msg_iov = &part;
@@ -408,64 +413,85 @@ bool give_marker(struct lagd *lagd, struct link *link, const uint8_t *marker, st
     memcpy(sent + head_octets(), marker, NIW_FRAME);
     memcpy(sent + head_octets() + ETH_ALEN, link->mac, ETH_ALEN);
     if (member->socket < 0 || sendmsg(member->socket, message, 0) != (ssize_t)part.iov_len) return false;
-    return is_done(lagd, niw_count_sent(&link->counters, marker, NIW_FRAME), "niw_count_sent");
+    return is_done(tap->process, niw_count_sent(&link->counters, marker, NIW_FRAME), "niw_count_sent");
 }
 
 /* Sends a marker of a member of one queue, for the first time or again. */
-bool send_by_one_queue(struct lagd *lagd, struct link *link, const uint8_t *marker, bool again) {
+bool send_by_one_queue(struct tap_plane *tap, struct link *link, const uint8_t *marker, bool again) {
     struct msghdr message = {0};
     (void)again;
-    return give_marker(lagd, link, marker, &message);
+    return give_marker(tap, link, marker, &message);
 }
 
 /* Sends a marker behind the data of its port, by the same socket: by another one, of another priority, it would overtake them. What the
  * kernel passes on and no longer may is taken back before. */
-static bool send_marker(struct lagd *lagd, struct link *link, const uint8_t *marker, bool again) {
-    flush_member(lagd->changes, member_of(lagd, link));
-    lagd->plane.passing->withdraw(lagd);
-    return lagd->plane.queueing->send_marker(lagd, link, marker, again);
+static bool send_marker(struct tap_plane *tap, struct link *link, const uint8_t *marker, bool again) {
+    flush_member(tap->protocol->changes, member_of(tap, link));
+    CALL(tap->plane->passing->withdraw, tap);
+    return tap->plane->queueing->send_marker(tap, link, marker, again);
 }
 
 /* A marker is due on a port. */
-void send_new_marker(struct lagd *lagd, struct link *link, const uint8_t *frame) {
-    struct member *member = member_of(lagd, link);
+void send_new_marker(struct plane *plane, struct link *link, const uint8_t *frame) {
+    struct tap_plane *tap = plane->tap;
+    struct member *member = member_of(tap, link);
     memcpy(member->marker, frame, sizeof member->marker);
     member->has_marker = true;
-    lagd->carry.counts[MARKERS_SENT]++;
-    (void)send_marker(lagd, link, member->marker, false);
+    tap->carry->counts[MARKERS_SENT]++;
+    (void)send_marker(tap, link, member->marker, false);
 }
 
 /* Sends the last marker of a port again: a cable may repeat control frames, and may lose one. Answers whether it went. */
-bool send_marker_again(struct lagd *lagd, uint16_t port) {
-    struct members_private *own = lagd->members;
-    return own->members[port - 1].has_marker && send_marker(lagd, &lagd->links[port - 1], own->members[port - 1].marker, true);
+bool send_marker_again(struct tap_plane *tap, uint16_t port) {
+    struct members_private *own = tap->members;
+    return own->members[port - 1].has_marker && send_marker(tap, &tap->ports->links[port - 1], own->members[port - 1].marker, true);
+}
+
+/* Accepts a response to the one marker of a port. */
+void accept_only_response(struct tap_plane *tap, struct link *link, const struct arrival *arrival, uint32_t id) {
+    (void)id;
+    accept_response(tap->protocol, link, arrival);
+}
+
+/* Accepts a response to a marker of one queue: the library has the last one that was missing. */
+void accept_response_of_queue(struct tap_plane *tap, struct link *link, const struct arrival *arrival, uint32_t id) {
+    uint8_t frame[NIW_FRAME];
+    struct arrival last = {frame, sizeof frame, arrival->packet_type, arrival->index, arrival->tagged};
+    bool ends = ends_flight(tap->queues, link, &id);
+    if (!ends && !is_done(tap->process, niw_count_received(&link->counters, arrival->frame, arrival->length, NIW_RECEIVED_RELEASED),
+        "niw_count_received"))
+        return;
+    if (!ends) return;
+    memcpy(frame, arrival->frame, sizeof frame);
+    set_identifier(frame, id);
+    accept_response(tap->protocol, link, &last);
 }
 
 /* Hands a frame of data to the library, and up. */
-static void deliver(struct lagd *lagd, struct link *link, uint8_t *packet, size_t length) {
-    struct member *member = member_of(lagd, link);
+static void deliver(struct tap_plane *tap, struct link *link, uint8_t *packet, size_t length) {
+    struct member *member = member_of(tap, link);
     uint8_t response[NIW_FRAME];
     size_t octets = length - head_octets() < LONGEST_SHOWN ? length - head_octets() : LONGEST_SHOWN;
-    struct niw_received received = niw_receive(&lagd->own_system, link->settings.number, packet + head_octets(), octets, response,
+    struct niw_received received = niw_receive(&tap->protocol->own_system, link->settings.number, packet + head_octets(), octets, response,
         sizeof response);
-    if (is_done(lagd, received.status, "niw_receive") && received.what == NIW_RECEIVED_HANDED_UP)
-        hand_up(lagd, received.number, packet, length);
+    if (is_done(tap->process, received.status, "niw_receive") && received.what == NIW_RECEIVED_HANDED_UP)
+        hand_up(tap, received.number, packet, length);
     else
         member->counts[UNCOLLECTED]++;
 }
 
 /* A marker goes the way of all slow protocols. One that the kernel handed up to the TAP device came by its member. */
-static void accept_slow(struct lagd *lagd, struct link *link, const struct sockaddr_ll *from, bool handed_up, const uint8_t *frame,
+static void accept_slow(struct tap_plane *tap, struct link *link, const struct sockaddr_ll *from, bool handed_up, const uint8_t *frame,
     size_t length) {
     struct arrival arrival = {frame, length, from->sll_pkttype, handed_up ? link->index : from->sll_ifindex, false};
-    flush_host(lagd); /* what came before it */
-    accept_frame(lagd, link, &arrival);
-    lagd->carry.changed = true;
+    flush_host(tap); /* what came before it */
+    accept_frame(tap->protocol, link, &arrival);
+    tap->plane->changed = true;
 }
 
 /* Takes a packet that came: a marker alone, without a head, where the kernel hands up the data. */
-static void accept_packet(struct lagd *lagd, struct link *link, struct mmsghdr *message, bool handed_up) {
-    struct member *member = member_of(lagd, link);
+static void accept_packet(struct tap_plane *tap, struct link *link, struct mmsghdr *message, bool handed_up) {
+    struct member *member = member_of(tap, link);
     const struct sockaddr_ll *from = message->msg_hdr.msg_name;
     struct tpacket_auxdata aux = aux_of(&message->msg_hdr);
     size_t head = handed_up ? 0 : head_octets(), length = message->msg_len;
@@ -473,7 +499,7 @@ static void accept_packet(struct lagd *lagd, struct link *link, struct mmsghdr *
     bool tagged = (aux.tp_status & TP_STATUS_VLAN_VALID) != 0;
     if (from->sll_pkttype == PACKET_OUTGOING) return; /* an old kernel shows what was sent */
     if (!tagged && length >= head + ETH_HLEN && ((unsigned)packet[head + 12] << 8 | packet[head + 13]) == ETH_P_SLOW) {
-        accept_slow(lagd, link, from, handed_up, packet + head, length - head);
+        accept_slow(tap, link, from, handed_up, packet + head, length - head);
         return;
     }
     if (handed_up) return;
@@ -487,7 +513,7 @@ static void accept_packet(struct lagd *lagd, struct link *link, struct mmsghdr *
     if (message->msg_hdr.msg_flags & MSG_TRUNC || !has_right_length(packet, length, member->mtu != 0 ? member->mtu : ETH_DATA_LEN))
         member->counts[WRONG_LENGTH]++;
     else
-        deliver(lagd, link, packet, length);
+        deliver(tap, link, packet, length);
 }
 
 /* The kernel has a frame of segments that it cannot describe: it is lost. */
@@ -497,9 +523,9 @@ static bool is_unreadable(int got) {
 
 /* Takes the packets that wait in a socket of a member, some at most. What the kernel tells of links comes before them: what was sent after
  * a link went is not handed up before it. */
-static void receive_packets(struct lagd *lagd, uint16_t port, const int *fd, bool only_markers) {
-    struct link *link = &lagd->links[port - 1];
-    struct member *member = &lagd->members->members[port - 1];
+static void receive_packets(struct tap_plane *tap, uint16_t port, const int *fd, bool only_markers) {
+    struct link *link = &tap->ports->links[port - 1];
+    struct member *member = &tap->members->members[port - 1];
     struct mmsghdr messages[BATCH];
     struct iovec parts[BATCH];
     struct sockaddr_ll from[BATCH];
@@ -507,42 +533,43 @@ static void receive_packets(struct lagd *lagd, uint16_t port, const int *fd, boo
     int got;
     if (*fd < 0) return;
     for (unsigned i = 0; i < BATCH; i++) {
-        parts[i] = (struct iovec){room_at(lagd->members->member_packets, i), packet_room()};
+        parts[i] = (struct iovec){room_at(tap->members->member_packets, i), packet_room()};
         messages[i].msg_hdr = (struct msghdr){.msg_name = &from[i], .msg_namelen = sizeof from[i],
             .msg_iov = &parts[i], .msg_iovlen = 1, .msg_control = controls[i], .msg_controllen = sizeof controls[i]};
     }
     got = recvmmsg(*fd, messages, BATCH, MSG_DONTWAIT, NULL);
-    if (!only_markers) note_unread(lagd->answers, port, got > 0 ? (unsigned)got : 0, got >= 0 ? got < BATCH : errno == EAGAIN);
+    if (!only_markers) note_unread(tap->answers, port, got > 0 ? (unsigned)got : 0, got >= 0 ? got < BATCH : errno == EAGAIN);
     if (is_unreadable(got)) {
         member->counts[DATA_RECEIVED]++;
         member->counts[WRONG_LENGTH]++;
     }
     if (got <= 0) return;
-    receive_changes(lagd);
-    lagd->carry.taken += (unsigned)got;
-    if (got == BATCH) lagd->carry.more_waits = true;
-    for (int i = 0; i < got; i++) accept_packet(lagd, link, &messages[i], only_markers);
-    flush_host(lagd);
+    receive_changes(tap->protocol);
+    tap->carry->taken += (unsigned)got;
+    if (got == BATCH) tap->carry->more_waits = true;
+    for (int i = 0; i < got; i++) accept_packet(tap, link, &messages[i], only_markers);
+    flush_host(tap);
 }
 
 /* Takes all that waits at a member, but for a flood, before its port is held: what came before that is collected. */
-void drain_member(struct lagd *lagd, uint16_t port) {
-    struct member *member = &lagd->members->members[port - 1];
+void drain_member(struct plane *plane, uint16_t port) {
+    struct tap_plane *tap = plane->tap;
+    struct member *member = &tap->members->members[port - 1];
     if (member->socket < 0) return;
-    for (unsigned turn = 0; turn < MOST_DRAINED && !lagd->broken; turn++) {
-        lagd->carry.more_waits = false;
-        receive_data(lagd, port);
-        if (!lagd->carry.more_waits) return;
+    for (unsigned turn = 0; turn < MOST_DRAINED && !tap->process->broken; turn++) {
+        tap->carry->more_waits = false;
+        receive_data(tap, port);
+        if (!tap->carry->more_waits) return;
     }
 }
 
 /* Takes what waits at a member. */
-void receive_data(struct lagd *lagd, uint16_t port) {
-    struct member *member = &lagd->members->members[port - 1];
+void receive_data(struct tap_plane *tap, uint16_t port) {
+    struct member *member = &tap->members->members[port - 1];
     if (member->markers < 0) {
-        receive_packets(lagd, port, &member->socket, false);
+        receive_packets(tap, port, &member->socket, false);
         return;
     }
-    receive_packets(lagd, port, &member->markers, true);
-    receive_packets(lagd, port, &member->direct, true);
+    receive_packets(tap, port, &member->markers, true);
+    receive_packets(tap, port, &member->direct, true);
 }

@@ -5,7 +5,6 @@
 #include <netinet/in.h>
 #include <string.h>
 
-#include "daemon.h"
 #include "team.h"
 
 /* The words that the program has for itself. */

@@ -12,21 +12,11 @@
 #include <sys/socket.h>
 #include <unistd.h>
 
-#include "daemon.h"
-
-struct guard_private {
-    int program;
-};
-
-struct guard_private *make_guard_private(void) {
-    struct guard_private *made = make_room(sizeof *made);
-    made->program = -1;
-    return made;
-}
+#include "tap.h"
 
 /* The program that keeps data from the stack of a member is loaded once, while the daemon may. */
-void load_guard(struct lagd *lagd) {
-    lagd->guard->program = load_program(&lagd->settings, "dropper", NULL);
+void load_guard(struct tap_plane *tap) {
+    tap->dropper = load_program(tap->settings, "dropper", NULL);
 }
 
 /* Asks the driver of an interface something, or for something. */
@@ -97,20 +87,20 @@ static bool steer(const struct link *link) {
 }
 
 /* What goes up is not spread over processors at the TAP device: a marker would be answered before the data that came before it went up. */
-void gather(struct lagd *lagd, int index) {
+void gather(struct process *process, int index) {
     char path[128], now[PROCESSORS_ROOM];
     if (!path_of_processors(index, path, sizeof path) || !read_processors(path, now, sizeof now)) return;
     if (is_one(now) || is_none(now) || write_processors(path, "0")) return;
-    (void)say(lagd, LOG_WARNING | ABOUT_DATA, "carry %s: RPS spreads what goes up over processors, and markers may be answered before data",
-        lagd->settings.carry);
+    (void)say(process, LOG_WARNING | ABOUT_DATA, "carry %s: RPS spreads what goes up over processors, and markers may be answered before data",
+        process->settings->carry);
 }
 
 /* What an interface has that is changed while it is a member. */
-static void look_before(struct lagd *lagd, const struct link *link, struct kept *before) {
+static void look_before(const struct plane *plane, const struct link *link, struct kept *before) {
     char path[128];
     *before = (struct kept){.joins = read_joins(link->index).wanted};
     if (queues_of(link->index, &before->queues) <= 1) before->queues = (struct ethtool_channels){0};
-    if (!lagd->plane.passing->steers || !path_of_processors(link->index, path, sizeof path)
+    if (!plane->passing->steers || !path_of_processors(link->index, path, sizeof path)
         || !read_processors(path, before->steered, sizeof before->steered)
         || is_one(before->steered))
         before->steered[0] = 0;
@@ -128,27 +118,27 @@ unsigned count_fifos(int index) {
 
 /* Sees whether what is sent at an interface keeps its order in its queueing discipline. Frames of several segments have to go through
  * that, since it segments them for an interface that cannot: so they get one that does. */
-void look_at_discipline(struct lagd *lagd, struct link *link, struct guard *guard) {
+void look_at_discipline(struct tap_plane *tap, struct link *link, struct guard *guard) {
     bool given = false;
     (void)read_discipline(link->index, link->discipline);
-    if (lagd->plane.wants_fifo && !is_unqueued(link) && strcmp(link->discipline, "noqueue") != 0)
-        given = give_fifos(link->index, lagd->plane.queueing->fifos_of(link->index), read_speed(link->socket, link->name).megabits);
+    if (tap->plane->wants_fifo && !is_unqueued(link) && strcmp(link->discipline, "noqueue") != 0)
+        given = give_each_fifo(link->index, tap->plane->queueing->fifos_of(link->index), read_speed(link->socket, link->name).megabits);
     if (given) (void)read_discipline(link->index, link->discipline);
     link->has_fifos = given && strcmp(link->discipline, "mq") == 0;
     guard->in_order = keeps_order(link->discipline) || link->has_fifos;
-    if (lagd->plane.segments && !guard->in_order && !is_unqueued(link))
-        (void)say(lagd, LOG_WARNING | ABOUT_DATA,
+    if (tap->plane->segments && !guard->in_order && !is_unqueued(link))
+        (void)say(tap->process, LOG_WARNING | ABOUT_DATA,
             "port %u %s: its queueing discipline is neither noqueue, bfifo nor pfifo: it loses frames of "
             "several segments, if its card cannot cut them", link->settings.number, link->name);
 }
 
 /* The link comes up: the queue of its interface, if that is one of the daemon, has the length of its speed from now on. */
-void fit_queue(struct lagd *lagd, const struct link *link, const char *interface) {
-    if (!lagd->plane.wants_fifo) return;
+void fit_queue(const struct plane *plane, const struct link *link, const char *interface) {
+    if (!plane->wants_fifo) return;
     if (link->has_fifos)
-        fit_fifos(link->index, lagd->plane.queueing->fifos_of(link->index), read_speed(link->socket, interface).megabits);
+        fit_each_fifo(link->index, plane->queueing->fifos_of(link->index), read_speed(link->socket, interface).megabits);
     else
-        fit_fifo(link->index, read_speed(link->socket, interface).megabits);
+        fit_root_fifo(link->index, read_speed(link->socket, interface).megabits);
 }
 
 /* Why the kernel may not pass on what goes and comes at an interface, or NULL: a marker would overtake the data before it. */
@@ -163,34 +153,34 @@ static const char *fault_of_fast(const struct link *link, const struct guard *gu
 }
 
 /* Has the kernel pass on what goes and comes at a member, where it may; a line says why not. */
-static void open_fast(struct lagd *lagd, const struct link *link, struct guard *guard) {
+static void open_fast(struct tap_plane *tap, const struct link *link, struct guard *guard) {
     const char *fault;
-    guard->unusual = guard->spread && !has_usual_queues(lagd, guard);
+    guard->unusual = guard->spread && !has_usual_queues(tap, guard);
     fault = fault_of_fast(link, guard);
-    if (!fault) guard->opened = open_fast_receiver(lagd, link);
+    if (!fault) guard->opened = open_fast_receiver(tap, link);
     guard->fast = guard->opened >= 0;
     if (!fault && !guard->fast) fault = strerror(errno);
     if (fault && !is_unqueued(link)) /* it is looked at again then */
-        (void)say(lagd, LOG_WARNING | ABOUT_DATA, "port %u %s: its data stays with the daemon: %s", link->settings.number, link->name,
+        (void)say(tap->process, LOG_WARNING | ABOUT_DATA, "port %u %s: its data stays with the daemon: %s", link->settings.number, link->name,
             fault);
 }
 
 /* Keeps data from the stack of an interface: by TCX, or, where the kernel has none, by a classifier. */
-void keep_from_stack(struct lagd *lagd, const struct link *link, struct guard *guard) {
+void keep_from_stack(struct tap_plane *tap, const struct link *link, struct guard *guard) {
     uint16_t port = link->settings.number;
-    if (lagd->guard->program >= 0) guard->opened = attach_stored(lagd, "guard", lagd->guard->program, link->index, false);
-    if (lagd->guard->program >= 0 && guard->opened < 0) guard->classifier = set_classifier(lagd->guard->program, link->index);
+    if (tap->dropper >= 0) guard->opened = attach_stored(tap->process->store, "guard", tap->dropper, link->index, false);
+    if (tap->dropper >= 0 && guard->opened < 0) guard->classifier = set_classifier(tap->dropper, link->index);
     if (guard->classifier == CLASSIFIER_BEHIND_OTHERS)
-        (void)say(lagd, LOG_WARNING | ABOUT_DATA,
+        (void)say(tap->process, LOG_WARNING | ABOUT_DATA,
             "port %u %s: it has a clsact already: its own network stack has what filters there accept", port, link->name);
     if (guard->opened < 0 && guard->classifier == NO_CLASSIFIER)
-        (void)say(lagd, LOG_WARNING | ABOUT_DATA, "port %u %s: its own network stack has its frames, too", port, link->name);
+        (void)say(tap->process, LOG_WARNING | ABOUT_DATA, "port %u %s: its own network stack has its frames, too", port, link->name);
 }
 
 /* Has the kernel pass on what goes and comes at a member, or keep it from the stack. */
-void run_fast_programs(struct lagd *lagd, const struct link *link, struct guard *guard) {
-    open_fast(lagd, link, guard);
-    if (guard->opened < 0) keep_from_stack(lagd, link, guard);
+void run_fast_programs(struct tap_plane *tap, const struct link *link, struct guard *guard) {
+    open_fast(tap, link, guard);
+    if (guard->opened < 0) keep_from_stack(tap, link, guard);
 }
 
 /* Which ways to put frames together may stay: GRO of the kernel, where responses wait for longer than it keeps a frame. Where the daemon
@@ -201,7 +191,7 @@ static unsigned joins_allowed(const struct settings *settings, const struct link
 
 /* A member that has one queue, as this daemon or an earlier one gave it, gets back what it had, where it may keep that. How many others give it
  * meanwhile, it is to have behind the daemon. */
-static void regain_queues(struct folder_private *folder, const struct link *link, struct ethtool_channels *before) {
+static void regain_queues(int folder, const struct link *link, struct ethtool_channels *before) {
     struct ethtool_channels now;
     if (queues_of(link->index, &now) > 1)
         *before = now;
@@ -210,42 +200,42 @@ static void regain_queues(struct folder_private *folder, const struct link *link
 }
 
 /* Gives a member one queue. */
-bool join_queues(struct lagd *lagd, struct link *link, struct guard *guard) {
-    look_at_discipline(lagd, link, guard);
+bool join_queues(struct tap_plane *tap, struct link *link, struct guard *guard) {
+    look_at_discipline(tap, link, guard);
     give_one_queue(link->index);
     return true;
 }
 
 /* Lets a member keep all its queues, where it can, or gives it one; answers false where it has no queue yet: it is looked at again then. */
-bool keep_queues(struct lagd *lagd, struct link *link, struct guard *guard) {
+bool keep_queues(struct tap_plane *tap, struct link *link, struct guard *guard) {
     struct ethtool_channels *before = &guard->before.queues;
-    regain_queues(lagd->folder, link, before);
-    look_at_discipline(lagd, link, guard);
+    regain_queues(tap->process->folder, link, before);
+    look_at_discipline(tap, link, guard);
     if (is_unqueued(link)) return false;
-    spread(lagd, link, guard);
+    spread(tap, link, guard);
     if (guard->spread && has_channels(link->index, before)) *before = (struct ethtool_channels){0};
-    write_settings(lagd, link, &guard->before);
+    write_settings(tap->process, link, &guard->before);
     if (!guard->spread) give_one_queue(link->index);
     return true;
 }
 
 /* The same of a member that has another queueing discipline. */
-void keep_queues_again(struct lagd *lagd, struct link *link, struct guard *guard) {
-    (void)keep_queues(lagd, link, guard);
+void keep_queues_again(struct tap_plane *tap, struct link *link, struct guard *guard) {
+    (void)keep_queues(tap, link, guard);
 }
 
 /* Has programs run for the frames of an interface. */
-static void run_programs(struct lagd *lagd, const struct link *link, struct guard *guard) {
+static void run_programs(struct tap_plane *tap, const struct link *link, struct guard *guard) {
     guard->opened = -1;
     guard->classifier = NO_CLASSIFIER;
     guard->fast = guard->unusual = false;
-    lagd->plane.passing->run_programs(lagd, link, guard);
-    if (guard->before.joins != 0) set_joins(link->index, guard->before.joins & joins_allowed(&lagd->settings, link, guard));
+    tap->plane->passing->run_programs(tap, link, guard);
+    if (guard->before.joins != 0) set_joins(link->index, guard->before.joins & joins_allowed(tap->settings, link, guard));
 }
 
-static void stop_programs(struct lagd *lagd, const struct link *link, struct guard *guard) {
-    if (guard->opened >= 0) detach_stored(lagd, "guard", link->index, guard->opened);
-    if (guard->fast) close_fast_receiver(lagd->fast, link);
+static void stop_programs(struct tap_plane *tap, const struct link *link, struct guard *guard) {
+    if (guard->opened >= 0) detach_stored(tap->process->store, "guard", link->index, guard->opened);
+    if (guard->fast) close_fast_receiver(tap->fast, link);
     if (guard->classifier != NO_CLASSIFIER) drop_classifier(link->index);
     guard->opened = -1;
     guard->classifier = NO_CLASSIFIER;
@@ -253,34 +243,34 @@ static void stop_programs(struct lagd *lagd, const struct link *link, struct gua
 }
 
 /* An interface has another queueing discipline: its programs are chosen anew. What it had before it was a member stays kept. */
-void reopen_guard(struct lagd *lagd, struct link *link, struct guard *guard) {
-    stop_programs(lagd, link, guard);
-    lagd->plane.queueing->set_again(lagd, link, guard);
-    run_programs(lagd, link, guard);
+void reopen_guard(struct tap_plane *tap, struct link *link, struct guard *guard) {
+    stop_programs(tap, link, guard);
+    tap->plane->queueing->set_again(tap, link, guard);
+    run_programs(tap, link, guard);
     note_channels(link, guard);
 }
 
 /* Prepares an interface. What it cannot be kept from has a line. */
-void open_guard(struct lagd *lagd, struct link *link, struct guard *guard) {
+void open_guard(struct tap_plane *tap, struct link *link, struct guard *guard) {
     struct ethtool_channels queues;
     uint16_t port = link->settings.number;
     bool has_queues;
     guard->spread = false;
     guard->queues = 1;
     guard->chooser = -1;
-    look_before(lagd, link, &guard->before);
-    keep_settings(lagd, link, &guard->before);
-    has_queues = lagd->plane.queueing->set(lagd, link, guard);
-    run_programs(lagd, link, guard);
+    look_before(tap->plane, link, &guard->before);
+    keep_settings(tap->process, link, &guard->before);
+    has_queues = tap->plane->queueing->set(tap, link, guard);
+    run_programs(tap, link, guard);
     note_channels(link, guard);
-    if ((read_joins(link->index).on & ~joins_allowed(&lagd->settings, link, guard)) != 0)
-        (void)say(lagd, LOG_WARNING | ABOUT_DATA, "port %u %s: GRO or LRO stays on, and markers may overtake data", port, link->name);
-    if (link->stacked && !lagd->plane.passing->steers)
-        (void)say(lagd, LOG_WARNING | ABOUT_DATA,
+    if ((read_joins(link->index).on & ~joins_allowed(tap->settings, link, guard)) != 0)
+        (void)say(tap->process, LOG_WARNING | ABOUT_DATA, "port %u %s: GRO or LRO stays on, and markers may overtake data", port, link->name);
+    if (link->stacked && !tap->plane->passing->steers)
+        (void)say(tap->process, LOG_WARNING | ABOUT_DATA,
             "port %u %s: it stands on another interface, whose queues are not seen: markers may overtake "
             "data", port, link->name);
     if (!guard->spread && has_queues && queues_of(link->index, &queues) > 1)
-        (void)say(lagd, LOG_WARNING | ABOUT_DATA, "port %u %s: it has several queues, and markers may overtake data", port, link->name);
+        (void)say(tap->process, LOG_WARNING | ABOUT_DATA, "port %u %s: it has several queues, and markers may overtake data", port, link->name);
 }
 
 /* Sets back which processors take what an interface receives; answers whether these do now. */
@@ -291,30 +281,30 @@ static bool steer_back(int index, const char *mask) {
 }
 
 /* The interface is no member any more. What cannot be set back stays kept, as without CAP_NET_ADMIN. */
-void close_guard(struct lagd *lagd, const struct link *link, struct guard *guard) {
+void close_guard(struct tap_plane *tap, const struct link *link, struct guard *guard) {
     struct kept *before = &guard->before;
     bool done;
-    stop_programs(lagd, link, guard);
-    stop_spreading(lagd, link, guard);
+    stop_programs(tap, link, guard);
+    stop_spreading(tap->process->store, link, guard);
     done = part_queues(link->index, &before->queues);
-    gather_back(lagd->folder, link, done);
+    gather_back(tap->process->folder, link, done);
     if (before->joins != 0) set_joins(link->index, before->joins);
     if (before->joins != 0) done = (before->joins & ~read_joins(link->index).wanted) == 0 && done;
     drop_fifo(link->index); /* with all its queues the kernel gives each of them what it chooses */
     if (before->steered[0]) done = steer_back(link->index, before->steered) && done;
-    if (done) forget_settings(lagd->folder, link);
+    if (done) forget_settings(tap->process->folder, link);
 }
 
 /* An interface was a member of the last daemon, and is none of this one: it gets what it had, unless somebody else has it by now. */
-void put_back(struct lagd *lagd, int index, const uint8_t *mac) {
+void put_back(struct tap_plane *tap, int index, const uint8_t *mac) {
     struct link link = {.index = index};
     struct guard guard = {.classifier = CLASSIFIER_ALONE};
-    int lock = lock_interface(lagd, index);
+    int lock = lock_interface(tap->process, index);
     if (lock < 0) return;
-    guard.opened = claim_stored(lagd, "guard", index);
-    guard.chooser = claim_stored(lagd, "queues", index);
+    guard.opened = claim_stored(tap->process->store, "guard", index);
+    guard.chooser = claim_stored(tap->process->store, "queues", index);
     memcpy(link.mac, mac, sizeof link.mac);
-    recall_settings(lagd->folder, &link, &guard.before);
-    close_guard(lagd, &link, &guard);
-    return_stored(lagd, "lock", index, lock);
+    recall_settings(tap->process->folder, &link, &guard.before);
+    close_guard(tap, &link, &guard);
+    return_stored(tap->process->store, "lock", index, lock);
 }

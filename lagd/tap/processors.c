@@ -7,7 +7,7 @@
 #include <string.h>
 #include <unistd.h>
 
-#include "daemon.h"
+#include "tap.h"
 
 /* The most processors that are named for RPS. */
 #define MOST_PROCESSORS 32

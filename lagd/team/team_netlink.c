@@ -8,7 +8,6 @@
 #include <net/if.h>
 #include <string.h>
 
-#include "daemon.h"
 #include "netlink.h"
 #include "team.h"
 
@@ -19,9 +18,7 @@ struct team_netlink_private {
     uint16_t family; /* the number of the team driver in generic netlink */
 };
 
-struct team_netlink_private *make_team_netlink_private(void) {
-    return make_room(sizeof(struct team_netlink_private));
-}
+MAKES_ROOM(team_netlink)
 
 static bool order(const union message *wanted) {
     return ask_netlink(NETLINK_ROUTE, wanted, NULL, NULL);

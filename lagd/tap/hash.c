@@ -2,14 +2,13 @@
 #include <netinet/in.h>
 #include <string.h>
 
-#include "daemon.h"
-
 struct frame {
     const uint8_t *octets;
     size_t length;
 };
 
 #include "hash.h"
+#include "tap.h"
 
 _Static_assert(CONVERSATIONS == NIW_FEW_CONVERSATIONS && MOST_MEMBERS == NIW_MOST_PORTS, "the tables have room for what the library has");
 
@@ -35,9 +34,9 @@ static uint64_t hash_of(const struct settings *settings, const struct frame *fra
 }
 
 /* The conversation of a frame of 14 octets or more, from 0 to CONVERSATIONS - 1. */
-struct niw_number conversation_of(struct lagd *lagd, const uint8_t *frame, size_t length) {
+struct niw_number conversation_of(struct protocol *protocol, const uint8_t *frame, size_t length) {
     const struct frame whole = {frame, length};
-    if (lagd->settings.hash == HASH_LAYER2 || length < ETH_HLEN)
-        return niw_conversation(&lagd->own_system, frame, length < LONGEST_SHOWN ? length : LONGEST_SHOWN);
-    return (struct niw_number){.status = NIW_OK, .number = conversation_in(hash_of(&lagd->settings, &whole))};
+    if (protocol->settings->hash == HASH_LAYER2 || length < ETH_HLEN)
+        return niw_conversation(&protocol->own_system, frame, length < LONGEST_SHOWN ? length : LONGEST_SHOWN);
+    return (struct niw_number){.status = NIW_OK, .number = conversation_in(hash_of(protocol->settings, &whole))};
 }

@@ -1,7 +1,7 @@
 /* The checksum of IP, TCP and UDP (RFC 1071). */
 #include <string.h>
 
-#include "daemon.h"
+#include "tap.h"
 
 /* Adds octets as words of this processor, whose order does not matter to the sum. */
 uint64_t add_octets(uint64_t sum, const uint8_t *octets, size_t length) {

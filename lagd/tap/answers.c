@@ -6,7 +6,7 @@
 #include <sys/timerfd.h>
 #include <unistd.h>
 
-#include "daemon.h"
+#include "tap.h"
 
 /* The most that wait for a port. */
 #define MOST_WAITING 64
@@ -34,10 +34,10 @@ struct answers_private *make_answers_private(void) {
 }
 
 /* Opens what wakes the daemon for a response. */
-void start_answers(struct lagd *lagd) {
-    struct answers_private *own = lagd->answers;
+void start_answers(struct tap_plane *tap) {
+    struct answers_private *own = tap->answers;
     own->timer = timerfd_create(CLOCK_MONOTONIC, TFD_NONBLOCK | TFD_CLOEXEC);
-    if (own->timer < 0 || !await_input(lagd->epoll_file, own->timer, RESPONSES)) stop(REFUSED, "no clock", strerror(errno));
+    if (own->timer < 0 || !await_input(tap->process->epoll_file, own->timer, RESPONSES)) stop(REFUSED, "no clock", strerror(errno));
 }
 
 static struct answer *first_of(struct waiting *waiting) {
@@ -45,11 +45,11 @@ static struct answer *first_of(struct waiting *waiting) {
 }
 
 /* Wakes the daemon for the first response that is due: one that waits for its socket is looked at again in a millisecond. */
-static void wake(struct lagd *lagd) {
-    struct answers_private *own = lagd->answers;
+static void wake(struct tap_plane *tap) {
+    struct answers_private *own = tap->answers;
     uint64_t now = milliseconds(), next = UINT64_MAX;
     struct itimerspec at = {{0, 0}, {0, 0}};
-    for (uint16_t i = 0; i < lagd->link_count; i++) {
+    for (uint16_t i = 0; i < tap->ports->count; i++) {
         const struct answer *answer = first_of(&own->ports[i]);
         if (answer && answer->due < next) next = answer->due;
     }
@@ -59,20 +59,20 @@ static void wake(struct lagd *lagd) {
 }
 
 /* Sends the response to a marker. */
-bool answer_at_once(struct lagd *lagd, struct link *link, const uint8_t *response) {
-    send_frame(lagd, link, response);
+bool answer_at_once(struct tap_plane *tap, struct link *link, const uint8_t *response) {
+    send_frame(tap->protocol, link, response);
     return true;
 }
 
 /* Sends the response to a marker later; answers false where too many wait. */
-bool answer_later(struct lagd *lagd, struct link *link, const uint8_t *response) {
-    struct waiting *waiting = &lagd->answers->ports[link->settings.number - 1];
+bool answer_later(struct tap_plane *tap, struct link *link, const uint8_t *response) {
+    struct waiting *waiting = &tap->answers->ports[link->settings.number - 1];
     struct answer *answer;
     if (waiting->count == MOST_WAITING) return false;
     answer = &waiting->answers[(waiting->first + waiting->count++) % MOST_WAITING];
-    *answer = (struct answer){.due = milliseconds() + lagd->settings.answer_after + 1, .unread = MOST_UNREAD};
+    *answer = (struct answer){.due = milliseconds() + tap->settings->answer_after + 1, .unread = MOST_UNREAD};
     memcpy(answer->frame, response, sizeof answer->frame);
-    if (waiting->count == 1) wake(lagd);
+    if (waiting->count == 1) wake(tap);
     return true;
 }
 
@@ -93,23 +93,23 @@ void forget_answers(struct answers_private *own, uint16_t port) {
 }
 
 /* Sends what is due on a port, behind the data that came before. */
-static void answer_due(struct lagd *lagd, uint16_t port) {
-    struct waiting *waiting = &lagd->answers->ports[port - 1];
+static void answer_due(struct tap_plane *tap, uint16_t port) {
+    struct waiting *waiting = &tap->answers->ports[port - 1];
     struct answer *answer = first_of(waiting);
     uint64_t now = milliseconds();
     if (!answer || answer->due > now) return;
-    if (!has_fast_member(lagd->members, port)) receive_data(lagd, port);
-    while ((answer = first_of(waiting)) && answer->due <= now && (answer->unread == 0 || has_fast_member(lagd->members, port))) {
-        send_frame(lagd, &lagd->links[port - 1], answer->frame);
+    if (!has_fast_member(tap->members, port)) receive_data(tap, port);
+    while ((answer = first_of(waiting)) && answer->due <= now && (answer->unread == 0 || has_fast_member(tap->members, port))) {
+        send_frame(tap->protocol, &tap->ports->links[port - 1], answer->frame);
         waiting->first = (waiting->first + 1) % MOST_WAITING;
         waiting->count--;
     }
 }
 
 /* The time of a response came. */
-void serve_answers(struct lagd *lagd) {
+void serve_answers(struct tap_plane *tap) {
     uint64_t passed;
-    (void)!read(lagd->answers->timer, &passed, sizeof passed);
-    for (uint16_t port = 1; port <= lagd->link_count; port++) answer_due(lagd, port);
-    wake(lagd);
+    (void)!read(tap->answers->timer, &passed, sizeof passed);
+    for (uint16_t port = 1; port <= tap->ports->count; port++) answer_due(tap, port);
+    wake(tap);
 }

@@ -7,8 +7,8 @@
 #include <netinet/in.h>
 #include <string.h>
 
-#include "carry.h"
 #include "netlink.h"
+#include "tap.h"
 
 /* What waits at a member: the octets of 50 ms at the speed of its link, within these bounds; the most of them where nobody tells a
  * speed. */
@@ -60,7 +60,7 @@ static bool set_fifo(int index, uint32_t megabits, unsigned flags, uint32_t pare
 
 /* Gives an interface one queue that keeps the order, in place of what the kernel gave it by itself: where an administrator set another
  * one, the kernel refuses. Answers whether it has one of the daemon now. */
-static bool give_fifo(int index, uint32_t megabits) {
+static bool give_root_fifo(int index, uint32_t megabits) {
     return set_fifo(index, megabits, NLM_F_CREATE, TC_H_ROOT, FIFO);
 }
 
@@ -122,24 +122,24 @@ bool may_have_order(int index) {
 
 /* As give_fifo, for each queue of an interface: so the order of one stays, and none waits for another one. The last daemon may have left one
  * for all. What an administrator gave a queue stays; answers whether all keep the order. */
-bool give_fifos(int index, unsigned queues, uint32_t megabits) {
+bool give_each_fifo(int index, unsigned queues, uint32_t megabits) {
     bool given;
-    if (queues <= 1) return give_fifo(index, megabits);
+    if (queues <= 1) return give_root_fifo(index, megabits);
     given = give_queues(index);
     if (!given) drop_fifo(index);
     if (!given && !give_queues(index)) return false;
-    fit_fifos(index, queues, megabits);
+    fit_each_fifo(index, queues, megabits);
     return have_order(index);
 }
 
 /* The link has this speed now: the queue of an interface gets its length, if it is one of the daemon. */
-void fit_fifo(int index, uint32_t megabits) {
+void fit_root_fifo(int index, uint32_t megabits) {
     (void)set_fifo(index, megabits, 0, TC_H_ROOT, FIFO);
 }
 
 /* The same, for each queue. Where an administrator set another one, the kernel refuses. */
-void fit_fifos(int index, unsigned queues, uint32_t megabits) {
-    if (queues <= 1) fit_fifo(index, megabits);
+void fit_each_fifo(int index, unsigned queues, uint32_t megabits) {
+    if (queues <= 1) fit_root_fifo(index, megabits);
     for (unsigned queue = 0; queues > 1 && queue < queues; queue++)
         (void)set_fifo(index, megabits, NLM_F_CREATE, FIFO | (queue + 1), 0);
 }

@@ -9,7 +9,7 @@
 #include <sys/syscall.h>
 #include <unistd.h>
 
-#include "daemon.h"
+#include "tap.h"
 
 /* How long the conversations of a link that went down wait, in milliseconds: the peer's kernel may still have frames to hand up. */
 #define DOWN_WAIT 100
@@ -49,67 +49,67 @@ static int needed(int program) {
 }
 
 /* Has a program run at the TAP device; answers what keeps it there. */
-static int keep_program(struct lagd *lagd, const char *kind, int program, bool egress) {
+static int keep_program(struct tap_plane *tap, const char *kind, int program, bool egress) {
     int opened;
-    opened = attach_stored(lagd, kind, program, lagd->fast->tap_at, egress);
+    opened = attach_stored(tap->process->store, kind, program, tap->fast->tap_at, egress);
     need(opened >= 0, "fast: no program of an interface, which Linux has from 6.6 on");
     close(program);
     return opened;
 }
 
 /* A table that the programs share with the daemon: that of the last daemon, where that left one for this device, or a new one. */
-static void *open_map(struct lagd *lagd, int number, uint32_t size, uint32_t count, int *map) {
+static void *open_map(struct tap_plane *tap, int number, uint32_t size, uint32_t count, int *map) {
     void *at;
-    *map = claim_stored(lagd, "map", number);
-    at = *map >= 0 && lagd->inherited.tap != 0 && lagd->inherited.tap == lagd->fast->tap_at ? map_again(size, count, *map) : NULL;
+    *map = claim_stored(tap->process->store, "map", number);
+    at = *map >= 0 && tap->process->inherited->tap != 0 && tap->process->inherited->tap == tap->fast->tap_at ? map_again(size, count, *map) : NULL;
     if (at) return at;
-    if (*map >= 0) close_stored(lagd, "map", number, *map);
+    if (*map >= 0) close_stored(tap->process->store, "map", number, *map);
     at = make_map(size, count, map);
     need(at != NULL, "fast: no table of the kernel");
-    put_stored(lagd, "map", number, *map);
+    put_stored(tap->process->store, "map", number, *map);
     return at;
 }
 
 /* What the kernel did for the last daemon is no count of this one. */
-static void begin_counts(struct lagd *lagd) {
-    struct fast_private *own = lagd->fast;
+static void begin_counts(struct tap_plane *tap) {
+    struct fast_private *own = tap->fast;
     for (uint16_t number = 0; number < CONVERSATIONS; number++) {
-        struct fast *fast = &lagd->carry.conversations[number].fast;
+        struct fast *fast = &tap->carry->conversations[number].fast;
         fast->counted = __atomic_load_n(&own->rows[number].passed, __ATOMIC_ACQUIRE);
         fast->overflowed = __atomic_load_n(&own->rows[number].overflowed, __ATOMIC_ACQUIRE);
     }
     memcpy(own->counted, own->entries, sizeof own->counted);
-    for (uint16_t i = lagd->link_count; i < NIW_MOST_PORTS; i++) __atomic_store_n(&own->entries[i].up_to, 0, __ATOMIC_SEQ_CST);
+    for (uint16_t i = tap->ports->count; i < NIW_MOST_PORTS; i++) __atomic_store_n(&own->entries[i].up_to, 0, __ATOMIC_SEQ_CST);
     own->counted_overflows = __atomic_load_n(&own->host->overflowed, __ATOMIC_RELAXED);
     own->counted_unfit = __atomic_load_n(&own->host->unfit, __ATOMIC_RELAXED);
 }
 
 /* Loads all that the kernel is to run, while the daemon may. */
-void start_fast(struct lagd *lagd) {
-    struct fast_private *own = lagd->fast;
+void start_fast(struct tap_plane *tap) {
+    struct fast_private *own = tap->fast;
     struct fast_maps maps;
     need(wait_for_programs(), "fast: the kernel cannot wait for its programs (membarrier)");
-    own->tap_at = tap_index(lagd->tap);
-    own->rows = open_map(lagd, 0, sizeof *own->rows, CONVERSATIONS, &maps.rows);
-    own->entries = open_map(lagd, 1, sizeof *own->entries, NIW_MOST_PORTS, &maps.members);
-    own->host = open_map(lagd, 2, sizeof *own->host, 1, &maps.host);
-    own->places = open_map(lagd, 3, sizeof *own->places, PLACES, &maps.places);
-    begin_counts(lagd);
-    if (own->host->mac == 0) memcpy(&own->host->mac, lagd->settings.config.mac, ETH_ALEN);
-    own->receiver = needed(load_program(&lagd->settings, "receiver", &maps));
-    own->handover = keep_program(lagd, "handover", needed(load_program(&lagd->settings, "handover", &maps)), false);
-    own->sender = keep_program(lagd, "sender", needed(load_program(&lagd->settings, "sender", &maps)), true);
+    own->tap_at = tap_index(tap->device);
+    own->rows = open_map(tap, 0, sizeof *own->rows, CONVERSATIONS, &maps.rows);
+    own->entries = open_map(tap, 1, sizeof *own->entries, NIW_MOST_PORTS, &maps.members);
+    own->host = open_map(tap, 2, sizeof *own->host, 1, &maps.host);
+    own->places = open_map(tap, 3, sizeof *own->places, PLACES, &maps.places);
+    begin_counts(tap);
+    if (own->host->mac == 0) memcpy(&own->host->mac, tap->settings->config.mac, ETH_ALEN);
+    own->receiver = needed(load_program(tap->settings, "receiver", &maps));
+    own->handover = keep_program(tap, "handover", needed(load_program(tap->settings, "handover", &maps)), false);
+    own->sender = keep_program(tap, "sender", needed(load_program(tap->settings, "sender", &maps)), true);
 }
 
 /* Nothing is passed on any more, from the first line on. */
-void end_fast(struct lagd *lagd) {
-    struct fast_private *own = lagd->fast;
-    open_host(lagd, false);
+void end_fast(struct tap_plane *tap) {
+    struct fast_private *own = tap->fast;
+    open_host(tap, false);
     for (uint16_t number = 0; number < CONVERSATIONS; number++)
         (void)__atomic_and_fetch(&own->rows[number].word, ~(uint64_t)UINT32_MAX, __ATOMIC_SEQ_CST);
-    for (uint16_t i = 0; i < lagd->link_count; i++) __atomic_store_n(&own->entries[i].up_to, 0, __ATOMIC_SEQ_CST);
-    if (own->sender >= 0) detach_stored(lagd, "sender", own->tap_at, own->sender);
-    if (own->handover >= 0) detach_stored(lagd, "handover", own->tap_at, own->handover);
+    for (uint16_t i = 0; i < tap->ports->count; i++) __atomic_store_n(&own->entries[i].up_to, 0, __ATOMIC_SEQ_CST);
+    if (own->sender >= 0) detach_stored(tap->process->store, "sender", own->tap_at, own->sender);
+    if (own->handover >= 0) detach_stored(tap->process->store, "handover", own->tap_at, own->handover);
     own->sender = own->handover = -1;
     own->tap_at = 0;
 }
@@ -124,23 +124,23 @@ static uint64_t place_word(const struct link *link) {
 }
 
 /* Whether another member of now has the place of this one. */
-static bool is_place_taken(struct lagd *lagd, const struct link *link) {
-    for (uint16_t i = 0; i < lagd->link_count; i++) {
-        const struct link *other = &lagd->links[i];
+static bool is_place_taken(struct tap_plane *tap, const struct link *link) {
+    for (uint16_t i = 0; i < tap->ports->count; i++) {
+        const struct link *other = &tap->ports->links[i];
         if (other != link && other->socket >= 0 && member_place((uint32_t)other->index) == member_place((uint32_t)link->index)
-            && __atomic_load_n(place_at(lagd->fast, other), __ATOMIC_SEQ_CST) == place_word(other))
+            && __atomic_load_n(place_at(tap->fast, other), __ATOMIC_SEQ_CST) == place_word(other))
             return true;
     }
     return false;
 }
 
 /* Has what comes at a member go up by the kernel, as long as the answer is open; or -1, and errno. */
-int open_fast_receiver(struct lagd *lagd, const struct link *link) {
+int open_fast_receiver(struct tap_plane *tap, const struct link *link) {
     int attached = -1;
     errno = EBUSY;
-    if (is_place_taken(lagd, link)) return -1;
-    __atomic_store_n(place_at(lagd->fast, link), place_word(link), __ATOMIC_SEQ_CST);
-    attached = attach_stored(lagd, "guard", lagd->fast->receiver, link->index, false);
+    if (is_place_taken(tap, link)) return -1;
+    __atomic_store_n(place_at(tap->fast, link), place_word(link), __ATOMIC_SEQ_CST);
+    attached = attach_stored(tap->process->store, "guard", tap->fast->receiver, link->index, false);
     return attached;
 }
 
@@ -169,31 +169,31 @@ static void subtract(struct fast_private *own, uint16_t number, uint32_t segment
 }
 
 /* Takes off what overflowed. */
-static void subtract_overflowed(struct lagd *lagd, struct conversation *conversation) {
-    uint64_t overflowed = __atomic_load_n(&lagd->fast->rows[number_in(&lagd->carry, conversation)].overflowed, __ATOMIC_ACQUIRE);
+static void subtract_overflowed(struct tap_plane *tap, struct conversation *conversation) {
+    uint64_t overflowed = __atomic_load_n(&tap->fast->rows[number_in(tap->carry, conversation)].overflowed, __ATOMIC_ACQUIRE);
     if (overflowed == conversation->fast.overflowed) return;
-    subtract(lagd->fast, number_in(&lagd->carry, conversation), (uint32_t)(overflowed - conversation->fast.overflowed));
+    subtract(tap->fast, number_in(tap->carry, conversation), (uint32_t)(overflowed - conversation->fast.overflowed));
     conversation->fast.overflowed = overflowed;
     conversation->fast.suspected = false;
 }
 
 /* Counts what the kernel passed on of a conversation; answers whether there was something. */
-static bool count_passed(struct lagd *lagd, struct conversation *conversation) {
-    uint64_t passed = __atomic_load_n(&lagd->fast->rows[number_in(&lagd->carry, conversation)].passed, __ATOMIC_ACQUIRE);
+static bool count_passed(struct tap_plane *tap, struct conversation *conversation) {
+    uint64_t passed = __atomic_load_n(&tap->fast->rows[number_in(tap->carry, conversation)].passed, __ATOMIC_ACQUIRE);
     uint64_t more = passed - conversation->fast.counted;
     conversation->fast.counted = passed;
     if (more == 0 || conversation->fast.port == 0) return false;
     conversation->used = true;
-    note_passed(lagd, conversation->fast.port, more);
+    note_passed(tap, conversation->fast.port, more);
     return true;
 }
 
 /* Counts what the kernel did since the last time. */
-void count_fast_frames(struct lagd *lagd) {
-    struct fast_private *own = lagd->fast;
+void count_fast_frames(struct tap_plane *tap) {
+    struct fast_private *own = tap->fast;
     uint64_t overflowed, unfit;
-    for (uint16_t number = 0; number < CONVERSATIONS; number++) (void)count_passed(lagd, &lagd->carry.conversations[number]);
-    for (uint16_t i = 0; i < lagd->link_count; i++) {
+    for (uint16_t number = 0; number < CONVERSATIONS; number++) (void)count_passed(tap, &tap->carry->conversations[number]);
+    for (uint16_t i = 0; i < tap->ports->count; i++) {
         struct fast_member now = {
             .passed_up = __atomic_load_n(&own->entries[i].passed_up, __ATOMIC_RELAXED),
             .uncollected = __atomic_load_n(&own->entries[i].uncollected, __ATOMIC_RELAXED),
@@ -202,145 +202,145 @@ void count_fast_frames(struct lagd *lagd) {
         struct fast_member more = {0, now.passed_up - own->counted[i].passed_up, now.uncollected - own->counted[i].uncollected,
             now.wrong_length - own->counted[i].wrong_length};
         own->counted[i] = now;
-        add_fast_counts(lagd, (uint16_t)(i + 1), &more);
+        add_fast_counts(tap, (uint16_t)(i + 1), &more);
     }
     overflowed = __atomic_load_n(&own->host->overflowed, __ATOMIC_RELAXED);
-    lagd->carry.counts[FROM_HOST] += overflowed - own->counted_overflows;
-    lagd->carry.counts[OVERFLOWED] += overflowed - own->counted_overflows;
+    tap->carry->counts[FROM_HOST] += overflowed - own->counted_overflows;
+    tap->carry->counts[OVERFLOWED] += overflowed - own->counted_overflows;
     own->counted_overflows = overflowed;
     unfit = __atomic_load_n(&own->host->unfit, __ATOMIC_RELAXED);
-    lagd->carry.counts[FROM_HOST] += unfit - own->counted_unfit;
-    lagd->carry.counts[UNFIT] += unfit - own->counted_unfit;
+    tap->carry->counts[FROM_HOST] += unfit - own->counted_unfit;
+    tap->carry->counts[UNFIT] += unfit - own->counted_unfit;
     own->counted_unfit = unfit;
 }
 
 /* Whether the kernel may pass a conversation on at a port. */
-static bool may_pass(struct lagd *lagd, const struct conversation *conversation, uint16_t port) {
-    struct fast_private *own = lagd->fast;
+static bool may_pass(struct tap_plane *tap, const struct conversation *conversation, uint16_t port) {
+    struct fast_private *own = tap->fast;
     struct niw_assignment state;
-    if (own->tap_at == 0 || own->queue_holds || conversation->home != lagd->carry.active || lagd->carry.active == 0
-        || !has_fast_member(lagd->members, port))
+    if (own->tap_at == 0 || own->queue_holds || conversation->home != tap->carry->active || tap->carry->active == 0
+        || !has_fast_member(tap->members, port))
         return false;
-    return ask_state(lagd, lagd->carry.active, number_in(&lagd->carry, conversation), &state) && state.what == NIW_CONVERSATION_ON
+    return ask_state(tap->protocol, tap->carry->active, number_in(tap->carry, conversation), &state) && state.what == NIW_CONVERSATION_ON
         && state.port == port;
 }
 
 /* Waits for the programs. Where the kernel does so no longer, the peers are told, and the daemon ends. */
-static void wait_or_end(struct lagd *lagd) {
+static void wait_or_end(struct tap_plane *tap) {
     if (wait_for_programs()) return;
-    (void)say(lagd, LOG_ERR | ABOUT_DATA, "fast: the kernel waits no longer for its programs: %s; the peers are told, and the daemon ends",
+    (void)say(tap->process, LOG_ERR | ABOUT_DATA, "fast: the kernel waits no longer for its programs: %s; the peers are told, and the daemon ends",
         strerror(errno));
-    lagd->broken = true;
-    end_fast(lagd);
+    tap->process->broken = true;
+    end_fast(tap);
 }
 
 /* Takes the rows back that are chosen; once that is done, all that they passed on is with the members, and counted. */
-static void withdraw_chosen(struct lagd *lagd, bool (*is_chosen)(struct lagd *lagd, const struct conversation *conversation, uint16_t port),
+static void withdraw_chosen(struct tap_plane *tap, bool (*is_chosen)(struct tap_plane *tap, const struct conversation *conversation, uint16_t port),
     uint16_t port) {
     bool taken[CONVERSATIONS] = {false}, any = false;
     for (uint16_t number = 0; number < CONVERSATIONS; number++) {
-        const struct conversation *conversation = &lagd->carry.conversations[number];
-        if (conversation->fast.port == 0 || !is_chosen(lagd, conversation, port)) continue;
-        (void)__atomic_and_fetch(&lagd->fast->rows[number].word, ~(uint64_t)UINT32_MAX, __ATOMIC_SEQ_CST);
+        const struct conversation *conversation = &tap->carry->conversations[number];
+        if (conversation->fast.port == 0 || !is_chosen(tap, conversation, port)) continue;
+        (void)__atomic_and_fetch(&tap->fast->rows[number].word, ~(uint64_t)UINT32_MAX, __ATOMIC_SEQ_CST);
         taken[number] = any = true;
     }
-    if (any) wait_or_end(lagd);
+    if (any) wait_or_end(tap);
     for (uint16_t number = 0; any && number < CONVERSATIONS; number++) {
-        struct conversation *conversation = &lagd->carry.conversations[number];
+        struct conversation *conversation = &tap->carry->conversations[number];
         if (!taken[number]) continue;
-        (void)count_passed(lagd, conversation);
+        (void)count_passed(tap, conversation);
         conversation->fast.port = 0;
-        lagd->carry.counts[WITHDRAWN]++;
+        tap->carry->counts[WITHDRAWN]++;
     }
 }
 
-static bool is_wrong(struct lagd *lagd, const struct conversation *conversation, uint16_t port) {
+static bool is_wrong(struct tap_plane *tap, const struct conversation *conversation, uint16_t port) {
     (void)port;
-    return lagd->carry.port_of[number_in(&lagd->carry, conversation)] != conversation->fast.port
-        || !has_fast_member(lagd->members, conversation->fast.port);
+    return tap->carry->port_of[number_in(tap->carry, conversation)] != conversation->fast.port
+        || !has_fast_member(tap->members, conversation->fast.port);
 }
 
 /* Where the library refuses to tell, or the queue of the TAP device holds frames, the kernel passes nothing on. */
-static bool is_any(struct lagd *lagd, const struct conversation *conversation, uint16_t port) {
-    (void)lagd;
+static bool is_any(struct tap_plane *tap, const struct conversation *conversation, uint16_t port) {
+    (void)tap;
     (void)conversation;
     (void)port;
     return true;
 }
 
-static bool is_on(struct lagd *lagd, const struct conversation *conversation, uint16_t port) {
-    (void)lagd;
+static bool is_on(struct tap_plane *tap, const struct conversation *conversation, uint16_t port) {
+    (void)tap;
     return conversation->fast.port == port;
 }
 
 /* One that rests for a flight: towards a peer that answers no markers it is free then, and no frame of it may pass meanwhile. */
-static bool is_resting(struct lagd *lagd, const struct conversation *conversation, uint16_t port) {
+static bool is_resting(struct tap_plane *tap, const struct conversation *conversation, uint16_t port) {
     (void)port;
-    return !conversation->used && lagd->carry.time - conversation->last >= lagd->settings.flight;
+    return !conversation->used && tap->carry->time - conversation->last >= tap->settings->flight;
 }
 
 /* The interface on which the kernel passes a conversation on, or 0. */
-int fast_member_of(struct lagd *lagd, uint16_t number) {
-    return (int)(uint32_t)word_of(lagd->fast, number);
+int fast_member_of(struct tap_plane *tap, uint16_t number) {
+    return (int)(uint32_t)word_of(tap->fast, number);
 }
 
 /* The kernel goes on passing what stays on its port, and nothing else of what it passed on for the last daemon. */
-void resume_fast(struct lagd *lagd) {
+void resume_fast(struct tap_plane *tap) {
     bool any = false;
     for (uint16_t number = 0; number < CONVERSATIONS; number++) {
-        struct conversation *conversation = &lagd->carry.conversations[number];
-        int member = fast_member_of(lagd, number);
+        struct conversation *conversation = &tap->carry->conversations[number];
+        int member = fast_member_of(tap, number);
         if (member == 0) continue;
-        if (conversation->port != 0 && member == lagd->links[conversation->port - 1].index
-            && may_pass(lagd, conversation, conversation->port)) {
+        if (conversation->port != 0 && member == tap->ports->links[conversation->port - 1].index
+            && may_pass(tap, conversation, conversation->port)) {
             conversation->fast.port = conversation->port;
         } else {
-            (void)__atomic_and_fetch(&lagd->fast->rows[number].word, ~(uint64_t)UINT32_MAX, __ATOMIC_SEQ_CST);
+            (void)__atomic_and_fetch(&tap->fast->rows[number].word, ~(uint64_t)UINT32_MAX, __ATOMIC_SEQ_CST);
             any = true;
         }
     }
-    if (any) wait_or_end(lagd);
+    if (any) wait_or_end(tap);
 }
 
 /* Takes back what is not, or no longer, on the port where the kernel passes it on: before a marker goes there. */
-void withdraw(struct lagd *lagd) {
-    withdraw_chosen(lagd, ask_ports(lagd, lagd->carry.active, lagd->carry.port_of) ? is_wrong : is_any, 0);
+void withdraw(struct tap_plane *tap) {
+    withdraw_chosen(tap, ask_ports(tap->protocol, tap->carry->active, tap->carry->port_of) ? is_wrong : is_any, 0);
 }
 
 /* The link of a port goes down, or its interface: before the library hears of it. */
-void withdraw_port(struct lagd *lagd, uint16_t port) {
-    __atomic_store_n(&lagd->fast->entries[port - 1].up_to, 0, __ATOMIC_SEQ_CST);
-    withdraw_chosen(lagd, is_on, port);
+void withdraw_port(struct tap_plane *tap, uint16_t port) {
+    __atomic_store_n(&tap->fast->entries[port - 1].up_to, 0, __ATOMIC_SEQ_CST);
+    withdraw_chosen(tap, is_on, port);
     for (uint16_t number = 0; number < CONVERSATIONS; number++) {
-        struct conversation *conversation = &lagd->carry.conversations[number];
+        struct conversation *conversation = &tap->carry->conversations[number];
         if (conversation->port == port && conversation->home != 0) conversation->fast.not_before = milliseconds() + DOWN_WAIT;
     }
 }
 
 /* The TAP device has this queueing discipline now. One that may hold frames holds them behind the program that counts them, where nobody
  * sees them, and would not have what the kernel passes on: with it the daemon has all data. */
-void follow_host_queue(struct lagd *lagd, const char *discipline) {
-    struct fast_private *own = lagd->fast;
+void follow_host_queue(struct tap_plane *tap, const char *discipline) {
+    struct fast_private *own = tap->fast;
     bool holds = !keeps_order(discipline) && strcmp(discipline, "pfifo_fast") != 0
         && strcmp(discipline, "noop") != 0; /* it has that one until it is up */
     if (!discipline[0] || holds == own->queue_holds) return;
     own->queue_holds = holds;
-    if (holds) withdraw_chosen(lagd, is_any, 0);
-    (void)say(lagd, LOG_WARNING | ABOUT_DATA, "carry %s: its queueing discipline is %s: its data %s", lagd->settings.carry, discipline,
+    if (holds) withdraw_chosen(tap, is_any, 0);
+    (void)say(tap->process, LOG_WARNING | ABOUT_DATA, "carry %s: its queueing discipline is %s: its data %s", tap->settings->carry, discipline,
         holds ? "stays with the daemon, since that discipline may hold frames" : "may go by the kernel");
 }
 
 /* Frames go up by the kernel from the ports that collect in the active aggregator, while the TAP device is up: else the kernel would lose
  * markers, too, which go up behind the data. */
-void set_collecting(struct lagd *lagd) {
-    struct fast_private *own = lagd->fast;
-    bool tap_up = is_tap_up(lagd->tap);
-    for (uint16_t i = 0; i < lagd->link_count; i++) {
-        uint16_t port = lagd->links[i].settings.number;
+void set_collecting(struct tap_plane *tap) {
+    struct fast_private *own = tap->fast;
+    bool tap_up = is_tap_up(tap->device);
+    for (uint16_t i = 0; i < tap->ports->count; i++) {
+        uint16_t port = tap->ports->links[i].settings.number;
         uint64_t state = 0;
-        bool up = tap_up && own->tap_at != 0 && lagd->carry.active != 0 && lagd->links[i].view.aggregator == lagd->carry.active
-            && has_fast_member(lagd->members, port)
-            && is_told(lagd, niw_state(&lagd->own_system, port), "niw_state", &state) && (state & NIW_STATE_COLLECTING) != 0;
+        bool up = tap_up && own->tap_at != 0 && tap->carry->active != 0 && tap->ports->links[i].view.aggregator == tap->carry->active
+            && has_fast_member(tap->members, port)
+            && is_told(tap->process, niw_state(&tap->protocol->own_system, port), "niw_state", &state) && (state & NIW_STATE_COLLECTING) != 0;
         __atomic_store_n(&own->entries[i].up_to, up ? (uint64_t)own->tap_at : 0, __ATOMIC_SEQ_CST);
     }
 }
@@ -348,11 +348,11 @@ void set_collecting(struct lagd *lagd) {
 /* Frames of the host are taken for a while from here on, or no longer. Where its device has no carrier, the queue behind the program loses
  * each frame, and a row that counted it would keep it; so they are lost before they are counted. Those of a host whose daemon is stopped go
  * nowhere once the peer may have given the links up. */
-void open_host(struct lagd *lagd, bool open) {
+void open_host(struct tap_plane *tap, bool open) {
     struct timespec now;
-    if (!lagd->fast->host) return; /* its tables are still to be made */
+    if (!tap->fast->host) return; /* its tables are still to be made */
     clock_gettime(CLOCK_MONOTONIC, &now);
-    __atomic_store_n(&lagd->fast->host->open_until, open ? (uint64_t)now.tv_sec * 1000000000u + (uint64_t)now.tv_nsec + OPEN_FOR : 0,
+    __atomic_store_n(&tap->fast->host->open_until, open ? (uint64_t)now.tv_sec * 1000000000u + (uint64_t)now.tv_nsec + OPEN_FOR : 0,
         __ATOMIC_SEQ_CST);
 }
 
@@ -363,33 +363,33 @@ void note_taken(struct conversation *conversation, uint32_t segments) {
 }
 
 /* Lets the kernel pass on a conversation of which nothing waits here, and nothing is on its way here. */
-static void pass(struct lagd *lagd, struct conversation *conversation) {
-    struct fast_row *row = &lagd->fast->rows[number_in(&lagd->carry, conversation)];
+static void pass(struct tap_plane *tap, struct conversation *conversation) {
+    struct fast_row *row = &tap->fast->rows[number_in(tap->carry, conversation)];
     uint16_t port = conversation->port;
-    uint64_t none = 0, member = (uint32_t)lagd->links[port - 1].index;
+    uint64_t none = 0, member = (uint32_t)tap->ports->links[port - 1].index;
     if (__atomic_load_n(&row->opaque, __ATOMIC_SEQ_CST) != 0) return;
     if (__atomic_compare_exchange_n(&row->word, &none, member, false, __ATOMIC_SEQ_CST, __ATOMIC_SEQ_CST)) conversation->fast.port = port;
 }
 
 /* After all that was put was sent: what was taken counts no more, and the kernel gets what it may pass on. */
-void pass_on(struct lagd *lagd) {
+void pass_on(struct tap_plane *tap) {
     for (uint16_t number = 0; number < CONVERSATIONS; number++) {
-        struct conversation *conversation = &lagd->carry.conversations[number];
+        struct conversation *conversation = &tap->carry->conversations[number];
         if (!conversation->fast.touched) continue;
         conversation->fast.touched = false;
-        subtract_overflowed(lagd, conversation);
-        if (conversation->fast.taken > 0) subtract(lagd->fast, number, conversation->fast.taken);
+        subtract_overflowed(tap, conversation);
+        if (conversation->fast.taken > 0) subtract(tap->fast, number, conversation->fast.taken);
         if (conversation->fast.taken > 0) conversation->fast.suspected = false;
         conversation->fast.taken = 0;
-        if (conversation->port == 0 || conversation->fast.port > 0 || !none_held(lagd, number)) continue;
-        if (may_pass(lagd, conversation, conversation->port)) pass(lagd, conversation);
+        if (conversation->port == 0 || conversation->fast.port > 0 || !none_held(tap, number)) continue;
+        if (may_pass(tap, conversation, conversation->port)) pass(tap, conversation);
     }
 }
 
 /* Counts no more what was lost on its way to the daemon: since it was suspected, no frame of it came and none was left (programs only ever
  * raise the count of a row without a member), all programs ended, and the TAP device had nothing more. */
-static void confirm_loss(struct lagd *lagd, struct conversation *conversation) {
-    struct fast_row *row = &lagd->fast->rows[number_in(&lagd->carry, conversation)];
+static void confirm_loss(struct tap_plane *tap, struct conversation *conversation) {
+    struct fast_row *row = &tap->fast->rows[number_in(tap->carry, conversation)];
     uint64_t word = conversation->fast.suspected_word, overflowed = __atomic_load_n(&row->overflowed, __ATOMIC_SEQ_CST);
     conversation->fast.suspected = false;
     if (__atomic_load_n(&row->opaque, __ATOMIC_SEQ_CST) != conversation->fast.suspected_opaque) return;
@@ -403,24 +403,24 @@ static void confirm_loss(struct lagd *lagd, struct conversation *conversation) {
  * program counts just now. More of `left` was lost behind the program that counted it, by a queue without a carrier or without room, and
  * no read takes it off: with MOST_LEFT of it no frame would ever come here again. What is taken off too early makes it less than 0, and is
  * put back. It only tells how many may wait, so a frame too many is lost by the kernel, which counts it. The order rests on the rows. */
-void note_read(struct lagd *lagd, unsigned packets, bool drained) {
-    struct fast_private *own = lagd->fast;
+void note_read(struct tap_plane *tap, unsigned packets, bool drained) {
+    struct fast_private *own = tap->fast;
     int64_t left;
-    if (lagd->broken) return;
+    if (tap->process->broken) return;
     left = __atomic_sub_fetch(&own->host->left, packets, __ATOMIC_SEQ_CST);
     if (drained && (left > MOST_BETWEEN || left < 0)) (void)__atomic_sub_fetch(&own->host->left, left, __ATOMIC_SEQ_CST);
     for (uint16_t number = 0; drained && !own->queue_holds && number < CONVERSATIONS; number++) {
-        struct conversation *conversation = &lagd->carry.conversations[number];
-        if (conversation->fast.suspected && conversation->fast.taken == 0) confirm_loss(lagd, conversation);
+        struct conversation *conversation = &tap->carry->conversations[number];
+        if (conversation->fast.suspected && conversation->fast.taken == 0) confirm_loss(tap, conversation);
     }
 }
 
 /* Suspects rows with frames that do not come: none came since the last tick. */
-static bool suspect(struct lagd *lagd, struct conversation *conversation) {
-    struct fast_row *row = &lagd->fast->rows[number_in(&lagd->carry, conversation)];
+static bool suspect(struct tap_plane *tap, struct conversation *conversation) {
+    struct fast_row *row = &tap->fast->rows[number_in(tap->carry, conversation)];
     uint64_t word, opaque;
-    subtract_overflowed(lagd, conversation);
-    word = word_of(lagd->fast, number_in(&lagd->carry, conversation));
+    subtract_overflowed(tap, conversation);
+    word = word_of(tap->fast, number_in(tap->carry, conversation));
     opaque = __atomic_load_n(&row->opaque, __ATOMIC_SEQ_CST);
     if (conversation->fast.port > 0 || conversation->used || conversation->fast.suspected || (word == 0 && opaque == 0)) return false;
     conversation->fast.suspected = true;
@@ -430,13 +430,13 @@ static bool suspect(struct lagd *lagd, struct conversation *conversation) {
 }
 
 /* 100 ms passed. */
-void pass_fast_tick(struct lagd *lagd) {
+void pass_fast_tick(struct tap_plane *tap) {
     bool any = false;
-    (void)read_tap_mac(lagd->tap, (uint8_t *)&lagd->fast->host->mac);
-    withdraw(lagd);
-    open_host(lagd, has_carrier(lagd->tap));
-    count_fast_frames(lagd);
-    if (peer_answering(lagd->probe) == MUTE) withdraw_chosen(lagd, is_resting, 0);
-    for (uint16_t number = 0; number < CONVERSATIONS; number++) any = suspect(lagd, &lagd->carry.conversations[number]) || any;
-    if (any) wait_or_end(lagd);
+    (void)read_tap_mac(tap->device, (uint8_t *)&tap->fast->host->mac);
+    withdraw(tap);
+    open_host(tap, has_carrier(tap->device));
+    count_fast_frames(tap);
+    if (peer_answering(tap->carry->probe) == MUTE) withdraw_chosen(tap, is_resting, 0);
+    for (uint16_t number = 0; number < CONVERSATIONS; number++) any = suspect(tap, &tap->carry->conversations[number]) || any;
+    if (any) wait_or_end(tap);
 }

@@ -7,8 +7,8 @@
 #include <stdlib.h>
 #include <string.h>
 
-#include "daemon.h"
 #include "programs.skel.h"
+#include "tap.h"
 
 /* The room of what the verifier of the kernel writes, and of the line of it that is told. */
 #define LOG_ROOM (1 << 20)

@@ -5,7 +5,7 @@
 #include <string.h>
 #include <sys/socket.h>
 
-#include "daemon.h"
+#include "tap.h"
 
 /* Where a Marker PDU has the identifier of its requester (IEEE 802.1AX-2014, 6.5.3.3), and which of its bits are the queue. */
 #define IDENTIFIER_AT (ETH_HLEN + 12)
@@ -33,9 +33,7 @@ struct queues_private {
     uint64_t all; /* of send_by_queues */
 };
 
-struct queues_private *make_queues_private(void) {
-    return make_room(sizeof(struct queues_private));
-}
+MAKES_ROOM(queues)
 
 static uint32_t all_of(unsigned count) {
     return (1u << count) - 1;
@@ -65,11 +63,11 @@ static void mark_queue(struct queues_private *own, const struct queues *queues, 
 }
 
 /* Has a frame of a conversation go by its queue, as the programs of the kernel have it. */
-void mark_conversation(struct lagd *lagd, uint16_t port, uint16_t number, struct msghdr *message) {
-    struct queues *queues = &lagd->queues->ports[port - 1];
+void mark_conversation(struct tap_plane *tap, uint16_t port, uint16_t number, struct msghdr *message) {
+    struct queues *queues = &tap->queues->ports[port - 1];
     unsigned queue = number % MOST_QUEUES % queues->count;
     queues->dirty |= 1u << queue;
-    mark_queue(lagd->queues, queues, queue, message);
+    mark_queue(tap->queues, queues, queue, message);
 }
 
 static uint32_t identifier_of(const uint8_t *frame) {
@@ -83,8 +81,8 @@ void set_identifier(uint8_t *frame, uint32_t id) {
 }
 
 /* Sends the marker of a flight by each queue that has no response yet; answers whether all went. */
-static bool send_flight(struct lagd *lagd, struct link *link, const uint8_t *marker, const struct flight *flight) {
-    const struct queues *queues = &lagd->queues->ports[link->settings.number - 1];
+static bool send_flight(struct tap_plane *tap, struct link *link, const uint8_t *marker, const struct flight *flight) {
+    const struct queues *queues = &tap->queues->ports[link->settings.number - 1];
     uint8_t frame[NIW_FRAME];
     bool done = true;
     memcpy(frame, marker, sizeof frame);
@@ -92,8 +90,8 @@ static bool send_flight(struct lagd *lagd, struct link *link, const uint8_t *mar
         struct msghdr message = {0};
         if (!(flight->waiting >> queue & 1)) continue;
         set_identifier(frame, (flight->id & IDENTIFIER_BITS) | (uint32_t)queue << QUEUE_SHIFT);
-        mark_queue(lagd->queues, queues, queue, &message);
-        done = give_marker(lagd, link, frame, &message) && done;
+        mark_queue(tap->queues, queues, queue, &message);
+        done = give_marker(tap, link, frame, &message) && done;
     }
     return done;
 }
@@ -124,34 +122,34 @@ static uint32_t unanswered(struct members_private *own, const struct link *link,
 }
 
 /* Sends a marker that is due; answers whether all of it went. */
-static bool send_anew(struct lagd *lagd, struct link *link, const uint8_t *marker) {
-    struct queues_private *own = lagd->queues;
+static bool send_anew(struct tap_plane *tap, struct link *link, const uint8_t *marker) {
+    struct queues_private *own = tap->queues;
     struct queues *queues = &own->ports[link->settings.number - 1];
-    struct flight flight = {identifier_of(marker), unanswered(lagd->members, link, queues), lagd->carry.time, own->all++};
+    struct flight flight = {identifier_of(marker), unanswered(tap->members, link, queues), tap->carry->time, own->all++};
     struct flight *place = next_flight(queues);
     queues->dirty = 0;
     *place = flight;
-    return send_flight(lagd, link, marker, place);
+    return send_flight(tap, link, marker, place);
 }
 
 /* Sends again what has no response, of each marker that may still get one; answers whether all of it went. */
-static bool send_again_by_queues(struct lagd *lagd, struct link *link, const uint8_t *marker) {
-    struct queues *queues = &lagd->queues->ports[link->settings.number - 1];
+static bool send_again_by_queues(struct tap_plane *tap, struct link *link, const uint8_t *marker) {
+    struct queues *queues = &tap->queues->ports[link->settings.number - 1];
     bool done = true;
     for (size_t i = 0; i < MOST_FLIGHTS; i++) {
         struct flight *flight = &queues->flights[i];
-        if (flight->waiting != 0 && lagd->carry.time - flight->since > LONGEST_FLIGHT) {
+        if (flight->waiting != 0 && tap->carry->time - flight->since > LONGEST_FLIGHT) {
             queues->dirty |= flight->waiting;
             flight->waiting = 0;
         }
-        if (flight->waiting != 0) done = send_flight(lagd, link, marker, flight) && done;
+        if (flight->waiting != 0) done = send_flight(tap, link, marker, flight) && done;
     }
     return done;
 }
 
 /* Sends a marker by each queue that may have frames before it, or again by those that have no response; answers whether all of it went. */
-bool send_by_queues(struct lagd *lagd, struct link *link, const uint8_t *marker, bool again) {
-    return again ? send_again_by_queues(lagd, link, marker) : send_anew(lagd, link, marker);
+bool send_by_queues(struct tap_plane *tap, struct link *link, const uint8_t *marker, bool again) {
+    return again ? send_again_by_queues(tap, link, marker) : send_anew(tap, link, marker);
 }
 
 /* A response to the marker of a queue came: answers whether it is the last one that was missing, and gives back the identifier of the library. */

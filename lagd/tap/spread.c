@@ -9,7 +9,7 @@
 #include <string.h>
 #include <unistd.h>
 
-#include "daemon.h"
+#include "tap.h"
 
 /* The head of the file; then each line has a setting and what it was. */
 #define HEAD "boot=%s\nmac=%s\n"
@@ -32,13 +32,13 @@ struct spread_private *make_spread_private(void) {
 }
 
 /* Loads the program that chooses queues, while the daemon may, and opens what wakes it for responses. */
-void start_all_queues(struct lagd *lagd) {
-    struct spread_private *own = lagd->spread;
-    int fault = fault_of_programs(&lagd->settings);
+void start_all_queues(struct tap_plane *tap) {
+    struct spread_private *own = tap->spread;
+    int fault = fault_of_programs(tap->settings);
     if (fault != 0) stop(REFUSED, "queues=all: no program of an interface, which Linux has from 6.6 on", strerror(fault));
-    own->program = load_program(&lagd->settings, "chooser", NULL);
+    own->program = load_program(tap->settings, "chooser", NULL);
     if (own->program < 0) stop(REFUSED, "queues=all: the kernel takes no program", program_fault());
-    start_answers(lagd);
+    start_answers(tap);
 }
 
 static void name_setting(enum setting setting, unsigned queue, char name[static NAME_OCTETS]) {
@@ -66,31 +66,8 @@ static const char *wanted_of(const struct link *link, enum setting setting, unsi
     return mask;
 }
 
-/* What is done with a setting that is to be changed; answers whether it was done. */
-typedef bool doing(struct lagd *lagd, const struct link *link, const char *name, const char *path, const char *now, const char *wanted,
-    FILE *next);
-
-/* Does it with each setting of an interface that is to be changed; answers whether all was done. One that the kernel does not show for an
- * interface, as XPS for one queue, is off. */
-static bool do_all(struct lagd *lagd, const struct link *link, doing *act, FILE *next) {
-    char name[NAME_OCTETS], path[128], now[PROCESSORS_ROOM], mask[16];
-    bool done = true;
-    for (enum setting setting = 0; setting < SETTINGS; setting++) {
-        unsigned count = count_entries(link->index, setting == TAKEN_BY ? "rx-" : "tx-");
-        for (unsigned queue = 0; queue < count; queue++) {
-            const char *wanted;
-            name_setting(setting, queue, name);
-            if (!path_of_queue(link->index, name, path, sizeof path) || !read_processors(path, now, sizeof now))
-                continue;
-            wanted = wanted_of(link, setting, queue, now, mask);
-            if (wanted) done = act(lagd, link, name, path, now, wanted, next) && done;
-        }
-    }
-    return done;
-}
-
 /* Opens what an interface had, behind the head; or answers NULL. What is of another boot, or another interface, counts for nothing. */
-static FILE *open_former(struct folder_private *folder, const struct link *link) {
+static FILE *open_former(int folder, const struct link *link) {
     char boot[BOOT_ROOM], now[BOOT_ROOM], mac[32], own[32];
     FILE *file = open_kept(folder, link, "queues", O_RDONLY, "r");
     if (!file) return NULL;
@@ -101,7 +78,7 @@ static FILE *open_former(struct folder_private *folder, const struct link *link)
 }
 
 /* An interface has another MAC address from now on: what its queues had stays known by that one. */
-void move_former(struct folder_private *folder, struct link *link, const uint8_t *mac) {
+void move_former(int folder, struct link *link, const uint8_t *mac) {
     char name[NAME_OCTETS], boot[BOOT_ROOM], text[32], mask[PROCESSORS_ROOM];
     FILE *file = open_former(folder, link), *next = file ? open_kept(folder, link, "queues.new", O_WRONLY | O_CREAT | O_TRUNC, "w") : NULL;
     bool done;
@@ -116,7 +93,7 @@ void move_former(struct folder_private *folder, struct link *link, const uint8_t
 }
 
 /* Whether it is known what a setting was before an earlier daemon changed it; with `next`, all that is known is written there. */
-static bool is_known(struct folder_private *folder, const struct link *link, const char *wanted, FILE *next) {
+static bool is_known(int folder, const struct link *link, const char *wanted, FILE *next) {
     char name[NAME_OCTETS], mask[PROCESSORS_ROOM];
     bool found = false;
     FILE *file = open_former(folder, link);
@@ -128,33 +105,35 @@ static bool is_known(struct folder_private *folder, const struct link *link, con
     return found;
 }
 
-static bool keep_one(struct lagd *lagd, const struct link *link, const char *name, const char *path, const char *now, const char *wanted,
-    FILE *next) {
-    (void)path;
-    (void)wanted;
-    return is_known(lagd->folder, link, name, NULL) || fprintf(next, "%s %s\n", name, now) > 0;
-}
-
-static bool set_one(struct lagd *lagd, const struct link *link, const char *name, const char *path, const char *now, const char *wanted,
-    FILE *next) {
-    (void)lagd;
-    (void)link;
-    (void)name;
-    (void)now;
-    (void)next;
-    return write_processors(path, wanted);
+/* Changes each setting of an interface that is to be another one, or, with `next`, keeps there what it is now; answers whether all was done. One
+ * that the kernel does not show for an interface, as XPS for one queue, is off. */
+static bool change_processors(int folder, const struct link *link, FILE *next) {
+    char name[NAME_OCTETS], path[128], now[PROCESSORS_ROOM], mask[16];
+    bool done = true;
+    for (enum setting setting = 0; setting < SETTINGS; setting++) {
+        unsigned count = count_entries(link->index, setting == TAKEN_BY ? "rx-" : "tx-");
+        for (unsigned queue = 0; queue < count; queue++) {
+            const char *wanted;
+            name_setting(setting, queue, name);
+            if (!path_of_queue(link->index, name, path, sizeof path) || !read_processors(path, now, sizeof now)) continue;
+            wanted = wanted_of(link, setting, queue, now, mask);
+            if (wanted && next) done = (is_known(folder, link, name, NULL) || fprintf(next, "%s %s\n", name, now) > 0) && done;
+            if (wanted && !next) done = write_processors(path, wanted) && done;
+        }
+    }
+    return done;
 }
 
 /* Keeps what the queues have now, before it is changed, beside what they had before an earlier daemon changed it; answers whether it did. */
-static bool keep_all(struct lagd *lagd, const struct link *link) {
-    FILE *next = open_kept(lagd->folder, link, "queues.new", O_WRONLY | O_CREAT | O_TRUNC, "w");
+static bool keep_all(int folder, const struct link *link) {
+    FILE *next = open_kept(folder, link, "queues.new", O_WRONLY | O_CREAT | O_TRUNC, "w");
     char boot[BOOT_ROOM], mac[32];
     bool done;
     if (!next) return false;
     fprintf(next, HEAD, boot_id(boot), mac_text(link->mac, mac));
-    (void)is_known(lagd->folder, link, NULL, next);
-    done = do_all(lagd, link, keep_one, next) && !ferror(next);
-    return fclose(next) == 0 && done && replace_kept(lagd->folder, link, "queues.new", "queues");
+    (void)is_known(folder, link, NULL, next);
+    done = change_processors(folder, link, next) && !ferror(next);
+    return fclose(next) == 0 && done && replace_kept(folder, link, "queues.new", "queues");
 }
 
 /* How many queues an interface has, those that send above those that receive; 0 where the kernel does not tell of both. */
@@ -164,12 +143,12 @@ static unsigned channels_of(int index) {
 }
 
 /* Why a member may not keep all its queues, or NULL. */
-static const char *fault_of_spreading(struct lagd *lagd, const struct link *link, const struct guard *guard, unsigned count) {
+static const char *fault_of_spreading(int folder, const struct link *link, const struct guard *guard, unsigned count) {
     if (link->stacked) return "it stands on another interface, whose queues are not seen";
     if (count == 0) return "/sys does not show its queues";
     if (!guard->in_order) return "its queueing discipline is neither noqueue, bfifo nor pfifo";
-    if (!keep_all(lagd, link)) return "what its queues have cannot be kept";
-    if (!do_all(lagd, link, set_one, NULL)) return "RPS or XPS of its queues cannot be set";
+    if (!keep_all(folder, link)) return "what its queues have cannot be kept";
+    if (!change_processors(folder, link, NULL)) return "RPS or XPS of its queues cannot be set";
     return NULL;
 }
 
@@ -183,7 +162,7 @@ static bool may_set(int index) {
 
 /* Whether a member may keep all its queues once it has them, as far as that is seen before: giving them may take its link down. Where it is
  * known that settings of them are to be changed, these must be changeable. */
-bool may_spread(struct folder_private *folder, const struct link *link) {
+bool may_spread(int folder, const struct link *link) {
     char name[NAME_OCTETS];
     FILE *file = open_former(folder, link);
     bool changes = file && fscanf(file, "%31s", name) == 1;
@@ -192,27 +171,28 @@ bool may_spread(struct folder_private *folder, const struct link *link) {
 }
 
 /* Has a program choose the queue of each frame that the daemon sends at a member; answers whether it does. */
-static bool choose_queues(struct lagd *lagd, const struct link *link, struct guard *guard) {
-    if (guard->queues > 1 && guard->chooser < 0) guard->chooser = attach_stored(lagd, "queues", lagd->spread->program, link->index, true);
+static bool choose_queues(struct tap_plane *tap, const struct link *link, struct guard *guard) {
+    if (guard->queues > 1 && guard->chooser < 0)
+        guard->chooser = attach_stored(tap->process->store, "queues", tap->spread->program, link->index, true);
     return guard->queues == 1 || guard->chooser >= 0;
 }
 
 /* Lets a member keep all its queues, where it can. */
-void spread(struct lagd *lagd, const struct link *link, struct guard *guard) {
+void spread(struct tap_plane *tap, const struct link *link, struct guard *guard) {
     unsigned count = count_entries(link->index, "tx-");
-    const char *fault = fault_of_spreading(lagd, link, guard, count);
+    const char *fault = fault_of_spreading(tap->process->folder, link, guard, count);
     guard->queues = fault ? 1 : count < MOST_QUEUES ? count : MOST_QUEUES;
-    if (!fault && !choose_queues(lagd, link, guard)) fault = strerror(errno);
+    if (!fault && !choose_queues(tap, link, guard)) fault = strerror(errno);
     guard->spread = !fault;
     if (!fault) return;
     guard->queues = 1;
-    stop_spreading(lagd, link, guard);
-    (void)say(lagd, LOG_WARNING | ABOUT_DATA, "port %u %s: it gets one queue: %s", link->settings.number, link->name, fault);
+    stop_spreading(tap->process->store, link, guard);
+    (void)say(tap->process, LOG_WARNING | ABOUT_DATA, "port %u %s: it gets one queue: %s", link->settings.number, link->name, fault);
 }
 
 /* Frames of the daemon go by any queue again. */
-void stop_spreading(struct lagd *lagd, const struct link *link, struct guard *guard) {
-    if (guard->chooser >= 0) detach_stored(lagd, "queues", link->index, guard->chooser);
+void stop_spreading(struct store_private *store, const struct link *link, struct guard *guard) {
+    if (guard->chooser >= 0) detach_stored(store, "queues", link->index, guard->chooser);
     guard->chooser = -1;
     guard->spread = false;
 }
@@ -239,22 +219,22 @@ bool is_spread_anew(const struct system_private *own, const struct link *link, c
     return false;
 }
 
-static bool has_any_fast(struct lagd *lagd) {
-    for (uint16_t port = 1; port <= lagd->link_count; port++)
-        if (has_fast_member(lagd->members, port)) return true;
+static bool has_any_fast(struct tap_plane *tap) {
+    for (uint16_t port = 1; port <= tap->ports->count; port++)
+        if (has_fast_member(tap->members, port)) return true;
     return false;
 }
 
 /* Whether the kernel may choose the queue of a member as that of others: it keeps the queue of a connection, also where that goes on by another
  * member. How many these have, the first one tells of which it passes data on. */
-bool has_usual_queues(struct lagd *lagd, const struct guard *guard) {
-    struct spread_private *own = lagd->spread;
-    if (!has_any_fast(lagd)) own->usual = guard->queues;
+bool has_usual_queues(struct tap_plane *tap, const struct guard *guard) {
+    struct spread_private *own = tap->spread;
+    if (!has_any_fast(tap)) own->usual = guard->queues;
     return guard->queues == own->usual;
 }
 
 /* The queues of an interface get back what they had before. What cannot be set back stays kept: all of it, where not all are back (`whole`). */
-void gather_back(struct folder_private *folder, const struct link *link, bool whole) {
+void gather_back(int folder, const struct link *link, bool whole) {
     char name[NAME_OCTETS], path[128], interface[IF_NAMESIZE], mask[PROCESSORS_ROOM], now[PROCESSORS_ROOM];
     bool done = whole && if_indextoname((unsigned)link->index, interface);
     FILE *file = open_former(folder, link);

@@ -6,7 +6,7 @@
 #include <string.h>
 #include <sys/mman.h>
 
-#include "daemon.h"
+#include "tap.h"
 
 /* How many frames of a conversation wait at most, and how many of all. */
 #define MOST_OF_ONE 2048
@@ -60,21 +60,21 @@ static size_t size_pool(struct pool *pool, size_t room, uint32_t most) {
 }
 
 /* Takes all memory. Its pages are in use once they are written. */
-void start_held(struct lagd *lagd) {
-    struct held_private *own = lagd->held;
+void start_held(struct tap_plane *tap) {
+    struct held_private *own = tap->held;
     size_t before = size_pool(&own->small, SMALL_ROOM, MOST_WAIT);
     size_t behind = size_pool(&own->large, packet_room(), MOST_LARGE);
     own->small.slots = mmap(NULL, before + behind, PROT_READ | PROT_WRITE, MAP_PRIVATE | MAP_ANONYMOUS | MAP_NORESERVE, -1, 0);
     if (own->small.slots == MAP_FAILED) stop(REFUSED, "no room for held frames", strerror(errno));
     own->large.slots = own->small.slots + before;
-    if (!is_done(lagd, niw_queue_new(&own->queues, CONVERSATIONS, MOST_WAIT, MOST_OF_ONE), "niw_queue_new")) return;
+    if (!is_done(tap->process, niw_queue_new(&own->queues, CONVERSATIONS, MOST_WAIT, MOST_OF_ONE), "niw_queue_new")) return;
     own->octets = before + behind;
 }
 
 /* The daemon ends: once the library has no number of a slot, the memory goes back. */
-void end_held(struct lagd *lagd) {
-    struct held_private *own = lagd->held;
-    if (own->octets == 0 || !is_done(lagd, niw_queue_free(&own->queues), "niw_queue_free")) return;
+void end_held(struct tap_plane *tap) {
+    struct held_private *own = tap->held;
+    if (own->octets == 0 || !is_done(tap->process, niw_queue_free(&own->queues), "niw_queue_free")) return;
     (void)munmap(own->small.slots, own->octets);
     own->octets = 0;
 }
@@ -96,84 +96,84 @@ static void free_slot(struct held_private *own, uint32_t at) {
 }
 
 /* Writes how many frames of a conversation wait; answers whether that is known. While no frame waits at all, the library is not asked. */
-bool count_held(struct lagd *lagd, uint16_t number, uint64_t *waiting) {
+bool count_held(struct tap_plane *tap, uint16_t number, uint64_t *waiting) {
     *waiting = 0;
-    return !lagd->carry.waiting || is_told(lagd, niw_queue_waiting(&lagd->held->queues, number), "niw_queue_waiting", waiting);
+    return !tap->carry->waiting || is_told(tap->process, niw_queue_waiting(&tap->held->queues, number), "niw_queue_waiting", waiting);
 }
 
 /* Whether it is known that no frame of a conversation waits. */
-bool none_held(struct lagd *lagd, uint16_t number) {
+bool none_held(struct tap_plane *tap, uint16_t number) {
     uint64_t waiting;
-    return count_held(lagd, number, &waiting) && waiting == 0;
+    return count_held(tap, number, &waiting) && waiting == 0;
 }
 
 /* Writes how many frames wait in all; answers whether that is known. */
-bool count_all_held(struct lagd *lagd, uint64_t *waiting) {
-    struct niw_counts counts = niw_queue_counts(&lagd->held->queues);
+bool count_all_held(struct tap_plane *tap, uint64_t *waiting) {
+    struct niw_counts counts = niw_queue_counts(&tap->held->queues);
     *waiting = counts.waiting;
-    return is_done(lagd, counts.status, "niw_queue_counts");
+    return is_done(tap->process, counts.status, "niw_queue_counts");
 }
 
 /* How many frames wait in all, as far as that is known. */
-unsigned count_frames_waiting(struct lagd *lagd) {
+unsigned count_frames_waiting(struct plane *plane) {
     uint64_t waiting;
-    return count_all_held(lagd, &waiting) ? (unsigned)waiting : 0;
+    return count_all_held(plane->tap, &waiting) ? (unsigned)waiting : 0;
 }
 
 /* The slot of a frame that the library tells, or NONE where it tells none. */
-static uint32_t slot_told(struct lagd *lagd, const struct niw_queued *queued, const char *call) {
-    return is_done(lagd, queued->status, call) && queued->is ? (uint32_t)queued->frame : NONE;
+static uint32_t slot_told(struct process *process, const struct niw_queued *queued, const char *call) {
+    return is_done(process, queued->status, call) && queued->is ? (uint32_t)queued->frame : NONE;
 }
 
 /* Writes the time at which the oldest frame of a conversation came; answers whether one waits. */
-bool oldest_held(struct lagd *lagd, uint16_t number, uint64_t *came) {
+bool oldest_held(struct tap_plane *tap, uint16_t number, uint64_t *came) {
     struct niw_queued queued;
     uint32_t at;
-    if (!lagd->carry.waiting) return false;
-    queued = niw_queue_oldest(&lagd->held->queues, number);
-    at = slot_told(lagd, &queued, "niw_queue_oldest");
-    if (at != NONE) *came = slot_of(lagd->held, at)->came;
+    if (!tap->carry->waiting) return false;
+    queued = niw_queue_oldest(&tap->held->queues, number);
+    at = slot_told(tap->process, &queued, "niw_queue_oldest");
+    if (at != NONE) *came = slot_of(tap->held, at)->came;
     return at != NONE;
 }
 
 /* Puts a packet behind those of its conversation; answers whether there was room. */
-bool put_held(struct lagd *lagd, uint16_t number, const uint8_t *packet, size_t length) {
-    struct held_private *own = lagd->held;
-    uint32_t at = claim_slot(lagd->held, length > SMALL_ROOM ? &own->large : &own->small), status;
+bool put_held(struct tap_plane *tap, uint16_t number, const uint8_t *packet, size_t length) {
+    struct held_private *own = tap->held;
+    uint32_t at = claim_slot(tap->held, length > SMALL_ROOM ? &own->large : &own->small), status;
     if (at == NONE) return false;
     status = niw_queue_put(&own->queues, number, at);
-    if (status == NIW_CONVERSATION_FULL || status == NIW_ALL_FULL || !is_done(lagd, status, "niw_queue_put")) {
-        free_slot(lagd->held, at);
+    if (status == NIW_CONVERSATION_FULL || status == NIW_ALL_FULL || !is_done(tap->process, status, "niw_queue_put")) {
+        free_slot(tap->held, at);
         return false;
     }
-    slot_of(lagd->held, at)->length = (uint32_t)length;
-    slot_of(lagd->held, at)->came = lagd->carry.time;
-    memcpy(slot_of(lagd->held, at)->packet, packet, length);
-    lagd->carry.waiting = true;
+    slot_of(tap->held, at)->length = (uint32_t)length;
+    slot_of(tap->held, at)->came = tap->carry->time;
+    memcpy(slot_of(tap->held, at)->packet, packet, length);
+    tap->carry->waiting = true;
     return true;
 }
 
 /* Loses the oldest frame of a conversation, and counts why; answers whether one waited. */
-bool drop_held(struct lagd *lagd, uint16_t number, enum carry_count why) {
-    struct niw_queued queued = niw_queue_drop(&lagd->held->queues, number);
-    uint32_t at = slot_told(lagd, &queued, "niw_queue_drop");
+bool drop_held(struct tap_plane *tap, uint16_t number, enum carry_count why) {
+    struct niw_queued queued = niw_queue_drop(&tap->held->queues, number);
+    uint32_t at = slot_told(tap->process, &queued, "niw_queue_drop");
     if (at == NONE) return false;
-    free_slot(lagd->held, at);
-    lagd->carry.counts[why]++;
+    free_slot(tap->held, at);
+    tap->carry->counts[why]++;
     return true;
 }
 
 /* Takes the oldest frame of a conversation out, to be sent; answers NULL where none is told. Its packet stays where it is until
  * free_left. */
-uint8_t *remove_held(struct lagd *lagd, uint16_t number, size_t *length) {
-    struct held_private *own = lagd->held;
+uint8_t *remove_held(struct tap_plane *tap, uint16_t number, size_t *length) {
+    struct held_private *own = tap->held;
     struct niw_queued queued = niw_queue_next(&own->queues, number);
-    uint32_t at = slot_told(lagd, &queued, "niw_queue_next");
+    uint32_t at = slot_told(tap->process, &queued, "niw_queue_next");
     if (at == NONE) return NULL;
-    slot_of(lagd->held, at)->next = own->leaving;
+    slot_of(tap->held, at)->next = own->leaving;
     own->leaving = at;
-    *length = slot_of(lagd->held, at)->length;
-    return slot_of(lagd->held, at)->packet;
+    *length = slot_of(tap->held, at)->length;
+    return slot_of(tap->held, at)->packet;
 }
 
 /* All that was on its way was sent. */

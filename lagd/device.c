@@ -11,7 +11,7 @@
 #include <sys/stat.h>
 #include <unistd.h>
 
-#include "daemon.h"
+#include "tap/tap.h"
 
 /* Of Linux 5.2, and not in older headers: the network namespace of a device. */
 #ifndef TUNGETDEVNETNS
@@ -29,7 +29,9 @@
 /* For how many ticks the carrier may be another one than was set: the kernel takes up to a second to tell. */
 #define CARRIER_TICKS 15
 
-struct tap_private {
+struct device {
+    struct process *process;
+    struct plane *plane;
     int tap, asker; /* `asker`: a socket for questions about interfaces */
     int number; /* of the device, its index; 0: there is none */
     bool carrier; /* which was set last */
@@ -44,8 +46,10 @@ struct tap_private {
     bool told; /* of set_speed */
 };
 
-struct tap_private *make_tap_private(void) {
-    struct tap_private *made = make_room(sizeof *made);
+struct device *make_device(struct process *process, struct plane *plane) {
+    struct device *made = make_room(sizeof *made);
+    made->process = process;
+    made->plane = plane;
     made->tap = -1;
     made->asker = -1;
     made->most_mtu = ETH_DATA_LEN;
@@ -60,7 +64,7 @@ static struct ifreq request_of(const char *name) {
 }
 
 /* Asks the kernel something of the device, or for something. The device goes by its index: it may have another name than it was given. */
-static bool ask_tap(struct tap_private *own, unsigned long what, struct ifreq *request) {
+static bool ask_tap(struct device *own, unsigned long what, struct ifreq *request) {
     struct ifreq named = {.ifr_ifindex = own->number};
     if (own->number == 0 || ioctl(own->asker, SIOCGIFNAME, &named) < 0) return false;
     memcpy(request->ifr_name, named.ifr_name, sizeof request->ifr_name);
@@ -68,100 +72,98 @@ static bool ask_tap(struct tap_private *own, unsigned long what, struct ifreq *r
 }
 
 /* Has the device a carrier, or none; answers whether the kernel does so. */
-bool give_tap_carrier(struct lagd *lagd, bool on) {
-    return ioctl(lagd->tap->tap, TUNSETCARRIER, &(int){on}) == 0;
+bool give_tap_carrier(struct plane *plane, bool on) {
+    return ioctl(plane->device->tap, TUNSETCARRIER, &(int){on}) == 0;
 }
 
 /* The carrier of the device, which is on while data is carried. What the kernel refuses has one line, and is tried again at each tick. */
-void set_carrier(struct lagd *lagd, bool on) {
-    struct tap_private *own = lagd->tap;
+void set_carrier(struct device *own, bool on) {
     if (own->carrier == on || own->number == 0) return;
-    if (!on) lagd->plane.passing->open_host(lagd, false);
-    if (lagd->plane.carrying->give_carrier(lagd, on)) {
+    if (!on) CALL(own->plane->passing->open_host, own->plane->tap, false);
+    if (own->plane->carrying->give_carrier(own->plane, on)) {
         own->carrier = on;
         own->carrier_ticks = 0;
         own->refused = false;
     } else if (!own->refused) {
         own->refused = true;
-        (void)say(lagd, LOG_ERR | ABOUT_CARRIER, "carry %s: its carrier cannot be set %s: %s", lagd->settings.carry, on ? "on" : "off",
+        (void)say(own->process, LOG_ERR | ABOUT_CARRIER, "carry %s: its carrier cannot be set %s: %s", own->process->settings->carry,
+            on ? "on" : "off",
             strerror(errno));
     }
 }
 
 /* The device has this speed from now on, in Mb/s, or none that is known. A kernel that does not take it has one line. */
-void set_speed(struct lagd *lagd, uint32_t megabits) {
-    struct tap_private *own = lagd->tap;
+void set_speed(struct device *own, uint32_t megabits) {
     struct ifreq named = {.ifr_ifindex = own->number};
     if (own->speed == megabits || own->number == 0) return;
     own->speed = megabits;
     errno = EOPNOTSUPP; /* where the kernel tells none, either */
     if ((ioctl(own->asker, SIOCGIFNAME, &named) == 0 && write_speed(own->asker, named.ifr_name, megabits)) || own->told) return;
     own->told = true;
-    (void)say(lagd, LOG_WARNING | ABOUT_CARRIER, "carry %s: its speed stays: %s", lagd->settings.carry, strerror(errno));
+    (void)say(own->process, LOG_WARNING | ABOUT_CARRIER, "carry %s: its speed stays: %s", own->process->settings->carry, strerror(errno));
 }
 
 /* Whether the device has a carrier: an administrator may have taken it away. */
-bool has_carrier(const struct tap_private *own) {
+bool has_carrier(const struct device *own) {
     return own->carrier && own->carrier_told;
 }
 
 /* The MTU of the device is the longest that each member takes, or a lower one that an administrator set. A higher one would lose frames. */
-void settle_tap_mtu(struct lagd *lagd) {
-    struct tap_private *own = lagd->tap;
+void settle_tap_mtu(struct plane *plane) {
+    struct device *own = plane->device;
     struct ifreq now = {0}, wanted = {0};
     uint32_t mtu, least;
-    if (!ask_tap(lagd->tap, SIOCGIFMTU, &now)) return;
+    if (!ask_tap(own, SIOCGIFMTU, &now)) return;
     mtu = (uint32_t)now.ifr_mtu;
     if (own->set_mtu != 0 && mtu != own->set_mtu) own->less_mtu = mtu < own->most_mtu ? mtu : 0;
     if (own->set_mtu != 0 && mtu != own->set_mtu && mtu > own->most_mtu)
-        (void)say(lagd, LOG_WARNING | ABOUT_CARRIER, "carry %s: its members take no MTU of %u: it has %u again", lagd->settings.carry, mtu,
+        (void)say(own->process, LOG_WARNING | ABOUT_CARRIER, "carry %s: its members take no MTU of %u: it has %u again",
+            own->process->settings->carry, mtu,
             own->most_mtu);
     least = own->less_mtu != 0 && own->less_mtu < own->most_mtu ? own->less_mtu : own->most_mtu;
     wanted.ifr_mtu = (int)least;
-    if (mtu == least || ask_tap(lagd->tap, SIOCSIFMTU, &wanted)) own->set_mtu = least;
+    if (mtu == least || ask_tap(own, SIOCSIFMTU, &wanted)) own->set_mtu = least;
 }
 
 /* The longest payload that each member takes is another one now. */
-void limit_mtu(struct lagd *lagd, uint32_t most) {
-    lagd->tap->most_mtu = most < LONGEST_PAYLOAD ? most : LONGEST_PAYLOAD;
-    settle_tap_mtu(lagd);
+void limit_mtu(struct device *own, uint32_t most) {
+    own->most_mtu = most < LONGEST_PAYLOAD ? most : LONGEST_PAYLOAD;
+    settle_tap_mtu(own->plane);
 }
 
-uint32_t longest_payload(const struct tap_private *own) {
+uint32_t longest_payload(const struct device *own) {
     return own->most_mtu;
 }
 
 /* The kernel told of the device. */
-void follow_tap(struct lagd *lagd, bool has_now, const char *discipline) {
-    struct tap_private *own = lagd->tap;
+void follow_tap(struct device *own, bool has_now, const char *discipline) {
     own->carrier_told = has_now;
-    lagd->plane.passing->follow_discipline(lagd, discipline);
-    if (own->carrier && has_now) lagd->plane.passing->open_host(lagd, true);
-    lagd->plane.carrying->settle_mtu(lagd);
+    CALL(own->plane->passing->follow_discipline, own->plane->tap, discipline);
+    if (own->carrier && has_now) CALL(own->plane->passing->open_host, own->plane->tap, true);
+    CALL(own->plane->carrying->settle_mtu, own->plane);
 }
 
 /* 100 ms passed. Of a device that is not up the kernel tells no carrier, whoever set one. */
-void pass_tap_tick(struct lagd *lagd) {
-    struct tap_private *own = lagd->tap;
-    own->carrier_ticks = own->carrier && !own->carrier_told && is_tap_up(lagd->tap) ? own->carrier_ticks + 1 : 0;
+void pass_tap_tick(struct device *own) {
+    own->carrier_ticks = own->carrier && !own->carrier_told && is_tap_up(own) ? own->carrier_ticks + 1 : 0;
     if (own->carrier_ticks == CARRIER_TICKS)
-        (void)say(lagd, LOG_WARNING | ABOUT_CARRIER,
-            "carry %s: it has no carrier, though links carry: who took it away may set it on again", lagd->settings.carry);
+        (void)say(own->process, LOG_WARNING | ABOUT_CARRIER,
+            "carry %s: it has no carrier, though links carry: who took it away may set it on again", own->process->settings->carry);
 }
 
 /* The index of the device. */
-int tap_index(const struct tap_private *own) {
+int tap_index(const struct device *own) {
     return own->number;
 }
 
 /* The device is there no more. */
-void forget_tap(struct tap_private *own) {
+void forget_tap(struct device *own) {
     own->number = 0;
     own->carrier = false;
 }
 
 /* The MAC address that the device has now: whoever administers it may change it. */
-bool read_tap_mac(struct tap_private *own, uint8_t *mac) {
+bool read_tap_mac(struct device *own, uint8_t *mac) {
     struct ifreq request = {0};
     if (!ask_tap(own, SIOCGIFHWADDR, &request)) return false;
     memcpy(mac, request.ifr_hwaddr.sa_data, ETH_ALEN);
@@ -169,16 +171,15 @@ bool read_tap_mac(struct tap_private *own, uint8_t *mac) {
 }
 
 /* Whether the host has the device up, whatever its name is now. */
-bool is_tap_up(struct tap_private *own) {
+bool is_tap_up(struct device *own) {
     struct ifreq request = {0};
     return ask_tap(own, SIOCGIFFLAGS, &request) && (request.ifr_flags & IFF_UP) != 0;
 }
 
 /* Has the host hand over frames of several segments, and without checksums, where they are passed; each packet tells before its frame. */
-static void choose_segments(struct lagd *lagd) {
-    struct tap_private *own = lagd->tap;
+static void choose_segments(struct device *own) {
     unsigned long wanted = TUN_F_CSUM | TUN_F_TSO4 | TUN_F_TSO6 | TUN_F_TSO_ECN;
-    unsigned long more = lagd->plane.segments ? TUN_F_USO4 | TUN_F_USO6 : 0;
+    unsigned long more = own->plane->segments ? TUN_F_USO4 | TUN_F_USO6 : 0;
     if (ioctl(own->tap, TUNSETVNETHDRSZ, &(int){(int)head_octets()}) < 0
         || (ioctl(own->tap, TUNSETOFFLOAD, wanted | more) < 0 && ioctl(own->tap, TUNSETOFFLOAD, wanted) < 0))
         stop(REFUSED, "no frames of several segments", strerror(errno));
@@ -194,109 +195,104 @@ static bool is_here(int fd, struct ifreq *device) {
 }
 
 /* The index of the device of this name, or 0. */
-static int index_of(const struct tap_private *own, const char *name) {
+static int index_of(const struct device *own, const char *name) {
     struct ifreq found = request_of(name);
     return ioctl(own->asker, SIOCGIFINDEX, &found) == 0 ? found.ifr_ifindex : 0;
 }
 
 /* The device is the one of the last daemon: it has all that was set of it, and outlives this one no more. */
-static void go_on_with_tap(struct lagd *lagd) {
-    struct tap_private *own = lagd->tap;
+static void go_on_with_tap(struct device *own) {
     struct ifreq now = {0};
-    if (lagd->inherited.persists) (void)ioctl(own->tap, TUNSETPERSIST, 0);
-    own->less_mtu = lagd->inherited.mtu;
-    if (ask_tap(lagd->tap, SIOCGIFMTU, &now)) own->set_mtu = own->most_mtu = (uint32_t)now.ifr_mtu;
-    choose_segments(lagd);
+    if (own->process->inherited->persists) (void)ioctl(own->tap, TUNSETPERSIST, 0);
+    own->less_mtu = own->process->inherited->mtu;
+    if (ask_tap(own, SIOCGIFMTU, &now)) own->set_mtu = own->most_mtu = (uint32_t)now.ifr_mtu;
+    choose_segments(own);
 }
 
 /* Sets up a device that is new to the daemon, or to its settings, without carrier. It gets its MAC address before anything else: whoever
  * brings it up has a link-local address of it. */
-static void set_up(struct lagd *lagd, const uint8_t *mac) {
-    struct tap_private *own = lagd->tap;
+static void set_up(struct device *own, const uint8_t *mac) {
     struct ifreq address = {0}, queue = {0};
     address.ifr_hwaddr.sa_family = ARPHRD_ETHER;
     memcpy(address.ifr_hwaddr.sa_data, mac, ETH_ALEN);
-    if (!ask_tap(lagd->tap, SIOCSIFHWADDR, &address)) stop(REFUSED, "no address of the TAP device", strerror(errno));
+    if (!ask_tap(own, SIOCSIFHWADDR, &address)) stop(REFUSED, "no address of the TAP device", strerror(errno));
     own->carrier = true;
-    set_carrier(lagd, false);
-    choose_segments(lagd);
+    set_carrier(own, false);
+    choose_segments(own);
     queue.ifr_qlen = HOST_QUEUE;
-    (void)ask_tap(lagd->tap, SIOCSIFTXQLEN, &queue);
-    settle_tap_mtu(lagd);
-    lagd->plane.passing->set_up_device(own->number);
+    (void)ask_tap(own, SIOCSIFTXQLEN, &queue);
+    settle_tap_mtu(own->plane);
+    CALL(own->plane->passing->set_up_device, own->number);
 }
 
 /* What waits in the device is lost. */
-static void lose_waiting(const struct tap_private *own) {
+static void lose_waiting(const struct device *own) {
     uint8_t scrap[ETH_HLEN];
     for (unsigned frames = 0; frames < 2 * HOST_QUEUE && read(own->tap, scrap, sizeof scrap) > 0; frames++) continue;
 }
 
 /* Takes the device that the last daemon left with the manager of services, whatever an administrator named it since, and the frames that
  * wait there unless they are old; answers whether there is one. Its carrier goes where nothing goes on. */
-static bool open_inherited(struct lagd *lagd, const char *name, const uint8_t *mac) {
-    struct tap_private *own = lagd->tap;
+static bool open_inherited(struct device *own, const char *name, const uint8_t *mac) {
     struct ifreq device = {0};
-    int fd = claim_stored(lagd, "tap", 0);
+    int fd = claim_stored(own->process->store, "tap", 0);
     if (fd < 0) return false;
     if (!is_here(fd, &device)
-        || (lagd->inherited.tap == 0 ? strcmp(device.ifr_name, name) != 0 : index_of(lagd->tap, device.ifr_name) != lagd->inherited.tap)) {
-        close_stored(lagd, "tap", 0, fd);
+        || (own->process->inherited->tap == 0 ? strcmp(device.ifr_name, name) != 0 : index_of(own,
+            device.ifr_name) != own->process->inherited->tap)) {
+        close_stored(own->process->store, "tap", 0, fd);
         return false;
     }
     own->tap = fd;
-    own->number = index_of(lagd->tap, device.ifr_name);
+    own->number = index_of(own, device.ifr_name);
     own->carrier = true;
-    if (!lagd->resuming) set_carrier(lagd, false);
-    if (!was_away_briefly(&lagd->inherited)) lose_waiting(lagd->tap);
-    if (lagd->inherited.tap == own->number)
-        go_on_with_tap(lagd);
+    if (!own->process->resuming) set_carrier(own, false);
+    if (!was_away_briefly(own->process->inherited)) lose_waiting(own);
+    if (own->process->inherited->tap == own->number)
+        go_on_with_tap(own);
     else
-        set_up(lagd, mac);
+        set_up(own, mac);
     return true;
 }
 
 /* Makes the device, without carrier, or takes one that is there and that nobody has, as that of the last daemon, which may have another name
  * now. One that was made is gone when the daemon ends, unless the next one goes on; where its number is that of the last daemon's, the namespace
  * was made anew, too. */
-static void make_tap(struct lagd *lagd, const char *name, const uint8_t *mac) {
-    struct tap_private *own = lagd->tap;
+static void make_tap(struct device *own, const char *name, const uint8_t *mac) {
     char room[IF_NAMESIZE];
     int before;
-    struct ifreq device = request_of(lagd->inherited.persists && if_indextoname((unsigned)lagd->inherited.tap, room) ? room : name);
+    struct ifreq device = request_of(own->process->inherited->persists && if_indextoname((unsigned)own->process->inherited->tap, room) ? room : name);
     own->tap = open("/dev/net/tun", O_RDWR | O_NONBLOCK | O_CLOEXEC);
     if (own->tap < 0) stop(REFUSED, "no TAP device", strerror(errno));
-    before = index_of(lagd->tap, device.ifr_name);
+    before = index_of(own, device.ifr_name);
     device.ifr_flags = IFF_TAP | IFF_NO_PI | IFF_VNET_HDR | NO_CARRIER;
     if (ioctl(own->tap, TUNSETIFF, &device) < 0) stop(REFUSED, name, strerror(errno));
-    own->number = index_of(lagd->tap, device.ifr_name);
+    own->number = index_of(own, device.ifr_name);
     if (own->number == 0) stop(REFUSED, name, strerror(errno));
     own->carrier = true; /* which older kernels set here */
-    set_carrier(lagd, false);
-    if (before == own->number && lagd->inherited.tap == own->number)
-        go_on_with_tap(lagd);
+    set_carrier(own, false);
+    if (before == own->number && own->process->inherited->tap == own->number)
+        go_on_with_tap(own);
     else
-        set_up(lagd, mac);
+        set_up(own, mac);
 }
 
 /* Opens the device. */
-int open_tap(struct lagd *lagd, const char *name, const uint8_t *mac) {
-    struct tap_private *own = lagd->tap;
+int open_tap(struct device *own, const char *name, const uint8_t *mac) {
     own->asker = socket(AF_UNIX, SOCK_DGRAM | SOCK_CLOEXEC, 0);
     if (own->asker < 0) stop(REFUSED, "no TAP device", strerror(errno));
-    if (!open_inherited(lagd, name, mac)) make_tap(lagd, name, mac);
-    put_stored(lagd, "tap", 0, own->tap);
+    if (!open_inherited(own, name, mac)) make_tap(own, name, mac);
+    put_stored(own->process->store, "tap", 0, own->tap);
     return own->tap;
 }
 
 /* The device is one of the team driver. Its carrier stays where the data of the last daemon goes on. */
-void use_team_device(struct lagd *lagd, int index) {
-    struct tap_private *own = lagd->tap;
+void use_team_device(struct device *own, int index) {
     own->asker = socket(AF_UNIX, SOCK_DGRAM | SOCK_CLOEXEC, 0);
     if (own->asker < 0) stop(REFUSED, "no team device", strerror(errno));
     own->number = index;
     own->carrier = true;
-    if (!lagd->resuming) set_carrier(lagd, false);
+    if (!own->process->resuming) set_carrier(own, false);
 }
 
 /* The device that the last daemon made outlive itself goes. */
@@ -312,19 +308,19 @@ void end_tap(int index) {
 }
 
 /* The next daemon gets the device as it is, by its name where no manager of services keeps it; or it is to go with this one. */
-void keep_tap(struct lagd *lagd, bool keeps) {
-    struct tap_private *own = lagd->tap;
+void keep_tap(struct plane *plane, bool keeps) {
+    struct device *own = plane->device;
     struct ifreq device = {0};
     if (own->persists == keeps || ioctl(own->tap, TUNGETIFF, &device) < 0 || (keeps && (has_store() || (device.ifr_flags & IFF_PERSIST))))
         return;
     if (ioctl(own->tap, TUNSETPERSIST, keeps) == 0) own->persists = keeps;
 }
 
-bool tap_persists(struct lagd *lagd) {
-    return lagd->tap->persists;
+bool tap_persists(struct plane *plane) {
+    return plane->device->persists;
 }
 
 /* A lower MTU than the members take, which an administrator set, or 0. */
-uint32_t mtu_of_administrator(const struct tap_private *own) {
+uint32_t mtu_of_administrator(const struct device *own) {
     return own->less_mtu;
 }

@@ -6,7 +6,7 @@
 #include <netinet/in.h>
 #include <string.h>
 
-#include "daemon.h"
+#include "tap.h"
 
 /* Where headers of IP and TCP have what differs between segments, and flags of TCP. */
 enum {

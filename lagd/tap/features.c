@@ -4,7 +4,7 @@
 #include <stdlib.h>
 #include <string.h>
 
-#include "carry.h"
+#include "tap.h"
 
 /* GRO by the kernel, JOINED_BY_KERNEL, and by the card, and LRO: a bit for each. */
 static const char *const joining[] = {"rx-gro", "rx-gro-hw", "rx-lro"};

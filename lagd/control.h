@@ -1,0 +1,74 @@
+/* Whoever asks: the command line, the status socket, and what is told there. */
+#ifndef LAGD_CONTROL_H
+#define LAGD_CONTROL_H
+
+#include "tap/tap.h"
+#include "team/team.h"
+
+/* What is written for whoever asks. What 64 ports of the longest names have to tell has less than 2 MiB. */
+#define REPORT_ROOM 4194304
+struct report {
+    char text[REPORT_ROOM];
+    size_t length;
+};
+
+/* What is told of a daemon, and what is done for who asks. */
+#define EACH_FILE_OF_CONTROL(DO) DO(asking, asking) DO(options, options)
+struct control {
+    struct process *process;
+    const struct settings *settings;
+    struct ports *ports;
+    struct protocol *protocol;
+    struct device *device;
+    struct plane *plane;
+    struct carry *carry;
+    struct tap_plane *tap;
+    struct team_plane *team;
+    struct report *report;
+    EACH_FILE_OF_CONTROL(KEEPS)
+};
+EACH_FILE_OF_CONTROL(MAKES)
+/* options.c */
+struct options *read_options(struct control *control, int argc, char **argv);
+
+/* possible.c */
+int check_machine(struct control *control, const struct options *options);
+
+/* status.c */
+void serve_caller(struct control *control, uint32_t caller);
+
+/* carry_show.c */
+void show_carry(struct control *control, enum form form);
+void show_member(struct control *control, const struct link *link, enum form form);
+void show_markers(struct control *control);
+void show_queues(struct control *control, const struct link *link, enum form form);
+void show_frames_waiting(struct control *control, enum form form);
+void show_waiting_buckets(struct control *control, enum form form);
+
+/* report.c */
+void add(struct report *report, const char *format, ...) __attribute__((format(printf, 2, 3)));
+void add_string(struct report *report, const char *text);
+
+/* show.c, json.c, metrics.c */
+struct view {
+    struct facts facts;
+    uint64_t receive, mux, current_while, wait_while;
+    struct niw_actor own;
+    uint8_t state; /* the state octet of its own side */
+    struct niw_info partner;
+};
+bool view_of(struct protocol *protocol, const struct link *link, struct view *view) MUST_USE;
+void write_text(struct control *control);
+void write_config(struct control *control);
+void write_json(struct control *control);
+void write_json_event(struct control *control, const struct link *link);
+void write_metrics(struct control *control);
+void add_head(struct report *report, const char *name, const char *kind, const char *help);
+void add_bundle_value(struct control *control, const char *name, const char *kind, const char *help, uint64_t value);
+void add_value_of(struct report *report, const char *name, const char *bundle, uint64_t value);
+void add_port_value(struct control *control, const char *name, const struct link *link, uint64_t value);
+
+/* asking.c */
+int ask_daemons(struct control *control, const struct options *options);
+
+#endif

@@ -1,0 +1,160 @@
+/* Data: on which port each frame of the host goes, which frames wait, and what is handed up. */
+#define _GNU_SOURCE
+#include <string.h>
+
+#include "tap.h"
+
+/* Has a frame wait until its conversation goes on. Where there is no room the oldest one of it is lost, or else this one. */
+static void keep(struct tap_plane *tap, uint16_t number, const uint8_t *packet, size_t length) {
+    bool kept = put_held(tap, number, packet, length);
+    uint64_t waiting;
+    if (!kept && !tap->process->broken && drop_held(tap, number, QUEUE_FULL)) kept = put_held(tap, number, packet, length);
+    tap->carry->counts[kept ? HELD_FRAMES : QUEUE_FULL]++;
+    if (count_held(tap, number, &waiting) && waiting > tap->carry->counts[LONGEST_QUEUE]) tap->carry->counts[LONGEST_QUEUE] = waiting;
+}
+
+/* What becomes of the next frame of a conversation: it waits, there is no port for it, or it goes on the port of the conversation. */
+enum offered { WAITS, LOST, GOES };
+
+static enum offered offer(struct carry *carry, struct conversation *conversation, uint16_t number) {
+    struct niw_number answer;
+    if (carry->time < conversation->fast.not_before) return WAITS;
+    answer = niw_offer_conversation_in_active_aggregator(&carry->protocol->own_system, carry->active, number);
+    if (answer.status == NIW_HELD) return WAITS;
+    if (answer.status == NIW_NONE_DISTRIBUTING) return LOST;
+    if (!is_done(carry->process, answer.status, "niw_offer_conversation_in_active_aggregator")) return WAITS;
+    conversation->home = carry->active;
+    conversation->port = (uint16_t)answer.number;
+    conversation->since = 0;
+    keep_port(carry->state, number, conversation->port);
+    return GOES;
+}
+
+/* Puts a frame behind those of the port of its conversation. */
+static void send_on(struct tap_plane *tap, const struct conversation *conversation, uint8_t *packet, size_t length) {
+    note_sent(tap->flight, conversation->port);
+    put_data(tap, conversation->port, (uint16_t)(conversation - tap->carry->conversations), packet, length);
+}
+
+/* Whether a frame of the host may go: of a right length, which each member takes, and none of the slow protocols. */
+static bool is_fit(const struct device *own, const uint8_t *packet, size_t length) {
+    const uint8_t *frame = packet + head_octets();
+    return has_right_length(packet, length, longest_payload(own))
+        && ((unsigned)frame[12] << 8 | frame[13]) != ETH_P_SLOW;
+}
+
+/* A frame of a conversation came. It overtakes none that waits. */
+static void accept_fit(struct tap_plane *tap, struct conversation *conversation, uint16_t number, uint8_t *packet, size_t length) {
+    enum offered offered = LOST;
+    if (tap->carry->active != 0) {
+        conversation->used = true;
+        offered = none_held(tap, number) ? offer(tap->carry, conversation, number) : WAITS;
+    }
+    if (offered == WAITS) keep(tap, number, packet, length);
+    if (offered == GOES) send_on(tap, conversation, packet, length);
+    if (offered == LOST) tap->carry->counts[NONE_CARRIES]++;
+}
+
+/* A packet came from the host. */
+void accept_from_host(struct tap_plane *tap, uint8_t *packet, size_t length) {
+    uint64_t number;
+    struct conversation *conversation;
+    tap->carry->counts[FROM_HOST]++;
+    if (length < head_octets() + ETH_HLEN) {
+        tap->carry->counts[UNFIT]++;
+        return;
+    }
+    if (!is_told(tap->process, conversation_of(tap->protocol, packet + head_octets(), length - head_octets()), "niw_conversation", &number)) {
+        tap->carry->counts[UNFIT]++;
+        return;
+    }
+    conversation = &tap->carry->conversations[number % CONVERSATIONS];
+    note_taken(conversation, count_segments(packet, length));
+    if (has_segments(packet)) tap->carry->counts[SEGMENTED]++;
+    if (is_fit(tap->device, packet, length))
+        accept_fit(tap, conversation, (uint16_t)number, packet, length);
+    else
+        tap->carry->counts[UNFIT]++;
+}
+
+/* How many frames of the peer came in an aggregator that was active, of those that come here, or by the kernel. */
+uint64_t frames_handed_up(struct plane *plane, bool counts_now) {
+    struct carry *carry = plane->carry;
+    if (counts_now) CALL(plane->passing->count, plane->tap);
+    return carry->counts[HANDED_UP] + carry->counts[HOST_UNTAKEN];
+}
+
+/* A packet came in an aggregator. */
+void hand_up(struct tap_plane *tap, uint32_t aggregator, uint8_t *packet, size_t length) {
+    if (aggregator == tap->carry->active) {
+        put_host(tap, packet, length);
+        return;
+    }
+    tap->carry->counts[OTHER_AGGREGATOR]++;
+    suspect_aggregator(tap->carry, aggregator);
+}
+
+/* Offers the oldest frame of a conversation again, of which one waits; answers whether it left. */
+static bool release_one(struct tap_plane *tap, struct conversation *conversation, uint16_t number) {
+    enum offered offered = tap->carry->active == 0 ? WAITS : offer(tap->carry, conversation, number);
+    size_t length;
+    uint8_t *packet;
+    if (offered == WAITS) return false;
+    conversation->fast.touched = true;
+    if (offered == LOST) return drop_held(tap, number, NONE_CARRIES);
+    packet = remove_held(tap, number, &length);
+    if (!packet) return false;
+    conversation->used = true; /* from now on it is on its way */
+    send_on(tap, conversation, packet, length);
+    return true;
+}
+
+/* Offers again what waits, of each conversation until one is held. */
+static void release(struct tap_plane *tap) {
+    uint64_t unseen; /* the frames of the conversations that were not looked at yet */
+    bool any_left = false;
+    if (!count_all_held(tap, &unseen)) return;
+    for (uint16_t number = 0; unseen > 0 && number < CONVERSATIONS; number++) {
+        uint64_t left;
+        any_left = !count_held(tap, number, &left) || any_left;
+        unseen -= left;
+        while (left > 0 && release_one(tap, &tap->carry->conversations[number], number)) left--;
+        if (left > 0) any_left = true;
+    }
+    tap->carry->waiting = any_left;
+    flush_data(tap);
+    CALL(tap->plane->passing->pass_on, tap);
+}
+
+/* The host sees how fast the ports are that carry, and a carrier where there are some. */
+void tell_speed_and_carrier(struct plane *plane) {
+    struct tap_plane *tap = plane->tap;
+    set_speed(tap->device, sum_speeds(tap));
+    set_carrier(tap->device, tap->carry->active != 0);
+}
+
+/* What goes on of the frames that come here, and the next moves. */
+void settle_frames(struct plane *plane) {
+    struct tap_plane *tap = plane->tap;
+    choose_ports(plane);
+    CALL(plane->passing->withdraw, tap);
+    leave_previous(tap->carry);
+    CALL(plane->passing->set_collecting, tap);
+    look_at_partner(tap->carry);
+    if (tap->carry->waiting) release(tap);
+    if (tap->carry->to_balance) balance(tap->carry);
+    if (tap->carry->to_balance) CALL(plane->passing->read_host, tap);
+    tap->carry->to_balance = false;
+}
+
+/* 100 ms passed, where frames come here. */
+void pass_tick_of_frames(struct plane *plane) {
+    struct tap_plane *tap = plane->tap;
+    begin_carry_tick(tap->carry);
+    CALL(plane->passing->tick, tap);
+    note_heard(tap->carry);
+    pass_flight_tick(tap);
+    count_losses(tap);
+    CALL(plane->queueing->watch, tap);
+    end_carry_tick(tap->carry);
+}

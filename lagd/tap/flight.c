@@ -1,0 +1,121 @@
+/* What is held for longer than a frame can be on its way, and ports that sleep. */
+#define _GNU_SOURCE
+#include <inttypes.h>
+
+#include "tap.h"
+
+/* After how many ticks without a response the same marker is sent again. */
+#define AGAIN_TICKS 2
+/* How long a marker may have no answer while its port distributes, in milliseconds: as a partner of short timeouts is waited for. */
+#define UNANSWERED 3000
+
+struct flight_private {
+    uint64_t silent_since[NIW_MOST_PORTS]; /* the time since which a port holds conversations and does not distribute, or 0 */
+};
+
+MAKES_ROOM(flight)
+
+/* Whether the library tells that a port distributes with a partner, or that it does not: a link that fell silent distributes again, on defaults,
+ * 5 s after it stopped, and nobody answers its markers. */
+static bool distributes(struct protocol *protocol, uint16_t port, bool wanted) {
+    struct niw_truth answer = niw_distributes(&protocol->own_system, port);
+    bool has_partner = !protocol->ports->links[port - 1].view.defaulted;
+    return is_done(protocol->process, answer.status, "niw_distributes") && (answer.is && has_partner) == wanted;
+}
+
+/* A frame goes on a port. */
+void note_sent(struct flight_private *own, uint16_t port) {
+    own->silent_since[port - 1] = 0;
+}
+
+/* Frees what is held on a port that does not distribute with a partner, and had no frame, for longer than frames can be on their way. */
+static void watch_port(struct tap_plane *tap, uint16_t port) {
+    struct carry *carry = tap->carry;
+    uint64_t held, freed, *since = &tap->flight->silent_since[port - 1];
+    bool holds = distributes(tap->protocol, port, false)
+        && is_told(tap->process, niw_held(&tap->protocol->own_system, port), "niw_held", &held) && held > 0;
+    if (!holds || *since == 0) *since = holds ? carry->time : 0;
+    if (!holds || carry->time - *since < tap->settings->flight) return;
+    *since = 0;
+    if (!is_told(tap->process, niw_force_port(&tap->protocol->own_system, port), "niw_force_port", &freed)) return;
+    carry->counts[FORCED] += freed;
+    (void)say(tap->process, LOG_WARNING | ABOUT_DATA, "port %u %s: it carries no more, and %" PRIu64 " conversations leave it", port,
+        tap->ports->links[port - 1].name, freed);
+}
+
+/* Loses what has waited for longer than a flight and a second. */
+static void drop_old(struct tap_plane *tap, uint16_t number) {
+    uint64_t came;
+    while (oldest_held(tap, number, &came) && tap->carry->time - came >= tap->settings->flight + 1000u
+        && drop_held(tap, number, HELD_TOO_LONG))
+        continue;
+}
+
+/* Frees a conversation from the port that it is on: nothing of it was sent for a flight, so its next frame overtakes none. */
+static void rest(struct carry *carry, struct conversation *conversation, uint16_t number) {
+    if (!is_done(carry->process, niw_rest(&carry->protocol->own_system, conversation->home, number), "niw_rest")) return;
+    carry->counts[RESTED]++;
+    carry->plane->changed = true;
+    conversation->since = 0;
+}
+
+/* Frees a conversation that is held, and whose marker nobody answered: nothing of it was sent since. */
+static void force(struct carry *carry, struct conversation *conversation, uint16_t number) {
+    if (!is_done(carry->process, niw_force(&carry->protocol->own_system, conversation->home, number), "niw_force")) return;
+    if (conversation->home == carry->active) suspect_partner(carry->probe);
+    carry->counts[FORCED]++;
+    carry->plane->changed = true;
+    conversation->since = 0;
+}
+
+/* Towards a peer that answers no markers, a conversation that is still for a flight may go elsewhere, once the kernel passes nothing
+ * of it. */
+static void watch_free(struct carry *carry, struct conversation *conversation, uint16_t number, const struct niw_assignment *state) {
+    conversation->since = 0;
+    if (peer_answering(carry->probe) != MUTE || state->what != NIW_CONVERSATION_ON || conversation->fast.port != 0
+        || carry->time - conversation->last < carry->settings->flight)
+        return;
+    rest(carry, conversation, number);
+}
+
+/* A conversation that is held for long goes on: nothing of it was sent since. It waits for a peer that answers markers, which may have
+ * been stopped for a while, and for a flight else. What is held on a port that does not distribute is for watch_port. */
+static void watch_held(struct carry *carry, struct conversation *conversation, uint16_t number, const struct niw_assignment *state) {
+    bool answered = is_held(state) && peer_answering(carry->probe) != MUTE && carry->settings->flight < UNANSWERED;
+    if (conversation->since == 0) conversation->since = carry->time;
+    if (carry->time - conversation->since < (answered ? UNANSWERED : carry->settings->flight)) return;
+    if (is_held(state) && !distributes(carry->protocol, state->port, true)) return;
+    if (is_held(state))
+        force(carry, conversation, number);
+    else
+        rest(carry, conversation, number);
+}
+
+static void watch_conversation(struct tap_plane *tap, uint16_t number, uint64_t *again) {
+    struct conversation *conversation = &tap->carry->conversations[number];
+    struct niw_assignment state;
+    bool away;
+    drop_old(tap, number);
+    if (conversation->used) conversation->last = tap->carry->time;
+    conversation->used = false;
+    if (conversation->home == 0 || !ask_state(tap->protocol, conversation->home, number, &state)) return;
+    away = conversation->home != tap->carry->active && tap->carry->active != 0 && state.what == NIW_CONVERSATION_ON;
+    if (state.what == NIW_CONVERSATION_FLUSHING && state.age > 0 && state.age % AGAIN_TICKS == 0)
+        *again |= (uint64_t)1 << (state.port - 1);
+    if (is_held(&state) || (away && !none_held(tap, number)))
+        watch_held(tap->carry, conversation, number, &state);
+    else
+        watch_free(tap->carry, conversation, number, &state);
+}
+
+/* 100 ms passed. */
+void pass_flight_tick(struct tap_plane *tap) {
+    uint64_t again = 0;
+    for (uint16_t number = 0; !tap->process->broken && number < CONVERSATIONS; number++) watch_conversation(tap, number, &again);
+    if (tap->process->broken) return;
+    pass_probe_tick(tap);
+    for (uint16_t port = 1; port <= tap->ports->count; port++) {
+        watch_port(tap, port);
+        if (again >> (port - 1) & 1 && send_marker_again(tap, port)) tap->carry->counts[MARKERS_AGAIN]++;
+    }
+}

@@ -1,0 +1,251 @@
+/* The host's end of data: the TAP device, whose frames are read and written here. */
+#define _GNU_SOURCE
+#include <errno.h>
+#include <string.h>
+#include <sys/uio.h>
+#include <unistd.h>
+
+#include "tap.h"
+
+/* The most segments of a packet that is cut at once: more than one of a usual stream has. */
+#define MOST_AT_ONCE 128
+/* How many segments of the others are taken in a turn, so that data of other conversations and LACP go on meanwhile. */
+#define MOST_CUT 256
+/* How many packets may wait to be cut, or behind such a one of their conversation; and how many of one conversation. */
+#define MOST_WAITING BATCH
+#define MOST_OF_ONE 16
+
+/* A packet that waits to be cut, or behind one. */
+struct uncut {
+    uint16_t number; /* of its conversation */
+    size_t length;
+    struct cut cut; /* of no segments where it is whole */
+    uint32_t next;  /* the segment that follows */
+};
+
+struct host_private {
+    int tap;
+    uint8_t *packets;  /* for the packets of a batch */
+    uint8_t *segments; /* for those into which one of them is cut */
+    uint8_t *rooms;    /* for those that wait, from `first` on round and round */
+    struct uncut waiting[MOST_WAITING];
+    unsigned first, count;
+    unsigned of_one[CONVERSATIONS]; /* how many of each conversation wait */
+};
+
+struct host_private *make_host_private(void) {
+    struct host_private *made = make_room(sizeof *made);
+    made->tap = -1;
+    return made;
+}
+
+/* The device is gone, or it is in another namespace, where interfaces of others have the numbers of our members: first of all nothing
+ * is passed on any more. Then the peers are told, and the daemon ends, so that whoever started it starts it again, with a new device. */
+void lose_device(struct plane *plane) {
+    struct tap_plane *tap = plane->tap;
+    struct host_private *own = tap->host;
+    if (tap->process->broken) return;
+    tap->process->broken = true;
+    CALL(plane->passing->end, tap);
+    forget_tap(tap->device);
+    drop_stored(tap->process->store, "tap", 0);
+    if (own->tap >= 0) await_no_more(tap->process->epoll_file, own->tap);
+    (void)say(tap->process, LOG_ERR | ABOUT_CARRIER, "carry %s: the device was deleted, or moved to another namespace; the peers are told, and the "
+        "daemon ends", tap->settings->carry);
+}
+
+/* Whether packets wait to be cut. */
+bool is_cutting(struct tap_plane *tap) {
+    return tap->host->count > 0 && !tap->process->broken;
+}
+
+/* Takes segments of a packet from this one on, so many at most; answers how many. */
+static unsigned cut_segments(struct tap_plane *tap, const struct cut *cut, uint32_t from, unsigned most) {
+    struct host_private *own = tap->host;
+    unsigned taken = 0;
+    for (; taken < most && from + taken < cut->count && !tap->process->broken; taken++) {
+        uint8_t *packet = room_at(own->segments, taken % BATCH);
+        if (taken > 0 && taken % BATCH == 0) flush_data(tap);
+        accept_from_host(tap, packet, put_segment(cut, from + taken, packet));
+    }
+    flush_data(tap);
+    return taken;
+}
+
+/* Puts a packet behind those that wait; answers whether there was room. */
+static bool put_uncut(struct host_private *own, const uint8_t *packet, size_t length, uint16_t number) {
+    unsigned place = (own->first + own->count) % MOST_WAITING;
+    struct uncut *uncut = &own->waiting[place];
+    uint8_t *room = room_at(own->rooms, place);
+    if (own->count == MOST_WAITING || own->of_one[number] == MOST_OF_ONE) return false;
+    memcpy(room, packet, length);
+    *uncut = (struct uncut){.number = number, .length = length};
+    if (has_segments(room) && !read_cut(room, length, &uncut->cut)) uncut->cut.count = 0;
+    own->of_one[number]++;
+    own->count++;
+    return true;
+}
+
+/* Has a packet wait. Where there is no room for it, it is lost. */
+static unsigned wait_uncut(struct tap_plane *tap, const uint8_t *packet, size_t length, uint16_t number) {
+    if (put_uncut(tap->host, packet, length, number)) return 1;
+    tap->carry->counts[FROM_HOST]++;
+    tap->carry->counts[QUEUE_FULL]++;
+    return 1;
+}
+
+/* Takes a packet whose segments and checksum the host left to a card, but one of more segments than are cut at once; answers how many frames it
+ * has. A packet that cannot be cut has no octets. */
+static unsigned accept_whole(struct tap_plane *tap, uint8_t *packet, size_t length) {
+    struct cut cut;
+    if (has_segments(packet)) {
+        tap->carry->counts[SEGMENTED]++;
+        if (read_cut(packet, length, &cut)) return cut_segments(tap, &cut, 0, cut.count);
+        length = 0;
+    }
+    finish_sum(packet, length);
+    accept_from_host(tap, packet, length);
+    return 1;
+}
+
+/* Takes of the packets that wait, the oldest ones first, so many segments at most. */
+static void cut_waiting(struct tap_plane *tap, unsigned most) {
+    struct host_private *own = tap->host;
+    for (unsigned taken = 0; taken < most && is_cutting(tap);) {
+        struct uncut *uncut = &own->waiting[own->first];
+        unsigned now;
+        if (uncut->cut.count > 0 && uncut->next == 0) tap->carry->counts[SEGMENTED]++;
+        now = uncut->cut.count > 0 ? cut_segments(tap, &uncut->cut, uncut->next, most - taken)
+                                   : accept_whole(tap, room_at(own->rooms, own->first), uncut->length);
+        uncut->next += now;
+        taken += now;
+        if (uncut->next < uncut->cut.count) continue;
+        own->of_one[uncut->number]--;
+        own->first = (own->first + 1) % MOST_WAITING;
+        own->count--;
+    }
+}
+
+/* Whether a packet has more segments than are cut at once. */
+static bool is_long(const uint8_t *packet, size_t length) {
+    struct cut cut;
+    return has_segments(packet) && read_cut(packet, length, &cut) && cut.count > MOST_AT_ONCE;
+}
+
+/* Takes a packet of a host that leaves segments and checksums to a card: one of many segments waits, and those of its conversation behind it;
+ * answers how many frames it has. */
+static unsigned accept_in_turn(struct tap_plane *tap, uint8_t *packet, size_t length) {
+    size_t head = head_octets();
+    struct niw_number number;
+    if (length < head + ETH_HLEN || (!is_cutting(tap) && !is_long(packet, length))) return accept_whole(tap, packet, length);
+    number = conversation_of(tap->protocol, packet + head, length - head);
+    if (number.status != NIW_OK || (tap->host->of_one[number.number % CONVERSATIONS] == 0 && !is_long(packet, length)))
+        return accept_whole(tap, packet, length);
+    return wait_uncut(tap, packet, length, (uint16_t)(number.number % CONVERSATIONS));
+}
+
+/* Takes one packet of the TAP device; answers how many frames it has, or 0 where there is none. */
+static unsigned read_next(struct tap_plane *tap, uint8_t *packet) {
+    ssize_t length;
+    if (tap->process->broken) return 0;
+    length = read(tap->host->tap, packet, packet_room());
+    if (length < 0 && (errno == EAGAIN || errno == EINTR)) return 0;
+    if (length < 0 && (errno == EBADFD || errno == EIO || errno == ENODEV)) {
+        lose_device(tap->plane);
+        return 0;
+    }
+    if (length >= (ssize_t)head_octets() && !tap->plane->segments) return accept_in_turn(tap, packet, (size_t)length);
+    accept_from_host(tap, packet, length < 0 ? 0 : (size_t)length); /* one that cannot be read has no octets */
+    return 1;
+}
+
+/* Takes the packets that wait in the TAP device, some at most, and then of those that wait to be cut. */
+void read_host(struct tap_plane *tap) {
+    unsigned got = 0, left = BATCH;
+    for (; left > 0; got++) {
+        unsigned frames = read_next(tap, room_at(tap->host->packets, got));
+        if (frames == 0) break;
+        tap->carry->taken += frames;
+        left -= frames < left ? frames : left;
+    }
+    flush_data(tap);
+    cut_waiting(tap, MOST_CUT);
+    flush_data(tap);
+    if (left == 0 || is_cutting(tap)) tap->carry->more_waits = true;
+    CALL(tap->plane->passing->note_read, tap, got, left > 0);
+    CALL(tap->plane->passing->pass_on, tap);
+}
+
+/* Hands a packet up, which lies in parts; answers whether the device took it. */
+bool give_host(struct tap_plane *tap, const struct iovec *parts, unsigned count, size_t length) {
+    return !tap->process->broken && writev(tap->host->tap, parts, (int)count) == (ssize_t)length;
+}
+
+/* Serves what is ready: a member, or the TAP device, whose frames come after what was released. */
+void serve_data(struct tap_plane *tap, uint32_t tag) {
+    if (tap->process->broken) return;
+    if (tag == RESPONSES) serve_answers(tap);
+    if (tag >= MEMBERS && tag < RESPONSES) {
+        receive_data(tap, (uint16_t)(tag - MEMBERS + 1));
+        if (tap->plane->changed) send_due(tap->protocol);
+    }
+    settle_carry(tap->plane);
+    if (tag == HOST) read_host(tap);
+}
+
+/* The link of a port goes down: nothing goes there from here on. */
+void lose_data(struct plane *plane, uint16_t port) {
+    struct tap_plane *tap = plane->tap;
+    CALL(plane->passing->withdraw_port, tap, port);
+    forget_answers(tap->answers, port);
+}
+
+/* The interface by which the kernel passes a conversation on, or 0. */
+int passing_member_of(struct plane *plane, uint16_t number) {
+    return plane->passing->member_of(plane->tap, number);
+}
+
+/* Makes the TAP device, and what members are given and have taken away. */
+void open_tap_plane(struct plane *plane) {
+    struct tap_plane *tap = plane->tap;
+    struct host_private *own = tap->host;
+    own->packets = make_rooms();
+    own->segments = make_rooms();
+    own->rooms = make_rooms();
+    start_held(tap);
+    start_members(tap->members);
+    load_guard(tap);
+    CALL(plane->queueing->start, tap);
+    call_at_exit(tap->process, put_back_members, tap);
+    own->tap = open_tap(tap->device, tap->settings->carry, tap->settings->config.mac);
+    gather(tap->process, tap_index(tap->device));
+    CALL(plane->passing->start, tap);
+    if (!await_input(tap->process->epoll_file, own->tap, HOST)) stop(REFUSED, "epoll", strerror(errno));
+}
+
+/* Members are as they were before, and the device goes with the program. */
+void end_tap_plane(struct plane *plane) {
+    struct tap_plane *tap = plane->tap;
+    await_no_more(tap->process->epoll_file, tap->host->tap);
+    set_carrier(tap->device, false);
+    remove_all_members(tap->protocol);
+    CALL(plane->passing->end, tap);
+    end_held(tap);
+}
+
+/* Makes what carries the data, and all room that frames ever take. */
+void open_carry(struct protocol *protocol) {
+    if (protocol->settings->carry[0]) CALL(protocol->plane->carrying->open, protocol->plane);
+}
+
+/* No interface is a member any more. */
+void remove_all_members(struct protocol *protocol) {
+    EACH_LINK(link, protocol->ports)
+        if (link->socket >= 0) CALL(protocol->plane->carrying->remove, protocol->plane, link);
+}
+
+/* The daemon ends, or the library refused a call: no data goes or comes from here on. */
+void end_carry(struct plane *plane) {
+    CALL(plane->carrying->end, plane);
+    choose_no_plane(plane);
+}
