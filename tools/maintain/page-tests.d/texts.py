@@ -57,6 +57,8 @@ def of_texts(tests: Tests, browser: Browser) -> None:
     of_ways(tests, browser)
     of_cuts(tests, browser)
     of_explain(tests, browser)
+    passive = read(os.path.join(STATUS, "healthy-bonding.txt")).replace("port state: 63", "port state: 62")
+    tests.same("two passive ends do not carry, as in a capture", pasted(browser, passive)[0], "0 of 2 links carry. Both ends are passive: p1, p2.")
     shown = browser.choose(os.path.join(STATUS, "keys-bonding.txt"))
     tests.same("a status that is a file is explained", [shown["status"], browser.value(SAID)[0].split(".")[0]], [1, "1 of 2 links carries"])
     browser.value("document.getElementById('here').value = document.getElementById('there').value = '', 1")
