@@ -159,7 +159,11 @@ const ofSplit = (finding, { link, bundles, groups }) => {
     const system = finding.at.system, links = bundles.flatMap((it) => it.links).filter((it) => !it.isPast && it.ends.some((end) => end?.system === system));
     const crossed = crossingOf(link, groups);
     if (crossed) return crossed;
-    const partners = distinct(links.flatMap((it) => it.ends).filter((it) => it?.system === system).map((it) => it.last.partner.system));
+    const own = links.flatMap((it) => it.ends).filter((it) => it?.system === system), partners = distinct(own.map((it) => it.last.partner.system));
+    if (partners.length > 1 && distinct(partners.map(addressOf)).length === 1) return {
+        title: "links lead to one address with several system priorities", lines: own.map((it) => `${it.name}: ${it.last.partner.system.replace("/", ", ")}`),
+        advice: "Give the far end one LACP system priority; of an MLAG pair both switches the same.",
+    };
     const more = partners.length > 1 && links.every((it) => it.carries) ? " Each of them carries by itself: if they are two bundles on purpose, nothing is wrong." : "";
     return { advice: `${finding.advice}${more}` };
 };

@@ -24,7 +24,7 @@ function keyDifference(link, groups) {
     const said = (way) => {
         const all = [...new Set((up.length ? up : others).map(({ keys }) => keys[way]))].sort((one, other) => one - other), keys = all.filter((it) => it !== own.keys[way]);
         if (!keys.length || (up.length && all.length > keys.length)) return "";
-        const where = up.length ? `the ${up.length === 1 ? "link that carries" : "links that carry"}` : "other links";
+        const [one, several] = link.carries ? ["other link", "other links"] : ["link that carries", "links that carry"], where = up.length ? `the ${up.length === 1 ? one : several}` : "other links";
         return `${addressOf(own.systems[way])} has key ${own.keys[way]} there, and ${joinedBy(keys)} on ${where}`;
     };
     return [0, 1].map(said).filter(Boolean).join("; ");

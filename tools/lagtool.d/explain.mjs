@@ -2,7 +2,7 @@
  * a link, then the causes, each with what to do and what follows from it. It reads a capture into memory. The findings are those of the module of
  * docs/try.html; the order, the advice and what is read out of a status are not proved. The status is 0 where no cause holds still, 1 where one does,
  * 2 where a file cannot be read. */
-import { openAsBlob, readFileSync } from "node:fs";
+import { accessSync, constants, openAsBlob, readFileSync } from "node:fs";
 import { basename } from "node:path";
 import { Lagtool } from "../../page/module.js";
 import { bundlesOf, Records } from "../../page/records.js";
@@ -15,6 +15,7 @@ import { foundIn } from "../../page/implied.js";
 import { causesOfTexts, headlineOfTexts, linesOfTexts } from "../../page/standing.js";
 
 const PAGE = new URL("../../docs/try.html", import.meta.url), MODULE = /<script type="application\/x-base64" id="module">([^<]*)</;
+const ERRORS = { ENOENT: "no such file", EACCES: "permission denied", EISDIR: "is a folder" };
 const MOST_PLACES = 3, MOST_TEXT = 16000000;
 
 /* Causes as text: what, what to do, what is seen, some places, and what follows. */
@@ -53,17 +54,19 @@ async function ofTexts(lagtool, texts) {
     return { headline, lines, causes, said: texts.some((text) => text.bundles.some((it) => it.isCut)) ? headline : "" };
 }
 
-/* A file: a status, or a capture by its name. */
+/* A file, or for - standard input: a status, or a capture by its name. */
 async function opened(path) {
-    const file = Object.assign(await openAsBlob(path), { name: basename(path) });
-    const text = file.size > MOST_TEXT ? "\0" : readFileSync(path, "utf8");
+    const octets = path === "-" ? readFileSync(0) : null;
+    if (!octets) accessSync(path, constants.R_OK); // it says which error it is
+    const file = Object.assign(octets ? new Blob([octets]) : await openAsBlob(path), { name: octets ? "standard input" : basename(path) });
+    const text = file.size > MOST_TEXT ? "\0" : (octets ?? readFileSync(path)).toString("utf8");
     return { file, status: text.includes("\0") ? null : statusIn(text), isText: !text.includes("\0") && text.trim() !== "" };
 }
 
 async function main(paths) {
     if (!paths.length) throw new Error("lagtool explain FILE..: captures, or what systems print of LACP; of both ends the other one second");
     const lagtool = await Lagtool.of(Buffer.from(MODULE.exec(readFileSync(PAGE, "latin1"))[1], "base64")), files = [];
-    for (const path of paths) files.push(await opened(path).catch((error) => { throw new Error(`cannot read ${path}: ${error.message}`); }));
+    for (const path of paths) files.push(await opened(path).catch((error) => { throw new Error(`cannot read ${path}: ${ERRORS[error.code] ?? error.message}`); }));
     const texts = files.map((it) => it.status).filter(Boolean), unknown = files.findIndex((it) => !it.status && it.isText);
     if (unknown >= 0) throw new Error(`cannot read ${paths[unknown]}: neither a capture nor a known status`);
     if (texts.length && texts.length < files.length) throw new Error("captures and texts are explained apart");

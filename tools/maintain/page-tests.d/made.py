@@ -17,9 +17,10 @@ class Party(NamedTuple):
     key: int
     port: int
     state: int
+    priority: int = 32768
 
     def octets(self) -> bytes:
-        return struct.pack(">H6sHHHB3x", 32768, bytes([2, 0, 0, 0, 0, self.system]), self.key, 255, self.port, self.state)
+        return struct.pack(">H6sHHHB3x", self.priority, bytes([2, 0, 0, 0, 0, self.system]), self.key, 255, self.port, self.state)
 
     def source(self) -> bytes:
         return bytes([2, 0, 0, 0, self.system, self.port])
@@ -286,4 +287,12 @@ def between(path: str) -> None:
     packets: list[tuple[float, bytes]] = []
     for port, (key, system, far) in enumerate([(10, 2, 1), (10, 3, 1), (20, 2, 2), (20, 3, 2)], 1):
         packets += exchange(Party(1, key, port, FAST), Party(system, 8, far, FAST), (second + port / 100 for second in range(20)))
+    pcap(path, sorted(packets))
+
+
+def priorities(path: str) -> None:
+    """Both links of system 1 lead to one address, by two system priorities."""
+    packets: list[tuple[float, bytes]] = []
+    for port, priority in (1, 32768), (2, 65535):
+        packets += exchange(Party(1, 7, port, FAST), Party(2, 8, port, FAST, priority), (second + port / 100 for second in range(20)))
     pcap(path, sorted(packets))

@@ -67,6 +67,10 @@ def of_crossing(tests: Tests, browser: Browser, folder: str) -> None:
     tests.same("cables crossed between two switches", [headline, causes], [f"4 of 4 links carry, each by itself. C{crossed}.", [f"C{crossed}"]])
     swaps = "Swap the far ends of ports 2-1 and ports 3-2, or swap the far ends of ports 1-1 and ports 4-2;"
     tests.same("it says which far ends to swap there", swaps in browser.value(ADVICE), True)
+    made.priorities(path)
+    headline, causes, _ = said_of(browser, path)
+    several = "inks lead to one address with several system priorities"
+    tests.same("one address with two system priorities", [headline, causes], [f"2 of 2 links carry. L{several}.", [f"L{several}"]])
     made.behind(path)
     tests.same("captures one behind the other are sorted", said_of(browser, path)[:2], ["2 of 2 links carry, each by itself. Keys differ within one pair of systems.", ["Keys differ within one pair of systems"]])
     made.often(path)
@@ -124,7 +128,7 @@ def of_files(tests: Tests, browser: Browser, folder: str) -> None:
         made.pcap(path, made.exchange(one, other, (second + port / 10 for second in range(10))))
     browser.begin(*paths)
     shown = browser.shown()
-    ends = "({0}1 port {1} - {0}2 port {1}): carries apart, both ways: {0}2 has key {2} there, and {3} on the link that carries"
+    ends = "({0}1 port {1} - {0}2 port {1}): carries apart, both ways: {0}2 has key {2} there, and {3} on the other link"
     lines = [f"eth{port} {ends.format(SYSTEM, port, key, other)}" for port, key, other in ((1, 10, 20), (2, 20, 10))]
     tests.same("two files are read as one", [shown["name"], *browser.value(f"[{CAUSES}, {LINES}]")], ["eth1.pcap, eth2.pcap", ["Keys differ within one pair of systems"], lines])
     places = browser.value("[...document.querySelectorAll('#findings a')].map((it) => it.textContent)")
