@@ -1,7 +1,9 @@
 /* What is shown of a capture: a line a link, the causes, then a time axis for each pair of systems, then the frames and the text. */
 
 import { addressOf, bundlesOf, isRemark, nameOf, ruleOf, saidBy, secondsOf } from "./records.js";
-import { capitalized, causesOf, counted, FAULT, frameOf } from "./causes.js";
+import { capitalized, counted } from "./keys.js";
+import { frameOf } from "./cases.js";
+import { causesOf, PAST, titleOf } from "./causes.js";
 import { CARRIES, IDLE, linesOf, textOfLine } from "./summary.js";
 import { Packets } from "./packets.js";
 import { fieldsOf } from "./fields.js";
@@ -155,12 +157,17 @@ function headOf(title, item) {
     return head;
 }
 
-/* A cause: what, what to do, what is seen, where it shows, and what follows from it. */
-export function causeItem(item, pairOf) {
-    const it = made("li"), title = item.kind === FAULT ? capitalized(item.title) : `${capitalized(item.kind)}: ${item.title}`;
+/* What a cause says behind its title: what to do, what is seen, where it shows, and what follows from it. */
+function partsOf(item, pairOf) {
     const said = foldedBehind(item.lines.map((line, number) => made("span", line, number ? "line" : "line first")), MOST_SAID, "line");
-    it.append(headOf(title, item), made("span", item.unexplained ? `${item.advice} ${item.unexplained}` : item.advice), ...said);
-    it.append(...placesOf(item, pairOf), ...effectsOf(item, pairOf));
+    return [made("span", item.unexplained ? `${item.advice} ${item.unexplained}` : item.advice), ...said, ...placesOf(item, pairOf), ...effectsOf(item, pairOf)];
+}
+
+/* A cause; one that holds no more is folded. */
+export function causeItem(item, pairOf) {
+    const it = made("li"), title = capitalized(titleOf(item));
+    if (item.kind === PAST) it.append(opening(title, () => [...ruleIn(item), ...partsOf(item, pairOf)], false));
+    else it.append(headOf(title, item), ...partsOf(item, pairOf));
     return it;
 }
 

@@ -1,9 +1,8 @@
 /* The fields of a frame of the slow protocols, each with its octets (IEEE 802.1AX-2014, 6.4.2.3 and 6.5.3.3). */
 
 import { bitsOf, hexadecimal } from "./records.js";
+import { COOKED, COOKED_2, ETHERNET, SLOW, TAGS } from "./packets.js";
 
-const ETHERNET = 1, COOKED = 113, COOKED_2 = 276, SLOW = 0x8809;
-const TAGS = [0x8100, 0x88a8, 0x9100];
 const joined = (octets) => Array.from(octets, (it) => hexadecimal(it)).join("-");
 const numberIn = (octets) => octets.reduce((sum, it) => sum * 256 + it, 0);
 const stateIn = ([octet]) => `${hexadecimal(octet)}: ${bitsOf(octet).join(", ") || "none"}`;

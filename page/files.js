@@ -1,7 +1,7 @@
 /* Captures as files have them, packet after packet: several as one, by their times; and what pcapng says beside packets, the names of
  * interfaces and comments. What the module says does not rest on this, where one file is given that has whole packets. */
 
-import { magicOf, PCAP, SECTION, INTERFACE, OLD_PACKET, SIMPLE, PACKET } from "./packets.js";
+import { COOKED, COOKED_2, ETHERNET, INTERFACE, magicOf, OLD_PACKET, PACKET, PCAP, SECTION, SIMPLE, SLOW, TAGS } from "./packets.js";
 
 const PIECE_READ = 1 << 20, NANOSECONDS = 1000000000n;
 const NANO = [0xa1b23c4d, 0x4d3cb2a1];
@@ -125,10 +125,10 @@ export async function* packetsOf(blob, told = {}, most = blob.size) {
 /* Where the payload of a slow protocols frame begins; -1 in another packet. */
 function payloadAt({ octets, from: { link } }) {
     const word = (at) => octets[at] * 256 + octets[at + 1];
-    if (link === 276) return word(0) === 0x8809 ? 20 : -1;
-    let at = link === 113 ? 14 : 12;
-    while ([0x8100, 0x88a8, 0x9100].includes(word(at))) at += 4;
-    return (link === 1 || link === 113) && word(at) === 0x8809 ? at + 2 : -1;
+    if (link === COOKED_2) return word(0) === SLOW ? 20 : -1;
+    let at = link === COOKED ? 14 : 12;
+    while (TAGS.includes(word(at))) at += 4;
+    return [ETHERNET, COOKED].includes(link) && word(at) === SLOW ? at + 2 : -1;
 }
 
 /* Whether the payload there is an LACPDU, by its subtype. */
@@ -180,34 +180,109 @@ export function captureOf(links, packets) {
 }
 
 const stemOf = (name) => name.replace(/\.(pcap|pcapng|cap|dmp)$/i, "");
+const GROUP = [0x01, 0x80, 0xc2, 0x00, 0x00, 0x02];
 
-/* Slow protocols frames of several files as one capture, by their times; with the last packet of each, up to which it goes. `names` has
- * whence each interface is, `places` for each packet its file and its number there, `faults` what cannot be read, and `silent` the files that can
- * be read and have no LACPDU. Packets that were cut get whole. */
-export async function merged(files) {
-    const kept = [], links = [], faults = [], silent = [], names = new Map();
-    for (const file of files) {
-        const known = new Map(), told = { end: -1 };
-        let last = null, isSilent = true;
-        for await (const it of packetsOf(file, told)) {
-            if (!known.has(it.from)) known.set(it.from, links.push(it.from.link) - 1);
-            const at = payloadAt(it), number = known.get(it.from), time = it.time ?? 0n;
-            last = { file, number, time, of: it.number, octets: it.octets.slice(0, 60), comment: it.comment };
-            if (at >= 0) kept.push({ ...last, octets: wholeOf(it.octets, it.original, at).slice() });
-            else last.isAlone = true;
-            if (at >= 0 && isLacpdu(it.octets, at)) isSilent = false;
-        }
-        if (last?.isAlone) kept.push(last);
-        if (told.end < 0) faults.push(`cannot read ${file.name}: neither pcap nor pcapng`);
-        else if (told.end < file.size) faults.push(`cannot read ${file.name}: octet ${told.end}: cut short, or broken`);
-        else if (isSilent) silent.push(stemOf(file.name));
-        for (const [from, number] of known) {
-            const more = known.size > 1 || files.length === 1 ? from.name || (from.number ? `interface ${from.number}` : "") : "";
-            names.set(number, [files.length > 1 ? stemOf(file.name) : "", more].filter(Boolean).join(" "));
+/* A slow protocols frame as Ethernet has it, and where its payload begins: a cooked header has the source, and no destination. */
+function etherOf(octets, link, at) {
+    if (link === ETHERNET) return { octets: octets.slice(), at };
+    const [source, rest] = link === COOKED_2 ? [octets.subarray(12, 18), [0x88, 0x09, ...octets.subarray(at)]] : [octets.subarray(6, 12), octets.subarray(14)];
+    const ether = Uint8Array.from([...GROUP, ...source, ...rest]);
+    return { octets: ether, at: ether.length - octets.length + at };
+}
+
+const textOf = (octets) => Array.from(octets, (it) => it.toString(16).padStart(2, "0")).join("");
+/* Who sends an LACPDU: the source address, and the system and the port of the actor. */
+const senderIn = ({ source, octets, at }) => `${source} ${textOf(octets.subarray(at + 6, at + 12))} ${textOf(octets.subarray(at + 16, at + 18))}`;
+
+/* Interfaces of several files that hold one link, as one sender shows it: for each the first of them. */
+function sameLinks(kept, count) {
+    const first = Array.from({ length: count }, (_, number) => number), at = new Map();
+    for (const it of kept.filter((one) => one.isLacpdu)) {
+        const sender = senderIn(it), known = at.get(sender);
+        if (known === undefined) at.set(sender, first[it.number]);
+        else if (first[it.number] !== first[known]) {
+            const [low, high] = [first[it.number], first[known]].sort((one, other) => one - other);
+            first.forEach((one, number) => { if (one === high) first[number] = low; });
         }
     }
-    kept.sort((one, other) => one.time < other.time ? -1 : Number(one.time > other.time));
+    return first;
+}
+
+/* Frames of a source that several files hold at one time stand once: those of the file that has most of them, and of others what lies outside. */
+function once(kept) {
+    const spans = new Map();
+    for (const it of kept) {
+        const files = spans.set(it.source, spans.get(it.source) ?? new Map()).get(it.source), span = files.get(it.file) ?? { file: it.file, count: 0, from: it.time, to: it.time };
+        files.set(it.file, { ...span, count: span.count + 1, from: it.time < span.from ? it.time : span.from, to: it.time > span.to ? it.time : span.to });
+    }
+    const orders = new Map([...spans].map(([source, files]) => [source, [...files.values()].sort((one, other) => other.count - one.count)]));
+    return kept.filter(({ source, file, time }) => {
+        const order = orders.get(source), before = order.slice(0, order.findIndex((it) => it.file === file));
+        return before.every((it) => time < it.from || time > it.to);
+    });
+}
+
+/* What one file gives: its slow protocols frames, and its last packet, up to which it goes; whether it has LACPDUs, and why it cannot be read to its
+ * end. `numberOf` gives interfaces their numbers. */
+async function readOut(file, numberOf) {
+    const told = { end: -1 }, kept = [];
+    let last = null;
+    for await (const it of packetsOf(file, told)) {
+        const { octets, original, from } = it, at = payloadAt(it), index = from.link === COOKED_2 ? new DataView(octets.buffer, octets.byteOffset).getUint32(4) : null;
+        last = { file, time: it.time ?? 0n, of: it.number, number: numberOf(from, index), octets: new Uint8Array(14), source: "", isLacpdu: false, comment: it.comment };
+        if (at < 0) continue;
+        const ether = etherOf(wholeOf(octets, original, at), from.link, at);
+        last = { ...last, ...ether, source: textOf(ether.octets.subarray(6, 12)), isLacpdu: isLacpdu(octets, at) };
+        kept.push(last);
+    }
+    if (last && last !== kept.at(-1)) kept.push(last);
+    const fault = told.end < 0 ? "neither pcap nor pcapng" : told.end < file.size ? `octet ${told.end}: cut short, or broken` : "";
+    return { kept, fault, isSilent: !kept.some((it) => it.isLacpdu) };
+}
+
+/* Numbers for the interfaces of a file, and their names by these. */
+function numbering(names, file, isAlone) {
+    const known = new Map(), stem = isAlone ? "" : stemOf(file.name);
+    const numberOf = (from, index) => {
+        const key = index ?? from;
+        if (!known.has(key)) {
+            known.set(key, { number: names.size, name: from.name || (index !== null ? `interface ${index}` : from.number ? `interface ${from.number}` : "") });
+            names.set(names.size, stem);
+        }
+        return known.get(key).number;
+    };
+    const name = () => { for (const it of known.values()) if (isAlone || known.size > 1) names.set(it.number, `${stem} ${it.name}`.trim()); };
+    return { numberOf, name };
+}
+
+/* Slow protocols frames of files as one capture, by their times. `names` has
+ * whence each interface is, `places` for each packet its file and its number there, `faults` what cannot be read, `silent` the files that can
+ * be read and have no LACPDU, and `doubled` how many frames stand in several files and are taken once. Packets that were cut get whole. */
+export async function merged(files) {
+    const all = [], faults = [], silent = [], names = new Map();
+    for (const file of files) {
+        const { numberOf, name } = numbering(names, file, files.length === 1), { kept, fault, isSilent } = await readOut(file, numberOf);
+        name();
+        all.push(...kept);
+        if (fault) faults.push(`cannot read ${file.name}: ${fault}`);
+        else if (isSilent) silent.push(stemOf(file.name));
+    }
+    const first = sameLinks(all, names.size), kept = once(all).sort((one, other) => one.time < other.time ? -1 : Number(one.time > other.time));
     const places = new Map(kept.map(({ file, of }, number) => [number + 1, { file: file.name, number: of }]));
     const comments = new Map(kept.flatMap(({ comment }, number) => comment ? [[number + 1, comment]] : []));
-    return { capture: captureOf(links, kept), names, places, comments, faults, silent };
+    const capture = captureOf([...names.keys()].map(() => ETHERNET), kept.map((it) => ({ ...it, number: first[it.number] })));
+    return { capture, names, places, comments, faults, silent, doubled: all.length - kept.length };
+}
+
+/* What is read: one capture as it is, with what it says of interfaces and packets; several as one, one whose LACPDUs are cut made whole, and one
+ * that joins captures sorted by time, where `numbers` has those of its packets. Packets and text are those of `source`. */
+export async function captureFrom(files, isJoined = false) {
+    const looked = files.length === 1 ? await lookedAt(files[0]) : null;
+    if (looked && !looked.cut && !isJoined) return { capture: files[0], source: files[0], ...looked, places: new Map(), numbers: new Map(), faults: [], silent: [], note: "" };
+    const found = await merged(files), notes = [];
+    if (looked?.cut) notes.push(`Its packets are cut behind ${looked.cut} octets: both ends are in them, and what follows, as CollectorMaxDelay, is taken as 0.`);
+    if (isJoined) notes.push("It joins captures one behind the other: its packets are sorted by time.");
+    if (found.doubled) notes.push(`${found.doubled} frames stand in several files: they are taken once.`);
+    const numbers = new Map(isJoined ? [...found.places].map(([packet, { number }]) => [packet, number]) : []);
+    return { ...found, comments: isJoined ? looked.comments : found.comments, source: isJoined ? files[0] : found.capture, places: files.length > 1 ? found.places : new Map(), numbers, note: notes.join(" ") };
 }

@@ -2,10 +2,11 @@
  * text has, the other end's LACPDU is what it told this end. Times say nothing: each end says the same again and again. */
 
 import { hexadecimal } from "./records.js";
+import { ETHERNET } from "./packets.js";
 import { captureOf } from "./files.js";
 import { EXPIRED_BIT, NO_ADDRESS, TIMEOUT_BIT } from "./status.js";
 
-const STEP_SECONDS = 2, LASTING = 94, BEGIN = 1700000000, ETHERNET_LINK_TYPE = 1;
+const STEP_SECONDS = 2, LASTING = 94, BEGIN = 1700000000;
 /* lagtool examines 64 ends: so many links. */
 export const MOST_LINKS = 32;
 /* The rules that a status can show, for they want no times of frames. */
@@ -74,7 +75,7 @@ export function implied(texts) {
             packets.push({ number: it.number, time, octets: lacpduOctets(it.source, it.actor, it.partner) });
         });
     }
-    return { capture: captureOf(links.map(() => ETHERNET_LINK_TYPE), packets), ends, left: all.length - links.length };
+    return { capture: captureOf(links.map(() => ETHERNET), packets), ends, left: all.length - links.length };
 }
 
 /* What the rules say of texts: of each finding the rule, its texts, and the port. `explain` gives the records of a capture. */

@@ -2,6 +2,12 @@
 
 const PIECE = 1 << 20; // octets that are read at once; a packet has fewer
 
+/* Types of links, the type of a slow protocols frame, and those of tags. */
+export const ETHERNET = 1;
+export const COOKED = 113;
+export const COOKED_2 = 276;
+export const SLOW = 0x8809;
+export const TAGS = [0x8100, 0x88a8, 0x9100];
 export const magicOf = (view) => view.byteLength < 4 ? 0 : view.getUint32(0, true);
 export const PCAP = new Map([[0xa1b2c3d4, true], [0xa1b23c4d, true], [0xd4c3b2a1, false], [0x4d3cb2a1, false]]);
 export const SECTION = 0x0a0d0d0a;

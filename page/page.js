@@ -2,9 +2,10 @@
 
 import { Lagtool } from "./module.js";
 import { Records } from "./records.js";
-import { counted } from "./causes.js";
+import { counted } from "./keys.js";
 import { countsOf, headlineOf } from "./summary.js";
-import { lookedAt, merged } from "./files.js";
+import { captureFrom } from "./files.js";
+import { areJoined } from "./cases.js";
 import { picturesOf, showRecords } from "./capture.js";
 import { Playing } from "./playing.js";
 import { digitsOf, Payload } from "./payload.js";
@@ -108,34 +109,28 @@ function lastingOf({ lasts }) {
     return lasts < ENOUGH ? `${said}, shorter than ${ENOUGH} s: not each timeout may show.` : `${said}.`;
 }
 
-/* What is read: the one capture as it is, with what it says of interfaces and packets; several as one, and one whose LACPDUs are cut made whole. */
-async function given(files) {
-    const looked = files.length === 1 ? await lookedAt(files[0]) : null;
-    if (looked && !looked.cut) return { capture: files[0], ...looked, places: new Map(), faults: [], silent: [], note: "" };
-    const note = looked ? `Its packets are cut behind ${looked.cut} octets: both ends are in them, and what follows, as CollectorMaxDelay, is taken as 0.` : "";
-    return { ...await merged(files), note };
+/* The records of files, and what came of it: read once more where the files join captures one behind the other. */
+async function recordsOf(lagtool, files, isJoined = false) {
+    const given = await captureFrom(files, isJoined), records = new Records(), { names, comments, silent, places, numbers } = given;
+    Object.assign(records, { names, comments, silent, places, numbers });
+    const onStop = (error) => error.message === "stopped" ? error : Promise.reject(error);
+    const told = await run(lagtool, given.capture, { json: true }, (piece) => records.addLines(piece)).catch(onStop), isStopped = told instanceof Error;
+    return !isStopped && !isJoined && areJoined(records) ? recordsOf(lagtool, files, true) : { ...given, records, told, isStopped };
 }
 
 /* The records first, with what they show; then the text. */
 async function explain(lagtool, name, files) {
-    const { capture, names, comments, places, faults, silent, note } = await given(files), records = new Records();
-    Object.assign(records, { names, comments, silent, places: files.length > 1 ? places : new Map() });
-    const text = new Text();
-    const onStop = (error) => error.message === "stopped" ? error : Promise.reject(error);
-    let told = await run(lagtool, capture, { json: true }, (piece) => records.addLines(piece)).catch(onStop);
-    const isStopped = told instanceof Error, said = isStopped ? told.message : [...faults, told.said].filter(Boolean).join("\n");
-    const shown = showRecords(records, capture, { lines: byId("lines"), findings: byId("findings"), links: byId("links") });
+    const { source, faults, note, records, told, isStopped } = await recordsOf(lagtool, files), said = isStopped ? told.message : [...faults, told.said].filter(Boolean).join("\n");
+    const shown = showRecords(records, source, { lines: byId("lines"), findings: byId("findings"), links: byId("links") });
     now.pairs = shown.pairs;
     byId("legend").hidden = !shown.pairs.length;
     byId("undrawn-frames").textContent = records.frames > records.kept ? `Of ${records.frames} frames ${records.kept} are drawn.` : "";
     byId("lasts").textContent = [lastingOf(records), note].filter(Boolean).join(" ");
     byId("counts").textContent = countsOf(shown.causes);
     put(name, ...verdictOf(records, shown, said), isStopped ? "Stopped: the findings want the whole capture." : said);
-    if (!isStopped) {
-        told = await run(lagtool, capture, {}, (piece) => text.add(piece));
-    }
+    const text = new Text(), { status = 2 } = isStopped ? {} : await run(lagtool, source, {}, (piece) => text.add(piece));
     byId("text").textContent = text.whole;
-    window.shown = { name, status: faults.length ? 2 : told.status ?? 2, printed: text.whole, said };
+    window.shown = { name, status: faults.length ? 2 : status, printed: text.whole, said };
 }
 
 /* Why a file cannot be read, and what helps; the browser does not say which of both it was. */

@@ -1,10 +1,11 @@
 /* One payload or one frame, in hexadecimal: what it is, its fields, and what answers it. */
 
+import { ETHERNET } from "./packets.js";
 import { fieldsOf, fieldsOfPayload, isFrame } from "./fields.js";
 import { octetsBeside } from "./octets.js";
 import { byId } from "./shapes.js";
 
-const ETHERNET_LINK = 1, HEADER = 28; // digits of both addresses and the EtherType
+const HEADER = 28; // digits of both addresses and the EtherType
 
 const octetsOf = (digits) => Uint8Array.from(digits.match(/../g) ?? [], (it) => parseInt(it, 16));
 /* The digits alone: blanks, colons and dashes are for people. */
@@ -35,7 +36,7 @@ export class Payload {
         byId("decoded").className = told.status ? "bad" : "";
         byId("answer").hidden = !answer;
         byId("answered").textContent = answer ? `${answer.printed}${answer.said}`.trim() : "";
-        const fields = whole ? fieldsOf(octets, ETHERNET_LINK) : fieldsOfPayload(octets);
+        const fields = whole ? fieldsOf(octets, ETHERNET) : fieldsOfPayload(octets);
         byId("payload-octets").replaceChildren(...octets.length ? [octetsBeside(octets, fields)] : []);
         window.decoded = told;
     }

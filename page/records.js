@@ -62,6 +62,9 @@ export class End {
     /* Whether it has named a partner ever. */
     get hasHeard() { return [...this.partners].some((it) => isKnown(it.split(" ")[0])); }
 
+    /* Whether it says that it hears nobody. */
+    get isLost() { return this.has("defaulted") || this.has("expired"); }
+
     has(bit) { return this.last !== null && bitsOf(this.last.actor.state).includes(bit); }
 
     take(frame) {
@@ -97,6 +100,7 @@ export class Records {
     constructor() {
         this.ends = new Map();
         this.all = [];
+        this.links = [];
         this.findings = [];
         this.frames = 0;
         this.kept = 0;
@@ -108,6 +112,7 @@ export class Records {
         this.comments = new Map();
         this.silent = [];
         this.places = new Map();
+        this.numbers = new Map();
     }
 
     /* Where a packet stands: of several files, in which. */
@@ -130,8 +135,13 @@ export class Records {
         return end;
     }
 
+    /* The end that a record names, if frames of it were kept. */
+    endOf({ interface: number, source, port }) { return this.ends.get(`${number} ${source} ${port}`) ?? null; }
+
     add(record) {
+        if (this.numbers.has(record.packet)) record.packet = this.numbers.get(record.packet);
         if (record.record === "frame") this.addFrame(record);
+        if (record.record === "link") this.links.push(record);
         if (record.record === "finding") this.addFinding(record);
         if (record.record === "end") this.addEnd(record);
         if (record.record === "counts") this.counts = record;
@@ -154,10 +164,10 @@ export class Records {
     }
 
     addEnd(record) {
-        const { interface: number, source, port, first, last, distributing: { began, ended } } = record;
+        const { first, last, distributing: { began, ended } } = record;
         if (first === null || last === null) return;
         this.lacpdus = { first: Math.min(this.lacpdus.first, first), last: Math.max(this.lacpdus.last, last) };
-        const end = this.ends.get(`${number} ${source} ${port}`);
+        const end = this.endOf(record);
         if (end) end.record = record;
         if (end && this.kept >= MOST_KEPT) end.distributes = began !== null && (ended === null || ended < began);
     }
@@ -185,7 +195,7 @@ export class Records {
     }
 }
 
-/* Who answers an end: whom its LACPDUs name, or who names it, on the same interface. */
+/* Who answered an end ever: whom its LACPDUs name, or who names it, on the same interface. */
 function partnerOf(end, actors, partners) {
     const places = (set) => [...set].map((it) => `${end.interface} ${it}`);
     const found = [...places(end.partners).flatMap((it) => actors.get(it) ?? []), ...places(end.actors).flatMap((it) => partners.get(it) ?? [])];
@@ -214,18 +224,59 @@ function otherUnheard(end, ends) {
     return here.length === 2 && here.includes(end) && here.every((it) => !it.hasHeard) ? here.find((it) => it !== end) : null;
 }
 
-/* The links: two ends, of which the second may not be heard (null), their frames in the order of times, and their findings. */
-function linksOf(ends) {
-    const actors = listed(ends, (it) => it.actors), partners = listed(ends, (it) => it.partners);
-    const seen = new Set(), links = [];
-    for (const end of ends) {
+/* Whether an end named another one last, as its partner. */
+export const namesLast = (end, { last }) => Boolean(end.last && last) && end.last.partner.system === last.actor.system && end.last.partner.port === last.actor.port;
+
+/* The pairs of ends that the module's links have, and whether each carries. An end may be in two of them, with the one who answered it before
+ * and with the one who does now: those that name each other last, and speak still, come first. */
+function pairsSaid(records) {
+    const said = records.links.map(({ end, partner, carries }) => ({ ends: [records.endOf(end), partner && records.endOf(partner)], carries })).filter(({ ends }) => ends.every(Boolean));
+    const rankOf = ({ ends: [one, other] }) => (namesLast(one, other) && namesLast(other, one) ? 0 : 2) + Number([one, other].some((it) => isSilent(it, records.lacpdus.last)));
+    return [0, 1, 2, 3].flatMap((rank) => said.filter((it) => rankOf(it) === rank));
+}
+
+const isUpByItself = (end) => end.distributes && !end.isLost;
+
+/* A link: two ends, of which the second may not be heard (null), their frames in the order of times, and their findings. */
+const linkOf = (ends, carries) => {
+    const heard = ends.filter(Boolean);
+    return { ends, carries, frames: heard.flatMap((it) => it.frames).sort(byTime), findings: heard.flatMap((it) => it.findings) };
+};
+
+/* The links: those of the module; then ends that are left, with who answered them before. Of more ends than the module examines it is said by
+ * their bits whether they carry. */
+function linksOf(records) {
+    const ends = records.all, pairs = new Map(), seen = new Set();
+    const take = (carries, ...both) => {
+        const pair = { both, carries };
+        for (const it of both) {
+            seen.add(it);
+            pairs.set(it, pair);
+        }
+    };
+    for (const { ends: both, carries } of pairsSaid(records)) if (both.every((it) => !seen.has(it))) take(carries, ...both);
+    const free = ends.filter((it) => !seen.has(it)), actors = listed(free, (it) => it.actors), partners = listed(free, (it) => it.partners);
+    for (const end of free) {
         if (seen.has(end)) continue;
-        const partner = partnerOf(end, actors, partners) ?? otherUnheard(end, ends), both = [end, partner && !seen.has(partner) ? partner : null];
-        const heard = both.filter(Boolean);
-        heard.forEach((it) => seen.add(it));
-        links.push({ ends: both, frames: heard.flatMap((it) => it.frames).sort(byTime), findings: heard.flatMap((it) => it.findings) });
+        const found = partnerOf(end, actors, partners) ?? otherUnheard(end, free), partner = found && !seen.has(found) ? found : null;
+        take(Boolean(partner && !end.record && isUpByItself(end) && isUpByItself(partner)), ...partner ? [end, partner] : [end]);
     }
-    return links;
+    return [...new Set(ends.map((it) => pairs.get(it)))].map(({ both, carries }) => linkOf(both.length > 1 ? both : [both[0], null], carries));
+}
+
+/* Marks links of one end that is silent, where another end stands in its place now: nothing of it holds still. */
+function markPast(links, until) {
+    for (const link of links) {
+        const [end, other] = link.ends, meet = (one, another) => [...one].some((it) => another.has(it));
+        const near = other ? [] : links.filter((it) => it !== link && it.ends[1]).flatMap((it) => it.ends).filter((it) => it.interface === end.interface);
+        link.isPast = !other && isSilent(end, until) && near.some((it) => meet(end.partners, it.actors) || meet(it.partners, end.actors));
+    }
+}
+
+/* Ends beside a link, on the interface of one of its ends, that spoke with it: they named it, or it named them. */
+export function othersBeside(link, at, { all }) {
+    const meet = (one, other) => [...one].some((it) => other.has(it)), ends = link.ends.filter(Boolean);
+    return all.filter((it) => it.last && it.interface === at.interface && !ends.includes(it) && ends.some((end) => meet(end.partners, it.actors) || meet(it.partners, end.actors)));
 }
 
 export const isKnown = (system) => system !== "" && !system.endsWith(NO_SYSTEM);
@@ -246,7 +297,9 @@ function pairOfUnknown([system], pairs) {
 
 /* The links of each pair of systems. Pairs with a finding stand before the others, and so do their links. */
 export function bundlesOf(records) {
-    const links = linksOf(records.all).map((link) => ({ link, systems: systemsOf(link) }));
+    const all = linksOf(records);
+    markPast(all, records.lacpdus.last);
+    const links = all.map((link) => ({ link, systems: systemsOf(link) }));
     const pairs = new Map(links.map(({ systems }) => [systems.join(" "), systems])), bundles = new Map();
     for (const { link, systems } of links) {
         const pair = (isKnown(systems[1]) ? null : pairOfUnknown(systems, [...pairs.values()])) ?? systems, name = pair.join(" ");

@@ -2,7 +2,8 @@
  * LACPDUs that the texts imply; facts that no LACPDU has get their own words. A text is a moment: what is starting looks as what stays so. */
 
 import { bitsOf, machinesOf } from "./records.js";
-import { capitalized, counted, EFFECT, FAULT, REMARK } from "./causes.js";
+import { capitalized, counted } from "./keys.js";
+import { EFFECT, FAULT, REMARK } from "./causes.js";
 import { CARRIES, FLOW, howManyCarry, IDLE, UNKNOWN } from "./summary.js";
 import { ACTIVITY_BIT, DEFAULTED_BIT, DISTRIBUTING_BIT, EXPIRED_BIT } from "./status.js";
 import { linksOfTexts } from "./implied.js";
@@ -10,6 +11,7 @@ import { linksOfTexts } from "./implied.js";
 const isSeveral = (list, valueOf) => new Set(list.map(valueOf).filter((it) => it !== null && it !== undefined)).size > 1;
 const namesIn = (list) => [...new Set(list.map((it) => it.name))].join(", ");
 const isLinked = (it) => it.link !== false;
+const isPassive = (it) => !(it.state & ACTIVITY_BIT);
 const dashed = (address) => address.replaceAll(":", "-");
 
 /* Each value, and the ports that have it. */
@@ -34,7 +36,7 @@ function linkFacts({ name, ports }) {
 }
 
 function silentFacts({ ports }, form) {
-    const silent = ports.filter((it) => it.actor && !it.partner && isLinked(it)), passive = silent.filter((it) => !(it.actor.state & ACTIVITY_BIT));
+    const silent = ports.filter((it) => it.actor && !it.partner && isLinked(it)), passive = silent.filter((it) => isPassive(it.actor));
     const both = DEFAULTED_BIT | EXPIRED_BIT, loops = form === "bonding" || form === "ip" ? silent.filter((it) => (it.actor.state & both) === both) : [];
     return [
         { name: "passive-unheard", ports: passive, title: `passive, and hears nobody: ${namesIn(passive)}`, advice: "Set this end, or the other one, to active." },
@@ -152,6 +154,8 @@ const saysCarry = (port) => port.isUsed ?? (port.actor ? (port.actor.state & DIS
 /* How a port is, with the port at the other end where a text has that. */
 function stateOfPort(port, bundle, far) {
     const carries = saysCarry(port);
+    if (port.actor && port.partner && port.link !== false && isPassive(port.actor) && isPassive(port.partner)) return [IDLE, "both ends are passive: it falls each few seconds"];
+    if (carries && !port.partner) return [IDLE, "it hears nobody, and this end sends on it alone"];
     if (carries === null && port.link !== false) return [UNKNOWN, whyIdle(port, bundle)];
     if (!carries) return [IDLE, whyIdle(port, bundle)];
     if (!far) return [CARRIES, "as this end says"];
@@ -176,6 +180,9 @@ export function headlineOfTexts(texts, lines, causes) {
     if (cause) return [`${head}${capitalized(cause.title)}.`, "bad"];
     if (!all) return ["No port of an LACP bundle is in this text.", "bad"];
     if (carry < all) return [`${head}The text does not show why: give the text of the other end, or capture.`, ""];
+    const twins = causes.find(({ rank }) => rank === "same-partner-port");
+    if (twins) return [`${head}${capitalized(twins.title)}: right if switches act as one (MLAG).`, ""];
+    if (all === 1) return ["The one link of this bundle carries. If it is to have more, they are not in it: ip link set PORT master BOND.", ""];
     return [`${head}LACP is not your trouble${texts.length > 1 ? "" : ", if the other end says so, too"}. ${FLOW}`, "good"];
 }
 

@@ -1,31 +1,45 @@
 /* What is said before all else: of each link in one line whether it carries, and why not; and a headline. */
 
-import { addressOf, isKnown, isSilent, machinesOf, roundedSeconds } from "./records.js";
-import { astrayIn, capitalized, CAUSELESS, counted, EFFECT, FAULT, joinedBy, keyGroups, REMARK } from "./causes.js";
+import { addressOf, isKnown, isSilent, machinesOf, namesLast, roundedSeconds } from "./records.js";
+import { astrayIn, capitalized, counted, groupOf, isCrossed, joinedBy, keyGroups } from "./keys.js";
+import { CAUSELESS, EFFECT, FAULT, PAST, REMARK } from "./causes.js";
 
 export const CARRIES = "carries";
 export const CARRIES_APART = "carries apart";
 export const IDLE = "does not carry";
 export const UNKNOWN = "not seen";
+/* So many seconds apart two ends that hear nobody lost each other together. */
+const TOGETHER = 2;
 
-const isUp = ({ ends }) => ends.every((it) => it?.distributes && !it.has("defaulted") && !it.has("expired"));
-
-/* How the keys of a link differ from those of the other links that share one with it, and carry if any does; nothing where they do not. */
-function keyDifference(link, bundle) {
-    const group = keyGroups(bundle).find((it) => it.some((one) => one.link === link)), own = group?.find((it) => it.link === link);
-    const others = group?.filter((it) => it !== own) ?? [], up = others.filter((it) => isUp(it.link));
-    if (!own || (isUp(link) && !up.length)) return "";
-    if ([0, 1].every((way) => new Set(group.map(({ keys }) => keys[way])).size > 1)) {
+/* How the keys of a link differ from those of the other links of its two systems that share one with it, and carry if any does; nothing where they
+ * do not. */
+function keyDifference(link, groups) {
+    const group = groupOf(link, groups), own = group?.find((it) => it.link === link);
+    if (own && isCrossed(group)) {
         const { astray, other } = astrayIn(group);
         return [...astray, ...other].includes(own) ? `it joins key ${own.keys[0]} to key ${own.keys[1]}: a cable or a port's group ${other.length ? "may be" : "is"} wrong` : "";
     }
+    const others = group?.filter((it) => it !== own && it.systems.every((system, way) => system === own.systems[way])) ?? [], up = others.filter((it) => it.link.carries);
+    if (!own || (link.carries && !up.length)) return "";
     const said = (way) => {
         const all = [...new Set((up.length ? up : others).map(({ keys }) => keys[way]))].sort((one, other) => one - other), keys = all.filter((it) => it !== own.keys[way]);
         if (!keys.length || (up.length && all.length > keys.length)) return "";
-        const where = up.length ? `the ${up.length === 1 ? "link that carries" : "links that carry"}` : "other links";
-        return `${addressOf(bundle.systems[way])} has key ${own.keys[way]} there, and ${joinedBy(keys)} on ${where}`;
+        const [one, several] = link.carries ? ["other link", "other links"] : ["link that carries", "links that carry"], where = up.length ? `the ${up.length === 1 ? one : several}` : "other links";
+        return `${addressOf(own.systems[way])} has key ${own.keys[way]} there, and ${joinedBy(keys)} on ${where}`;
     };
     return [0, 1].map(said).filter(Boolean).join("; ");
+}
+
+/* Since when an end says, without a break, that it hears nobody. */
+function lostSince({ frames }) {
+    const lacpdus = frames.filter((it) => it.kind === "lacpdu"), before = lacpdus.findLastIndex((it) => !["EXPIRED", "DEFAULTED"].includes(machinesOf(it.actor.state).receive));
+    return lacpdus[before + 1].seconds ?? 0;
+}
+
+/* The ends of a link that hear nobody; where one began earlier, that one: the other hears it too seldom then. */
+function deafEnds(ends) {
+    const lost = ends.filter((it) => it.isLost), first = Math.min(...lost.map(lostSince));
+    return lost.filter((it) => lostSince(it) - first < TOGETHER);
 }
 
 /* Why a link with one end in the capture is not seen to carry. */
@@ -38,37 +52,41 @@ function ofOneEnd(end, until) {
 }
 
 /* Whether a link with both ends carries, and why not; and whether that says no more than their states. */
-function ofBothEnds(link, bundle, until) {
-    const { ends } = link, silent = ends.filter((it) => isSilent(it, until)), lost = ends.filter((it) => it.has("defaulted") || it.has("expired"));
-    const never = lost.filter((it) => !it.hasHeard), deaf = never.length ? never : lost;
-    const keys = keyDifference(link, bundle);
+function ofBothEnds(link, groups, until) {
+    const { ends } = link, silent = ends.filter((it) => isSilent(it, until)), deaf = deafEnds(ends), keys = keyDifference(link, groups);
+    if (link.carries) return keys ? [CARRIES_APART, `both ways: ${keys}`] : [CARRIES, "both ways"];
     if (ends[0].system === ends[1].system) return [IDLE, "both ends have one system: a loop, or a copied identifier"];
     if (ends.every((it) => !it.has("active"))) return [IDLE, "both ends are passive"];
     if (silent.length === 1) return [IDLE, `${silent[0].short} sends nothing after ${roundedSeconds(silent[0].record.last)}`];
     if (silent.length) return [IDLE, `nothing is sent on it after ${roundedSeconds(Math.max(...silent.map((it) => it.record.last)))}`];
-    if (isUp(link)) return keys ? [CARRIES_APART, `both ways: ${keys}`] : [CARRIES, "both ways"];
     if (keys && !deaf.length) return [IDLE, keys];
     if (deaf.length) return [IDLE, `${deaf.map((it) => it.short).join(" and ")} ${deaf.length === 1 ? "hears" : "hear"} nobody`];
-    const single = ends.filter((it) => !it.has("aggregatable"));
+    const [stray] = ends.filter((it, way) => !namesLast(it, ends[1 - way]));
+    if (stray) return [IDLE, `${stray.short} names ${addressOf(stray.named)} port ${stray.last.partner.port.split("/")[1]} as its partner`];
+    return ofStates(ends);
+}
+
+/* The same of two ends that hear each other, and have keys that agree. */
+function ofStates(ends) {
+    const single = ends.filter((it) => !it.has("aggregatable")), waits = ends.filter((it) => !it.has("synchronized"));
     if (single.length === 1) return [IDLE, `${single[0].short} is individual`];
-    const waits = ends.filter((it) => !it.has("synchronized"));
     if (waits.length === 1) return [IDLE, `${waits[0].short} has not attached it: another aggregator is in use there, or it has links enough`];
-    const said = ends.map((it) => `${it.short} is ${machinesOf(it.last.actor.state).mux}`).join(", ");
-    return [IDLE, said, "is vague"];
+    return [IDLE, ends.map((it) => `${it.short} is ${machinesOf(it.last.actor.state).mux}`).join(", "), "is vague"];
 }
 
 /* Of a link: its name, its ends, how it is, and why. */
-function lineOf(link, bundle, until) {
+function lineOf(link, groups, until) {
     const heard = link.ends.filter((it) => it?.last), isWhole = heard.length === 2;
     if (!heard.length) return null;
-    const [how, why, isVague] = isWhole ? ofBothEnds(link, bundle, until) : ofOneEnd(heard[0], until), [{ label }] = heard;
+    const [how, why, isVague] = isWhole ? ofBothEnds(link, groups, until) : ofOneEnd(heard[0], until), [{ label }] = heard;
     const far = isWhole ? "" : isKnown(heard[0].named ?? "") ? ` - ${addressOf(heard[0].named)}` : " - nobody", ends = `${heard.map((it) => it.short).join(" - ")}${far}`;
     return { link, port: heard[0].port, name: label ? `${label} (${ends})` : ends, how, why, isVague };
 }
 
 /* The lines of all links, those that do not carry first; beside links, each file of them without an LACPDU is one, too. */
 export function linesOf(records, bundles) {
-    const lines = bundles.flatMap((bundle) => bundle.links.map((it) => lineOf(it, bundle, records.lacpdus.last))).filter(Boolean);
+    const groups = keyGroups(bundles), links = bundles.flatMap((it) => it.links).filter((it) => !it.isPast);
+    const lines = links.map((it) => lineOf(it, groups, records.lacpdus.last)).filter(Boolean);
     lines.sort((one, other) => one.port - other.port);
     if (lines.length) lines.push(...records.silent.map((name) => ({ link: null, name, how: IDLE, why: `no LACPDU is in the file ${name}: neither end sends on that link` })));
     return [IDLE, CARRIES_APART, UNKNOWN, CARRIES].flatMap((how) => lines.filter((it) => it.how === how));
@@ -82,23 +100,34 @@ export const howManyCarry = (carry, all) => `${carry} of ${counted(all, "link")}
 export const FLOW = "One flow has the speed of one link: the hash chooses it.";
 const ONE = "It is one link: of a bundle capture all links, since keys and partners are compared between them.";
 
+/* That all links carry: since when, where it was not so before, and what was the cause; else of one link, or of a bundle. */
+function ofHealthy(all, causes) {
+    const past = causes.filter(({ kind }) => kind === PAST), links = all === 1 ? "The link carries" : `${all} links carry`, cause = past.find((it) => it.wasFault);
+    const since = past.length ? `, since ${roundedSeconds(Math.max(...past.map((it) => it.until)))}` : "";
+    if (cause) return [`${links}, both ways${since}. Before, ${cause.title}.`, ""];
+    const twins = causes.find(({ kind, rule }) => kind === REMARK && rule === null);
+    if (twins) return [`${links}, both ways${since}. ${capitalized(twins.title)}: right if they are an MLAG pair.`, ""];
+    return [all === 1 ? `${links}, both ways${since}. ${ONE}` : `${links}, both ways${since}: LACP is not your trouble. ${FLOW}`, "good"];
+}
+
 /* The headline: how many links carry, and the first cause; with how it looks. */
 export function headlineOf(lines, causes) {
-    const [cause] = causes.filter(({ kind }) => kind === FAULT), carry = lines.filter(({ how }) => how === CARRIES).length, all = lines.length;
-    const head = howManyCarry(carry, all), more = causes.filter(({ kind }) => kind === FAULT).length - 1;
+    const [cause] = causes.filter(({ kind }) => kind === FAULT), all = lines.length, apart = lines.filter(({ how }) => how === CARRIES_APART).length;
+    const carry = apart + lines.filter(({ how }) => how === CARRIES).length, more = causes.filter(({ kind }) => kind === FAULT).length - 1;
+    const head = `${howManyCarry(carry, all)}${apart && carry > 1 ? `, ${apart === all ? "each by itself" : `${apart} of them apart`}` : ""}`;
     if (cause) return [`${all ? `${head}. ` : ""}${capitalized(cause.title)}${more ? `, and ${counted(more, "more cause")}` : ""}.`, "bad"];
     if (!all) return ["", ""];
     const idle = lines.find(({ how, isVague }) => how === IDLE && !isVague);
     if (idle) return [`${head}. ${capitalized(idle.why)}; ${CAUSELESS}`, ""];
-    if (carry < all) return [`${head}. No cause is in this capture: ask both ends, and capture all links.`, ""];
+    if (carry - apart < all) return [`${head}. No cause is in this capture: ask both ends, and capture all links.`, ""];
     if (causes.some(({ kind }) => kind === EFFECT)) return [`${all === 1 ? "The link carries" : `${all} links carry`}, both ways, at the end.`, ""];
-    return [all === 1 ? `The link carries, both ways. ${ONE}` : `${all} links carry, both ways: LACP is not your trouble. ${FLOW}`, "good"];
+    return ofHealthy(all, causes);
 }
 
 /* How many causes, effects and remarks there are, and at how many places. */
 export function countsOf(causes) {
-    const effects = causes.flatMap((it) => it.effects), kinds = [FAULT, EFFECT, REMARK];
+    const effects = causes.flatMap((it) => it.effects), kinds = [FAULT, EFFECT, PAST, REMARK];
     const all = kinds.map((kind) => [[...causes, ...effects].filter((it) => it.kind === kind).length, kind]).filter(([number]) => number);
     const places = causes.reduce((sum, it) => sum + it.whole.length, 0);
-    return all.length ? `${all.map(([number, kind]) => counted(number, kind)).join(", ")}, at ${counted(places, "place")}` : "";
+    return all.length ? `${all.map(([number, kind]) => counted(number, kind)).join(", ")}${places ? `, at ${counted(places, "place")}` : ""}` : "";
 }

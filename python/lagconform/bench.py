@@ -249,6 +249,8 @@ class Bench:
     def stands(self, link: int) -> str:
         """What the device told last on a link, where that is not what it should be."""
         pdu = self.device(link)
+        if pdu.actor.system.mac in {it.partner.me.system.mac for it in self.links.values()}:
+            return f"link {link}: our own LACPDUs come back: it is looped back, or joined to another link of the bench"
         if self.carries(link) and not self.names_us(link):
             return f"link {link}: it names another partner, {end(pdu.partner)}, and has to name {end(self.partner(link).me.info)}"
         return f"link {link}: {end(pdu.actor)}"

@@ -27,6 +27,26 @@ class Passive(Device):
     active = False
 
 
+class SpokenTo(Passive):
+    """Is passive, and behind a link that comes up it says nothing before it is spoken to."""
+
+    def __init__(self) -> None:
+        super().__init__()
+        self.heard: dict[int, bool] = {}
+
+    def link(self, link: int, up: bool) -> None:
+        self.heard[link] = False
+        super().link(link, up)
+
+    def hears(self, port: int, frame: bytes) -> Iterable[bytes]:
+        self.heard[port] = True
+        yield frame
+
+    def says(self, port: int, frame: bytes) -> Iterable[bytes]:
+        if self.heard.get(port, True):
+            yield frame
+
+
 class PassiveOfLongTimeouts(Device):
     """Is passive, and asks for long timeouts."""
 
@@ -103,7 +123,7 @@ class Doubled(Device):
         yield frame
 
 
-KINDS = [LongTimeouts, Passive, PassiveOfLongTimeouts, Individual, Independent, AtTicks, LongTicks, OneSource, SecondVersion, Doubled]
+KINDS = [LongTimeouts, Passive, SpokenTo, PassiveOfLongTimeouts, Individual, Independent, AtTicks, LongTicks, OneSource, SecondVersion, Doubled]
 
 
 def play(kind: Type[Device], tests: Sequence[Case], phase: float = 0.037) -> list[Result]:

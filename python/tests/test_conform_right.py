@@ -75,6 +75,21 @@ def test_oam_and_esmc_are_no_faulty_lacpdus() -> None:
         play(Others)
 
 
+class Reflects(Device):
+    """A link that is looped back: what the bench sends comes back to it."""
+
+    def take(self, link: int, frame: bytes) -> None:
+        self.send(link, frame)
+
+    def tick(self) -> None:
+        """Says nothing by itself."""
+
+
+def test_a_link_that_is_looped_back_is_told() -> None:
+    found = play(Reflects, "RX-01")[-1]
+    assert found.verdict == INCONCLUSIVE and "our own LACPDUs come back: it is looped back" in found.why, found.why
+
+
 class Refuses(World):
     """A link that refuses what names another key, but tells it."""
 

@@ -1,25 +1,27 @@
 /* lagtool explain FILE..: the first lines of docs/try.html as text, of captures (several links at once) or of what systems print: a headline, a line
  * a link, then the causes, each with what to do and what follows from it. It reads a capture into memory. The findings are those of the module of
- * docs/try.html; the order, the advice and what is read out of a status are not proved. The status is 0 where no cause is found, 1 where one is,
+ * docs/try.html; the order, the advice and what is read out of a status are not proved. The status is 0 where no cause holds still, 1 where one does,
  * 2 where a file cannot be read. */
-import { openAsBlob, readFileSync } from "node:fs";
+import { accessSync, constants, openAsBlob, readFileSync } from "node:fs";
 import { basename } from "node:path";
 import { Lagtool } from "../../page/module.js";
 import { bundlesOf, Records } from "../../page/records.js";
-import { causesOf, FAULT } from "../../page/causes.js";
+import { causesOf, FAULT, titleOf } from "../../page/causes.js";
 import { countsOf, headlineOf, linesOf, textOfLine } from "../../page/summary.js";
-import { lookedAt, merged } from "../../page/files.js";
+import { captureFrom } from "../../page/files.js";
+import { areJoined } from "../../page/cases.js";
 import { statusIn } from "../../page/status.js";
 import { foundIn } from "../../page/implied.js";
 import { causesOfTexts, headlineOfTexts, linesOfTexts } from "../../page/standing.js";
 
 const PAGE = new URL("../../docs/try.html", import.meta.url), MODULE = /<script type="application\/x-base64" id="module">([^<]*)</;
+const ERRORS = { ENOENT: "no such file", EACCES: "permission denied", EISDIR: "is a folder" };
 const MOST_PLACES = 3, MOST_TEXT = 16000000;
 
 /* Causes as text: what, what to do, what is seen, some places, and what follows. */
 function* textOfCause(cause, number, placeOf) {
-    const rule = cause.rule ? ` (rule ${cause.rule}, ${cause.clause})` : "", kind = cause.kind === FAULT ? "" : `${cause.kind}: `;
-    yield `${number}. ${kind}${cause.title}${rule}`;
+    const rule = cause.rule ? ` (rule ${cause.rule}, ${cause.clause})` : "";
+    yield `${number}. ${titleOf(cause)}${rule}`;
     if (cause.advice) yield `   ${cause.advice}${cause.unexplained ? ` ${cause.unexplained}` : ""}`;
     for (const it of cause.lines) yield `   ${it}`;
     for (const it of (cause.findings ?? []).slice(0, MOST_PLACES)) yield `   at ${it.at.name}, ${placeOf(it.packet)}${it.seconds === null ? "" : `, ${it.seconds.toFixed(6)} s`}`;
@@ -28,18 +30,22 @@ function* textOfCause(cause, number, placeOf) {
     if (cause.effects.length) yield `   likely effects: ${cause.effects.map((it) => it.title).join("; ")}`;
 }
 
-const textOfAll = ({ headline, lines, counts, causes, placeOf = String }) => [
-    headline, ...lines.map((it) => `  ${textOfLine(it)}`), ...counts ? [counts] : [], ...causes.flatMap((it, number) => [...textOfCause(it, number + 1, placeOf)]),
+const textOfAll = ({ headline, lines, note, counts, causes, placeOf = String }) => [
+    headline, ...lines.map((it) => `  ${textOfLine(it)}`), ...note ? [note] : [], ...counts ? [counts] : [], ...causes.flatMap((it, number) => [...textOfCause(it, number + 1, placeOf)]),
 ].join("\n");
 
-async function ofCaptures(lagtool, files) {
-    const looked = files.length === 1 ? await lookedAt(files[0]) : null, given = looked && !looked.cut ? { capture: files[0], ...looked, faults: [], silent: [] } : await merged(files);
-    const { printed, said } = lagtool.capture(new Uint8Array(await given.capture.arrayBuffer()), { json: true }), records = new Records();
-    Object.assign(records, { names: given.names, silent: given.silent, places: files.length > 1 ? given.places : new Map() });
+async function recordsOf(lagtool, files, isJoined = false) {
+    const given = await captureFrom(files, isJoined), { printed, said } = lagtool.capture(new Uint8Array(await given.capture.arrayBuffer()), { json: true }), records = new Records();
+    Object.assign(records, { names: given.names, silent: given.silent, places: given.places, numbers: given.numbers });
     records.addLines(printed);
+    return !isJoined && areJoined(records) ? recordsOf(lagtool, files, true) : { ...given, said, records };
+}
+
+async function ofCaptures(lagtool, files) {
+    const { records, said, faults, note } = await recordsOf(lagtool, files);
     const bundles = bundlesOf(records), causes = causesOf(records, bundles), lines = linesOf(records, bundles), [found] = headlineOf(lines, causes);
     const headline = found || "No LACPDU is in this capture: capture the members of the bond (eth0, eth1), not the bond; look whether LACP is on.";
-    return { headline, lines, causes, counts: countsOf(causes), said: [...given.faults, said].filter(Boolean).join("\n"), placeOf: (packet) => records.placeOf(packet) };
+    return { headline, lines, note, causes, counts: countsOf(causes), said: [...faults, said].filter(Boolean).join("\n"), placeOf: (packet) => records.placeOf(packet) };
 }
 
 async function ofTexts(lagtool, texts) {
@@ -48,17 +54,19 @@ async function ofTexts(lagtool, texts) {
     return { headline, lines, causes, said: texts.some((text) => text.bundles.some((it) => it.isCut)) ? headline : "" };
 }
 
-/* A file: a status, or a capture by its name. */
+/* A file, or for - standard input: a status, or a capture by its name. */
 async function opened(path) {
-    const file = Object.assign(await openAsBlob(path), { name: basename(path) });
-    const text = file.size > MOST_TEXT ? "\0" : readFileSync(path, "utf8");
+    const octets = path === "-" ? readFileSync(0) : null;
+    if (!octets) accessSync(path, constants.R_OK); // it says which error it is
+    const file = Object.assign(octets ? new Blob([octets]) : await openAsBlob(path), { name: octets ? "standard input" : basename(path) });
+    const text = file.size > MOST_TEXT ? "\0" : (octets ?? readFileSync(path)).toString("utf8");
     return { file, status: text.includes("\0") ? null : statusIn(text), isText: !text.includes("\0") && text.trim() !== "" };
 }
 
 async function main(paths) {
     if (!paths.length) throw new Error("lagtool explain FILE..: captures, or what systems print of LACP; of both ends the other one second");
     const lagtool = await Lagtool.of(Buffer.from(MODULE.exec(readFileSync(PAGE, "latin1"))[1], "base64")), files = [];
-    for (const path of paths) files.push(await opened(path).catch((error) => { throw new Error(`cannot read ${path}: ${error.message}`); }));
+    for (const path of paths) files.push(await opened(path).catch((error) => { throw new Error(`cannot read ${path}: ${ERRORS[error.code] ?? error.message}`); }));
     const texts = files.map((it) => it.status).filter(Boolean), unknown = files.findIndex((it) => !it.status && it.isText);
     if (unknown >= 0) throw new Error(`cannot read ${paths[unknown]}: neither a capture nor a known status`);
     if (texts.length && texts.length < files.length) throw new Error("captures and texts are explained apart");

@@ -253,7 +253,7 @@ def other_bits(b: Bench) -> None:
 
 
 @group.test("13", "6.4.12 (PORT_DISABLED)", "The link goes down and comes back", "carry", "take the link down for 1.5 s (--flap, or the hook)",
-            rule="the first LACPDU after it is Expired or Defaulted, and neither collects nor distributes; it carries again within 6 s",
+            rule="the first LACPDU after it neither collects nor distributes, and is Expired or Defaulted if the device speaks first; it carries again within 6 s",
             takes=5, hooks=("down", "up"), causes=("RX-02",))  # fmt: skip
 def link_down(b: Bench) -> None:
     """In PORT_DISABLED partner Synchronization is false, and the link comes back by EXPIRED."""
@@ -264,13 +264,16 @@ def link_down(b: Bench) -> None:
     b.silence()
     mark = b.mark()
     b.link_goes(1, True)
-    seen = b.first(1, mark, lambda _: True, 4)
+    seen = first = b.first(1, mark, lambda _: True, 4)
+    b.partner().speak()
+    if not first:  # a passive device speaks when it is spoken to
+        seen = b.first(1, mark, lambda _: True, 4)
     if not seen or not seen.lacpdu:
         raise Stop("no LACPDU after the link came back")
     told = seen.lacpdu.actor
     b.holds(not told.state & CARRIES, f"the first one does not carry: {end(told)}", seen)
-    b.holds(told.state & (State.EXPIRED | State.DEFAULTED), "and is Expired (or on defaults)", seen)
-    b.partner().speak()
+    if first:
+        b.holds(told.state & (State.EXPIRED | State.DEFAULTED), "and is Expired (or on defaults)", seen)
     again = b.first(1, mark, carries, 6)
     b.holds(again, "it carries again", again)
 

@@ -17,9 +17,10 @@ class Party(NamedTuple):
     key: int
     port: int
     state: int
+    priority: int = 32768
 
     def octets(self) -> bytes:
-        return struct.pack(">H6sHHHB3x", 32768, bytes([2, 0, 0, 0, 0, self.system]), self.key, 255, self.port, self.state)
+        return struct.pack(">H6sHHHB3x", self.priority, bytes([2, 0, 0, 0, 0, self.system]), self.key, 255, self.port, self.state)
 
     def source(self) -> bytes:
         return bytes([2, 0, 0, 0, self.system, self.port])
@@ -260,4 +261,38 @@ def slow(path: str) -> None:
     one, other, lost = Party(1, 7, 1, FAST), Party(2, 8, 1, FAST), Party(1, 7, 1, EXPIRED)
     packets = [(second + 0.004, frame(other.source(), lacpdu(other, one._replace(state=UP)))) for second in range(0, 100, 30)]
     packets += [(float(second), frame(one.source(), lacpdu(one if second % 30 < 4 else lost, other))) for second in range(0, 100) if second % 30 < 8]
+    pcap(path, sorted(packets))
+
+
+def often(path: str) -> None:
+    """System 2 sends each 3.2 s, where short timeouts are asked for: it answers the end that lost it."""
+    one, other, lost = Party(1, 7, 1, FAST), Party(2, 8, 1, FAST), Party(1, 7, 1, EXPIRED)
+    packets = [(turn * 3.2, frame(other.source(), lacpdu(other, one))) for turn in range(30)]
+    for turn in range(30):
+        packets += [(turn * 3.2 + it, frame(one.source(), lacpdu(one, other))) for it in (0.1, 1.1, 2.1)]
+        packets.append((turn * 3.2 + 3.1, frame(one.source(), lacpdu(lost, other))))
+    pcap(path, sorted(packets))
+
+
+def behind(path: str) -> None:
+    """Two links of one time, one behind the other; system 2 has two keys."""
+    whole: list[tuple[float, bytes]] = []
+    for port, key in (1, 10), (2, 20):
+        whole += exchange(Party(1, 7, port, FAST), Party(2, key, port, FAST), (second + port / 10 for second in range(10)))
+    pcap(path, whole)
+
+
+def between(path: str) -> None:
+    """System 1 has two bundles, to the systems 2 and 3: the second link and the third one are crossed."""
+    packets: list[tuple[float, bytes]] = []
+    for port, (key, system, far) in enumerate([(10, 2, 1), (10, 3, 1), (20, 2, 2), (20, 3, 2)], 1):
+        packets += exchange(Party(1, key, port, FAST), Party(system, 8, far, FAST), (second + port / 100 for second in range(20)))
+    pcap(path, sorted(packets))
+
+
+def priorities(path: str) -> None:
+    """Both links of system 1 lead to one address, by two system priorities."""
+    packets: list[tuple[float, bytes]] = []
+    for port, priority in (1, 32768), (2, 65535):
+        packets += exchange(Party(1, 7, port, FAST), Party(2, 8, port, FAST, priority), (second + port / 100 for second in range(20)))
     pcap(path, sorted(packets))

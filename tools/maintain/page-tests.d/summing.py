@@ -3,7 +3,7 @@
 from __future__ import annotations
 
 import os
-from typing import Callable
+from typing import Any, Callable
 
 import made
 from browser import Browser
@@ -11,7 +11,7 @@ from stored import Tests
 
 LINES = "[...document.querySelectorAll('#lines > li')].map((it) => it.textContent)"
 HEADLINE = "document.getElementById('verdict').textContent"
-CAUSES = "[...document.querySelectorAll('#findings > li > strong')].map((it) => it.firstChild.textContent)"
+CAUSES = "[...document.querySelectorAll('#findings > li')].map((it) => it.querySelector('strong, summary').firstChild.textContent)"
 ADVICE = "[...document.querySelectorAll('#findings > li > span')].map((it) => it.textContent).join(' ')"
 HASH = "LACP is not your trouble. One flow has the speed of one link: the hash chooses it."
 SYSTEM = "02-00-00-00-00-0"
@@ -24,15 +24,17 @@ def link(port: int, said: str) -> str:
 
 def of_summaries(tests: Tests, browser: Browser, folder: str) -> None:
     of_keys(tests, browser, folder)
+    of_crossing(tests, browser, folder)
     of_ends(tests, browser, folder)
     of_files(tests, browser, folder)
     of_many(tests, browser, folder)
     of_unreadable(tests, browser, folder)
 
 
-def said_of(browser: Browser, path: str) -> list[object]:
+def said_of(browser: Browser, path: str) -> list[Any]:
+    """The headline, the titles of the causes, and the lines of the links."""
     browser.choose(path)
-    said: list[object] = browser.value(f"[{HEADLINE}, {CAUSES}, {LINES}]")
+    said: list[Any] = browser.value(f"[{HEADLINE}, {CAUSES}, {LINES}]")
     return said
 
 
@@ -48,12 +50,33 @@ def of_keys(tests: Tests, browser: Browser, folder: str) -> None:
     made.keyed(path, [(10, 10), (10, 20), (20, 10), (20, 20), (10, 10), (20, 20)])
     crossed = "cables of two bundles are crossed, or a port is in the group of another link"
     astray = [link(port, f"carries apart, both ways: it joins key {keys}: a cable or a port's group is wrong") for port, keys in ((2, "10 to key 20"), (3, "20 to key 10"))]
-    wanted = [f"4 of 6 links carry. C{crossed[1:]}.", [f"C{crossed[1:]}"], [*astray, *(link(port, up) for port in (1, 4, 5, 6))]]
+    wanted = [f"6 of 6 links carry, 2 of them apart. C{crossed[1:]}.", [f"C{crossed[1:]}"], [*astray, *(link(port, up) for port in (1, 4, 5, 6))]]
     tests.same("crossed cables", said_of(browser, path), wanted)
     tests.same("it says which far ends to swap", "Swap the far ends of ports 2-2 and ports 3-3;" in browser.value(ADVICE), True)
     made.keyed(path, [(10, 10), (10, 10), (20, 20), (20, 20), (10, 20)])
     said_of(browser, path)
     tests.same("one cable astray", "Look where ports 5-5 ends: it joins a group to one that is another bundle's." in browser.value(ADVICE), True)
+
+
+def of_crossing(tests: Tests, browser: Browser, folder: str) -> None:
+    """Cables that cross between three systems; captures one behind the other; a partner that sends a bit too seldom; both ends of a link in a file each."""
+    path = os.path.join(folder, "crossing.pcap")
+    made.between(path)
+    headline, causes, _ = said_of(browser, path)
+    crossed = "ables of two bundles are crossed, or a port is in the group of another link"
+    tests.same("cables crossed between two switches", [headline, causes], [f"4 of 4 links carry, each by itself. C{crossed}.", [f"C{crossed}"]])
+    swaps = "Swap the far ends of ports 2-1 and ports 3-2, or swap the far ends of ports 1-1 and ports 4-2;"
+    tests.same("it says which far ends to swap there", swaps in browser.value(ADVICE), True)
+    made.priorities(path)
+    headline, causes, _ = said_of(browser, path)
+    several = "inks lead to one address with several system priorities"
+    tests.same("one address with two system priorities", [headline, causes], [f"2 of 2 links carry. L{several}.", [f"L{several}"]])
+    made.behind(path)
+    tests.same("captures one behind the other are sorted", said_of(browser, path)[:2], ["2 of 2 links carry, each by itself. Keys differ within one pair of systems.", ["Keys differ within one pair of systems"]])
+    made.often(path)
+    headline, causes, _ = said_of(browser, path)
+    seldom = "An end sends less often than its partner asks"
+    tests.same("a partner that sends each 3.2 s", [headline.split(". ")[1], causes[0]], [f"{seldom}.", seldom])
 
 
 def of_ends(tests: Tests, browser: Browser, folder: str) -> None:
@@ -75,8 +98,8 @@ def of_ends(tests: Tests, browser: Browser, folder: str) -> None:
         "a stranger that hears nobody": (made.stranger, "1 of 2 links carries. A third system speaks on the link, and hears nobody.", ["A third system speaks on the link, and hears nobody"],
                                          [f"{SYSTEM}3 port 5 - nobody: does not carry: nobody answers {SYSTEM}3 port 5", link(1, up)]),
         "a clock that is set back": (made.set_back, "1 of 1 link carries. The clock was set back while it was captured.", ["The clock was set back while it was captured"], [link(1, up)]),
-        "an end that starts anew": (made.restarted, "1 of 1 link carries. An end was silent, and starts anew.",
-                                    ["An end was silent, and starts anew", "Remark: a wait of less than 2 seconds before synchronization"], [link(1, up)]),
+        "an end that starts anew": (made.restarted, "The link carries, both ways, since 51.0 s. Before, an end was silent, and starts anew.",
+                                    ["Until 51.0 s: an end was silent, and starts anew", "Remark: a wait of less than 2 seconds before synchronization"], [link(1, up)]),
         "a partner that sends too seldom": (made.slow, "0 of 1 link carries. An end loses its partner again and again, which sends too seldom.",
                                             ["An end loses its partner again and again, which sends too seldom"], [link(1, f"does not carry: {SYSTEM}1 port 1 hears nobody")]),
         "unequal keys behind a fast start": (made.burst, "1 of 2 links carries. Keys differ within one pair of systems.", ["Keys differ within one pair of systems", "Remark: more than three LACPDUs in a second"],
@@ -105,11 +128,12 @@ def of_files(tests: Tests, browser: Browser, folder: str) -> None:
         made.pcap(path, made.exchange(one, other, (second + port / 10 for second in range(10))))
     browser.begin(*paths)
     shown = browser.shown()
-    ends = "({0}1 port {1} - {0}2 port {1}): carries apart, both ways: {0}2 has key {2} there, and {3} on the link that carries"
+    ends = "({0}1 port {1} - {0}2 port {1}): carries apart, both ways: {0}2 has key {2} there, and {3} on the other link"
     lines = [f"eth{port} {ends.format(SYSTEM, port, key, other)}" for port, key, other in ((1, 10, 20), (2, 20, 10))]
     tests.same("two files are read as one", [shown["name"], *browser.value(f"[{CAUSES}, {LINES}]")], ["eth1.pcap, eth2.pcap", ["Keys differ within one pair of systems"], lines])
     places = browser.value("[...document.querySelectorAll('#findings a')].map((it) => it.textContent)")
     tests.same("a packet is named by its file", [it.split(" packet ")[0] for it in places], ["eth1.pcap", "eth1.pcap"])
+    of_doubled(tests, browser, folder)
     empty = os.path.join(folder, "eth4.pcap")
     made.pcap(empty, [])
     browser.begin(paths[0], empty)
@@ -131,6 +155,20 @@ def of_files(tests: Tests, browser: Browser, folder: str) -> None:
     browser.value("document.querySelectorAll('#links details').forEach((it) => { it.open = true; }), 1")
     browser.settle()
     tests.same("a comment stands at its packet", browser.value("[...document.querySelectorAll('.frames em')].map((it) => it.textContent)"), [" look <b>here"])
+
+
+def of_doubled(tests: Tests, browser: Browser, folder: str) -> None:
+    """Two files that hold one link, at one time and at two: it is one link, and each frame counts once."""
+    one, other = made.Party(1, 7, 1, made.FAST), made.Party(2, 8, 1, made.FAST)
+    packets = made.exchange(one, other, range(20))
+    near, far = (os.path.join(folder, it) for it in ("near.pcap", "far.pcap"))
+    made.pcap(near, packets)
+    for what, part, doubled in ("at one time", packets[4:24], "20 frames stand in several files: they are taken once."), ("at two times", [(time + 20, it) for time, it in packets], ""):
+        made.pcap(far, part)
+        browser.begin(near, far)
+        browser.shown()
+        said = browser.value(f"[{LINES}, document.getElementById('lasts').textContent]")
+        tests.same(f"two files of one link {what}", [said[0], doubled in said[1]], [[f"near ({SYSTEM}1 port 1 - {SYSTEM}2 port 1): carries, both ways"], True])
 
 
 def of_many(tests: Tests, browser: Browser, folder: str) -> None:

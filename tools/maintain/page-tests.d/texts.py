@@ -47,6 +47,17 @@ def of_explain(tests: Tests, browser: Browser) -> None:
         tests.same(f"{row['text']}: explain says the same", explained(*paths), pasted(browser, *map(read, paths))[0])
 
 
+def of_words(tests: Tests) -> None:
+    """lagtool explain reads standard input, and says why a file cannot be read."""
+    words = ["node", os.path.join(TOOLS, "lagtool.d", "explain.mjs")]
+    with open(os.path.join(STATUS, "keys-bonding.txt"), encoding="utf-8") as it:
+        piped = subprocess.run([*words, "-"], stdin=it, capture_output=True, text=True)
+    tests.same("explain reads standard input", [piped.returncode, piped.stdout.partition("\n")[0]], [1, explained(os.path.join(STATUS, "keys-bonding.txt"))])
+    for path, why in (os.path.join(STATUS, "none.txt"), "no such file"), (STATUS, "is a folder"):
+        ended = subprocess.run([*words, path], stdin=subprocess.DEVNULL, capture_output=True, text=True)
+        tests.same(f"explain: {why}", [ended.returncode, ended.stderr], [2, f"lagtool: cannot read {path}: {why}\n"])
+
+
 def of_texts(tests: Tests, browser: Browser) -> None:
     for row in truths():
         text, other = (read(os.path.join(STATUS, row[name])) if row[name] else "" for name in ("text", "other end"))
@@ -57,6 +68,9 @@ def of_texts(tests: Tests, browser: Browser) -> None:
     of_ways(tests, browser)
     of_cuts(tests, browser)
     of_explain(tests, browser)
+    of_words(tests)
+    passive = read(os.path.join(STATUS, "healthy-bonding.txt")).replace("port state: 63", "port state: 62")
+    tests.same("two passive ends do not carry, as in a capture", pasted(browser, passive)[0], "0 of 2 links carry. Both ends are passive: p1, p2.")
     shown = browser.choose(os.path.join(STATUS, "keys-bonding.txt"))
     tests.same("a status that is a file is explained", [shown["status"], browser.value(SAID)[0].split(".")[0]], [1, "1 of 2 links carries"])
     browser.value("document.getElementById('here').value = document.getElementById('there').value = '', 1")

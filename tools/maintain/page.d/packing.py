@@ -13,13 +13,15 @@ from repository import TOP, Missing
 PARTS = os.path.join(TOP, "page")
 # The modules in the order in which each has what it imports.
 SCRIPTS = (
-    "module records causes summary shapes packets files status implied standing fields octets timeline viewing saving capture pasting script report diagram playing payload page"
+    "module records keys cases past causes summary shapes packets files status implied standing fields octets timeline viewing saving capture pasting script report diagram playing payload page"
 ).split()
 EXAMPLES = os.path.join(TOP, "examples")
 EXAMPLE = os.path.join(EXAMPLES, "captures", "unequal-keys.pcapng")
 IMPORT = re.compile(r'^import \{ ([\w, ]+) \} from "\./([\w.]+)";\n', re.M)
 # What a module declares for all of it: names are those of one scope.
 DECLARED = re.compile(r"^(?:export )?(?:async )?(?:class|const|function\*?) (\w+)", re.M)
+# Constants that one line declares behind the first.
+FURTHER = re.compile(r"(?<=, )([A-Z][A-Z_0-9]*)(?= = )")
 # Octets as a data block, lines of them so that tools take the file.
 BLOCK = re.compile(r'<script type="application/x-base64" id="module">([^<]*)</script>')
 WIDE = 120
@@ -41,7 +43,8 @@ def joined() -> str:
             unknown = [it for it in names.split(", ") if it not in known]
             if unknown or source.removesuffix(".js") not in SCRIPTS[: SCRIPTS.index(name)]:
                 raise Missing(f"page/{name}.js imports {', '.join(unknown) or source}, and no module before it has that")
-        own = set(DECLARED.findall(text))
+        further = (FURTHER.findall(it) for it in re.findall(r"^(?:export )?const .*", text, re.M))
+        own = set(DECLARED.findall(text)).union(*further)
         if taken & own:
             raise Missing(f"page/{name}.js declares what a module before it does: {', '.join(sorted(taken & own))}")
         taken |= own
