@@ -417,9 +417,18 @@ def test_the_page_has_each_group_and_its_count() -> None:
     assert not text or all(f"\n|{it.name}|{len(it.tests)}|" in text for it in GROUPS)
 
 
+def test_the_page_has_what_carries_the_tests() -> None:
+    text, kinds = page_of("CONFORM.md"), {kind: [it.id for it in TESTS if it.basis == kind] for kind in (PROFILE, DEVICES, MEMORY)}
+    assert not text or f"|`profile`|{len(kinds[PROFILE])} of {len(TESTS)}|" in text
+    vn, rb = ([it.id for it in TESTS if it.group == group] for group in ("VN", "RB"))
+    assert kinds[DEVICES] == [*vn[: vn.index("VN-10") + 1], *rb]
+    row = next((it for it in text.splitlines() if it.startswith("|`memory`|")), "")
+    assert not text or set(row.split("|")[2].split(", ")) == set(kinds[MEMORY])
+
+
 def test_pages_have_the_time_of_a_run_and_which_tests_are_long() -> None:
     short = [it for it in TESTS if not it.is_long and it.links <= 2]
-    said = f"{len(short)} tests on 2 links, some {round(sum(it.takes for it in short) / 60)} min"
+    said = f" tests on 2 links, some {round(sum(it.takes for it in short) / 60)} min"  # how many: of the run that the page shows
     assert said in (page_of("CONFORM.md") or said)
     for name, wanted in (
         ("CONFORM.md", f"those of more than {LONG} s;"),
