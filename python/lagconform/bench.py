@@ -4,7 +4,7 @@ from __future__ import annotations
 
 import random
 from contextlib import contextmanager, suppress
-from typing import Callable, Iterator, Optional, Sequence, cast
+from typing import Callable, Iterator, Mapping, Optional, Sequence, cast
 
 from niwhopera import Lacpdu, Mac, MarkerKind, State
 
@@ -64,6 +64,8 @@ class Bench:
         self.flood = ""
         # Which of our six parameters the device tells wrong, by the tests before: the others go by the rest.
         self.mistold: set[str] = set()
+        # What the device claims of itself (--pics).
+        self.claimed: Mapping[str, bool] = {}
 
     def close(self) -> None:
         """Gives back what the partners have, and the links."""
@@ -286,7 +288,7 @@ class Bench:
         """Has the device do something; the test is skipped where there is no hook, or where it does not know these words."""
         began, answer = self.now(), self.ask(*words)
         if answer.status:
-            raise NotHere(f"the hook does not do: {' '.join(words)}: {answer.said.strip()[-200:]}")
+            raise NotHere(answer.refusal(words))
         self.events.append((began, words))
 
     def ask(self, *words: str) -> Answer:

@@ -9,8 +9,9 @@ from .model import FAIL, Result
 
 # What is late by the same time, within so many seconds, has one cause, if so many tests have it, and few are late by another.
 ALIKE, LATE_TESTS, SHARE = 0.15, 3, 0.8
-# A device that sends fewer than three LACPDUs a second is late wherever much happens, but not in these tests, which ask a quiet one.
-FEW, ASK_QUIET = "TX-09", ("TX-02", "TX-03", "TX-06")
+# A device that sends fewer than three LACPDUs a second, of all links together or of one, is late wherever much happens, but not in these tests, which
+# ask a quiet one.
+FEW, ASK_QUIET = ("TX-09", "TX-11"), ("TX-02", "TX-03", "TX-06")
 # A device that does not stay up beside the engine is right in no test that needs the link; these look at other things, or at the reason.
 STAYS, APART = "EN-01", ("FM", "EN", "IV", "RX-04", "PT-01")
 # Where some LACPDUs can't be read, no test sees what the device tells in them.
@@ -57,7 +58,7 @@ def above(it: Result, failed: dict[str, Result]) -> list[str]:
     test = it.test
     unread = [name for name in FORMS if name in failed and UNREAD in failed and test.group != "FM"]
     named = [name for name in test.causes if name in failed and name != test.id]
-    few = [FEW] if lateness(it) is not None and FEW in failed and test.id != FEW else []
+    few = [name for name in FEW if lateness(it) is not None and name in failed and test.id not in FEW]
     stays = [STAYS] if STAYS in failed and test.group not in APART and test.id not in APART else []
     return unread or named or of_kind(test.id, failed) or few or stays
 
@@ -79,7 +80,7 @@ def grouped(results: Sequence[Result]) -> list[Cause]:
     explains."""
     failed = {it.test.id: it for it in results if it.verdict == FAIL}
     late = late_alike(failed)
-    rest = {name: it for name, it in failed.items() if not late or lateness(it) is None and name != FEW}
+    rest = {name: it for name, it in failed.items() if not late or lateness(it) is None and name not in FEW}
     found: list[Cause] = []
     if late:
         text = f"what the device tells comes {min(late):.2f} to {max(late):.2f} s late"

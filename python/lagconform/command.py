@@ -21,7 +21,7 @@ from .groups import GROUPS, TESTS
 from .listing import as_markdown, as_text
 from .memory import World, loaded
 from .model import FAIL, INCONCLUSIVE, PASS, NotHere, Result, Test
-from .options import check_words, reader, selected
+from .options import MEMORY_LINKS, check_words, reader, selected
 from .page import as_html
 from .refusals import MOST_LINKS, Refused, check_interfaces
 from .report import Run
@@ -37,15 +37,15 @@ TITLES = {it.name: it.title for it in GROUPS}
 class Progress:
     """What the terminal shows while tests run: each result, and the time that is left."""
 
-    def __init__(self, tests: Sequence[Test], repeat: int = 1) -> None:
-        self.left, self.repeat, self.results = list(tests), repeat, list[Result]()
+    def __init__(self, tests: Sequence[Test], repeat: int = 1, waits: bool = True) -> None:
+        self.left, self.repeat, self.waits, self.results = list(tests), repeat, waits, list[Result]()
         self.terminal = sys.stderr.isatty()
 
     def show(self) -> None:
         """The test that runs, and how long the rest takes."""
         if self.terminal and self.left:
             seconds = int(sum(it.takes for it in self.left) * self.repeat)
-            told = f"{self.left[0].id}, {len(self.left)} tests left, {seconds // 60}:{seconds % 60:02d}"
+            told = f"{self.left[0].id}, {len(self.left)} tests left" + (f", {seconds // 60}:{seconds % 60:02d}" if self.waits else "")
             print(f"\r\033[K{told}", end="", file=sys.stderr, flush=True)
 
     def add(self, it: Result) -> None:
@@ -73,10 +73,10 @@ def write_all(given: argparse.Namespace, run: Run) -> bool:
     b = run.bench
     comments = report.comments(run.results)
     files: list[tuple[Optional[str], Callable[[], bytes]]] = [
-        (given.json, lambda: report.as_json(run).encode()),
+        (given.json, lambda: report.as_json(run, TESTS).encode()),
         (given.junit, lambda: junit.as_junit(run).encode()),
         (given.tap, lambda: junit.as_tap(run).encode("utf-8", "replace")),
-        (given.matrix, lambda: matrix.as_markdown(run.results).encode()),
+        (given.matrix, lambda: matrix.as_markdown(run.results, TESTS).encode()),
         (given.report, lambda: as_html(run, TITLES).encode("utf-8", "replace")),
         (given.pcap, lambda: capture.octets(b.wire.started, b.wire.names, b.frames, comments)),
     ]
@@ -89,7 +89,7 @@ def write_all(given: argparse.Namespace, run: Run) -> bool:
 def stand(given: argparse.Namespace) -> Bench:
     """The bench at its links, with a device that speaks."""
     if given.memory:
-        world = World(loaded(given.memory), given.links, time.time())
+        world = World(loaded(given.memory), given.links or MEMORY_LINKS, time.time())
         b = Bench(world, world, given.slack, given.seed)
     else:
         check_interfaces(given.interfaces)
@@ -116,22 +116,21 @@ def prepare_device(given: argparse.Namespace, b: Bench) -> None:
         except NotHere as why:
             raise Refused(str(why)) from why
         if answer.status and words[0] == "set":
-            raise Refused(f"the hook does not do: {' '.join(words)}: {answer.said.strip()[-200:]}")
+            raise Refused(answer.refusal(words))
 
 
 def run_tests(given: argparse.Namespace, b: Bench, tests: Sequence[Test], claimed: dict[str, bool], reasons: dict[str, str]) -> int:
     """Runs the tests and reports them, whatever ends the run; the status."""
     before = taken(given.resume, read_text(given.resume, files.MOST_OF_A_RUN), tests) if given.resume else []
     left = [it for it in tests if it not in [one.test for one in before]]
-    progress, status, ended = Progress(left, given.repeat), 0, ""
+    progress, status, ended = Progress(left, given.repeat, not given.memory), 0, ""
 
     def say(it: Result) -> None:
         known.mark([it], reasons)
         progress.add(it)
 
     try:
-        minutes = max(1, round(sum(it.takes for it in left) * given.repeat / 60))
-        print(f"{len(left)} tests on {len(b.links)} link{'s' if len(b.links) > 1 else ''}, some {minutes} min", flush=True)
+        print(beginning(given, left, len(b.links)), flush=True)
         progress.show()
         run_all(b, left, say, claimed, given.keep_going, given.repeat)
     except KeyboardInterrupt:
@@ -150,6 +149,13 @@ def run_tests(given: argparse.Namespace, b: Bench, tests: Sequence[Test], claime
         results = sorted([*before, *progress.results], key=lambda it: tests.index(it.test))
         told = {**about(given, b, results), **({"incomplete": f"{ended}; {len(results)} of {len(tests)} tests ran"} if ended else {})}
         return finish(given, Run(b, told, results, shadow, given.strict), reasons, status, bool(ended))
+
+
+def beginning(given: argparse.Namespace, tests: Sequence[Test], links: int) -> str:
+    """How many tests run, and how long; in memory no time passes that anybody waits for."""
+    minutes = max(1, round(sum(it.takes for it in tests) * given.repeat / 60))
+    times = f", each {given.repeat} times" if given.repeat > 1 else ""
+    return f"{len(tests)} tests on {links} link{'s' if links > 1 else ''}{times}" + ("" if given.memory else f", some {minutes} min")
 
 
 def compared(b: Bench) -> Optional[Shadow]:
@@ -197,7 +203,8 @@ def main(words: Optional[Sequence[str]] = None) -> int:
         if given.list:
             return listed(given)
         check_words(given)
-        tests = selected(given.only, given.long, given.links if given.memory else max(1, len(given.interfaces)), given.left_out)
+        links = given.links or MEMORY_LINKS if given.memory else max(1, len(given.interfaces))
+        tests = selected(given.only, given.long or bool(given.memory), links, given.left_out)
         claimed = pics.parsed(read_text(given.pics)) if given.pics else {}
         reasons = known.parsed(read_text(given.known), (it.id for it in TESTS)) if given.known else {}
         if given.resume:

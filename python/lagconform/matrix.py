@@ -38,10 +38,22 @@ def worst(results: Sequence[Result]) -> str:
     return next(it for it in WORST if it in there)
 
 
-def as_markdown(results: Sequence[Result]) -> str:
-    """The matrix as a table of Markdown."""
+def not_run(clause: str, own: Sequence[Result], tests: Iterable[Test]) -> list[str]:
+    """The tests of a clause that did not run."""
+    ran = {it.test.id for it in own}
+    return [it.id for it in tests if clause in clauses(it) and it.id not in ran]
+
+
+def cell(it: Result) -> str:
+    """A test in the matrix."""
+    return it.test.id if it.verdict == PASS else f"{it.test.id} ({it.verdict}{', known' if it.known else ''})"
+
+
+def as_markdown(results: Sequence[Result], tests: Sequence[Test]) -> str:
+    """The matrix of these results, of all tests that there are, as a table of Markdown."""
     out = ["| clause | verdict | tests |", "|---|---|---|"]
     for clause, verdict, own in rows(results):
-        told = ", ".join(it.test.id if it.verdict == PASS else f"{it.test.id} ({it.verdict})" for it in own)
-        out.append(f"| {clause} | {verdict} | {told} |")
+        left = not_run(clause, own, tests)
+        told = ", ".join([*map(cell, own), *(f"{it} (not run)" for it in left)])
+        out.append(f"| {clause} | {verdict}{f', {len(own)} of {len(own) + len(left)} tests ran' if left else ''} | {told} |")
     return "\n".join(out) + "\n"

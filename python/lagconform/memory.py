@@ -7,7 +7,6 @@ the time, and sends frames.
 
 from __future__ import annotations
 
-import ctypes
 import runpy
 import traceback
 from collections import deque
@@ -16,6 +15,7 @@ from typing import Any, Deque, Iterator, Optional, Sequence
 
 from niwhopera import Mac
 
+from .child import NEEDED, Child
 from .pdus import COUNT_AT, DATA, SENDERS
 from .refusals import Refused
 from .wires import Answer, Arrival, Gone
@@ -89,27 +89,31 @@ class Stack:
 
     # What the world calls.
 
+    def leave(self) -> None:
+        """The run is over, and nothing is called any more."""
+
     def pass_time(self) -> None:
         """A tick is due."""
         self.due += self.tick_seconds
         self.tick()
 
-    def do(self, words: Sequence[str]) -> int:
-        """What a hook asks for; the status."""
+    def do(self, words: Sequence[str]) -> Answer:
+        """Does what a hook is asked for."""
+        name = {"up": "link", "down": "link"}.get(words[0], words[0])
         try:
-            if words[0] == "stop":
+            if name == "stop":
                 self.stop()
-            elif words[0] == "start":
+            elif name == "start":
                 self.start()
-            elif words[0] in ("up", "down"):
+            elif name == "link":
                 self.link(int(words[1]), words[0] == "up")
-            elif words[0] == "data":
+            elif name == "data":
                 self.data(words[1] == "start")
-            elif words[0] != "reset":
-                return UNKNOWN
+            elif name != "reset":
+                return Answer(UNKNOWN, "", "stack")
         except NotImplementedError:
-            return UNKNOWN
-        return 0
+            return Answer(UNKNOWN, f"it has no function `{name}`", "stack")
+        return Answer(0, "", "stack")
 
 
 @contextmanager
@@ -117,6 +121,8 @@ def calling() -> Iterator[None]:
     """Tells what a stack raises: it is no fault of the bench, and no test goes on without the stack."""
     try:
         yield
+    except Gone:
+        raise
     except Exception as why:
         raise Gone(f"the stack broke by {type(why).__name__}\n{traceback.format_exc(limit=-3)}") from why
 
@@ -132,8 +138,17 @@ class World:
         self.counts = dict.fromkeys(range(1, links + 1), 0)
         self.device = device
         device.world = self
-        with calling():
-            device.start()
+        try:
+            with calling():
+                device.start()
+        except BaseException:
+            device.leave()
+            raise
+
+    @property
+    def silence(self) -> str:
+        """The usual causes where nothing comes."""
+        return "the stack does not call send, or with a number of no link; what it sends has another EtherType than 8809; its ports begin disabled"
 
     def now(self) -> float:
         """The second of the run."""
@@ -161,6 +176,7 @@ class World:
         """Ends the stack, if it can."""
         with suppress(Exception):
             self.device.stop()
+        self.device.leave()
 
     def wait(self, seconds: float) -> list[Arrival]:
         """Moves the clock to the next frame, or so far."""
@@ -194,69 +210,69 @@ class World:
 class Done:
     """A hook that has ended."""
 
-    def __init__(self, status: int) -> None:
-        self.status = status
+    def __init__(self, answer: Answer) -> None:
+        self._answer = answer
 
     def answer(self) -> Answer:
         """What it said."""
-        return Answer(self.status, "")
+        return self._answer
 
     def stop(self) -> None:
         """It has ended."""
 
 
-SEND = ctypes.CFUNCTYPE(None, ctypes.c_void_p, ctypes.c_uint, ctypes.POINTER(ctypes.c_ubyte), ctypes.c_size_t)
-
-
 class Library(Stack):
-    """A stack in a shared library, with the functions of examples/conform/device.h."""
+    """A stack in a shared library, with the functions of examples/conform/device.h, in a process of its own."""
 
     def __init__(self, path: str) -> None:
         super().__init__()
-        self._library = ctypes.CDLL(path)
-        for name in "device_start", "device_take", "device_tick":
-            if not hasattr(self._library, name):
-                raise Refused(f"{path} has no {name}: examples/conform/device.h has what a stack gives")
+        self._child = Child(path)
         self._on = False
+        for name in NEEDED:
+            if name not in self._child.names:
+                self._child.close()
+                raise Refused(f"{path} has no {name}: examples/conform/device.h has what a stack gives")
 
-        def send(_: Any, link: int, frame: Any, size: int) -> None:
-            if self._on:
-                self.send(link, bytes(frame[:size]))
-
-        self._send = SEND(send)  # as long as the library may call it
-
-    def _optional(self, name: str) -> Any:
-        if not hasattr(self._library, name):
+    def _call(self, name: str, number: int = 0, octets: bytes = b"") -> None:
+        if name not in self._child.names:
             raise NotImplementedError
-        return getattr(self._library, name)
+        self._child.call(name, number, octets, self._sent)
+
+    def _sent(self, link: int, frame: bytes) -> None:
+        if self._on:
+            self.send(link, frame)
 
     def start(self) -> None:
         """Calls device_start."""
         self._on = True
-        self._library.device_start(ctypes.c_uint(len(self.links)), self._send, None)
+        self._call("device_start", len(self.links))
 
     def take(self, link: int, frame: bytes) -> None:
         """Calls device_take."""
         if self._on:
-            self._library.device_take(ctypes.c_uint(link), frame, ctypes.c_size_t(len(frame)))
+            self._call("device_take", link, frame)
 
     def tick(self) -> None:
         """Calls device_tick."""
         if self._on:
-            self._library.device_tick()
+            self._call("device_tick")
 
     def stop(self) -> None:
         """Calls device_stop."""
-        self._optional("device_stop")()
+        self._call("device_stop")
         self._on = False
 
     def link(self, link: int, up: bool) -> None:
         """Calls device_link."""
-        self._optional("device_link")(ctypes.c_uint(link), ctypes.c_int(up))
+        self._call("device_link", link << 1 | up)
 
     def data(self, on: bool) -> None:
         """Calls device_data."""
-        self._optional("device_data")(ctypes.c_int(on))
+        self._call("device_data", int(on))
+
+    def leave(self) -> None:
+        """Ends the process."""
+        self._child.close()
 
 
 def loaded(path: str) -> Stack:

@@ -15,6 +15,8 @@ from .model import LONG, Test
 from .refusals import MOST_LINKS, Refused
 from .runner import ordered
 
+# So many links a stack in memory has: what each test wants.
+MEMORY_LINKS = 3
 ABOUT = """Tests a device which runs LACP at the far end of one to four cables, by frames alone.
 
 It prints a line for each test, and in the end the count of each verdict. The status is 0 if nothing failed but what --known has, 1 if
@@ -22,7 +24,7 @@ something did (with --strict also if a test came to no answer), 2 if the bench c
 test came to pass or fail, and 130 after SIGINT. It wants CAP_NET_RAW, and the interfaces for itself: in no bond, in no
 bridge, and with no other program that speaks LACP there.
 
-With --memory it wants none of these: the device is a stack in a file, and a run takes seconds.
+With --memory it wants none of these: the device is a stack in a file, and a run of all tests, the long ones too, takes seconds.
 
 The hook is a command that gets words behind it, and ends with status 0 if it did what they say:
 
@@ -81,13 +83,13 @@ def add_reports(it: argparse.ArgumentParser) -> None:
     it.add_argument("--json", metavar="FILE", help="write a JSON file; with --list of the tests")
     it.add_argument("--matrix", metavar="FILE", help="write a table of Markdown: each clause, its verdict and its tests")
     it.add_argument("--pcap", metavar="FILE", help="write the frames of the run as pcapng, whose packet numbers the reports name")
-    it.add_argument("--captures", metavar="FOLDER", help="write the frames of each test into a file of this folder, as RX-02.pcapng")
+    it.add_argument("--captures", metavar="FOLDER", help="write the frames of each test into a file of this folder, as RX-02.pcapng; it is made if it is not there")
 
 
 def add_device(it: argparse.ArgumentParser) -> None:
     """What the device is, claims and does."""
     it.add_argument("--memory", metavar="FILE", help="test a stack in memory, without links: a file of Python with a class Device, or a shared library")
-    it.add_argument("--links", metavar="N", type=links, default=2, help="with --memory: how many links there are, 1 to 4 (2)")
+    it.add_argument("--links", metavar="N", type=links, help=f"with --memory: how many links there are, 1 to 4 ({MEMORY_LINKS})")
     it.add_argument("--pics", metavar="FILE", help=f"what the device claims: lines of yes or no for {', '.join(pics.ITEMS)}")
     it.add_argument("--known", metavar="FILE", help="fails that are known: lines of a test and a reason")
     it.add_argument("--hook", metavar="COMMAND", help="a command that has the device do something, above")
@@ -99,7 +101,7 @@ def add_tests(it: argparse.ArgumentParser) -> None:
     """Which tests run, and how."""
     it.add_argument("--only", metavar="TEST", action="append", help="tests to run, as RX-02 or 'RX-*', also a long one by its name; may be given again")
     it.add_argument("--not", metavar="TEST", action="append", dest="left_out", default=[], help="tests to leave out; may be given again")
-    it.add_argument("--long", action="store_true", help=f"run tests of more than {LONG} s, too")
+    it.add_argument("--long", action="store_true", help=f"run tests of more than {LONG} s, too; with --memory they always run")
     it.add_argument("--repeat", metavar="N", type=times, default=1, help="run each test N times; its verdict is the worst of them")
     it.add_argument("--resume", metavar="FILE", help="take verdicts over from the JSON of a run that ended early, and run the other tests")
     it.add_argument("--strict", action="store_true", help="a test that comes to no answer counts as a fail: in the status, in JUnit and in TAP")
@@ -139,10 +141,14 @@ def check_words(given: argparse.Namespace) -> None:
     for it in given.set:
         if not it.partition("=")[0] or "=" not in it:
             raise Refused(f"--set {it}: it is KEY=VALUE")
+    if given.links and not given.memory:
+        raise Refused("--links wants --memory: a run on cables has the links whose interfaces it is given")
     if given.memory and (given.interfaces or given.hook or given.flap):
         raise Refused("--memory wants no interface, no --hook and no --flap: the stack in the file is the device")
     check_writable([given.json, given.junit, given.tap, given.report, given.matrix, given.pcap])
     if given.captures:
-        if not os.path.isdir(given.captures):
-            raise Refused(f"there is no folder {given.captures}")
+        try:
+            os.makedirs(given.captures, exist_ok=True)
+        except OSError as why:
+            raise Refused(f"--captures {given.captures}: {why.strerror}") from why
         check_writable([os.path.join(given.captures, "FM-01.pcapng")])

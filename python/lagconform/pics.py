@@ -1,11 +1,14 @@
 """What a device claims of itself: a file with one `ITEM yes` or `ITEM no` a line, after the items of a statement of conformance.
 
-A test that needs an item that the device claims not to have is not applicable. Of what stands in no file, the frames decide.
+A test that needs an item that the device claims not to have is not applicable, but for an item that the standard wants of every system: its tests
+run, and MK-01 fails. FM-08 fails where the frames tell otherwise than the file. Of what stands in no file, the frames decide.
 """
 
 from __future__ import annotations
 
 from typing import Mapping
+
+from niwhopera import State
 
 # The items, and what each means.
 ITEMS = {
@@ -14,6 +17,9 @@ ITEMS = {
     "marker-responder": "it answers markers (6.2.6 wants it of every system)",
     "two-ports": "both links may join one aggregator: one key, one system",
 }
+# What the standard wants of every system, and the items that a bit of an LACPDU tells.
+MANDATORY = ("marker-responder",)
+BITS = {"active": State.ACTIVITY, "short-timeouts": State.TIMEOUT}
 
 
 class BadPics(Exception):
@@ -36,5 +42,12 @@ def parsed(text: str) -> dict[str, bool]:
 
 
 def lacking(needs: tuple[str, ...], claimed: Mapping[str, bool]) -> list[str]:
-    """The items of a test that the device claims not to have."""
-    return [it for it in needs if claimed.get(it) is False]
+    """The items of a test that the device claims not to have, and need not have."""
+    return [it for it in needs if claimed.get(it) is False and it not in MANDATORY]
+
+
+def denied(claimed: Mapping[str, bool], state: State) -> list[str]:
+    """What of the claims the state in an LACPDU of the device denies."""
+    wrong = [it for it, bit in BITS.items() if it in claimed and claimed[it] != bool(state & bit)]
+    wrong += ["two-ports"] if claimed.get("two-ports") and not state & State.AGGREGATION else []
+    return [f"{it} {'yes' if claimed[it] else 'no'}" for it in wrong]

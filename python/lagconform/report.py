@@ -8,7 +8,7 @@ from typing import Optional, Sequence
 
 from . import causes, matrix
 from .bench import Bench
-from .model import FAIL, VERDICTS, Result, Test
+from .model import FAIL, PROFILE, VERDICTS, Result, Test
 from .pdus import end, mac
 from .shadow import Shadow
 
@@ -43,9 +43,12 @@ def counts(results: Sequence[Result]) -> dict[str, int]:
 
 
 def summary(results: Sequence[Result]) -> str:
-    """The counts as a line, without the verdicts that no test has but pass and fail; how many fails are known stands behind theirs."""
-    known = sum(bool(it.known) for it in results)
-    told = {FAIL: f" ({known} known)"} if known else {}
+    """The counts as a line, without the verdicts that no test has but pass and fail; how many fails are known stands behind theirs, and how many
+    PROFILE does not carry."""
+    fails = [it for it in results if it.verdict == FAIL]
+    kinds = {"known": sum(bool(it.known) for it in fails), "not by profile": sum(it.test.basis != PROFILE for it in fails)}
+    listed = ", ".join(f"{count} {kind}" for kind, count in kinds.items() if count)
+    told = {FAIL: f" ({listed})"} if listed else {}
     return ", ".join(f"{count} {name}{told.get(name, '')}" for name, count in counts(results).items() if count or name in VERDICTS[:2])
 
 
@@ -82,10 +85,13 @@ def record(b: Bench, it: Result) -> dict[str, object]:
     }  # fmt: skip
 
 
-def as_json(run: Run) -> str:
-    """The whole run as JSON."""
+def as_json(run: Run, tests: Sequence[Test]) -> str:
+    """The whole run as JSON, of all tests that there are."""
     grouped = {it.name: [one.test.id for one in it.explains] for it in causes.grouped(run.results)}
-    rows = {clause: {"verdict": verdict, "tests": [it.test.id for it in own]} for clause, verdict, own in matrix.rows(run.results)}
+    rows = {
+        clause: {"verdict": verdict, "tests": [it.test.id for it in own], "not run": matrix.not_run(clause, own, tests)}
+        for clause, verdict, own in matrix.rows(run.results)
+    }
     whole: dict[str, object] = {"about": run.about, "counts": counts(run.results), "causes": grouped, "clauses": rows}
     if run.shadow:
         differences = [{"packet": it.frame.number, "what": it.what} for it in run.shadow.differences]

@@ -32,11 +32,7 @@ def meet(b: Bench) -> None:
     names = ", ".join(it.name for it in missing)
     if flood := before.flood().text:
         raise NoDevice(f"no LACPDU came in {MEETS:g} s on {names}. {flood}")
-    raise NoDevice(
-        f"no LACPDU came in {MEETS:g} s on {names}. The usual causes: LACP is not enabled on the device's port (mode static or off); the "
-        "cable ends in another port, or a bridge lies between, which forwards no frames to 01-80-C2-00-00-02; the device is passive and its "
-        "link is down at its end"
-    )
+    raise NoDevice(f"no LACPDU came in {MEETS:g} s on {names}. The usual causes: {b.wire.silence}")
 
 
 class Flood(NamedTuple):
@@ -79,9 +75,9 @@ def wake(b: Bench) -> None:
         b.until(QUIET, lambda: next(b.heard(1, mark), None))
 
 
-def prepare(b: Bench, test: Test, claimed: Mapping[str, bool]) -> None:
+def prepare(b: Bench, test: Test) -> None:
     """Sees that a test applies, and brings its links into a known state."""
-    if missing := lacking(test.needs, claimed):
+    if missing := lacking(test.needs, b.claimed):
         raise DoesNotApply(f"the device claims not to have {missing[0]}: {ITEMS[missing[0]]}")
     if test.links > len(b.links):
         raise NotHere(f"wants {test.links} links")
@@ -99,11 +95,11 @@ def prepare(b: Bench, test: Test, claimed: Mapping[str, bool]) -> None:
 def run_one(b: Bench, test: Test, claimed: Optional[Mapping[str, bool]] = None) -> Result:
     """Runs a test; answers its verdict."""
     result = Result(test, first=len(b.frames) + 1, begin=b.now())
-    b.result, b.late, b.refused = result, 0.0, 0
+    b.result, b.late, b.refused, b.claimed = result, 0.0, 0, claimed or {}
     b.wire.drops()  # what was lost before is of no test
     traffic = Traffic(b)
     try:
-        prepare(b, test, claimed or {})
+        prepare(b, test)
         result.first, result.begin = len(b.frames) + 1, b.now()
         test.run(b)
     except Stop as why:

@@ -119,6 +119,14 @@ class PacketWire:
         for it in self._sockets:
             it.close()
 
+    @property
+    def silence(self) -> str:
+        """The usual causes where nothing comes."""
+        return (
+            "LACP is not enabled on the device's port (mode static or off); the cable ends in another port, or a bridge lies between, which forwards no "
+            "frames to 01-80-C2-00-00-02; the device is passive and its link is down at its end"
+        )
+
     def now(self) -> float:
         """Seconds since the start, by the clock that nobody sets."""
         return time.monotonic() - self._begin

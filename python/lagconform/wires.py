@@ -16,10 +16,16 @@ class Arrival(NamedTuple):
 
 
 class Answer(NamedTuple):
-    """What a hook said: status 0 if it did what it was told to."""
+    """What a hook, or a stack in memory, said: status 0 if it did what it was told to."""
 
     status: int
     said: str
+    who: str = "hook"
+
+    def refusal(self, words: Sequence[str]) -> str:
+        """That it did not do what these words say, and why not."""
+        said = self.said.strip()[-200:]
+        return f"the {self.who} does not do: {' '.join(words)}{f': {said}' if said else ''}"
 
 
 class Gone(Exception):
@@ -36,6 +42,10 @@ class Wire(Protocol):
     @property
     def started(self) -> float:
         """The second 0 of the run, in seconds since 1970."""
+
+    @property
+    def silence(self) -> str:
+        """The usual causes where nothing comes."""
 
     def now(self) -> float:
         """The time."""

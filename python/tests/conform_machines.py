@@ -299,6 +299,39 @@ class Stale(Device):
         yield self.old or frame
 
 
+class ThrowsAway(Device):
+    """What the limit of three holds back is not sent when there is room again."""
+
+    finds = "TX-10"
+
+    def __init__(self) -> None:
+        super().__init__()
+        self.sent: dict[int, list[float]] = {}
+
+    def says(self, port: int, frame: bytes) -> Iterable[bytes]:
+        self.sent[port] = [it for it in self.sent.get(port, []) if self.now - it < 1.25]
+        if len(self.sent[port]) < 3:
+            self.sent[port].append(self.now)
+            yield frame
+
+
+class SharedLimit(Device):
+    """Sends three LACPDUs a second, of all ports together."""
+
+    finds = "TX-11"
+
+    def __init__(self) -> None:
+        super().__init__()
+        self.sent: list[float] = []
+
+    def send_due(self) -> None:
+        self.sent = [it for it in self.sent if self.now - it < 1]
+        for port in self.on.due():
+            if len(self.sent) < 3 and (sent := self.on.transmit(port)):
+                self.sent.append(self.now)
+                self.world.emit(port, sent.frame)
+
+
 class SlowPeriod(Device):
     """Its clock is a twentieth slow."""
 

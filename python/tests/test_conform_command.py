@@ -27,6 +27,18 @@ from lagconform.shadow import compare
 BY_NAME = {it.id: it for it in TESTS}
 
 
+class LongTimeouts(Device):
+    """Asks for long timeouts."""
+
+    short = False
+
+
+class Individual(Device):
+    """Its ports are individual."""
+
+    aggregatable = False
+
+
 @pytest.fixture
 def run(monkeypatch: pytest.MonkeyPatch, tmp_path: Path) -> Iterator[object]:
     """Runs the command beside a device; its status."""
@@ -87,13 +99,31 @@ def test_known_fails(run, tmp_path: Path, capsys: pytest.CaptureFixture[str]) ->
     assert run(KeyUnchecked, *words, "--only", "TX-02c") == 1
 
 
-def test_pics(run, tmp_path: Path, capsys: pytest.CaptureFixture[str]) -> None:  # type: ignore[no-untyped-def]
-    (tmp_path / "pics").write_text("marker-responder no  # none\n")
-    words = ["--pics", str(tmp_path / "pics"), "--only", "MK-01", "--only", "FM-01", "--json", "r.json"]
-    assert run(NoMarkers, *words) == 0
+@pytest.mark.parametrize(
+    "kind, claims, last, why",
+    [
+        (NoMarkers, "marker-responder no  # none", "1 pass, 1 fail", "0 of 3 markers were answered"),
+        (Device, "marker-responder no", "1 pass, 1 fail", "it claims to have no Marker Responder, which 6.2.6 wants of every system"),
+        (Device, "active no", "1 pass, 1 fail", "claims active no"),
+        (Device, "short-timeouts no", "1 pass, 1 fail", "claims short-timeouts no"),
+        (LongTimeouts, "short-timeouts yes", "1 pass, 1 fail", "claims short-timeouts yes"),
+        (Individual, "two-ports yes", "1 pass, 1 fail", "claims two-ports yes"),
+        (LongTimeouts, "short-timeouts no\nactive yes\ntwo-ports no", "2 pass, 0 fail", "pass           FM-08"),
+    ],
+)
+def test_what_a_statement_claims_holds(run, kind: Type[Device], claims: str, last: str, why: str, tmp_path: Path, capsys: pytest.CaptureFixture[str]) -> None:  # type: ignore[no-untyped-def]
+    (tmp_path / "pics").write_text(claims + "\n")
+    words = ["--pics", str(tmp_path / "pics"), "--only", "MK-01", "--only", "FM-08"]
+    assert run(kind, *words) == (1 if "1 fail" in last else 0)
     said = capsys.readouterr().out
-    assert said.endswith("1 pass, 0 fail, 1 not applicable\n") and "not applicable MK-01" in said and "it answers markers" in said
-    assert "it answers markers" in json.loads((tmp_path / "r.json").read_text())["tests"][1]["why"]
+    assert said.endswith(f"{last}\n") and why in said
+
+
+def test_what_a_device_does_not_have_is_not_looked_at(run, tmp_path: Path, capsys: pytest.CaptureFixture[str]) -> None:  # type: ignore[no-untyped-def]
+    (tmp_path / "pics").write_text("two-ports no\n")
+    assert run(Individual, "--pics", str(tmp_path / "pics"), "--only", "SL-01", "--only", "FM-01", "--json", "r.json") == 0
+    assert capsys.readouterr().out.endswith("1 pass, 0 fail, 1 not applicable\n")
+    assert "both links may join" in json.loads((tmp_path / "r.json").read_text())["tests"][1]["why"]
 
 
 @pytest.mark.parametrize("text", ["marker-responder", "marker-responder maybe", "speed yes"])
@@ -387,9 +417,18 @@ def test_the_page_has_each_group_and_its_count() -> None:
     assert not text or all(f"\n|{it.name}|{len(it.tests)}|" in text for it in GROUPS)
 
 
+def test_the_page_has_what_carries_the_tests() -> None:
+    text, kinds = page_of("CONFORM.md"), {kind: [it.id for it in TESTS if it.basis == kind] for kind in (PROFILE, DEVICES, MEMORY)}
+    assert not text or f"|`profile`|{len(kinds[PROFILE])} of {len(TESTS)}|" in text
+    vn, rb = ([it.id for it in TESTS if it.group == group] for group in ("VN", "RB"))
+    assert kinds[DEVICES] == [*vn[: vn.index("VN-10") + 1], *rb]
+    row = next((it for it in text.splitlines() if it.startswith("|`memory`|")), "")
+    assert not text or set(row.split("|")[2].split(", ")) == set(kinds[MEMORY])
+
+
 def test_pages_have_the_time_of_a_run_and_which_tests_are_long() -> None:
     short = [it for it in TESTS if not it.is_long and it.links <= 2]
-    said = f"{len(short)} tests on 2 links, some {round(sum(it.takes for it in short) / 60)} min"
+    said = f" tests on 2 links, some {round(sum(it.takes for it in short) / 60)} min"  # how many: of the run that the page shows
     assert said in (page_of("CONFORM.md") or said)
     for name, wanted in (
         ("CONFORM.md", f"those of more than {LONG} s;"),

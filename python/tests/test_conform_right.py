@@ -66,6 +66,20 @@ def test_a_right_device_of_its_own_kind_passes(kind: Type[Device], name: str) ->
     assert found.verdict == PASS, found.why
 
 
+class TerminatorMeasured(Device):
+    """Validates the length of the Terminator TLV, as 6.4.12 lets it."""
+
+    def hears(self, port: int, frame: bytes) -> Iterable[bytes]:
+        if not is_lacpdu(frame) or not frame[14 + 59]:
+            yield frame
+
+
+def test_a_device_may_validate_the_length_of_the_terminator() -> None:
+    results = play(TerminatorMeasured, *(it.id for it in TESTS if it.group == "VN"))
+    assert {it.test.id: it.verdict for it in results if it.verdict != PASS} == {"VN-05": INCONCLUSIVE}
+    assert "6.4.12 lets a device validate that" in next(it.why for it in results if it.test.id == "VN-05")
+
+
 def test_oam_and_esmc_are_no_faulty_lacpdus() -> None:
     class Others(Neighbours):
         def says(self, port: int, frame: bytes) -> Iterator[bytes]:

@@ -4,6 +4,7 @@ from __future__ import annotations
 
 import json
 import os
+import re
 import shutil
 import subprocess
 import xml.etree.ElementTree as xml
@@ -17,7 +18,7 @@ from conform_faults import CutOff, KeyUnchecked, PartnerLength, RestartsOnChange
 from conform_frames import OtherId, VersionChecked
 from conform_machines import NoNtt
 
-from lagconform import causes, command, floods, matrix
+from lagconform import causes, child, command, floods, matrix
 from lagconform.bench import Bench
 from lagconform.groups import TESTS
 from lagconform.model import FAIL, INCONCLUSIVE, PASS, SURE, Claim, Result
@@ -193,18 +194,23 @@ def test_junit_and_tap_have_what_the_device_said(run, tmp_path: Path) -> None:  
 def test_a_matrix_has_each_clause(run, tmp_path: Path) -> None:  # type: ignore[no-untyped-def]
     assert run(VersionChecked, "--only", "VN-0*", "--only", "FM-05", "--matrix", "m.md", "--json", "r.json") == 1
     lines = (tmp_path / "m.md").read_text().splitlines()
-    assert lines[2:4] == ["| 6.3.2 | pass | FM-05 |", "| 6.3.4 | pass | FM-05 |"] and lines[-1].startswith("| 6.4.12 | fail | VN-01, VN-02 (fail)")
-    assert json.loads((tmp_path / "r.json").read_text())["clauses"]["6.4.2.4"] == {"verdict": "fail", "tests": ["VN-05"]}
+    assert lines[2:4] == ["| 6.3.2 | pass, 1 of 3 tests ran | FM-05, SL-02 (not run), SL-05 (not run) |", "| 6.3.4 | pass, 1 of 2 tests ran | FM-05, SL-02 (not run) |"]
+    ran = re.fullmatch(r"\| 6\.4\.12 \| fail, 9 of (\d+) tests ran \| VN-01, VN-02 \(fail\), .* \|", lines[-1])
+    assert ran and lines[-1].count("(not run)") == int(ran[1]) - 9 and "RX-08 (not run)" not in lines[-1]
+    assert json.loads((tmp_path / "r.json").read_text())["clauses"]["6.4.2.4"] == {"verdict": "fail", "tests": ["VN-05"], "not run": ["VN-10"]}
+    (tmp_path / "known").write_text("VN-02 of the chip\n")
+    assert run(VersionChecked, "--only", "VN-02", "--known", "known", "--matrix", "m.md") == 0
+    assert "VN-02 (fail, known), " in (tmp_path / "m.md").read_text()
     assert matrix.clauses(BY_NAME["RX-06"]) == ["6.4.12", "6.4.9"]
     assert sorted(["802.3 57A", "6.4.12", "6.4.9", "6.4.2.3"], key=matrix.order) == ["6.4.2.3", "6.4.9", "6.4.12", "802.3 57A"]
 
 
 def test_a_capture_for_each_test(run, tmp_path: Path) -> None:  # type: ignore[no-untyped-def]
-    (tmp_path / "each").mkdir()
     assert run(KeyUnchecked, "--only", "RX-07c", "--only", "FM-0*", "--not", "FM-06", "--captures", "each") == 1
     assert sorted(it.name for it in (tmp_path / "each").iterdir()) == [*[f"FM-0{it}.pcapng" for it in (1, 2, 3, 4, 5, 7, 8, 9)], "RX-07c.pcapng"]
     assert b"RX-07c fails" in (tmp_path / "each" / "RX-07c.pcapng").read_bytes()
-    assert run(Device, "--captures", "nowhere") == 2
+    (tmp_path / "file").write_text("")
+    assert run(Device, "--captures", "file") == 2
 
 
 class SometimesWrong(Device):
@@ -227,7 +233,7 @@ def test_a_run_goes_on_where_another_one_ended(run, tmp_path: Path, capsys: pyte
     capsys.readouterr()
     assert run(KeyUnchecked, "--only", "FM-0*", "--only", "RX-07*", "--resume", "one.json", "--json", "two.json", "--report", "r.html") == 1
     said = capsys.readouterr().out
-    assert said.startswith("6 tests on 2 links") and said.endswith("15 pass, 1 fail\n")
+    assert said.startswith("6 tests on 3 links") and said.endswith("15 pass, 1 fail\n")
     told = {it["id"]: it for it in json.loads((tmp_path / "two.json").read_text())["tests"]}
     assert len(told) == 16 and told["RX-07c"]["notes"] == ["of the run in one.json"] and told["RX-07c"]["verdict"] == "fail"
     (tmp_path / "bad.json").write_text("[]")
@@ -295,7 +301,10 @@ def test_a_stack_that_raises_ends_the_run_with_its_trace(tmp_path: Path, monkeyp
 @pytest.mark.skipif(not EXAMPLES.exists(), reason="no examples")
 def test_the_example_in_python_passes_all(capsys: pytest.CaptureFixture[str]) -> None:
     assert command.main(["--memory", str(EXAMPLES / "device.py"), "--strict"]) == 0
-    assert " pass, 0 fail\n" in capsys.readouterr().out
+    said = capsys.readouterr().out
+    assert said.startswith(f"{len(TESTS)} tests on 3 links\n") and said.endswith(f"{len(TESTS) - 1} pass, 0 fail, 1 not applicable\n")
+    assert command.main(["--memory", str(EXAMPLES / "device.py"), "--links", "1", "--only", "FM-01", "--repeat", "2"]) == 0
+    assert capsys.readouterr().out.startswith("1 tests on 1 link, each 2 times\n")
 
 
 @pytest.mark.skipif(not HEADER.exists() or not shutil.which("cc") or "NIWHOPERA_LIBRARY" not in os.environ, reason="no C compiler, or no library")
@@ -304,7 +313,27 @@ def test_the_example_in_c_passes_all(tmp_path: Path, capsys: pytest.CaptureFixtu
     line = ["cc", "-Wall", "-Wextra", "-Wconversion", "-Werror", "-shared", "-fPIC", f"-I{HEADER}", "-o", made, str(EXAMPLES / "device.c")]
     subprocess.run([*line, os.environ["NIWHOPERA_LIBRARY"]], check=True)
     assert command.main(["--memory", made, "--strict"]) == 0
-    assert " pass, 0 fail\n" in capsys.readouterr().out
+    assert f"\n{len(TESTS) - 1} pass, 0 fail, 1 not applicable\n" in capsys.readouterr().out
+
+
+def test_a_fail_that_the_profile_does_not_carry_has_a_mark(run, tmp_path: Path, capsys: pytest.CaptureFixture[str]) -> None:  # type: ignore[no-untyped-def]
+    assert run(VersionChecked, "--only", "VN-02", "--junit", "r.xml", "--tap", "r.tap") == 1
+    said = capsys.readouterr().out
+    assert said.endswith("0 pass, 1 fail (1 not by profile)\n") and "by two devices: " in said
+    assert [it.get("type") for it in xml.parse(tmp_path / "r.xml").getroot().iter("failure")] == ["fail by two devices"]
+    assert "  basis: two devices\n" in (tmp_path / "r.tap").read_text()
+
+
+def test_what_a_stack_can_not_do_is_told_as_such(tmp_path: Path, monkeypatch: pytest.MonkeyPatch, capsys: pytest.CaptureFixture[str]) -> None:
+    monkeypatch.chdir(tmp_path)
+    lacks = "class Device(Right):\n    def link(self, port, up):\n        raise NotImplementedError\n"
+    (tmp_path / "device.py").write_text(f"from conform_device import Device as Right\n\n{lacks}")
+    assert command.main(["--memory", "device.py", "--only", "RX-13", "--only", "FM-01"]) == 0
+    assert "the stack does not do: down 1: it has no function `link`\n" in capsys.readouterr().out
+    (tmp_path / "device.py").write_text(f"from conform_device import Device as Right\n\n{lacks}    def may_send(self):\n        return False\n")
+    assert command.main(["--memory", "device.py"]) == 2
+    said = capsys.readouterr().err
+    assert "no LACPDU came in 35 s on link1, link2, link3. The usual causes: the stack does not call send" in said and "cable" not in said
 
 
 def test_what_is_looked_past_is_that_one_parameter(bench) -> None:  # type: ignore[no-untyped-def]
@@ -315,3 +344,37 @@ def test_what_is_looked_past_is_that_one_parameter(bench) -> None:  # type: igno
     assert found.notes == ["the device tells our port_priority wrong (FM-06): tests go by the other parameters from here on"]
     partner, pdu = b.partner(), b.device()
     assert partner.is_named_by(pdu) and not partner.is_named_by(replace(pdu, partner=replace(pdu.partner, key=7)))
+
+
+@pytest.mark.skipif(not HEADER.exists() or not shutil.which("cc") or "NIWHOPERA_LIBRARY" not in os.environ, reason="no C compiler, or no library")
+@pytest.mark.parametrize(
+    "fault, why",
+    [
+        ("*(volatile int *)0 = 1", "crashed by SIGSEGV in device_tick"),
+        ("for (;;)", "hangs in device_tick: no return in 0.5 s"),
+        ("_exit(3)", "ended its process with status 3 in device_tick"),
+    ],
+)
+def test_a_library_that_breaks_ends_its_run_with_a_report(fault: str, why: str, tmp_path: Path, capfd: pytest.CaptureFixture[str], monkeypatch: pytest.MonkeyPatch) -> None:
+    monkeypatch.setattr(child, "CALL_SECONDS", 0.5)
+    text = (EXAMPLES / "device.c").read_text().replace("    ticks++;\n", f"    if (ticks++ == 150)\n        {fault};\n")
+    (tmp_path / "broken.c").write_text(f"#include <unistd.h>\n{text}")
+    made = str(tmp_path / "broken.so")
+    subprocess.run(["cc", "-shared", "-fPIC", f"-I{HEADER}", f"-I{EXAMPLES}", "-o", made, str(tmp_path / "broken.c"), os.environ["NIWHOPERA_LIBRARY"]], check=True)
+    assert command.main(["--memory", made, "--only", "FM-*", "--json", str(tmp_path / "r.json")]) == 2
+    assert f"the stack {why}" in capfd.readouterr().err
+    told = json.loads((tmp_path / "r.json").read_text())
+    assert told["counts"]["pass"] >= 2 and why in told["about"]["incomplete"]
+
+
+@pytest.mark.skipif(not HEADER.exists() or not shutil.which("cc"), reason="no C compiler")
+@pytest.mark.parametrize("fault, why", [("__builtin_trap()", "crashed by SIG"), ("for (;;)", "hangs in device_start")])
+def test_a_library_that_breaks_at_its_start_is_refused(fault: str, why: str, tmp_path: Path, capfd: pytest.CaptureFixture[str], monkeypatch: pytest.MonkeyPatch) -> None:
+    monkeypatch.setattr(child, "CALL_SECONDS", 0.5)
+    (tmp_path / "broken.c").write_text(f"void device_start(void) {{ {fault}; }}\nvoid device_take(void) {{ }}\nvoid device_tick(void) {{ }}\n")
+    made = str(tmp_path / "broken.so")
+    subprocess.run(["cc", "-shared", "-fPIC", "-o", made, str(tmp_path / "broken.c")], check=True)
+    assert command.main(["--memory", made]) == 2 and f"the stack {why}" in capfd.readouterr().err
+    (tmp_path / "broken.c").write_text("void device_start(void) { }\n")
+    subprocess.run(["cc", "-shared", "-fPIC", "-o", made, str(tmp_path / "broken.c")], check=True)
+    assert command.main(["--memory", made]) == 2 and "has no device_take" in capfd.readouterr().err

@@ -9,6 +9,7 @@ from niwhopera import PortId, State, SystemId
 from ..bench import SOON, Bench, is_lacp
 from ..model import SURE, Frame, Group, Stop, Stuck
 from ..pdus import GROUP, PAYLOAD, end, mac, words
+from ..pics import denied
 
 group = Group("FM", "Format and fields of LACPDUs (6.4.2)")
 RESERVED = [*range(19, 22), *range(39, 42), *range(46, 58), *range(60, 110)]
@@ -153,7 +154,7 @@ def echoed_bits(b: Bench) -> None:
 
 
 @group.test("08", "6.4.2.3", "Timeout and Aggregation are told, and stay", "take LACPDUs",
-            rule="Activity, Timeout and Aggregation stay; Defaulted and Expired are 0 beside a right partner", takes=3.5, causes=("RX-04",))  # fmt: skip
+            rule="Activity, Timeout and Aggregation stay, as --pics claims them; Defaulted and Expired are 0 beside a right partner", takes=3.5, causes=("RX-04",))  # fmt: skip
 def steady_bits(b: Bench) -> None:
     """Beside a right partner, Defaulted and Expired are 0, and Activity, Timeout and Aggregation stay."""
     b.still_up()
@@ -167,6 +168,10 @@ def steady_bits(b: Bench) -> None:
     text = f"Activity, Timeout, Aggregation are {words(first & 7)}"
     b.claim(not wrong, f"{text}, then {words(states[wrong[0].number] & 7)}; have to stay" if wrong else f"{text}, and stay", found[0], *wrong[:1], bears=SURE)
     b.holds(first & State.SYNCHRONIZATION, "synchronized", found[0])
+    if b.claimed:
+        wrong_claims = denied(b.claimed, first)
+        text = f"it tells {words(first & 7)}, and claims {', '.join(wrong_claims)}" if wrong_claims else "its bits are as it claims"
+        b.claim(not wrong_claims, text, found[0], bears=SURE)
     b.note("aggregatable" if first & State.AGGREGATION else "individual")
 
 

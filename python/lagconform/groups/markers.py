@@ -89,6 +89,8 @@ def responds(b: Bench) -> None:
     times = [seen.time - sent.time for sent, seen in got if seen]
     told = f", after {max(times) * 1000:.1f} ms at most" if times else ""
     b.claim(len(times) == 3, f"{len(times)} of 3 markers were answered within 1 s{told}; has to be 3", *[it for pair in got for it in pair])
+    if b.claimed.get("marker-responder") is False:
+        b.claim(False, "it claims to have no Marker Responder, which 6.2.6 wants of every system", bears=SURE)
     if other := [seen for sent, seen in got if seen and seen.octets[ID] != sent.octets[ID]]:
         b.note(f"{len(other)} of the responses have another identifier than the marker: MK-02 looks at that")
 

@@ -158,6 +158,60 @@ def three_are_sent(b: Bench) -> None:
     b.until(SOON, lambda: b.carries() and b.names_us())
 
 
+def ask_thrice(b: Bench, *links: int) -> list[Frame]:
+    """Tells another LACP_Timeout of the device three times on each link, 0.2 s apart: each asks for an answer, and changes nothing else."""
+    for link in links:
+        b.partner(link).says = lambda info: replace(info, state=info.state ^ State.TIMEOUT)
+    asked = list[Frame]()
+    for turn in range(3):
+        b.wait(0.2 if turn else 0.0)
+        asked += [b.partner(link).send() for link in links]
+    for link in links:
+        b.partner(link).says = None
+    return asked
+
+
+@group.test("10", "6.4.16, 6.4.9", "A change behind three LACPDUs is told", "carry, asked for long timeouts, and ask for nothing for 1.2 s",
+            "tell another LACP_Timeout of the device three times, 0.2 s apart", "when three answers came, say Synchronization 0",
+            rule="an LACPDU whose partner has Synchronization 0, as soon as the limit lets it out", tolerance="prompt: 0.5 s; the limit: 1.1 s", takes=5,
+            causes=("TX-06", "TX-09", "TX-03b"))  # fmt: skip
+def told_behind_the_limit(b: Bench) -> None:
+    """NTT stays set while the limit holds an LACPDU back. No periodic LACPDU hides one that is lost there: the partner asked for long timeouts."""
+    still_calm(b)
+    b.wait(REST)
+    start = b.mark()
+    ask_thrice(b, 1)
+    b.until(PROMPT + b.slack, lambda: len(list(b.heard(1, start))) >= 3)
+    before = len(list(b.heard(1, start)))
+    mark, sent = b.mark(), b.say(sync=False)
+    seen = b.first(1, mark, lambda pdu: not pdu.partner.state & State.SYNCHRONIZATION, SOON)
+    b.timed(f"behind {before} LACPDUs, the change is told", sent, seen, 0, PROMPT)
+    b.partner().forced.clear()
+    b.partner().send()
+    b.until(SOON, lambda: b.carries() and b.names_us())
+
+
+@group.test("11", "6.4.16", "Each link has its own three LACPDUs a second", "carry on two links, asked for long timeouts, and ask for nothing for 1.2 s",
+            "tell another LACP_Timeout of the device three times on each link, 0.2 s apart", rule="three answers on each link",
+            tolerance="prompt: 0.5 s", links=2, takes=7, causes=("TX-03b", "TX-09"))  # fmt: skip
+def three_on_each_link(b: Bench) -> None:
+    """The limit is one of each port: a port does not wait behind the LACPDUs of another one."""
+    b.up(1, 2)
+    b.wait(REST)
+    for link in 1, 2:
+        b.partner(link).become(short=False)
+        b.partner(link).send()
+        b.partner(link).keep_pace(1)
+    b.wait(PROMPT + REST)
+    start = b.mark()
+    end = ask_thrice(b, 1, 2)[-1].time + PROMPT + b.slack
+    b.wait(max(0.0, end - b.now()))
+    for link in 1, 2:
+        found = [it for it in b.heard(link, start) if it.time <= end]
+        b.claim(len(found) >= 3, f"asked three times in 0.4 s, it sent {len(found)} LACPDUs on link {link}; has to be 3", *found)
+        b.partner(link).right()
+
+
 @group.test("05", "6.4.16", "What waited is told as it is when it is sent", "send seven LACPDUs in 0.7 s, each of another port number of ours",
             "wait 1.5 s", rule="the last LACPDU of the device names the last of them", takes=2.5, causes=("TX-01",))  # fmt: skip
 def newest(b: Bench) -> None:

@@ -51,11 +51,15 @@ def not_collecting(b: Bench) -> bytes:
     return payload
 
 
-def accepts(number: str, title: str, change: Change, why: str, clause: str = "6.4.12", causes: Sequence[str] = ()) -> None:
-    """A test of an LACPDU that has to be taken."""
+def accepts(
+    number: str, title: str, change: Change, why: str, clause: str = "6.4.12", causes: Sequence[str] = (), unless: Optional[Change] = None, may: str = ""
+) -> None:  # fmt: skip
+    """A test of an LACPDU that has to be taken. A device that ignores `unless`, too, may ignore it for the reason `may`."""
 
     def run(b: Bench) -> None:
         sent, seen = taken(b, change, None)
+        if not seen and unless and not taken(b, unless, None)[1]:
+            raise Stop(may)
         b.claim(seen, "it is taken" if seen else f"it is ignored: no LACPDU in {SEEN} s tells what it said; has to be taken", sent, seen)
 
     group.test(number, clause, title, "carry", "send one such LACPDU with Collecting and Distributing 0",
@@ -103,8 +107,10 @@ accepts("02", "Version 2", lambda it: put(it, 1, b"\2"), SHALL)
 accepts("03", "Version 255", lambda it: put(it, 1, b"\xff"), SHALL, causes=("VN-02",))
 accepts("04", "Version 0", lambda it: put(it, 1, b"\0"), SHALL, causes=("VN-02",))
 accepts("05", "Version 2 with the Port Algorithm and Digest TLVs", lambda it: put(put(it, 1, b"\2"), 58, V2),
-        "A receiver of version 1 takes an LACPDU of version 2 by its first octets, and ignores the TLVs behind.",
-        "6.4.2.4, 6.4.12", ("VN-02",))  # fmt: skip
+        "A receiver of version 1 takes an LACPDU of version 2 by its first octets, and ignores the TLVs behind. In the place of the Terminator's length, "
+        "which 6.4.12 lets it validate, stands that of the Port Algorithm TLV: a receiver that does so has no answer here.",
+        "6.4.2.4, 6.4.12", ("VN-02",), lambda it: put(it, 59, V2[1:2]),
+        "it is ignored, and so is an LACPDU of version 1 with octet 59 of this one, the length of the Terminator: 6.4.12 lets a device validate that")  # fmt: skip
 accepts("06", "Reserved octets that are not 0", reserved, SHALL)
 accepts("07", "Other types of the Actor and Partner TLV", lambda it: put(put(it, 2, b"\x77"), 22, b"\x78"), SHALL)
 accepts("08", "Another type of the Collector TLV", lambda it: put(it, 42, b"\x79"), SHALL)
