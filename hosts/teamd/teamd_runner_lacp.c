@@ -87,15 +87,19 @@ static bool is_port_missing(struct lacp *lacp, bool *ready)
 /* Sleeps until something is due: of LACP, of the device that falls silent, of the file, or of the configuration of the ports. */
 static void wait(struct lacp *lacp)
 {
-	int64_t now = lag_now(), at = lacp->config_at + CONFIG_MS;
+	int64_t now = lag_now(), at = lacp->config_at + CONFIG_MS, due = INT64_MAX;
 	bool ready;
 
 	if (lacp->to_remake && lacp->try_at < at)
 		at = lacp->try_at;
 	if (lacp->silent_at > now && lacp->silent_at < at)
 		at = lacp->silent_at;
-	if (lacp->end.system.live && lag_end_due(&lacp->end) < at)
-		at = lag_end_due(&lacp->end);
+	if (lacp->end.system.live)
+		due = lag_end_due(&lacp->end);
+	if (due <= now) /* what was not sent is of a port that leaves */
+		due = now + NIW_TICK_MILLISECONDS;
+	if (due < at)
+		at = due;
 	if ((lacp->dirty || is_port_missing(lacp, &ready)) && at > now + NIW_TICK_MILLISECONDS)
 		at = now + NIW_TICK_MILLISECONDS;
 	wake_at(lacp, at);
