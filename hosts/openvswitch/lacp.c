@@ -177,7 +177,6 @@ static void
 look(struct lacp *lacp)
 {
     struct niw_view views[NIW_MOST_PORTS];
-    uint16_t numbers[NIW_MOST_PORTS];
     struct member *member;
     uint16_t before = lacp->carries;
     bool changed = false;
@@ -185,17 +184,15 @@ look(struct lacp *lacp)
     if (!lacp->end.system.live) {
         return;
     }
-    memset(views, 0, sizeof views);
-    niw_views(&lacp->end.system, views, NIW_MOST_PORTS);
-    size_t count = niw_ports(&lacp->end.system, numbers, NIW_MOST_PORTS).number;
-    lacp->carries = niw_active_aggregator(&lacp->end.system, before).number;
+    lag_end_views(&lacp->end, views);
+    lacp->carries = (uint16_t) niw_active_aggregator(&lacp->end.system, before).number;
     HMAP_FOR_EACH (member, node, &lacp->members) {
-        for (size_t i = 0; member->in && i < count; i++) {
-            if (views[i].port == member->port_id) {
-                count_change(member, &views[i]);
-                changed = changed || memcmp(&views[i], &member->view, sizeof views[i]);
-                member->view = views[i];
-            }
+        const struct niw_view *view = member->in ? lag_view_of(views, member->port_id) : NULL;
+
+        if (view) {
+            count_change(member, view);
+            changed = changed || memcmp(view, &member->view, sizeof *view);
+            member->view = *view;
         }
     }
     if (changed || before != lacp->carries || niw_due(&lacp->end.system).number) {
@@ -268,7 +265,7 @@ remake(struct lacp *lacp)
         if (ports[i].begins) {
             VLOG_INFO("%s: %s negotiates anew: %s", lacp->name, member->name, lag_why_text(ports[i].why));
         } else if (ports[i].carried && ports[i].aggregator == before) {
-            lacp->carries = niw_choice(&lacp->end.system, member->port_id).number;
+            lacp->carries = (uint16_t) niw_choice(&lacp->end.system, member->port_id).number;
         }
     }
     look(lacp);
@@ -613,11 +610,7 @@ lacp_wait(struct lacp *lacp)
     if (lacp->to_remake) {
         poll_timer_wait_until(lacp->try_at);
     } else if (lacp->end.system.live) {
-        struct niw_wait wait = niw_ticks_until_due(&lacp->end.system);
-
-        if (wait.ever) {
-            poll_timer_wait_until(lacp->end.ticked + (long long int) wait.ticks * NIW_TICK_MILLISECONDS);
-        }
+        poll_timer_wait_until(lag_end_due(&lacp->end));
     }
     HMAP_FOR_EACH (member, node, &lacp->members) {
         if (member->n_responses) {

@@ -96,6 +96,35 @@ lag_end_advance(struct lag_end *end, int64_t now)
     }
 }
 
+/* When something happens by itself, in ms of the caller's clock, until which it may sleep; INT64_MAX if nothing does without another call. */
+static inline int64_t
+lag_end_due(struct lag_end *end)
+{
+    struct niw_wait wait = niw_ticks_until_due(&end->system);
+
+    return wait.ever ? end->ticked + (int64_t) wait.ticks * NIW_TICK_MILLISECONDS : INT64_MAX;
+}
+
+/* What there is to show of each port now; the places behind the last one are zeros. */
+static inline void
+lag_end_views(struct lag_end *end, struct niw_view views[NIW_MOST_PORTS])
+{
+    memset(views, 0, NIW_MOST_PORTS * sizeof *views);
+    niw_views(&end->system, views, NIW_MOST_PORTS);
+}
+
+/* That of the port of this number, or NULL. */
+static inline const struct niw_view *
+lag_view_of(const struct niw_view views[NIW_MOST_PORTS], uint16_t number)
+{
+    for (size_t i = 0; i < NIW_MOST_PORTS && views[i].port; i++) {
+        if (views[i].port == number) {
+            return &views[i];
+        }
+    }
+    return NULL;
+}
+
 static inline void
 lag_end_free(struct lag_end *end)
 {

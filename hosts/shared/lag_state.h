@@ -63,18 +63,21 @@ lag_now(void)
     return lag_clock(CLOCK_BOOTTIME);
 }
 
-static inline void
-lag_boot_id(char id[64])
+/* Of which boot this is: a word, "-" if the kernel tells none. */
+static inline const char *
+lag_boot_id(void)
 {
-    FILE *file = fopen("/proc/sys/kernel/random/boot_id", "re");
+    static char id[64];
+    FILE *file = *id ? NULL : fopen("/proc/sys/kernel/random/boot_id", "re");
 
-    if (!file || !fgets(id, 64, file) || id[0] == '\n') {
+    if (!*id && (!file || !fgets(id, sizeof id, file) || id[0] == '\n')) {
         strcpy(id, "-");
     }
     if (file) {
         fclose(file);
     }
     id[strcspn(id, "\n ")] = '\0';
+    return id;
 }
 
 static inline void
@@ -108,10 +111,8 @@ static inline void
 lag_state_print(FILE *file, const struct lag_state *state)
 {
     int64_t now = lag_now();
-    char id[64];
 
-    lag_boot_id(id);
-    fprintf(file, "niwhopera-lacp %d\nclocks %s %" PRId64 " %" PRId64 "\ndevice %s %" PRIu32 " ", LAG_STATE_VERSION, id, now,
+    fprintf(file, "niwhopera-lacp %d\nclocks %s %" PRId64 " %" PRId64 "\ndevice %s %" PRIu32 " ", LAG_STATE_VERSION, lag_boot_id(), now,
             lag_clock(CLOCK_REALTIME), state->device, state->ifindex);
     lag_put_octets(file, state->mac, LAG_ADDRESS);
     fprintf(file, " %" PRIu32 "\n", state->next_marker);
@@ -205,12 +206,11 @@ lag_state_scan_port(const char *line, struct lag_state_port *it, int64_t now, in
 static inline bool
 lag_state_scan(FILE *file, struct lag_state *state)
 {
-    char line[512], id[64], was[64], mac[16];
+    char line[512], was[64], mac[16];
     int64_t boot, wall, now = lag_now(), since;
     int version;
 
     memset(state, 0, sizeof *state);
-    lag_boot_id(id);
     if (!fgets(line, sizeof line, file) || sscanf(line, "niwhopera-lacp %9d", &version) != 1 || version != LAG_STATE_VERSION
         || !fgets(line, sizeof line, file) || sscanf(line, "clocks %63s %18" SCNd64 " %18" SCNd64, was, &boot, &wall) != 3
         || !fgets(line, sizeof line, file)
@@ -219,7 +219,7 @@ lag_state_scan(FILE *file, struct lag_state *state)
         return false;
     }
     /* Within one boot its clock is right; the clock on the wall may be set. */
-    since = strcmp(id, was) || !strcmp(id, "-") ? lag_clock(CLOCK_REALTIME) - wall : now - boot;
+    since = strcmp(lag_boot_id(), was) || !strcmp(was, "-") ? lag_clock(CLOCK_REALTIME) - wall : now - boot;
     if (since < 0) {
         return false;
     }

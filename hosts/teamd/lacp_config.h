@@ -39,20 +39,15 @@ static bool is_watched(struct teamd_context *ctx, const char *port)
 /* The configuration of a port changed while it is in, as by `teamdctl port config update`: what the peer sees of it changes, too. */
 static void read_ports_again(struct lacp *lacp)
 {
-	struct teamd_port *tdport;
-
 	if (lag_now() - lacp->config_at < CONFIG_MS)
 		return;
 	lacp->config_at = lag_now();
-	teamd_for_each_tdport(tdport, lacp->ctx) {
-		struct lacp_port *port = port_of(lacp, tdport);
+	for_each_port(port, lacp) {
 		int prio, key;
 
-		if (!port)
-			continue;
-		if (teamd_config_int_get(lacp->ctx, &prio, "$.ports.%s.lacp_prio", tdport->ifname))
+		if (teamd_config_int_get(lacp->ctx, &prio, "$.ports.%s.lacp_prio", port->tdport->ifname))
 			prio = PRIO;
-		if (teamd_config_int_get(lacp->ctx, &key, "$.ports.%s.lacp_key", tdport->ifname))
+		if (teamd_config_int_get(lacp->ctx, &key, "$.ports.%s.lacp_key", port->tdport->ifname))
 			key = 0;
 		if (prio < 0 || prio > USHRT_MAX || key < 0 || key > USHRT_MAX)
 			continue;

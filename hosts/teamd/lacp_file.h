@@ -29,7 +29,6 @@ static uint64_t carrier_changes_of(const struct lacp_port *port)
 static void save(struct lacp *lacp)
 {
 	struct lag_state state = { .ifindex = lacp->ctx->ifindex };
-	struct teamd_port *tdport;
 	char path[PATH_MAX];
 	int err;
 
@@ -43,18 +42,17 @@ static void save(struct lacp *lacp)
 
 		state.next_marker = next.left ? next.id : 1;
 	}
-	teamd_for_each_tdport(tdport, lacp->ctx) {
-		struct lacp_port *port = port_of(lacp, tdport);
+	for_each_port(port, lacp) {
 		struct lag_state_port *it = &state.ports[state.count];
 
-		if (!port || !port->number || state.count == NIW_MOST_PORTS)
+		if (!port->number || state.count == NIW_MOST_PORTS)
 			continue;
 		*it = (struct lag_state_port) {
-			.ifindex = tdport->ifindex, .number = port->number, .priority = port->cfg.prio, .key = port->cfg.key,
+			.ifindex = port->tdport->ifindex, .number = port->number, .priority = port->cfg.prio, .key = port->cfg.key,
 			.carrier_changes = port->carrier_changes, .carried = distributes(port) && !lacp->silent_at, .chosen = port->chosen,
 			.aggregator = port->view.aggregator, .heard = port->heard,
 		};
-		snprintf(it->name, sizeof(it->name), "%s", tdport->ifname);
+		snprintf(it->name, sizeof(it->name), "%s", port->tdport->ifname);
 		memcpy(it->mac, port->mac, ETH_ALEN);
 		state.count++;
 	}

@@ -55,22 +55,11 @@ static bool same_group(const struct lacp_port *one, const struct lacp_port *two)
 /* Finds the groups: the ports that have a partner, each with the best port of its group. */
 static void find_groups(struct lacp *lacp)
 {
-	struct teamd_port *tdport, *other;
-
-	teamd_for_each_tdport(tdport, lacp->ctx) {
-		struct lacp_port *port = port_of(lacp, tdport);
-
-		if (!port)
-			continue;
+	for_each_port(port, lacp) {
 		port->lead = port->selected ? port : NULL;
-		if (!port->selected)
-			continue;
-		teamd_for_each_tdport(other, lacp->ctx) {
-			struct lacp_port *it = port_of(lacp, other);
-
-			if (it && it->selected && same_group(port, it) && is_better(it, port->lead))
-				port->lead = it;
-		}
+		for_each_port(other, lacp)
+			if (port->lead && other->selected && same_group(port, other) && is_better(other, port->lead))
+				port->lead = other;
 	}
 }
 
@@ -84,17 +73,14 @@ struct worth {
 static struct worth worth(struct lacp *lacp, struct lacp_port *lead)
 {
 	struct worth it = { 0 };
-	struct teamd_port *tdport;
 
-	teamd_for_each_tdport(tdport, lacp->ctx) {
-		struct lacp_port *port = port_of(lacp, tdport);
-
-		if (!port || port->lead != lead)
+	for_each_port(port, lacp) {
+		if (port->lead != lead)
 			continue;
 		/* A held port does not distribute. */
 		it.carries |= lacp->cfg.hold || distributes(port);
 		it.sticky |= port->cfg.sticky;
-		it.most += lacp->cfg.policy == BANDWIDTH ? team_get_port_speed(tdport->team_port) : 1;
+		it.most += lacp->cfg.policy == BANDWIDTH ? team_get_port_speed(port->tdport->team_port) : 1;
 	}
 	return it;
 }
@@ -110,11 +96,18 @@ static bool is_worth_more(struct lacp *lacp, struct lacp_port *one, struct lacp_
 	return is_better(one, two);
 }
 
+/* Has the group of this best port carry, or none. */
+static void take_group(struct lacp *lacp, struct lacp_port *lead)
+{
+	lacp->carries = lead;
+	for_each_port(port, lacp)
+		port->chosen = lead && port->lead == lead;
+}
+
 /* Chooses the group that carries. */
 static void choose(struct lacp *lacp)
 {
 	struct lacp_port *now = NULL, *best;
-	struct teamd_port *tdport;
 	struct worth it;
 
 	if (!lacp->changed)
@@ -124,30 +117,17 @@ static void choose(struct lacp *lacp)
 	/* The group of before: that of its best port, or else of any port of it. */
 	if (lacp->carries && lacp->carries->selected)
 		now = lacp->carries->lead;
-	teamd_for_each_tdport(tdport, lacp->ctx) {
-		struct lacp_port *port = port_of(lacp, tdport);
-
-		if (!now && port && port->chosen && port->selected)
+	for_each_port(port, lacp)
+		if (!now && port->chosen && port->selected)
 			now = port->lead;
-	}
 	best = now;
 	it = now ? worth(lacp, now) : (struct worth) { 0 };
 	if (!it.carries || !(lacp->cfg.policy == LACP_PRIO_STABLE || (lacp->cfg.policy == PORT_CONFIG && it.sticky))) {
-		teamd_for_each_tdport(tdport, lacp->ctx) {
-			struct lacp_port *port = port_of(lacp, tdport);
-
-			if (port && port->selected && port->lead == port && port != best &&
-			    (!best || is_worth_more(lacp, port, best)))
+		for_each_port(port, lacp)
+			if (port->selected && port->lead == port && port != best && (!best || is_worth_more(lacp, port, best)))
 				best = port;
-		}
 	}
-	lacp->carries = best;
-	teamd_for_each_tdport(tdport, lacp->ctx) {
-		struct lacp_port *port = port_of(lacp, tdport);
-
-		if (port)
-			port->chosen = best && port->selected && port->lead == best;
-	}
+	take_group(lacp, best);
 }
 
 #endif

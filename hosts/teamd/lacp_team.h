@@ -4,6 +4,7 @@
 
 #include <limits.h>
 #include <string.h>
+#include <sys/timerfd.h>
 
 #include <linux/if_ether.h>
 #include <private/misc.h>
@@ -16,6 +17,9 @@
 
 #include "lag_end.h"
 #include "lag_state.h"
+
+/* A function that teamd calls has what teamd hands over. */
+#pragma GCC diagnostic ignored "-Wunused-parameter"
 
 static const char *const policies[] = { "lacp_prio", "lacp_prio_stable", "bandwidth", "count", "port_config" };
 enum policy { LACP_PRIO, LACP_PRIO_STABLE, BANDWIDTH, COUNT, PORT_CONFIG };
@@ -32,6 +36,7 @@ struct lacp {
 	int64_t silent_at;	/* when the links fall silent, of a device that is down; 0 of one that is up */
 	bool carrier_up;
 	bool to_remake;		/* the system has to be made anew */
+	bool full;		/* the system has as many ports as it may, and there are more */
 	bool changed;		/* the group that carries has to be chosen again */
 	bool dirty;		/* the file is older than what it tells */
 	bool stays;		/* teamd ends, and leaves the ports in the device */
@@ -77,6 +82,30 @@ static struct lacp_port *port_of(struct lacp *lacp, struct teamd_port *tdport)
 
 	/* Before port_init, and after port_fini, it is none. */
 	return port && port->tdport ? port : NULL;
+}
+
+static struct lacp_port *next_port(struct lacp *lacp, struct lacp_port *port)
+{
+	struct teamd_port *tdport = port ? port->tdport : NULL;
+
+	do {
+		tdport = teamd_get_next_tdport(lacp->ctx, tdport);
+		port = tdport ? port_of(lacp, tdport) : NULL;
+	} while (tdport && !port);
+	return port;
+}
+
+#define for_each_port(port, lacp) for (struct lacp_port *port = next_port(lacp, NULL); port; port = next_port(lacp, port))
+
+/* Has the next tick come at a time, in ms: soon, if that has passed. */
+static void wake_at(const struct lacp *lacp, int64_t at)
+{
+	int64_t in = at - lag_now();
+	struct itimerspec once = { .it_value.tv_nsec = 1000000 };
+
+	if (in > 0)
+		once.it_value = (struct timespec) { .tv_sec = in / 1000, .tv_nsec = in % 1000 * 1000000 + 1 };
+	timerfd_settime(lacp->clock, 0, &once, NULL);
 }
 
 static bool distributes(const struct lacp_port *port)

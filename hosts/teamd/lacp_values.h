@@ -75,22 +75,16 @@ static int set_agg_selected(struct teamd_context *ctx, struct team_state_gsc *gs
 {
 	struct lacp_port *port = port_of(priv, gsc->info.tdport);
 	struct lacp *lacp = priv;
-	struct teamd_port *tdport;
 
 	if (!gsc->data.bool_val)
 		return -EOPNOTSUPP;
 	if (!port || !port->selected)
 		return -EINVAL;
 	choose(lacp);
-	lacp->carries = port->lead;
-	teamd_for_each_tdport(tdport, ctx) {
-		struct lacp_port *it = port_of(lacp, tdport);
-
-		if (it)
-			it->chosen = it->selected && it->lead == lacp->carries;
-	}
+	take_group(lacp, port->lead);
 	lacp->dirty = true;
-	return 0;	/* the next tick enables its ports */
+	wake_at(lacp, 0);	/* the tick enables its ports */
+	return 0;
 }
 
 #define VALUE(path, kind, name) { .subpath = path, .type = TEAMD_STATE_ITEM_TYPE_##kind, .getter = get_##name }

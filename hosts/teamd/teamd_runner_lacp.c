@@ -7,7 +7,6 @@
 #include <netinet/in.h>
 #include <sys/ioctl.h>
 #include <sys/socket.h>
-#include <sys/timerfd.h>
 #include <unistd.h>
 
 #include <linux/ethtool.h>
@@ -58,23 +57,58 @@ static bool is_silent(const struct lacp *lacp)
 	return lacp->silent_at && lag_now() >= lacp->silent_at;
 }
 
-static void send_due(struct lacp *lacp)
+static void send_port(struct lacp_port *port)
 {
-	struct teamd_port *tdport;
 	uint8_t frame[NIW_FRAME];
 
-	teamd_for_each_tdport(tdport, lacp->ctx) {
-		struct lacp_port *port = port_of(lacp, tdport);
+	while (niw_transmit(&port->lacp->end.system, port->number, frame, sizeof(frame)).is)
+		teamd_send(port->sock, frame, sizeof(frame), 0);
+}
 
-		while (port && lacp->end.system.live && niw_transmit(&lacp->end.system, port->number, frame, sizeof(frame)).is)
-			teamd_send(port->sock, frame, sizeof(frame), 0);
+static void send_due(struct lacp *lacp)
+{
+	for_each_port(port, lacp)
+		send_port(port);
+}
+
+/* The kernel tells of a port, and that it is in the device, one after the other: whether a port waits for that, or for the system that has it. */
+static bool is_port_missing(struct lacp *lacp, bool *ready)
+{
+	unsigned int count = 0;
+
+	*ready = false;
+	for_each_port(port, lacp) {
+		*ready |= !port->view.port && !lacp->full;
+		count++;
 	}
+	return *ready || count < teamd_port_count(lacp->ctx);
+}
+
+/* Sleeps until something is due: of LACP, of the device that falls silent, of the file, or of the configuration of the ports. */
+static void wait(struct lacp *lacp)
+{
+	int64_t now = lag_now(), at = lacp->config_at + CONFIG_MS, due = INT64_MAX;
+	bool ready;
+
+	if (lacp->to_remake && lacp->try_at < at)
+		at = lacp->try_at;
+	if (lacp->silent_at > now && lacp->silent_at < at)
+		at = lacp->silent_at;
+	if (lacp->end.system.live)
+		due = lag_end_due(&lacp->end);
+	if (due <= now) /* what was not sent is of a port that leaves */
+		due = now + NIW_TICK_MILLISECONDS;
+	if (due < at)
+		at = due;
+	if ((lacp->dirty || is_port_missing(lacp, &ready)) && at > now + NIW_TICK_MILLISECONDS)
+		at = now + NIW_TICK_MILLISECONDS;
+	wake_at(lacp, at);
 }
 
 static void take_view(struct lacp_port *port, const struct niw_view *view)
 {
 	struct niw_view was = port->view;
-	bool had = port->selected;
+	bool had = port->selected, began;
 
 	if (state_name(view) != state_name(&was))
 		teamd_log_info("%s: Changed port state: \"%s\" -> \"%s\"", port->tdport->ifname, state_name(&was), state_name(view));
@@ -84,23 +118,22 @@ static void take_view(struct lacp_port *port, const struct niw_view *view)
 	/* A partner that falls silent is one until the port runs on defaults. */
 	port->selected = view->port_status != NIW_PORT_STATUS_OWN_SYSTEM &&
 			 (view->receive_state == NIW_RECEIVE_CURRENT || (view->receive_state == NIW_RECEIVE_EXPIRED && had));
+	began = (view->state ^ was.state) & NIW_STATE_DISTRIBUTING;
 	if (port->selected != had || view->receive_state != was.receive_state || view->partner_key != was.partner_key ||
 	    view->partner_priority != was.partner_priority || memcmp(view->partner_mac, was.partner_mac, ETH_ALEN) ||
 	    view->partner_port != was.partner_port || view->partner_port_priority != was.partner_port_priority ||
-	    ((view->state ^ was.state) & NIW_STATE_DISTRIBUTING) || ((view->partner_state ^ was.partner_state) & NIW_STATE_AGGREGATION))
-		port->lacp->changed = port->lacp->dirty = true;
+	    ((view->partner_state ^ was.partner_state) & NIW_STATE_AGGREGATION) || (began && !port->lacp->cfg.hold))
+		port->lacp->changed = true; /* with hold the ports begin and stop as they are chosen */
+	port->lacp->dirty |= port->lacp->changed || began;
 }
 
 /* Holds the ports that are to leave their aggregators, and lets the others go. */
 static void hold(struct lacp *lacp)
 {
-	struct teamd_port *tdport;
+	for_each_port(port, lacp) {
+		bool it = lacp->silent_at || (lacp->cfg.hold && port->selected && !port->chosen);
 
-	teamd_for_each_tdport(tdport, lacp->ctx) {
-		struct lacp_port *port = port_of(lacp, tdport);
-		bool it = port && (lacp->silent_at || (lacp->cfg.hold && port->selected && !port->chosen));
-
-		if (port && it != port->held && niw_hold(&lacp->end.system, port->number, it) == NIW_OK)
+		if (it != port->held && niw_hold(&lacp->end.system, port->number, it) == NIW_OK)
 			port->held = it;
 	}
 }
@@ -108,69 +141,62 @@ static void hold(struct lacp *lacp)
 static void take_views(struct lacp *lacp)
 {
 	struct niw_view views[NIW_MOST_PORTS];
-	uint16_t numbers[NIW_MOST_PORTS];
-	struct teamd_port *tdport;
-	size_t count;
 
-	memset(views, 0, sizeof(views));
-	niw_views(&lacp->end.system, views, NIW_MOST_PORTS);
-	count = niw_ports(&lacp->end.system, numbers, NIW_MOST_PORTS).number;
-	teamd_for_each_tdport(tdport, lacp->ctx) {
-		struct lacp_port *port = port_of(lacp, tdport);
+	lag_end_views(&lacp->end, views);
+	for_each_port(port, lacp) {
+		const struct niw_view *view = lag_view_of(views, port->number);
 
-		for (size_t i = 0; port && i < count; i++)
-			if (port->number && views[i].port == port->number)
-				take_view(port, &views[i]);
+		if (view)
+			take_view(port, view);
 	}
 }
 
 /* Takes over what the system shows now: which ports may carry, and the carrier of the team. */
 static int look(struct lacp *lacp)
 {
-	struct teamd_port *tdport;
 	int carry = 0, failed = 0, err;
 
 	if (!lacp->end.system.live) {
 		save(lacp);
+		wait(lacp);
 		return set_carrier(lacp, false);
 	}
 	take_views(lacp);
 	choose(lacp);
 	hold(lacp);
-	teamd_for_each_tdport(tdport, lacp->ctx) {
-		struct lacp_port *port = port_of(lacp, tdport);
-		bool it = port && may_carry(port), is;
+	for_each_port(port, lacp) {
+		/* One that goes on stays as it is until the system has it. */
+		bool it = port->resumes || may_carry(port), is;
 
 		carry += it;
-		if (!port || (!teamd_port_enabled_check(lacp->ctx, tdport, &is) && is == it))
+		if (!teamd_port_enabled_check(lacp->ctx, port->tdport, &is) && is == it)
 			continue;
-		err = teamd_port_check_enable(lacp->ctx, tdport, it, !it);
+		err = teamd_port_check_enable(lacp->ctx, port->tdport, it, !it);
 		if (err && !TEAMD_ENOENT(err))
 			failed = err; /* the other ports, and the peers, do not wait for this one */
 	}
 	save(lacp);
 	err = set_carrier(lacp, carry >= lacp->cfg.min_ports);
 	send_due(lacp);
+	wait(lacp);
 	return err ? err : failed;
+}
+
+static bool is_free(struct lacp *lacp, const struct lacp_port *port, uint32_t number)
+{
+	for_each_port(other, lacp)
+		if (other != port && other->number == number)
+			return false;
+	return true;
 }
 
 /* Gives a port its number: that of its interface, if it is one of LACP and no other port's, else the highest that is free. */
 static void give_number(struct lacp *lacp, struct lacp_port *port)
 {
 	uint32_t it = port->tdport->ifindex, next = UINT16_MAX;
-	struct teamd_port *tdport;
-	bool taken = true;
 
-	while (taken) {
-		taken = it > UINT16_MAX;
-		teamd_for_each_tdport(tdport, lacp->ctx) {
-			struct lacp_port *other = port_of(lacp, tdport);
-
-			taken = taken || (other && other != port && other->number == it);
-		}
-		if (taken)
-			it = next--;
-	}
+	while (it > UINT16_MAX || !is_free(lacp, port, it))
+		it = next--;
 	if (it != port->tdport->ifindex)
 		teamd_log_info("%s: LACP has port numbers up to 65535: it is port %" PRIu32 ".", port->tdport->ifname, it);
 	port->number = (uint16_t) it;
@@ -179,17 +205,16 @@ static void give_number(struct lacp *lacp, struct lacp_port *port)
 /* Puts the ports into a list, but one; returns how many. Those that are in already stay in, when there are too many. */
 static size_t list_ports(struct lacp *lacp, const struct lacp_port *but, struct lag_port *ports)
 {
-	struct teamd_port *tdport;
 	size_t count = 0;
 
+	lacp->full = false;
 	for (int in = 1; in >= 0; in--)
-		teamd_for_each_tdport(tdport, lacp->ctx) {
-			struct lacp_port *port = port_of(lacp, tdport);
-
-			if (!port || port == but || port->listed || (port->number != 0) != in)
+		for_each_port(port, lacp) {
+			if (port == but || port->listed || (port->number != 0) != in)
 				continue;
 			if (count == NIW_MOST_PORTS) {
-				teamd_log_err("%s: left out: a team has %d ports at most with LACP.", tdport->ifname, NIW_MOST_PORTS);
+				lacp->full = true;
+				teamd_log_err("%s: left out: a team has %d ports at most with LACP.", port->tdport->ifname, NIW_MOST_PORTS);
 				continue;
 			}
 			if (!in)
@@ -240,6 +265,16 @@ static int remake(struct lacp *lacp, const struct lacp_port *but)
 	return look(lacp);
 }
 
+/* The next tick makes the system anew, with what else comes until then. */
+static void remake_soon(struct lacp *lacp)
+{
+	if (lacp->to_remake)
+		return;
+	lacp->to_remake = true;
+	lacp->try_at = lag_now() + NIW_TICK_MILLISECONDS;
+	wait(lacp);
+}
+
 static void advance(struct lacp *lacp)
 {
 	lag_end_advance(&lacp->end, lag_now());
@@ -248,13 +283,11 @@ static void advance(struct lacp *lacp)
 static void set_links(struct lacp *lacp)
 {
 	bool silent = is_silent(lacp);
-	struct teamd_port *tdport;
 
-	teamd_for_each_tdport(tdport, lacp->ctx) {
-		struct lacp_port *port = port_of(lacp, tdport);
-		bool up = port && !silent && is_up(port);
+	for_each_port(port, lacp) {
+		bool up = !silent && is_up(port);
 
-		if (!port || !port->number || !lacp->end.system.live || niw_is_up(&lacp->end.system, port->number).is == up)
+		if (!port->number || !lacp->end.system.live || niw_is_up(&lacp->end.system, port->number).is == up)
 			continue;
 		niw_set_link(&lacp->end.system, port->number, up);
 		lacp->changed = lacp->dirty = true;
@@ -267,12 +300,14 @@ static int tick(struct teamd_context *ctx, int events, void *priv)
 {
 	struct lacp *lacp = priv;
 	uint64_t times;
+	bool ready;
 
 	if (read(lacp->clock, &times, sizeof(times)) < 0 && errno != EAGAIN && errno != EINTR)
 		return -errno;
 	advance(lacp);
 	read_ports_again(lacp);
-	if (lacp->to_remake && lag_now() >= lacp->try_at)
+	is_port_missing(lacp, &ready);
+	if ((lacp->to_remake || ready) && lag_now() >= lacp->try_at)
 		return remake(lacp, NULL);
 	if (lacp->silent_at)
 		set_links(lacp);
@@ -305,6 +340,7 @@ static int receive(struct teamd_context *ctx, int events, void *priv)
 		if (lag_hear(&port->heard, frame, lag_now()))
 			return look(lacp);
 		send_due(lacp); /* without news the next tick sees to the rest */
+		wait(lacp);
 	}
 	return 0;
 }
@@ -336,7 +372,9 @@ static int set_address(struct teamd_context *ctx, struct teamd_port *tdport)
 /* The source address of a port: as it was before the port was in a team, if teamd saw it so, or as the file has it, or the permanent one. */
 static void find_mac(struct lacp_port *port)
 {
-	struct { struct ethtool_perm_addr head; uint8_t octets[32]; } permanent = { .head = { ETHTOOL_GPERMADDR, ETH_ALEN } };
+	union { struct ethtool_perm_addr head; uint8_t octets[sizeof(struct ethtool_perm_addr) + ETH_ALEN]; } permanent = {
+		.head = { .cmd = ETHTOOL_GPERMADDR, .size = ETH_ALEN },
+	};
 	struct team_ifinfo *ifinfo = port->tdport->team_ifinfo;
 	const struct lag_state_port *kept = kept_of(port->lacp, port->tdport);
 	static const uint8_t none[ETH_ALEN];
@@ -361,17 +399,19 @@ static void find_mac(struct lacp_port *port)
 	memcpy(port->mac, port->ctx->hwaddr, ETH_ALEN);
 }
 
-/* A port that was in the device before teamd started, and distributed for the teamd before it, goes on. */
+/* A port that was in the device before teamd started keeps its number, and goes on if it distributed for the teamd before. */
 static void find_state(struct lacp_port *port)
 {
 	const struct lag_state_port *kept = kept_of(port->lacp, port->tdport);
 
 	port->carrier_changes = carrier_changes_of(port);
-	if (!port->ctx->pre_add_ports || !kept || !kept->carried || kept->carrier_changes != port->carrier_changes)
+	if (!port->ctx->pre_add_ports || !kept || !is_free(port->lacp, port, kept->number))
+		return;
+	port->number = kept->number;
+	if (!kept->carried || kept->carrier_changes != port->carrier_changes)
 		return;
 	port->heard = kept->heard;
 	port->resumes = true;
-	port->number = kept->number;
 	port->view.aggregator = kept->aggregator;
 	port->chosen = kept->chosen;
 }
@@ -400,8 +440,7 @@ static int port_init(struct teamd_context *ctx, struct teamd_port *tdport, void 
 	if ((err = set_address(ctx, tdport)))
 		goto callback_del;
 	teamd_loop_callback_enable(ctx, SOCKET_NAME, port);
-	/* The next tick takes the port in, and what else comes until then. */
-	port->lacp->to_remake = true;
+	remake_soon(port->lacp);
 	return 0;
 
 callback_del:
@@ -433,7 +472,6 @@ static void port_fini(struct teamd_context *ctx, struct teamd_port *tdport, void
 {
 	struct lacp_port *port = priv;
 	struct lacp *lacp = creator;
-	uint8_t frame[NIW_FRAME];
 
 	if (!port->tdport)
 		return;
@@ -445,9 +483,8 @@ static void port_fini(struct teamd_context *ctx, struct teamd_port *tdport, void
 	if (!lacp->stays) {
 		/* The peer is told that the link leaves. */
 		advance(lacp);
-		if (lacp->end.system.live && port->number && niw_hold(&lacp->end.system, port->number, true) == NIW_OK)
-			while (niw_transmit(&lacp->end.system, port->number, frame, sizeof(frame)).is)
-				teamd_send(port->sock, frame, sizeof(frame), 0);
+		if (niw_hold(&lacp->end.system, port->number, true) == NIW_OK)
+			send_port(port);
 	}
 	if (lacp->carries == port)
 		lacp->carries = NULL;
@@ -486,7 +523,7 @@ static int watch_hwaddr(struct teamd_context *ctx, void *priv)
 	teamd_for_each_tdport(tdport, ctx)
 		if ((err = set_address(ctx, tdport)))
 			return err;
-	((struct lacp *) priv)->to_remake = true;
+	remake_soon(priv);
 	return 0;
 }
 
@@ -561,20 +598,19 @@ static int take_over(struct lacp *lacp)
 
 static int start_clock(struct lacp *lacp)
 {
-	const struct timespec tick_time = { .tv_nsec = NIW_TICK_MILLISECONDS * 1000000L };
-	const struct itimerspec every = { tick_time, tick_time };
 	int err;
 
 	lacp->clock = timerfd_create(CLOCK_MONOTONIC, TFD_NONBLOCK | TFD_CLOEXEC);
 	if (lacp->clock < 0)
 		return -errno;
-	err = timerfd_settime(lacp->clock, 0, &every, NULL) ? -errno
-							      : teamd_loop_callback_fd_add(lacp->ctx, TICK_NAME, lacp, tick, lacp->clock, TEAMD_LOOP_FD_EVENT_READ);
-	if (err)
+	err = teamd_loop_callback_fd_add(lacp->ctx, TICK_NAME, lacp, tick, lacp->clock, TEAMD_LOOP_FD_EVENT_READ);
+	if (err) {
 		close(lacp->clock);
-	else
-		teamd_loop_callback_enable(lacp->ctx, TICK_NAME, lacp);
-	return err;
+		return err;
+	}
+	teamd_loop_callback_enable(lacp->ctx, TICK_NAME, lacp);
+	wait(lacp);
+	return 0;
 }
 
 static int lacp_init(struct teamd_context *ctx, void *priv)

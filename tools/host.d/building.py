@@ -3,7 +3,9 @@
 from __future__ import annotations
 
 import glob
+import hashlib
 import os
+import re
 import shutil
 import subprocess
 from typing import Callable, NamedTuple
@@ -32,6 +34,8 @@ class Host(NamedTuple):
 
     source: str
     wants_packaging: bool
+    # The packages that a build wants, as Build-Depends has them.
+    wants: Callable[[Source], str]
     # Builds it, with these archives or as it is, in this folder, with so many jobs; answers the folder of the build.
     build: Callable[[Source, list[str], str, int], str]
     # Makes the packages.
@@ -55,6 +59,17 @@ def archives(folder: str) -> list[str]:
     return [archive(folder, portable(folder) if of_c else one_object(folder, proved(folder)))]
 
 
+def need(packages: str) -> None:
+    """Stops the tool where packages are missing that a build wants, in the form of Build-Depends: one line installs all of them."""
+    lacking = f"build-essential, {packages}"
+    if shutil.which("dpkg-checkbuilddeps"):
+        told = subprocess.run(["dpkg-checkbuilddeps", "-d", packages, os.devnull], capture_output=True, text=True, env={**os.environ, "LC_ALL": "C"})
+        lacking = told.stderr.strip().split("dependencies: ")[-1] if told.returncode else ""
+    names = re.sub(r" *(\([^)]*\)|\[[^]]*\]|<[^>]*>|:native|\|[^,]*)|,", " ", lacking).split()
+    if names:
+        raise Missing(f"the build lacks packages:\n    apt install --no-install-recommends {' '.join(names)}")
+
+
 def done(words: list[str], cwd: str, log: str, **environment: str) -> None:
     """Runs a step of a build; its output stands in a file."""
     if not words[0].startswith("."):
@@ -75,6 +90,25 @@ def exchange(ours: str, theirs: str) -> None:
     shutil.copy(ours, theirs)
     for header in [*glob.glob(f"{os.path.dirname(ours)}/*.h"), *glob.glob(f"{SHARED}/*.h"), HEADER]:
         shutil.copy(header, os.path.dirname(theirs))
+
+
+def stamp(name: str, source: Source, linked: list[str]) -> str:
+    """What a build is made of, in a word: the sources, the archives, our files, the tool, and the words of the environment."""
+    of = hashlib.sha256(repr([source.version, *(os.environ.get(it) for it in ("CFLAGS", "CC"))]).encode())
+    places = f"{HOSTS}/{name}/*", f"{HOSTS}/{name}/tests/*.at", f"{HOSTS}/{name}/tests/*.sed", f"{SHARED}/*.h", f"{os.path.dirname(__file__)}/*.py", HEADER, *linked
+    for path in sorted(it for place in places for it in glob.glob(place) if os.path.isfile(it)):
+        with open(path, "rb") as it:
+            of.update(path.encode() + it.read())
+    return of.hexdigest()
+
+
+def is_built(folder: str, word: str) -> bool:
+    """Whether a folder has a whole build of this stamp."""
+    try:
+        with open(f"{folder}.stamp", encoding="utf-8") as it:
+            return it.read() == word and os.path.isdir(folder)
+    except OSError:
+        return False
 
 
 def before(names: tuple[str, ...]) -> Callable[[Sources], dict[str, str]]:

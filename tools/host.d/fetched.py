@@ -39,6 +39,8 @@ class Sources:
 
     def __init__(self, cache: str, may_fetch: bool) -> None:
         self.cache, self.may_fetch, self.known = cache, may_fetch, False
+        # What apt told of the places whose lists it did not take.
+        self.refused: list[str] = []
         for folder in "apt/lists/partial", "apt/sources.list.d", "apt/archives/partial", "sources":
             os.makedirs(f"{cache}/{folder}", exist_ok=True)
 
@@ -58,7 +60,8 @@ class Sources:
         with open(f"{self.cache}/apt/sources.list.d/all.list", "w", encoding="utf-8") as it:
             it.writelines(lines)
         # A place that has no such release fails alone.
-        self.apt("apt-get", "update")
+        told = self.apt("apt-get", "update").stderr
+        self.refused = [line for line in told.splitlines() if line.startswith("E: ")]
         self.known = True
 
     def versions(self, name: str) -> list[str]:
@@ -88,7 +91,8 @@ class Sources:
                 say(f"{name} {it}: " + ("with Debian's packaging" if source.described else "the archive of its authors; Debian's packaging is not to be had"))
                 return source
             missing.append(it)
-        raise Missing(f"apt has no whole sources of {name}" + (f" (listed: {', '.join(missing)})" if missing else ""))
+        listed = f" (listed: {', '.join(missing)})" if missing else ""
+        raise Missing("\n  ".join([f"apt has no whole sources of {name}{listed}", *self.refused]))
 
     def package(self, name: str) -> str:
         """The file of the machine's own version of a package, fetched; "" where apt has none."""

@@ -10,10 +10,19 @@ import time
 
 from building import HOSTS, Host, Order, before, done, exchange
 from fetched import Source, Sources, unpacked
-from repository import Missing, want
+from repository import Missing
 
 PACKAGES = "openvswitch-common", "openvswitch-switch"
 OPTIONS = "--disable-afxdp"
+# What Debian's packaging wants for DPDK and AF_XDP, and what Debian 12 has not.
+UNUSED = "architecture-is-64-bit", "graphviz", "libbpf-dev", "libdpdk-dev", "libxdp-dev"
+
+
+def wanted(source: Source) -> str:
+    """What the sources are built with, as their description tells it."""
+    with open(source.described, encoding="utf-8") as it:
+        told = re.search(r"^Build-Depends: (.*)$", it.read(), re.M)
+    return ", ".join(each for each in (told.group(1).split(", ") if told else []) if each.split()[0] not in UNUSED)
 
 
 def tree_of(source: Source, archives: list[str], folder: str, log: str) -> str:
@@ -28,7 +37,6 @@ def tree_of(source: Source, archives: list[str], folder: str, log: str) -> str:
 
 def build(source: Source, archives: list[str], folder: str, jobs: int) -> str:
     """Builds the programs, and its test suite with our tests and the lines that the standard contradicts changed."""
-    want("autoreconf", "libtoolize", "make", "sed")
     log = f"{folder}.log"
     tree = tree_of(source, archives, folder, log)
     if archives:
@@ -62,7 +70,6 @@ def without_dpdk(tree: str) -> None:
 
 def pack(_: Sources, order: Order) -> list[str]:
     """Builds two packages as Debian's packaging does."""
-    want("dpkg-buildpackage", "dh", "dh-exec", "pybuild", "autoreconf")
     folder = f"{order.folder}.packages"
     shutil.rmtree(folder, ignore_errors=True)
     os.makedirs(folder)
@@ -82,4 +89,4 @@ def pack(_: Sources, order: Order) -> list[str]:
     return [shutil.copy(it, order.out) for it in found]
 
 
-HOST = Host("openvswitch", True, build, pack, before(PACKAGES))
+HOST = Host("openvswitch", True, wanted, build, pack, before(PACKAGES))

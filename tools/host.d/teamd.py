@@ -9,19 +9,14 @@ import subprocess
 
 from building import HOSTS, Host, Order, before, done, exchange
 from fetched import Source, Sources, unpacked
-from repository import Missing, want
+from repository import Missing
 
 PACKAGE, PROGRAM = "libteam-utils", "usr/bin/teamd"
-# What its configure looks for (Debian: these packages).
-WANTED = {"libnl-3.0": "libnl-3-dev", "libnl-cli-3.0": "libnl-cli-3-dev", "libnl-genl-3.0": "libnl-genl-3-dev", "libnl-route-3.0": "libnl-route-3-dev", "libdaemon": "libdaemon-dev", "jansson": "libjansson-dev", "dbus-1": "libdbus-1-dev"}
+WANTED = "autoconf, automake, libtool, pkg-config, libnl-3-dev, libnl-cli-3-dev, libnl-genl-3-dev, libnl-route-3-dev, libdaemon-dev, libjansson-dev, libdbus-1-dev"
 FLAGS = "-O2 -g -fstack-protector-strong -D_FORTIFY_SOURCE=2 -fPIE"
 
 
 def build(source: Source, archives: list[str], folder: str, jobs: int) -> str:
-    want("autoreconf", "libtoolize", "make", "pkg-config")
-    lacking = [package for name, package in WANTED.items() if subprocess.run(["pkg-config", "--exists", name]).returncode]
-    if lacking:
-        raise Missing(f"libteam is built with packages that are not here: {' '.join(lacking)}")
     tree, log = unpacked(source, folder, False), f"{folder}.log"
     if os.path.exists(log):
         os.remove(log)
@@ -50,7 +45,6 @@ def control_of(tree: str, source: Source, version: str) -> None:
 
 def pack(sources: Sources, order: Order) -> list[str]:
     """The package of the machine with another program and version."""
-    want("dpkg-deb", "strip", "md5sum")
     given = sources.package(PACKAGE)
     if not given:
         raise Missing(f"apt has no package {PACKAGE}, of which all but teamd is taken")
@@ -74,4 +68,4 @@ def architecture() -> str:
     return subprocess.run(["dpkg", "--print-architecture"], capture_output=True, text=True).stdout.strip()
 
 
-HOST = Host("libteam", False, build, pack, before((PACKAGE,)))
+HOST = Host("libteam", False, lambda _: WANTED, build, pack, before((PACKAGE,)))

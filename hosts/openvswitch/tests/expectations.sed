@@ -26,6 +26,8 @@
 /^AT_SETUP(\[ofproto-dpif - sFlow packet sampling - LACP structures\])/,/^AT_CLEANUP/ {
     # The state octet as in "multi port config".
     s/^        actorOper=0xbf$/        actorOper=0xc7/
-    # The first LACPDU comes when periodic_timer expires, after fast_periodic_time (6.4.13).
-    s/^        LACPDUsTx=1$/        LACPDUsTx=0/
+    # The first LACPDU comes when periodic_timer expires, after fast_periodic_time (6.4.13). The clock goes on until the test stops it, so how many
+    # were sent when sFlow asks first depends on the machine: as many as frames left the interface in the same sample.
+    s/^AT_CHECK(\[\[sort sflow\.log |/AT_CHECK([[sed '\/^IFCOUNTERS\/{h;d};\/^LACPCOUNTERS\/{G;s\/LACPDUsTx=\\([0-9]*\\) \\(.*\\)\\n.*out_unicasts=\\1 .*\/LACPDUsTx=out_unicasts \\2\/;s\/\\n.*\/\/}' sflow.log | sort |/
+    s/^        LACPDUsTx=1$/        LACPDUsTx=out_unicasts/
 }

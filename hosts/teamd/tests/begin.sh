@@ -37,20 +37,28 @@ is() { if [ "$2" = "$3" ]; then echo "passed: $1"; else echo "FAILED: $1"; echo 
 until_state() { last=$(($(date +%s) + $2 * ${SLOW:-1})); until [ "$(state $3)" = "$1" ] || [ "$(date +%s)" -gt $last ]; do sleep 0.1; done; }
 # The key and the port priority that a port of the peer was told.
 told() { ip netns exec far sed -n "/Slave Interface: $1\$/,/^\$/{s/^ *oper key: //p;s/^ *port priority: //p}" /proc/net/bonding/bond0 | tail -2 | paste -s -d' '; }
-# Numbered frames both ways, 250 a second each, while a command runs after 2 s; LOST is how many were lost to and from the peer.
+packet_sockets() { ${1:+ip netns exec $1} cat /proc/net/packet | wc -l; }
+# Numbered frames both ways, 250 a second each, while a command runs after 2 s; LOST is how many were lost to and from the peer. AWAY is how long the
+# command took, and LATE by how much the machine was late meanwhile, in ms.
 trip() { # NAME SECONDS COMMAND..
-    name=$1; seconds=$2; shift 2
+    name=$1; seconds=$2; shift 2; here=$(packet_sockets) there=$(packet_sockets far)
     ip link set team0 promisc on; ip -n far link set bond0 promisc on
     ip netns exec far /mnt/flows receive bond0 16 $((seconds + ${AFTER:-3})) >/run/to.received 2>&1 & a=$!
     /mnt/flows receive team0 16 $((seconds + ${AFTER:-3})) >/run/from.received 2>&1 & b=$!
-    sleep 0.5
+    for _ in $(seq 100); do [ "$(packet_sockets)" -gt "$here" ] && [ "$(packet_sockets far)" -gt "$there" ] && break; sleep 0.1; done
+    python3 /run/tests/late.py >/run/late & e=$!
     ip netns exec far /mnt/flows send bond0 ${RATE:-250} 16 $seconds ports >/run/from.sent 2>&1 & c=$!
     /mnt/flows send team0 ${RATE:-250} 16 $seconds ports >/run/to.sent 2>&1 & d=$!
-    sleep 2; eval "$*" >/run/trip.out 2>&1; wait $a $b $c $d
+    sleep 2; AWAY=$(date +%s%N); eval "$*" >/run/trip.out 2>&1; AWAY=$((($(date +%s%N) - AWAY) / 1000000))
+    wait $c $d; kill $e; wait $a $b $e; LATE=$(cat /run/late)
     LOST=$(for w in to from; do
         sent=$(sed 's/.*"sent":\([0-9]*\).*/\1/' /run/$w.sent) got=$(sed 's/.*"received":\([0-9]*\).*/\1/' /run/$w.received)
         echo $((sent - got))
     done | paste -s -d' ')
     GAP=$(sed 's/.*"gap_ms":\([0-9]*\).*/\1/' /run/to.received /run/from.received | sort -n | tail -1)
-    echo "row: $name | $LOST of $((${RATE:-250} * seconds)) | $GAP ms"
+    echo "row: $name | $LOST of $((${RATE:-250} * seconds)) | $GAP ms | the command took $AWAY ms, and the machine was up to $LATE ms late"
+}
+# Whether nothing was lost. The peer stops a link that is silent for longer than 2 s: a second passes between two LACPDUs, and its timeout is 3 s.
+lost_none() {
+    if [ "$LOST" != "0 0" ] && [ $((AWAY + LATE)) -ge 2000 ]; then echo "row: inconclusive, the machine was too slow: $1"; else is "$1" "0 0" "$LOST"; fi
 }

@@ -5,7 +5,9 @@ sleep 3; ip link set team0 up; until_state "$BOTH" 10; is "it comes up: both car
 teamdctl team0 port config update eth1 '{"lacp_prio": 7, "lacp_key": 5}' 2>/dev/null; teamdctl team0 port config update eth2 '{"lacp_key": 5}' 2>/dev/null; sleep 2
 is "another key and priority reach the peer" "5 7" "$(told far1)"; until_state "$BOTH" 10; is "both carry with them" "$BOTH" "$(state)"
 # As NetworkManager starts it, which has no word of ports that are in.
-kill_it; $T -g -d -o -n -t team0 -c "$(config '' ' ')" 2>>/run/log; sleep 1.5; is "a teamd that follows with -n: both carry with them" "$BOTH 5 7" "$(state) $(told far1)"
+from=$(date +%s%N); kill_it; $T -g -d -o -n -t team0 -c "$(config '' ' ')" 2>>/run/log; away=$((($(date +%s%N) - from) / 1000000)); sleep 1.5
+[ $away -lt 1500 ] || { echo "row: it started after $away ms, so that the peer may have stopped its links"; until_state "$BOTH" 10; }
+is "a teamd that follows with -n: both carry with them" "$BOTH 5 7" "$(state) $(told far1)"
 teamdctl team0 port config update eth1 '{"lacp_prio": 9, "lacp_key": 5}' 2>/dev/null; sleep 2; is "what it is told then reaches the peer" "5 9" "$(told far1)"
 for n in 1 2; do teamdctl team0 port config update eth$n '{}' 2>/dev/null; done; sleep 2; is "and where it is told nothing, what is usual" "0 255, 0 255" "$(told far1), $(told far2)"
 until_state "$BOTH" 10; is "both carry then" "$BOTH" "$(state)"
@@ -21,14 +23,26 @@ $T -d -r -t team0 -c "$(config '"agg_select_policy":"nosuch"')" 2>/dev/null; is 
 $T -d -r -t team0 -c "$(config '"sys_prio":65536')" 2>/dev/null; is "a sys_prio of 65536 is refused" 1 $?
 begin '' '"eth1":{"link_watch":{"name":"ethtool","delay_up":3000}},"eth2":{}'; sleep 2.5; is "delay_up is waited for" disabled "$(item ports.eth1.runner.state)"; until_state "$BOTH" 12; is "and then the port carries" "$BOTH" "$(state)"; end
 k=0; for i in 70001 65537 65538; do k=$((k + 1)); ip link add w$k index $i type veth peer name farw$k netns far; ip -n far link set farw$k master bond0; done
-begin '' '"eth1":{},"w1":{},"w2":{},"w3":{}'; sleep 7
+begin '' '"eth1":{},"w1":{},"w2":{},"w3":{}'; for _ in $(seq $((200 * ${SLOW:-1}))); do [ "$(item ports.w3.runner.actor_lacpdu_info.port)" -gt 0 ] && break; sleep 0.1; done 2>/dev/null
 ports() { for p in w1 w2 w3; do printf '%s ' "$(item ports.$p.runner.actor_lacpdu_info.port)"; done; }
 was=$(ports); is "each ifIndex above 65535 has a port number of its own" 3 "$(echo $was | tr ' ' '\n' | awk '$1 > 0 && $1 < 65536' | sort -u | wc -l)"
-kill_it; take '' '"eth1":{},"w1":{},"w2":{},"w3":{}'; sleep 1; is "which stay when another teamd follows" "$was" "$(ports)"; end
+kill_it; take '' '"eth1":{},"w1":{},"w2":{},"w3":{}'; for _ in $(seq $((50 * ${SLOW:-1}))); do [ "$(ports)" = "$was" ] && break; sleep 0.1; done; is "which stay when another teamd follows" "$was" "$(ports)"; end
 begin '' '"eth1":{},"eth2":{},"eth3":{}'; sleep 5; pid=$(cat /run/teamd/team0.pid); files=$(ls /proc/$pid/fd | wc -l)
 trip "out and in 50 times" 25 'for k in $(seq 50); do teamdctl team0 port remove eth3 && sleep 0.1; teamdctl team0 port add eth3; sleep 0.1; done'
 is "no file is left open after 50 times out and in" "$files" "$(ls /proc/$pid/fd | wc -l)"; is "no command failed" "" "$(cat /run/trip.out)"
 sleep 5; is "all three carry" "eth1 current true, eth2 current true, eth3 current true, carrier 1" "$(state eth1 eth2 eth3)"; end
+# Two partners, each on a link of its own: the better one carries, until the other one is chosen by hand.
+ip -n far link add bond1 type bond mode 802.3ad miimon 100 lacp_rate fast ad_actor_sys_prio 1
+ip -n far link set far2 nomaster; ip -n far link set far2 down; ip -n far link set far2 master bond1; ip -n far link set bond1 up
+# Of each port: whether its group is chosen, whether it is enabled, and whether it distributes.
+chosen() { for p in eth1 eth2; do printf '%s %s %s %s, ' $p "$(item ports.$p.runner.aggregator.selected)" "$(teamnl team0 -p $p getoption enabled)" $(($(item ports.$p.runner.actor_lacpdu_info.state) / 32 % 2)); done; }
+until_chosen() { for _ in $(seq $((150 * ${SLOW:-1}))); do [ "$(chosen)" = "$1" ] && break; sleep 0.1; done; }
+for hold in false true; do
+    other=1; [ $hold = true ] && other=0
+    begin "\"hold_unselected\":$hold"; until_chosen "eth1 false false $other, eth2 true true 1, "; is "hold_unselected $hold: the better partner's link carries" "eth1 false false $other, eth2 true true 1, " "$(chosen)"
+    teamdctl team0 state item set ports.eth1.runner.aggregator.selected true; sleep 6; until_chosen "eth1 true true 1, eth2 false false $other, "
+    is "hold_unselected $hold: the other one by hand, and it stays" "eth1 true true 1, eth2 false false $other, " "$(chosen)"; end
+done
 # Three teams on one segment.
 for n in 1 2 3; do ip link add e$n type veth peer name h$n; ip link set h$n up promisc on; tc qdisc add dev h$n clsact; done
 for n in 1 2 3; do for m in 1 2 3; do [ $n = $m ] || tc filter add dev h$n ingress matchall action mirred egress mirror dev h$m; done; done

@@ -41,13 +41,15 @@ config={"lacp_prio":10$n}
 C
 chmod 600 $R/etc/NetworkManager/system-connections/*
 manager() { chroot $R NetworkManager --debug >>/run/log 2>&1 & nm=$!; }
+ends() { kill ${1:+-$1} $nm; wait $nm; }
 nmcli() { chroot $R nmcli "$@" >>/run/nmcli 2>&1; }
 # It may take a while until it has taken the device over.
 manages() { for _ in $(seq 300); do chroot $R nmcli -g GENERAL.STATE device show team0 2>/dev/null | grep -q ^100 && return; sleep 0.2; done; echo "FAILED: NetworkManager has the device"; }
 ports() { ip -br link show master team0 | cut -d@ -f1 | sort | paste -s -d' '; }
-# Pings each 100 ms, while a command runs after a second: how many were answered.
-pings() { count=$1; shift; ping -c $count -i 0.1 192.0.2.2 >/run/ping & p=$!; sleep 1; eval "$*" >>/run/nmcli 2>&1; wait $p; grep -o '[0-9]* received' /run/ping; }
-all() { is "$1: each of $2 pings is answered" "$2 received" "$3"; is "$1: both carry" "$BOTH" "$(state)"; }
+# Pings each 100 ms, while a command runs after a second; ANSWERED is how many were answered. Not in a substitution: this shell is the guest's first
+# program, and a teamd that is killed stays a process, which the next one takes for one that runs, until this shell waits.
+pings() { count=$1; shift; ping -c $count -i 0.1 192.0.2.2 >/run/ping & p=$!; sleep 1; eval "$*" >>/run/nmcli 2>&1; wait $p; ANSWERED=$(grep -o '[0-9]* received' /run/ping); }
+all() { name=$1; shift; pings "$@"; is "$name: each of $1 pings is answered" "$1 received" "$ANSWERED"; is "$name: both carry" "$BOTH" "$(state)"; }
 
 bond; chroot $R dbus-daemon --system --fork; sleep 0.5; manager; until_state "$BOTH" 120
 echo "row: $(chroot $R NetworkManager --version) and $(chroot $R teamd --version 2>&1 | head -1)"
@@ -55,22 +57,24 @@ is "the connection comes up, and both ports carry" "$BOTH" "$(state)"; sleep 1
 is "teamd is that of NetworkManager" 1 "$(tr '\0' ' ' </proc/$(cat /run/teamd/team0.pid)/cmdline | grep -c -e ' -o -n -U -D -N -t team0')"
 is "D-Bus tells as the socket does" current "$(chroot $R teamdctl -D team0 state item get ports.eth1.runner.state)"
 is "the priorities of the ports reach the peer" "101 102" "$(for n in 1 2; do told far$n | cut -d' ' -f2; done | paste -s -d' ')"
-all "nothing happens" 20 "$(pings 20 true)"
+all "nothing happens" 20 true
 nmcli c down eth2; sleep 4; is "a port goes down: the other one carries" "eth1 current true, carrier 1 eth1" "$(state eth1) $(ports)"
 nmcli c up eth2; until_state "$BOTH" 15; is "it comes up: both carry" "$BOTH" "$(state)"
 out=0; for k in 1 2 3 4 5 6 7 8; do nmcli c down eth2; sleep 2; [ "$(ports)" = eth1 ] && out=$((out + 1)); nmcli c up eth2; sleep 2; done
 until_state "$BOTH" 15; is "8 times down and up: out each time, and both carry" "8 $BOTH" "$out $(state)"
 pid=$(cat /run/teamd/team0.pid)
-all "NetworkManager is killed, and starts again" 120 "$(pings 120 'kill -9 $nm; sleep 1; manager')"
-manages; all "NetworkManager ends, and starts again" 140 "$(pings 140 'kill $nm; sleep 2; manager')"
+all "NetworkManager is killed, and starts again" 120 'ends KILL; sleep 1; manager'
+manages; all "NetworkManager ends, and starts again" 140 'ends; sleep 2; manager'
 manages; is "teamd went on" $pid "$(cat /run/teamd/team0.pid)"
-answered=$(pings 150 'kill_it; from=$(date +%s%N); for _ in $(seq 400); do [ "$(item setup.pid)" -ne $pid ] && break; sleep 0.05; done; echo $((($(date +%s%N) - from) / 1000000)) >/run/without')
+told=$(wc -l </run/log); pings 150 'kill_it; from=$(date +%s%N); for _ in $(seq 400); do [ "$(item setup.pid)" -ne $pid ] && break; sleep 0.05; done; echo $((($(date +%s%N) - from) / 1000000)) >/run/without'
 echo "row: teamd is killed: NetworkManager starts another, which answers after $(cat /run/without) ms"
+# Where none comes: what NetworkManager told of the team since.
+[ "$(cat /run/without)" -lt 15000 ] || sed -n "$told,\$p" /run/log | grep 'device (team0)' | tail -20 | sed 's/^/row:   /'
 until_state "$BOTH" 20; is "teamd is killed, and NetworkManager starts another: both carry" "$BOTH" "$(state)"
 # Later than that the links of the peer time out.
-if [ "$(cat /run/without)" -lt 2000 ]; then is "each of 150 pings is answered meanwhile" "150 received" "$answered"; else echo "row: it was too late: $answered of 150 pings"; fi
+if [ "$(cat /run/without)" -lt 2000 ]; then is "each of 150 pings is answered meanwhile" "150 received" "$ANSWERED"; else echo "row: it was too late: $ANSWERED of 150 pings"; fi
 is "it is another one" yes "$([ "$(cat /run/teamd/team0.pid)" = $pid ] || echo yes)"
 is "the peer knows the priorities of before" "101 102" "$(for n in 1 2; do told far$n | cut -d' ' -f2; done | paste -s -d' ')"
 nmcli c down team0; sleep 5; is "the connection goes down: no port and no teamd is left" " " "$(ports) $(pgrep -x teamd)"
-nmcli c up team0; nmcli c up eth1; nmcli c up eth2; until_state "$BOTH" 20; all "the connection comes up again" 20 "$(pings 20 true)"
-nmcli c down team0; kill $nm; sleep 1
+nmcli c up team0; nmcli c up eth1; nmcli c up eth2; until_state "$BOTH" 20; all "the connection comes up again" 20 true
+nmcli c down team0; ends

@@ -45,6 +45,7 @@ def speed(built: Built) -> None:
     print("|all rounds|" + "|".join(WAYS.values()) + "|\n|---|" + "---|" * len(WAYS))
     for row, cells in rows.items():
         print(f"|{row}|" + "|".join(", ".join(cells.get(way, ["-"])) for way in WAYS) + "|")
+    print(f"the load of the machine in the last 1, 5 and 15 minutes: {' '.join(f'{it:.0f}' for it in os.getloadavg())}")
     began = rows.get("from the start until both carry, s", {})
     check(all(len(began.get(way, [])) >= ROUNDS for way in WAYS), f"{ROUNDS} rounds of three daemons are measured", told[-1500:])
     check(ended(told), "speed: the guest comes to its end", told[-800:])

@@ -18,6 +18,8 @@ TESTS = os.path.join(HOSTS, "teamd", "tests")
 LONGEST = {"conform": 2400, "speed": 3600}
 USUAL = 1200
 NAMES = "restarts", "changes", "files"
+# Those that --beside runs with teamd as it is, too.
+BESIDE = "restarts", "network-manager"
 # NetworkManager, and of what it wants that which a small Debian has not.
 MANAGER = ("network-manager", "libnm0", "libndp0", "libteamdctl0", "libmm-glib0", "libbluetooth3", "libcurl3-gnutls", "libjansson4", "libpsl5", "libreadline8", "libdaemon0",
            "libapparmor1", "libdbus-1-3", "dbus-bin", "dbus-daemon", "dbus-system-bus-common", "dbus-session-bus-common", "libteam-utils", "libteam5")  # fmt: skip
@@ -99,8 +101,8 @@ def part(script: str) -> Callable[[Built], None]:
     def run_it(built: Built) -> None:
         if script == "questions" and not shutil.which("teamdctl"):
             raise Failed("teamdctl is here (Debian: libteam-utils)")
-        if built.beside and script == "restarts":
-            print("beside: teamd as it is", *(line for line in guest(built, script, program(built, True), "own").splitlines() if line.startswith("row: ")), sep="\n  ", flush=True)
+        if built.beside and script in BESIDE:
+            print("beside: teamd as it is", *re.findall("^(?:row|passed|FAILED): .*$", guest(built, script, program(built, True), "own"), re.M), sep="\n  ", flush=True)
         judge(script, guest(built, script, program(built), "teamd"))
     return run_it
 
