@@ -1,4 +1,4 @@
-/* liblag 0.2.0 for any compiler of C11: cc -O2 -c lag.c
+/* liblag 0.3.0 for any compiler of C11: cc -O2 -c lag.c
 
    The functions of lag.h, as one file that wants nothing but lag.h and a C library; by -ffreestanding no C library, but malloc, realloc, free, memcpy,
    memmove and memset of the program's.
@@ -13870,4 +13870,4 @@ struct niw_number lagffi_views(struct niw_system *handle, struct niw_view *views
 }
 
 /* Which library a program runs: the native one has no such text. */
-const char niw_lag_c[] = "lag.c 0.2.0";
+const char niw_lag_c[] = "lag.c 0.3.0";
