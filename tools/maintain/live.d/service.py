@@ -359,6 +359,11 @@ hold=yes
 """
 
 
+def sections(text: str) -> list[set[str]]:
+    """The lines of each section of a file of a bundle."""
+    return [set(filter(None, it.splitlines()[1:])) for it in text.split("[")[1:]]
+
+
 def shows_settings(part: Part) -> None:
     """--show-config prints the settings that hold as a file has them, and a daemon of that file has the same."""
     path = os.path.join(part.folder, "uplink.conf")
@@ -366,7 +371,6 @@ def shows_settings(part: Part) -> None:
     ours = Filed(part, path)
     shown = lambda: inside(OURS, ours.program, "--folder", ours.folder, "--show-config").stdout
     check(within(ENDS, lambda: "[Port a1]" in shown()), "a daemon shows its settings", ours.printed())
-    sections = lambda text: [set(filter(None, it.splitlines()[1:])) for it in text.split("[")[1:]]
     check(sections(shown()) == sections(EVERY_KEY), "they are those of the file", shown())
     held = inside(OURS, ours.program, "--folder", ours.folder, "--hold", "a0")
     check(held.returncode == 0 and "hold=yes" in sections(shown())[1], "an order changes what is shown", held.stderr, shown())
