@@ -129,14 +129,14 @@ def said(line: str) -> Answer:
 
 
 def test_a_hook_gets_its_words() -> None:
-    assert said("printf %s: 'a b' c") == (0, "a b:c:")
+    assert said("printf %s: 'a b' c") == Answer(0, "a b:c:")
     assert said("exit 3 #").status == 3
 
 
 def test_a_hook_may_leave_a_child_and_say_much_and_no_text(tmp_path: Path) -> None:
     pid = tmp_path / "pid"
     begin = time.monotonic()
-    assert said(f"sleep 30 & echo $! > {pid}; printf well #") == (0, "well")
+    assert said(f"sleep 30 & echo $! > {pid}; printf well #") == Answer(0, "well")
     assert time.monotonic() - begin < 10
     os.kill(int(pid.read_text()), 9)
     assert said("head -c 200000 /dev/zero | tr '\\0' x; printf end #").said.endswith("xxend")
