@@ -235,5 +235,5 @@ def check_warnings() -> None:
     checked = {"files of the daemon": [*daemon_sources(), *subagents], "examples in C": sorted(glob.glob(f"{EXAMPLES}/*.c"))}
     for compiler in filter(shutil.which, ("gcc", "clang")):
         for what, sources in checked.items():
-            read = command(compiler, *STRICT, "-O2", INCLUDE, f"-I{DAEMON}", *daemon_words()[0], "-fsyntax-only", *sources)
+            read = command(compiler, *STRICT, "-O2", "-DNIW_POOL", INCLUDE, f"-I{DAEMON}", *daemon_words()[0], "-fsyntax-only", *sources)
             check(read.returncode == 0, f"{compiler} has no warning for the {len(sources)} {what}", read.stderr)
