@@ -1,6 +1,5 @@
 /* The bundle as a whole: up where all its links carry, degraded where some do, down where fewer than min-links do. */
 #include "lagd.h"
-#define _GNU_SOURCE
 
 struct bundle_private {
     unsigned lines; /* how many changes may still be told */

@@ -41,7 +41,7 @@ static void expect(struct process *process, struct reading *reading, const char 
 
 /* Takes the head of a section: `line` begins with a bracket. */
 static void parse_section(struct process *process, struct reading *reading, const char *line) {
-    const char *end = strchr(line, ']'), *fault = "[Bundle] or [Port INTERFACE]";
+    const char *end = strrchr(line, ']'), *fault = "[Bundle] or [Port INTERFACE]";
     reading->section = WRONG_SECTION;
     if (strcmp(line, "[Bundle]") == 0) {
         fault = reading->has_bundle ? "one section [Bundle]" : NULL;

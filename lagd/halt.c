@@ -1,7 +1,6 @@
 /* LACP ends while the device is down: nothing of the host goes there, and what comes is lost. Each peer is told that its port is out of use, the
  * ports fall silent, and all begins again once the device is up. */
 #include "device.h"
-#define _GNU_SOURCE
 
 /* How many ticks peers are told at most. Where three LACPDUs went within a second, the next one waits. */
 #define MOST_TICKS 15

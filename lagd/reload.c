@@ -100,18 +100,29 @@ static bool apply_port(struct protocol *protocol, uint16_t port, const struct se
     return change_all(protocol, port, wanted) || was_leaving;
 }
 
+/* Whether data is carried in the same way: what only one way has is taken with it, at a restart. */
+static bool carries_alike(const struct settings *now, const struct settings *wanted) {
+    return strcmp(now->carry, wanted->carry) == 0 && now->plane == wanted->plane && now->all_queues == wanted->all_queues;
+}
+
 /* Takes what can be changed; answers how many ports have something else now. */
 static unsigned apply_settings(struct protocol *protocol, const struct settings *wanted) {
     unsigned changed = 0;
+    protocol->settings->active = wanted->active;
+    protocol->settings->short_timeout = wanted->short_timeout;
+    protocol->settings->port_priority = wanted->port_priority;
+    if (has_aggregator(protocol->keys, wanted->key)) protocol->settings->key = wanted->key;
     for (uint16_t port = 1; port <= protocol->ports->slots; port++) changed += apply_port(protocol, port, wanted);
     limit_links(protocol, wanted->config.max_links);
     change_policy(protocol, wanted);
     protocol->settings->partner_required = wanted->partner_required;
-    protocol->settings->follow = wanted->follow;
+    if (carries_alike(protocol->settings, wanted)) {
+        protocol->settings->follow = wanted->follow;
+        protocol->settings->flight = wanted->flight;
+        protocol->settings->answer_after = wanted->answer_after;
+    }
     protocol->settings->min_links = wanted->min_links;
     protocol->settings->marker_responses = wanted->marker_responses;
-    protocol->settings->flight = wanted->flight;
-    protocol->settings->answer_after = wanted->answer_after;
     protocol->settings->wait_to_restore = wanted->wait_to_restore;
     protocol->settings->revert = wanted->revert;
     memcpy(protocol->settings->hook, wanted->hook, sizeof protocol->settings->hook);

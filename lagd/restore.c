@@ -1,6 +1,5 @@
 /* A link that comes back while others carry: it is up once its carrier was steady for a while. */
 #include "lagd.h"
-#define _GNU_SOURCE
 
 /* Whether so few links carry that none may be kept waiting. One on defaults may lead nowhere. */
 static bool is_short_of_links(struct protocol *protocol) {

@@ -2,7 +2,6 @@
  * ones stand by. The library lets no port that is in use give way (IEEE 802.1AX-2014, 6.4.14 leaves that open), so it is held, which takes
  * it out of its aggregator, and let go, to stand by. */
 #include "lagd.h"
-#define _GNU_SOURCE
 
 /* Whether the identifier of a port, its priority and then its number, is below that of another one (6.3.4). */
 static bool is_below(const struct link *one, const struct link *other) {

@@ -12,7 +12,9 @@
 #include "team/team.h"
 
 /* It rises with each change of the file, and of what programs of the kernel share with the daemon. */
-#define FORM_VERSION 2
+#define FORM_VERSION 3
+/* An older one that is read as well: it names no network namespace. */
+#define FORM_WITHOUT_SPACE 2
 #define WAY_ROOM 96
 /* Their end, where the team driver carries. */
 #define OF_TEAM "/team"
@@ -291,7 +293,7 @@ static const char *read_state(struct state *own, FILE *file) {
     unsigned version;
     char boot[BOOT_ROOM], now[BOOT_ROOM], given[WAY_ROOM], room[WAY_ROOM];
     if (fscanf(file, "lagd %u", &version) != 1) return "it is no state of lagd";
-    if (version != FORM_VERSION) return "it is of another version";
+    if (version != FORM_VERSION && version != FORM_WITHOUT_SPACE) return "it is of another version";
     if (fscanf(file, " boot %63s way %95s", boot, given) != 2) return "it is cut off";
     if (strcmp(boot, boot_id(now)) != 0) return "it is of another boot";
     if (!read_rest(inherited, file)) return "it is cut off, or wrong";

@@ -609,6 +609,7 @@ static int start_clock(struct lacp *lacp)
 		return err;
 	}
 	teamd_loop_callback_enable(lacp->ctx, TICK_NAME, lacp);
+	lacp->config_at = lag_now(); /* the first tick takes the ports over, and does not only look */
 	wait(lacp);
 	return 0;
 }

@@ -15,12 +15,16 @@ struct flight_private {
 
 MAKES_ROOM(flight)
 
-/* Whether the library tells that a port distributes with a partner, or that it does not: a link that fell silent distributes again, on defaults,
- * 5 s after it stopped, and nobody answers its markers. */
+/* Whether the library tells that a port distributes, or that it does not. */
 static bool distributes(struct protocol *protocol, uint16_t port, bool wanted) {
     struct niw_truth answer = niw_distributes(&protocol->own_system, port);
-    bool has_partner = !protocol->ports->links[port - 1].view.defaulted;
-    return is_done(protocol->process, answer.status, "niw_distributes") && (answer.is && has_partner) == wanted;
+    return is_done(protocol->process, answer.status, "niw_distributes") && answer.is == wanted;
+}
+
+/* Whether a port does not distribute with a partner: a link that fell silent distributes again, on defaults, 5 s after it stopped, and nobody
+ * answers its markers. */
+static bool is_without_partner(struct protocol *protocol, uint16_t port) {
+    return protocol->ports->links[port - 1].view.defaulted || distributes(protocol, port, false);
 }
 
 /* A frame goes on a port. */
@@ -32,7 +36,7 @@ void note_sent(struct flight_private *own, uint16_t port) {
 static void watch_port(struct tap_plane *tap, uint16_t port) {
     struct carry *carry = tap->carry;
     uint64_t held, freed, *since = &tap->flight->silent_since[port - 1];
-    bool holds = distributes(tap->protocol, port, false)
+    bool holds = is_without_partner(tap->protocol, port)
         && is_told(tap->process, niw_held(&tap->protocol->own_system, port), "niw_held", &held) && held > 0;
     if (!holds || *since == 0) *since = holds ? carry->time : 0;
     if (!holds || carry->time - *since < tap->settings->flight) return;

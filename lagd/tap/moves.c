@@ -1,6 +1,5 @@
 /* Moves of conversations behind markers: so that each port has as many busy ones, and those that are asked for. */
 #include "carry.h"
-#define _GNU_SOURCE
 
 /* Whether it is known that no conversation is held on a port that carries. */
 static bool none_moves(struct carry *carry) {
