@@ -18,12 +18,6 @@ use Rattle.lagprogress.proofs.OneCable.{collected_links, collected_states, with_
 pub is_data : (octets : List ℕ) → MayBeOffered octets → IsFrame octets Data_frame
 is_data octets h = grind (arith, nat_tests, and_parts)
 
-abbrev refused : DistFault → Result ℕ DistFault
-refused cause = Err cause
-
-no_fault : (p : ℕ) (cause : DistFault) → refused cause ≡ Ok p → ⊥
-no_fault p cause e = cc
-
 -- the distributor has a port for a conversation that is not held
 assigns : (gives : ℕ → ℕ → ℕ → Type 0) (conv p : ℕ) (ports : List ℕ) (a : Assignment) (cause : DistFault) → is_among ports p ≡ true
     → held_on a ≡ None → Assigns gives conv ports a (Err cause) → ⊥

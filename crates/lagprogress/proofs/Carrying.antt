@@ -1,17 +1,17 @@
 -- The link of each port that carries a conversation, or on which one is held, is up.
-use Rattle.lagprogress.proofs.Common.{Bool, Err, List, None, Ok, Option, Result, Some, ap, arith, cond, eqb, false, inl, inr, length, not, refl}
-use Rattle.lagprogress.proofs.Common.{subst, sym, true, ℕ, ◌&&◌, ◌==◌, ◌||◌, ◌∙◌, ◌≡◌, ◌⊎◌, and_parts, nat_tests, none-some, slice_get_cases}
-use Rattle.lagprogress.proofs.Common.{slice_get_within, AggId, State, StateBits, bits_of, with_synchronization, encode_then_decode}
-use Rattle.lagprogress.proofs.Common.{CollectingDistributing, Setup, ReceiveState, PortDisabled, Machines, partner_synchronized, same_mux_state}
-use Rattle.lagprogress.proofs.Common.{selected, lacpdu_rows, receive_rows, same_receive_state, start_receive, Starts, before_start, count_down}
-use Rattle.lagprogress.proofs.Common.{has_chosen, Assignment, Free, On, force_result, is_among, move_result, after_down, Table, assignment_of}
-use Rattle.lagprogress.proofs.Common.{next_identifier, Answer, SystemFault, SystemPort, Call, Configure, Force, FreesIfDown, Move_conversation, Offer}
-use Rattle.lagprogress.proofs.Common.{Receive, Restart, Set_link, Step, Tick, Transmit, changed_party, choice_with_link, IsFirst, configured_numbers}
-use Rattle.lagprogress.proofs.Common.{none_enabled, MuxIsSettled, system_force_result, system_move_result, aggregator_numbered, distributing, IsSound}
-use Rattle.lagprogress.proofs.Common.{SystemState, port_numbers, Step-frame, rests, all-get, ports_rise, Step-sound, first_sound, Algorithms, half}
-use Rattle.lagprogress.proofs.Common.{KeptByCall, KeptBySettling, OfEach, Step-each, first_each, no, AtPort, at_number, same_place, settling_leaves}
-use Rattle.lagprogress.proofs.Common.{Turns, asks_turn, comes_turn, gives_turn, same_turns, settles_turn, ticks_turn, turns_through, RowsKeep}
-use Rattle.lagprogress.proofs.Common.{fires_keep, runs_keep, EachReachedHasCarriersUp, HasPortUp, carrier_of, held_on}
+use Rattle.lagprogress.proofs.Common.{Bool, Err, List, None, Ok, Option, Result, Some, ap, arith, eqb, false, inl, inr, length, not, refl, subst, sym}
+use Rattle.lagprogress.proofs.Common.{true, ℕ, ◌&&◌, ◌==◌, ◌||◌, ◌∙◌, ◌≡◌, ◌⊎◌, and_parts, nat_tests, none-some, slice_get_cases, slice_get_within}
+use Rattle.lagprogress.proofs.Common.{AggId, State, StateBits, bits_of, with_synchronization, encode_then_decode, CollectingDistributing, Setup}
+use Rattle.lagprogress.proofs.Common.{ReceiveState, PortDisabled, Machines, partner_synchronized, same_mux_state, selected, lacpdu_rows, receive_rows}
+use Rattle.lagprogress.proofs.Common.{same_receive_state, start_receive, Starts, before_start, count_down, has_chosen, Assignment, Free, On}
+use Rattle.lagprogress.proofs.Common.{force_result, is_among, move_result, after_down, Table, assignment_of, next_identifier, Answer, SystemFault}
+use Rattle.lagprogress.proofs.Common.{SystemPort, Call, Configure, Force, FreesIfDown, Move_conversation, Offer, Receive, Restart, Set_link, Step}
+use Rattle.lagprogress.proofs.Common.{Tick, Transmit, changed_party, choice_with_link, IsFirst, configured_numbers, none_enabled, MuxIsSettled}
+use Rattle.lagprogress.proofs.Common.{system_force_result, system_move_result, aggregator_numbered, distributing, IsSound, SystemState, port_numbers}
+use Rattle.lagprogress.proofs.Common.{Step-frame, rests, all-get, ports_rise, Step-sound, first_sound, Algorithms, half, KeptByCall, KeptBySettling}
+use Rattle.lagprogress.proofs.Common.{OfEach, Step-each, first_each, no, AtPort, at_number, same_place, settling_leaves, Turns, asks_turn, comes_turn}
+use Rattle.lagprogress.proofs.Common.{gives_turn, same_turns, settles_turn, ticks_turn, turns_through, RowsKeep, fires_keep, runs_keep}
+use Rattle.lagprogress.proofs.Common.{EachReachedHasCarriersUp, HasPortUp, carrier_of, held_on}
 use Rattle.lagsystem.specs.Offers.{Offers}
 use Rattle.distributor.proofs.TableLemmas.{first_free}
 use Rattle.lagsystem.proofs.Steps.{forced_to, moved_to}
@@ -144,10 +144,6 @@ carried_before a b p k h = grind (arith, nat_tests)
 by_stays : (call : Call) (t u : Table) → ((p : ℕ) → takes_down p call ≡ false) → Turns Stays stays t u → HeldBefore call t u
 by_stays call t u leaves h g k p e =
     (carried_before (assignment_of t g k) (assignment_of u g k) p (h g k) (held_carries (assignment_of u g k) p e), leaves p)
-
-downed : (n p q : ℕ) (x y : Assignment) (b : Bool) → eqb q n ≡ b → carrier_of x ≡ None → carrier_of y ≡ Some q
-    → carrier_of (cond b x y) ≡ Some p → (carrier_of y ≡ Some p) × (eqb p n ≡ false)
-downed n p q x y b e none some f = grind (arith, nat_tests)
 
 downed_before : (n p : ℕ) (a : Assignment) → carrier_of (after_down n a) ≡ Some p → (carrier_of a ≡ Some p) × (eqb p n ≡ false)
 downed_before n p a h = grind (arith, nat_tests)

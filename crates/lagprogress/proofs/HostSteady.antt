@@ -134,9 +134,6 @@ logs_there One h ls j e Two = refl
 logs_there Two h ls j e One = refl
 logs_there Two h ls j e Two = e
 
-links_there : (s : Side) (h : HalfState) (ls : List LinkState) (j : WorldState) → (after_call s h ls j).links ≡ ls
-links_there s h ls j = refl
-
 same_links : (s : Side) (h : HalfState) (j : WorldState) → with_half s h j ≡ after_call s h j.links j
 same_links One h j = refl
 same_links Two h j = refl
