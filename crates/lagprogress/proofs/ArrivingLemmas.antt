@@ -1,13 +1,12 @@
 -- How a data frame gets a port, and how it is handed up at the other end of its cable.
 use Rattle.lagprogress.proofs.Common.{Err, List, None, Ok, Result, Some, ap, arith, refl, slice_get, subst, suc, sym, true, ℕ, ◌∙◌, ◌≡◌, and_parts}
 use Rattle.lagprogress.proofs.Common.{nat_tests, none-some, same_Some, AggId, One, Side, Two, value_of, Assignment, Flushing, Free, On, Wanted}
-use Rattle.lagprogress.proofs.Common.{Assigns, MaySend, is_among, SystemFault, Received, Up, SystemPort, Data_frame, IsFrame, Offer, ReceivesAt, Step}
-use Rattle.lagprogress.proofs.Common.{MayBeOffered, RefusesOffer, assignment_of_frame, collecting, distributing, number_of_conversation, IsSound}
-use Rattle.lagprogress.proofs.Common.{SystemState, port_index, effect_one, Reply, AfterOffer, AfterReceive, Algorithms, DeliversFrom, OnLink}
-use Rattle.lagprogress.proofs.Common.{WorldOffers, WorldReceives, offered_item, side_of, with_frame_counted, with_link_at, HalfState, ItemValue}
-use Rattle.lagprogress.proofs.Common.{LinkState, WorldState, half, port_at, towards, with_half, with_towards, half_there, DeliverHandsUp, GetsPort}
-use Rattle.lagprogress.proofs.Common.{IsHandedUp, OfferGetsPort, TakesFrame, held_on, EndIsUp}
-use Rattle.distributor.specs.declared.fault.DistFault.{DistFault}
+use Rattle.lagprogress.proofs.Common.{DistFault, Assigns, MaySend, is_among, SystemFault, Received, Up, SystemPort, Data_frame, IsFrame, Offer}
+use Rattle.lagprogress.proofs.Common.{ReceivesAt, Step, MayBeOffered, RefusesOffer, assignment_of_frame, collecting, distributing}
+use Rattle.lagprogress.proofs.Common.{number_of_conversation, IsSound, SystemState, port_index, effect_one, Reply, AfterOffer, AfterReceive}
+use Rattle.lagprogress.proofs.Common.{Algorithms, DeliversFrom, OnLink, WorldOffers, WorldReceives, offered_item, side_of, with_frame_counted}
+use Rattle.lagprogress.proofs.Common.{with_link_at, HalfState, ItemValue, LinkState, WorldState, half, port_at, towards, with_half, with_towards}
+use Rattle.lagprogress.proofs.Common.{half_there, DeliverHandsUp, GetsPort, IsHandedUp, OfferGetsPort, TakesFrame, held_on, EndIsUp}
 use Rattle.lagsystem.specs.declared.drive.Reply.TheVariants as answer
 use Rattle.lagsystem.proofs.Conversing.{assigned_may}
 use Rattle.lagsystem.proofs.OfferLemmas.{refused_by}
@@ -17,12 +16,6 @@ use Rattle.lagprogress.proofs.OneCable.{collected_links, collected_states, with_
 
 pub is_data : (octets : List ℕ) → MayBeOffered octets → IsFrame octets Data_frame
 is_data octets h = grind (arith, nat_tests, and_parts)
-
-abbrev refused : DistFault → Result ℕ DistFault
-refused cause = Err cause
-
-no_fault : (p : ℕ) (cause : DistFault) → refused cause ≡ Ok p → ⊥
-no_fault p cause e = cc
 
 -- the distributor has a port for a conversation that is not held
 assigns : (gives : ℕ → ℕ → ℕ → Type 0) (conv p : ℕ) (ports : List ℕ) (a : Assignment) (cause : DistFault) → is_among ports p ≡ true

@@ -1,26 +1,39 @@
 -- The link of each port that carries a conversation, or on which one is held, is up.
-use Rattle.lagprogress.proofs.Common.{Bool, Err, List, None, Ok, Option, Result, Some, ap, arith, cond, eqb, false, inl, inr, length, not, refl}
-use Rattle.lagprogress.proofs.Common.{subst, sym, true, ℕ, ◌&&◌, ◌==◌, ◌||◌, ◌∙◌, ◌≡◌, ◌⊎◌, and_parts, nat_tests, none-some, slice_get_cases}
-use Rattle.lagprogress.proofs.Common.{slice_get_within, AggId, State, StateBits, bits_of, with_synchronization, encode_then_decode}
-use Rattle.lagprogress.proofs.Common.{CollectingDistributing, Setup, ReceiveState, PortDisabled, Machines, partner_synchronized, same_mux_state}
-use Rattle.lagprogress.proofs.Common.{selected, lacpdu_rows, receive_rows, same_receive_state, start_receive, Starts, before_start, count_down}
-use Rattle.lagprogress.proofs.Common.{has_chosen, Assignment, Free, On, force_result, is_among, move_result, after_down, Table, assignment_of}
-use Rattle.lagprogress.proofs.Common.{next_identifier, Answer, SystemFault, SystemPort, Call, Configure, Force, FreesIfDown, Move_conversation, Offer}
-use Rattle.lagprogress.proofs.Common.{Receive, Restart, Set_link, Step, Tick, Transmit, changed_party, choice_with_link, IsFirst, configured_numbers}
-use Rattle.lagprogress.proofs.Common.{none_enabled, MuxIsSettled, system_force_result, system_move_result, aggregator_numbered, distributing, IsSound}
-use Rattle.lagprogress.proofs.Common.{SystemState, port_numbers, Step-frame, rests, all-get, ports_rise, Step-sound, first_sound, Algorithms, half}
-use Rattle.lagprogress.proofs.Common.{KeptByCall, KeptBySettling, OfEach, Step-each, first_each, no, AtPort, at_number, same_place, settling_leaves}
-use Rattle.lagprogress.proofs.Common.{Turns, asks_turn, comes_turn, gives_turn, same_turns, settles_turn, ticks_turn, turns_through, RowsKeep}
-use Rattle.lagprogress.proofs.Common.{fires_keep, runs_keep, EachReachedHasCarriersUp, HasPortUp, carrier_of, held_on}
+use Rattle.lagprogress.proofs.Common.{Bool, Err, List, None, Ok, Option, Result, Some, [], ap, arith, eqb, false, if◌then◌else◌, inl, inr, length}
+use Rattle.lagprogress.proofs.Common.{not, refl, subst, sym, true, ℕ, ◌&&◌, ◌==◌, ◌||◌, ◌∙◌, ◌∷◌, ◌≡◌, ◌⊎◌, and_parts, nat_tests, none-some}
+use Rattle.lagprogress.proofs.Common.{slice_get_cases, slice_get_within, AggId, Choice, State, StateBits, bits_of, with_synchronization}
+use Rattle.lagprogress.proofs.Common.{encode_then_decode, Side, peer, CollectingDistributing, Setup, ReceiveState, PortDisabled, Machines}
+use Rattle.lagprogress.proofs.Common.{partner_synchronized, same_mux_state, selected, lacpdu_rows, receive_rows, same_receive_state, start_receive}
+use Rattle.lagprogress.proofs.Common.{Starts, before_start, count_down, has_chosen, Assignment, Free, On, DistFault, force_result, is_among}
+use Rattle.lagprogress.proofs.Common.{leave_result, move_result, after_down, after_mark, Table, assignment_of, next_identifier, Config, HostCall}
+use Rattle.lagprogress.proofs.Common.{HostReply, Answer, SystemFault, SystemPort, OffersIf, Call, Configure, Force, FreesIfDown, Move_conversation}
+use Rattle.lagprogress.proofs.Common.{Offer, Receive, Restart, Set_link, Step, Tick, Transmit, changed_party, choice_with_link, call_of, IsFirst}
+use Rattle.lagprogress.proofs.Common.{configured_numbers, HostPromise, none_enabled, MuxIsSettled, GivesOrRefuses, in_system, system_force_result}
+use Rattle.lagprogress.proofs.Common.{system_move_result, ProbesAt, ProbesIf, aggregator_numbered, distributing, SendsMarkerOf, SetsPort, Setting}
+use Rattle.lagprogress.proofs.Common.{SettingPromise, SettingStep, in_mode, is_held_so, is_in_mode, with_held, Settling, IsSound, SystemState}
+use Rattle.lagprogress.proofs.Common.{port_index, port_numbers, TableAlone, host_alone, Step-frame, rests, all-get, ports_rise, setting_sound}
+use Rattle.lagprogress.proofs.Common.{Step-sound, first_sound, Algorithms, AreFirst, IsStart, WorldState, half, ForcesPort, HostEvent, HostRuns}
+use Rattle.lagprogress.proofs.Common.{HostSteps, Leaves, Plays, Probes, Rests, Sets, KeptByCall, KeptBySettling, OfEach, Step-each, first_each, no}
+use Rattle.lagprogress.proofs.Common.{forces_port, AtPort, at_number, calls_each, same_place, settling_leaves, Turns, asks_turn, comes_turn}
+use Rattle.lagprogress.proofs.Common.{gives_turn, same_turns, settles_turn, ticks_turn, turns_by, turns_through, RowsKeep, fires_keep, runs_keep}
+use Rattle.lagprogress.proofs.Common.{setting_each, EachHostReachedHasUnsynchronized, EachHostReachedHasCarriersUp, EachReachedHasCarriersUp}
+use Rattle.lagprogress.proofs.Common.{HasPortUp, carrier_of, held_on}
 use Rattle.lagsystem.specs.Offers.{Offers}
 use Rattle.distributor.proofs.TableLemmas.{first_free}
 use Rattle.lagsystem.proofs.Steps.{forced_to, moved_to}
 use Rattle.lagbeside.specs.Heartbeat.{takes_down}
+use Rattle.lagsystem.specs.declared.drive.HostCall.TheVariants as host
+use Rattle.lagsystem.specs.declared.drive.HostReply.TheVariants as told
+use Rattle.lagsystem.specs.declared.fault.SystemFault.TheVariants.{NoAggregator}
+use Rattle.distributor.specs.declared.fault.DistFault.TheVariants as dist
+use Rattle.lagsystem.specs.Leaving.{system_leave_result, system_rest_result}
+use Rattle.portmachines.specs.Calls.{with_mode}
 use Rattle.lagsystem.specs.declared.drive.Reply.TheVariants as reply
 use Rattle.lagprogress.proofs.Answering.{among_port}
 use Rattle.lagprogress.proofs.Freeing.{Stays, held_carries, stays}
-use Rattle.lagprogress.proofs.Halves.{both_first}
-use Rattle.lagprogress.proofs.Linked.{many, events_each}
+use Rattle.lagprogress.proofs.Halves.{both_first, each_is_calls}
+use Rattle.lagprogress.proofs.Linked.{many, events_each, each_side}
+use Rattle.lagprogress.proofs.HostSteady.{IsBeside, aside, forces_half, host_sound, leaves_half, offers_half, probes_half, rests_half, setting_both}
 
 -- the partner of a port in PORT_DISABLED is not synchronized
 
@@ -114,12 +127,11 @@ up_kept p Restart answer t = absurd (no (sym t))
 up_kept p (Transmit n) answer t = λ q told a e. a e
 up_kept p call answer t = tt
 
-still_up : (gives : ℕ → ℕ → ℕ → Type 0) (p : ℕ) (old new : SystemState) (call : Call) (answer : Answer) → IsSound old → IsSound new
-    → Step gives old call answer new → takes_down p call ≡ false → HasPortUp p old → HasPortUp p new
-still_up gives p old new call answer was now h t (k, x, there, number, up) =
-    let each = Step-each (AtPort p Up) (up_settles p) gives old call answer new (up_kept p call answer t) h
+up_from : (p : ℕ) (old new : SystemState) → IsSound old → IsSound new → new.ports ≡ old.ports
+    → (OfEach (AtPort p Up) old.system_ports → OfEach (AtPort p Up) new.system_ports) → HasPortUp p old → HasPortUp p new
+up_from p old new was now ports stay (k, x, there, number, up) =
+    let each = stay
     (subst (λ n. OfEach (AtPort n Up) old.system_ports) number (at_number Up 0 old.system_ports k x (ports_rise old was.ports) there up)) in
-    let ports : new.ports ≡ old.ports = ap (λ (s : SystemState). s.ports) (Step-frame gives old call answer new h) in
     let numbers : port_numbers new.system_ports ≡ port_numbers old.system_ports =
     now.ports.same ∙ (ap configured_numbers ports ∙ sym was.ports.same) in
     let within = slice_get_within old.system_ports k x there in
@@ -131,6 +143,12 @@ still_up gives p old new call answer was now h t (k, x, there, number, up) =
           (k, c.0, c.2, n, all-get (λ (y : SystemPort). AtPort p Up y.number y.port) new.system_ports k c.0 c.2 each n))
       | inr c ↦ (let past = c.0 in absurd (omega (arith, within, one, two, both, past)))
     ]
+
+still_up : (gives : ℕ → ℕ → ℕ → Type 0) (p : ℕ) (old new : SystemState) (call : Call) (answer : Answer) → IsSound old → IsSound new
+    → Step gives old call answer new → takes_down p call ≡ false → HasPortUp p old → HasPortUp p new
+still_up gives p old new call answer was now h t = up_from p old new was now
+    (ap (λ (s : SystemState). s.ports) (Step-frame gives old call answer new h))
+    (Step-each (AtPort p Up) (up_settles p) gives old call answer new (up_kept p call answer t) h)
 
 -- what is held was carried before, on a port that is not taken down
 
@@ -144,10 +162,6 @@ carried_before a b p k h = grind (arith, nat_tests)
 by_stays : (call : Call) (t u : Table) → ((p : ℕ) → takes_down p call ≡ false) → Turns Stays stays t u → HeldBefore call t u
 by_stays call t u leaves h g k p e =
     (carried_before (assignment_of t g k) (assignment_of u g k) p (h g k) (held_carries (assignment_of u g k) p e), leaves p)
-
-downed : (n p q : ℕ) (x y : Assignment) (b : Bool) → eqb q n ≡ b → carrier_of x ≡ None → carrier_of y ≡ Some q
-    → carrier_of (cond b x y) ≡ Some p → (carrier_of y ≡ Some p) × (eqb p n ≡ false)
-downed n p q x y b e none some f = grind (arith, nat_tests)
 
 downed_before : (n p : ℕ) (a : Assignment) → carrier_of (after_down n a) ≡ Some p → (carrier_of a ≡ Some p) × (eqb p n ≡ false)
 downed_before n p a h = grind (arith, nat_tests)
@@ -220,11 +234,18 @@ held_before gives old new call answer h = absurd h
 abbrev Carries : SystemState → Type 0
 Carries s = (g k p : ℕ) → carrier_of (assignment_of s.table g k) ≡ Some p → HasPortUp p s
 
-abbrev Keeps : SystemState → Type 0
+abbrev pub Keeps : SystemState → Type 0
 Keeps s = IsSound s × OfEach LapsesAt s.system_ports × Carries s
 
 carrier_cases : (a : Assignment) (p : ℕ) → carrier_of a ≡ Some p → (held_on a ≡ Some p) ⊎ (a ≡ On p)
 carrier_cases a p e = grind (arith, nat_tests)
+
+carries_on : (new : SystemState) → IsSound new → OfEach LapsesAt new.system_ports
+    → ((g k p : ℕ) → held_on (assignment_of new.table g k) ≡ Some p → HasPortUp p new) → Carries new
+carries_on new sound lapses held g k p e = elim (carrier_cases (assignment_of new.table g k) p e) [
+  | inl f ↦ held g k p f
+  | inr f ↦ distributes_up new (aggregator_numbered g) p sound lapses (sound.carried g k p f)
+]
 
 call_keeps : (gives : ℕ → ℕ → ℕ → Type 0) (old new : SystemState) (call : Call) (answer : Answer) → Step gives old call answer new → Keeps old
     → Keeps new
@@ -233,10 +254,8 @@ call_keeps gives old new call answer h k = (
   lapses,
   elim (held_before gives old new call answer h) [
     | inl e ↦ subst Carries (sym e) k.2
-    | inr hb ↦ λ g c p e. elim (carrier_cases (assignment_of new.table g c) p e) [
-      | inl f ↦ (let was = hb g c p f in still_up gives p old new call answer k.0 sound h was.1 (k.2 g c p was.0))
-      | inr f ↦ distributes_up new (aggregator_numbered g) p sound lapses (sound.carried g c p f)
-    ]
+    | inr hb ↦ carries_on new sound lapses
+        (λ g c p f. let was = hb g c p f in still_up gives p old new call answer k.0 sound h was.1 (k.2 g c p was.0))
   ],
 )
   where
@@ -246,14 +265,180 @@ call_keeps gives old new call answer h k = (
     lapses : OfEach LapsesAt new.system_ports
     lapses = Step-each LapsesAt lapse_settles gives old call answer new (lapse_kept call answer) h k.1
 
-pub each_reached_has_carriers_up : (gives : Algorithms) → EachReachedHasCarriersUp gives
-each_reached_has_carriers_up gives configs es rs start new i h runs s =
+-- what holds of all ports stays so, and no conversation is held that the port did not carry
+by_turns : (old new : SystemState) → IsSound new → new.ports ≡ old.ports
+    → ((P : ℕ → Machines → Type 0) → KeptBySettling P → ((n : ℕ) (p : Machines) (choice : Choice) → P n p → P n (record p { choice = choice }))
+    → ((n : ℕ) (p : Machines) (active short : Bool) → P n p → P n (with_mode active short p))
+    → OfEach P old.system_ports → OfEach P new.system_ports)
+    → ((g k p : ℕ) → held_on (assignment_of new.table g k) ≡ Some p → carrier_of (assignment_of old.table g k) ≡ Some p)
+    → Keeps old → Keeps new
+by_turns old new sound ports each held k = (
+  sound,
+  lapses,
+  carries_on new sound lapses (λ g c p f. up_from p old new k.0 sound ports
+      (each (AtPort p Up) (up_settles p) (λ n q choice a. a) (λ n q active short a. a)) (k.2 g c p (held g c p f))),
+)
+  where
+    lapses : OfEach LapsesAt new.system_ports
+    lapses = each LapsesAt lapse_settles (λ n p choice a. a) (λ n p active short a. a) k.1
+
+stays_held : (old new : SystemState) → Turns Stays stays old.table new.table → (g k p : ℕ)
+    → held_on (assignment_of new.table g k) ≡ Some p → carrier_of (assignment_of old.table g k) ≡ Some p
+stays_held old new h g k p e = carried_before (assignment_of old.table g k) (assignment_of new.table g k) p (h g k)
+    (held_carries (assignment_of new.table g k) p e)
+
+-- a setting
+
+then_settles : (old mid new : SystemState) → mid.table ≡ old.table → Settling mid new → Turns Stays stays old.table new.table
+then_settles old mid new e h = turns_through Stays stays old.table mid.table new.table (same_turns Stays stays old mid e) (settles_turn Stays stays mid new h)
+
+port_turns : (already : SystemPort → Bool) (change : SystemPort → SystemPort) (o : Option ℕ) (old new : SystemState)
+    → SetsPort already change o old new → Turns Stays stays old.table new.table
+port_turns already change None old new h = absurd h
+port_turns already change (Some i) old new h = elim h [
+  | inl same ↦ same_turns Stays stays old new (ap (λ (s : SystemState). s.table) same.1)
+  | inr settled ↦ then_settles old settled.0 new (ap (λ (s : SystemState). s.table) settled.1.1) settled.2
+]
+
+setting_turns : (old new : SystemState) (setting : Setting) (answer : Result Unit SystemFault) → SettingStep old setting answer new
+    → Turns Stays stays old.table new.table
+setting_turns old new (Setting.Hold_port n held) (Ok done) h =
+    port_turns (is_held_so held) (with_held held) (port_index n old.system_ports) old new h
+setting_turns old new (Setting.Hold_port n held) (Err fault) h = same_turns Stays stays old new (ap (λ (s : SystemState). s.table) h.same)
+setting_turns old new (Setting.Set_mode n active short) (Ok done) h =
+    port_turns (is_in_mode active short) (in_mode active short) (port_index n old.system_ports) old new h
+setting_turns old new (Setting.Set_mode n active short) (Err fault) h = same_turns Stays stays old new (ap (λ (s : SystemState). s.table) h.same)
+setting_turns old new (Setting.Set_max_delay max_delay) (Ok done) h = same_turns Stays stays old new (ap (λ (s : SystemState). s.table) h)
+setting_turns old new (Setting.Set_max_delay max_delay) (Err fault) h = absurd h
+setting_turns old new (Setting.Set_max_links max_links) (Ok done) h =
+    then_settles old h.1.0 new (ap (λ (s : SystemState). s.table) h.1.1.1) h.1.2
+setting_turns old new (Setting.Set_max_links max_links) (Err fault) h = same_turns Stays stays old new (ap (λ (s : SystemState). s.table) h.1)
+
+pub setting_keeps : (old new : SystemState) (setting : Setting) (answer : Result Unit SystemFault) → SettingPromise old setting answer new
+    → Keeps old → Keeps new
+setting_keeps old new setting answer h k = by_turns old new (setting_sound old setting answer new h.step k.0) h.ports
+    (λ P s chosen moded. setting_each P s chosen moded old new setting answer h.step)
+    (stays_held old new (setting_turns old new setting answer h.step)) k
+
+-- a call of a host with a data plane
+
+alone_keeps : (old new : SystemState) → TableAlone old new → IsSound new
+    → ((g k p : ℕ) → held_on (assignment_of new.table g k) ≡ Some p → carrier_of (assignment_of old.table g k) ≡ Some p) → Keeps old → Keeps new
+alone_keeps old new e sound held k = by_turns old new sound (ap (λ (s : SystemState). s.ports) e)
+    (λ P s chosen moded. subst (λ (s : SystemState). OfEach P s.system_ports) (sym e)) held k
+
+offered_held : (there known : Bool) (gives : ℕ → ℕ → ℕ → Type 0) (agg : AggId) (conv : ℕ) (old : SystemState) (answer : Result ℕ SystemFault)
+    (new : SystemState) → OffersIf there known gives agg conv old answer new → (g k p : ℕ)
+    → held_on (assignment_of new.table g k) ≡ Some p → carrier_of (assignment_of old.table g k) ≡ Some p
+offered_held false known gives agg conv old answer new h = stays_held old new (same_turns Stays stays old new (ap (λ (s : SystemState). s.table) h.1))
+offered_held true false gives agg conv old answer new h = stays_held old new (same_turns Stays stays old new (ap (λ (s : SystemState). s.table) h.1))
+offered_held true true gives agg conv old (Ok port) new h = grind (arith, nat_tests)
+offered_held true true gives agg conv old (Err fault) new h = stays_held old new (same_turns Stays stays old new (ap (λ (s : SystemState). s.table) h.1))
+
+left_to : (b c : Bool) (r : Result Assignment DistFault) (s : Assignment)
+    → (if b then in_system (if c then r else Err dist.NotAssigned) else Err NoAggregator) ≡ Ok s → r ≡ Ok s
+left_to b c r s e = grind (arith, nat_tests)
+
+left_stays : (next : Option ℕ) (a s : Assignment) → leave_result next a ≡ Ok s → Stays a s
+left_stays next a s h = grind (arith, nat_tests)
+
+marked_stays : (port id : ℕ) (a : Assignment) → Stays a (after_mark port id a)
+marked_stays port id a = grind (arith, nat_tests)
+
+marks_turn : (o : Option ℕ) (port : ℕ) (mac : List ℕ) (old : SystemState) (answer : Option (List ℕ)) (new : SystemState)
+    → SendsMarkerOf o port mac old answer new → Turns Stays stays old.table new.table
+marks_turn None port mac old answer new h = same_turns Stays stays old new (ap (λ (s : SystemState). s.table) h.1)
+marks_turn (Some id) port mac old answer new h = turns_by Stays stays (after_mark port id) old.table new.table h.4.states (marked_stays port id)
+
+probes_turn : (up : Bool) (x : SystemPort) (old : SystemState) (answer : Option (List ℕ)) (new : SystemState)
+    → ProbesIf up x old answer new → Turns Stays stays old.table new.table
+probes_turn false x old answer new h = same_turns Stays stays old new (ap (λ (s : SystemState). s.table) h.1)
+probes_turn true x old answer new h = marks_turn (next_identifier old.table) x.number x.mac old answer new h
+
+probe_turn : (o : Option ℕ) (old : SystemState) (answer : Option (List ℕ)) (new : SystemState) → ProbesAt o old answer new
+    → Turns Stays stays old.table new.table
+probe_turn None old answer new h = absurd h
+probe_turn (Some i) old answer new h = probes_turn h.0.port.enabled h.0 old answer new h.2
+
+pub host_call_keeps : (gives : ℕ → ℕ → ℕ → Type 0) (old new : SystemState) (call : HostCall) (answer : HostReply)
+    → HostPromise gives old call answer new → Keeps old → Keeps new
+host_call_keeps gives old new (host.Call call) (told.Call answer) h k = call_keeps gives old new (call_of call) answer h.step k
+host_call_keeps gives old new (host.OfferConversation agg conv) (told.OfferConversation answer) h k =
+    alone_keeps old new (host_alone gives old (host.OfferConversation agg conv) (told.OfferConversation answer) new h tt)
+    (host_sound gives old (host.OfferConversation agg conv) (told.OfferConversation answer) new h k.0)
+    (offered_held _ _ gives agg conv old answer new h.0) k
+host_call_keeps gives old new (host.LeaveConversation agg conv) (told.LeaveConversation answer) h k =
+    alone_keeps old new (host_alone gives old (host.LeaveConversation agg conv) (told.LeaveConversation answer) new h tt)
+    (host_sound gives old (host.LeaveConversation agg conv) (told.LeaveConversation answer) new h k.0)
+    (stays_held old new (gives_turn Stays stays agg conv (system_leave_result old agg conv) old answer new
+    (λ s x. left_stays (next_identifier old.table) (assignment_of old.table agg.0 conv) s (left_to _ _ _ s x)) h.0)) k
+host_call_keeps gives old new (host.Probe port) (told.Probe (Ok answer)) h k =
+    alone_keeps old new (host_alone gives old (host.Probe port) (told.Probe (Ok answer)) new h tt)
+    (host_sound gives old (host.Probe port) (told.Probe (Ok answer)) new h k.0)
+    (stays_held old new (probe_turn (port_index port old.system_ports) old answer new h.0)) k
+host_call_keeps gives old new (host.Probe port) (told.Probe (Err fault)) h k = subst Keeps (sym h.0.same) k
+host_call_keeps gives old new (host.Rest agg conv) (told.Rest (Ok done)) h k =
+    call_keeps gives old new (Force agg conv) (reply.Force (Ok tt)) h.1.step k
+host_call_keeps gives old new (host.Rest agg conv) (told.Rest (Err fault)) h k = refused (system_rest_result old agg conv) h.0
+  where
+    refused : (what : Result Assignment SystemFault) → GivesOrRefuses agg conv what old (Err fault) new → Keeps new
+    refused (Ok state) h = absurd (let e = h.0 in cc)
+    refused (Err other) h = subst Keeps (sym h.1) k
+host_call_keeps gives old new (host.ForcePort port) (told.ForcePort answer) h k =
+    forces_port gives Keeps (call_keeps gives) port old answer new h.1 k
+host_call_keeps gives old new call answer h k = absurd h
+
+-- both systems
+
+abbrev BothKeep : WorldState → Type 0
+BothKeep j = (s : Side) → Keeps (half s j).state
+
+one_told : (gives : ℕ → ℕ → ℕ → Type 0) (s : Side) (call : HostCall) (answer : HostReply) (old new : WorldState) → IsBeside s old new
+    → HostPromise gives (half s old).state call answer (half s new).state → BothKeep old → BothKeep new
+one_told gives s call answer old new b h k = each_side (λ t. Keeps (half t new).state) s
+    (host_call_keeps gives (half s old).state (half s new).state call answer h (k s)) (subst Keeps (sym b.peers) (k (peer s)))
+
+step_keeps : (gives : Algorithms) (e : HostEvent) (old new : WorldState) → HostSteps gives old e new → BothKeep old → BothKeep new
+step_keeps gives (Plays e) old new x k = λ s. (let g = each_is_calls gives e x.0 old new x.1 s in
+    calls_each (gives s) Keeps (call_keeps (gives s)) (half s old).state (half s new).state g.0 g.1 g.2 (k s))
+step_keeps gives (HostEvent.Offers s agg conv octets) old new x k = (let y = offers_half gives s agg conv octets old new x in
+    one_told (gives s) s (host.OfferConversation agg conv) (told.OfferConversation y.0) old new
+    (aside gives (HostEvent.Offers s agg conv octets) old new tt x) y.1 k)
+step_keeps gives (Leaves s agg conv) old new x k = (let y = leaves_half gives s agg conv old new x in
+    one_told (gives s) s (host.LeaveConversation agg conv) (told.LeaveConversation y.0) old new
+    (aside gives (Leaves s agg conv) old new tt x) y.1 k)
+step_keeps gives (Probes s port) old new x k = (let y = probes_half gives s port old new x in
+    one_told (gives s) s (host.Probe port) (told.Probe y.0) old new (aside gives (Probes s port) old new tt x) y.1 k)
+step_keeps gives (Rests s agg conv) old new x k = (let y = rests_half gives s agg conv old new x in
+    one_told (gives s) s (host.Rest agg conv) (told.Rest y.0) old new (aside gives (Rests s agg conv) old new tt x) y.1 k)
+step_keeps gives (ForcesPort s port) old new x k = (let y = forces_half gives s port old new x in
+    one_told (gives s) s (host.ForcePort port) (told.ForcePort y.0) old new (aside gives (ForcesPort s port) old new tt x) y.1 k)
+step_keeps gives (Sets s setting) old new x k =
+    setting_both Keeps s x.1 old new (setting_keeps (half s old).state x.1.state setting x.0 x.2.answers) x.3 k
+
+run_keeps : (gives : Algorithms) (es : List HostEvent) (old new : WorldState) → HostRuns gives old es new → BothKeep old → BothKeep new
+run_keeps gives [] old new h k = subst BothKeep (sym h) k
+run_keeps gives (e ∷ es) old new h k = run_keeps gives es h.0 new h.2 (step_keeps gives e old h.0 h.1 k)
+
+start_keeps : (configs : List Config) (start : WorldState) → IsStart start → AreFirst configs start → BothKeep start
+start_keeps configs start i h s =
     let first = both_first configs start h s in
-    let st = (half s start).state in
-    let begins : Keeps st = (
+    let st = (half s start).state in (
       first_sound st (i.kept s).agrees.ports first,
       first_each LapsesAt lapse_settles lapse_first st first,
       λ g k p e. absurd (none-some p (sym (ap carrier_of (first_is_free st first g k)) ∙ e)),
-    ) in
-    let end = events_each gives s Keeps (call_keeps (gives s)) es rs start new runs begins in
+    )
+
+pub each_reached_has_carriers_up : (gives : Algorithms) → EachReachedHasCarriersUp gives
+each_reached_has_carriers_up gives configs es rs start new i h runs s =
+    let end = events_each gives s Keeps (call_keeps (gives s)) es rs start new runs (start_keeps configs start i h s) in
     λ g k p is e. end.2 g k p e
+
+pub host_reached_has_carriers_up : (gives : Algorithms) → EachHostReachedHasCarriersUp gives
+host_reached_has_carriers_up gives configs es start new i h runs s =
+    λ g k p is e. (run_keeps gives es start new runs (start_keeps configs start i h) s).2 g k p e
+
+pub host_reached_has_unsynchronized : (gives : Algorithms) → EachHostReachedHasUnsynchronized gives
+host_reached_has_unsynchronized gives configs es start new s i h runs =
+    λ k x there. all-get (λ (y : SystemPort). Lapses y.port) (half s new).state.system_ports k x there
+    (run_keeps gives es start new runs (start_keeps configs start i h) s).1

@@ -60,7 +60,8 @@ pub use Rattle.selection.specs.Views.{has_chosen, has_waited, is_detached_or_wai
 pub use Rattle.selection.proofs.Equal.{group-test}
 pub use Rattle.distributor.specs.declared.assignment.Assignment.{Assignment}
 pub use Rattle.distributor.specs.declared.assignment.Assignment.TheVariants.{Flushing, Free, On, Wanted}
-pub use Rattle.distributor.specs.Calls.{Assigns, MaySend, force_result, is_among, move_result}
+pub use Rattle.distributor.specs.declared.fault.DistFault.{DistFault}
+pub use Rattle.distributor.specs.Calls.{Assigns, MaySend, force_result, is_among, leave_result, move_result}
 pub use Rattle.distributor.specs.Changes.{after_down, after_mark, after_release, after_tick, marker_due, wants_marker}
 pub use Rattle.distributor.specs.Conversations.{IsConversation, Table, assignment_of, count_conversations, next_identifier}
 pub use Rattle.lagsystem.specs.declared.config.Config.{Config}
@@ -84,12 +85,13 @@ pub use Rattle.lagsystem.specs.ModelView.{IsSent, can_receive, can_receive_in, k
 pub use Rattle.lagsystem.specs.ModelView.{number_of_port}
 pub use Rattle.lagsystem.specs.NothingToSettle.{MuxIsSettled, PeriodicIsSettled}
 pub use Rattle.lagsystem.specs.Occupants.{OccupantsAgree, occupied}
-pub use Rattle.lagsystem.specs.Offers.{GivesOrRefuses, MayBeOffered, RefusesOffer, assignment_of_frame, system_force_result, system_move_result}
+pub use Rattle.lagsystem.specs.Offers.{GivesOrRefuses, MayBeOffered, RefusesOffer, assignment_of_frame, in_system, system_force_result}
+pub use Rattle.lagsystem.specs.Offers.{system_move_result}
 pub use Rattle.lagsystem.specs.Probing.{ProbesAt, ProbesIf}
 pub use Rattle.lagsystem.specs.Readers.{aggregator_numbered, collecting, distributes_in, distributing, group_at, number_of_conversation}
 pub use Rattle.lagsystem.specs.Readers.{selected_aggregator}
 pub use Rattle.lagsystem.specs.Sending.{IsLacpduOf, SendsLacpdu, SendsMarkerOf, TransmitsAt, TransmitsIf, own_marker}
-pub use Rattle.lagsystem.specs.Settings.{Set_max_delay, SettingPromise}
+pub use Rattle.lagsystem.specs.Settings.{Set_max_delay, SetsPort, Setting, SettingPromise, SettingStep, in_mode, is_held_so, is_in_mode, with_held}
 pub use Rattle.lagsystem.specs.Settling.{ChoosesIn, PortsChangeBy, PromotesNext, Settling, aggregator_for, choice_for, choice_if, choice_in}
 pub use Rattle.lagsystem.specs.Settling.{held_unless_on, ready_of, with_choice}
 pub use Rattle.lagsystem.specs.Sound.{CallPromise, HasPorts, IsSound, NoneHeld, PortsAgree}
@@ -108,6 +110,7 @@ pub use Rattle.lagsystem.proofs.Performed.{TableChanges, processes_or_stays, tab
 pub use Rattle.lagsystem.proofs.PromotionLemmas.{choices_keep, promotions_keep}
 pub use Rattle.lagsystem.proofs.Rest.{becomes_slots, can_receive_at_rest, last_slots, offers_slots, rests}
 pub use Rattle.lagsystem.proofs.Rising.{Rises, all-get, are_numbered, found_place, ports_rise}
+pub use Rattle.lagsystem.proofs.SettingsKeep.{setting_sound}
 pub use Rattle.lagsystem.proofs.SettlingLemmas.{RunsReady, set_same}
 pub use Rattle.lagsystem.proofs.Sound.{Step-sound, agrees, first_sound}
 pub use Rattle.lagscript.specs.declared.event.Event.{Event}
@@ -144,6 +147,7 @@ pub use Rattle.lagbeside.proofs.EachPort.{KeptByCall, KeptBySettling, OfEach, St
 pub use Rattle.lagbeside.proofs.EachPort.{zip_kept}
 pub use Rattle.lagbeside.proofs.Hearing.{EnabledKeep, Unheard, begins, is_defaulted, no, not_down, receives, rested, times_keep, unheard_settles}
 pub use Rattle.lagbeside.proofs.Hearing.{when_up}
+pub use Rattle.lagbeside.proofs.HostWaits.{forces_port}
 pub use Rattle.lagbeside.proofs.Knowing.{Known, Recorded, counts, decoded, placed, receive_known, recorded, rests_still, takes_each}
 pub use Rattle.lagbeside.proofs.OnePort.{AtPort, at_number, calls_each, higher, mux_leaves, periodic_leaves, same_place, same_ports, settling_leaves}
 pub use Rattle.lagbeside.proofs.OnePort.{with_rest}
@@ -151,19 +155,21 @@ pub use Rattle.lagbeside.proofs.Selecting.{Somebody, clash, eligible, finds_aggr
 pub use Rattle.lagbeside.proofs.Selecting.{somebody, stands, waits_for_room, when_is}
 pub use Rattle.lagbeside.proofs.Sounding.{Calm, Sounds, all_leave, counts_sounds, mux_sounds, not_gone, not_silent, now_due, periodic_runs}
 pub use Rattle.lagbeside.proofs.Sounding.{silence_of, sounds_first, sounds_in_slow, unclear}
-pub use Rattle.lagbeside.proofs.TableSteps.{Turning, Turns, asks_turn, comes_turn, gives_turn, same_turns, settles_turn, ticks_turn, turns_through}
-pub use Rattle.lagbeside.proofs.Timers.{RowsKeep, TimedAt, fires_keep, runs_keep, setting_timed, takes_keep, timed_kept, timed_settles, timed_starts}
+pub use Rattle.lagbeside.proofs.TableSteps.{Turning, Turns, asks_turn, comes_turn, gives_turn, same_turns, settles_turn, ticks_turn, turns_by}
+pub use Rattle.lagbeside.proofs.TableSteps.{turns_through}
+pub use Rattle.lagbeside.proofs.Timers.{RowsKeep, TimedAt, fires_keep, runs_keep, setting_each, setting_timed, takes_keep, timed_kept, timed_settles}
+pub use Rattle.lagbeside.proofs.Timers.{timed_starts}
 pub use Rattle.lagprogress.specs.Arriving.{Arrives, DeliverHandsUp, DisabledAreUnsynchronized, EachFrameArrives, EachFrameArrivesByHosts}
-pub use Rattle.lagprogress.specs.Arriving.{EachReachedHasUnsynchronized, GetsPort, HandsUp, IsEventWhere, IsHandedUp, OfferGetsPort, Sometime}
-pub use Rattle.lagprogress.specs.Arriving.{SometimePlayed, TakesFrame}
+pub use Rattle.lagprogress.specs.Arriving.{EachHostReachedHasUnsynchronized, EachReachedHasUnsynchronized, GetsPort, HandsUp, IsEventWhere}
+pub use Rattle.lagprogress.specs.Arriving.{IsHandedUp, OfferGetsPort, Sometime, SometimePlayed, TakesFrame}
 pub use Rattle.lagprogress.specs.Bundle.{AllHeard, BothAreActive, EachLinkAgrees, EachLinkComesUp, EndsHealthyCable, EndsOfEachKnow}
 pub use Rattle.lagprogress.specs.Bundle.{EnoughAggregators, EnoughLinks, HostReachedIsBundle, IsBundle, OneIsActive, ReachedIsApart, ReachedIsBundle}
 pub use Rattle.lagprogress.specs.Bundle.{SelectedPairsAgree, SelectedPairsComeUp, SystemsDiffer}
 pub use Rattle.lagprogress.specs.ComingUp.{ActiveLinkComesUp, AreApart, Distributes, HasRoom, LinkComesUp}
 pub use Rattle.lagprogress.specs.CutOff.{CutOffIsDefaulted, EachLinkAgreesBesideCutOffs, EachLinkComesUpBesideCutOffs, IsBundleBesideCutOffs}
 pub use Rattle.lagprogress.specs.CutOff.{IsCutOff, NoneIsHeldBesideCutOffs}
-pub use Rattle.lagprogress.specs.Freed.{CarriersAreUp, EachReachedHasCarriersUp, HasIdentifierLeft, HasPortUp, IsNotHeld, IsNotHeldOn, NoneIsHeld}
-pub use Rattle.lagprogress.specs.Freed.{NoneIsHeldOn, NoneIsHeldOnEnds, NothingIsHeld, carrier_of, held_on}
+pub use Rattle.lagprogress.specs.Freed.{CarriersAreUp, EachHostReachedHasCarriersUp, EachReachedHasCarriersUp, HasIdentifierLeft, HasPortUp}
+pub use Rattle.lagprogress.specs.Freed.{IsNotHeld, IsNotHeldOn, NoneIsHeld, NoneIsHeldOn, NoneIsHeldOnEnds, NothingIsHeld, carrier_of, held_on}
 pub use Rattle.lagprogress.specs.HostFreed.{AskingInVainIsDraining, AsksInVain, AsksInVainAfterTick, DrainingRounds, IsDrainingRound, IsNoMoveOf}
 pub use Rattle.lagprogress.specs.HostFreed.{NoneIsHeldBesideCutOffsByHosts, NoneIsHeldOnEndsByHosts, NothingIsDue, NothingIsHeldByHosts}
 pub use Rattle.lagprogress.specs.HostFreed.{RoundIsDraining, sent_nothing}
@@ -178,7 +184,7 @@ pub use Rattle.lagprogress.specs.Passing.{DeliverProcessesLacpdu, EmitSendsLacpd
 pub use Rattle.lagprogress.specs.Played.{Delivers, EachAgrees, EachDistributes, HasTooManyCables, IsOutOfMemoryOrSpent, IsReached, IsReady, LeadsTo}
 pub use Rattle.lagprogress.specs.Played.{NamesNoCable, NothingStaysHeld, PlaysPart, RefusesDelivery, RunsAll, RunsPart, found_nothing}
 pub use Rattle.lagprogress.specs.PlayedByHosts.{AsksEnds, AsksOrDelivers, AsksPort, DeliversAndAsks, EmptiesCables, PlaysBetween, PlaysHostPart}
-pub use Rattle.lagprogress.specs.PlayedByHosts.{PlaysHostRound, StopsBetween}
+pub use Rattle.lagprogress.specs.PlayedByHosts.{PlaysHostRound, PlaysHostRounds, StopsBetween}
 pub use Rattle.lagprogress.specs.Progress.{ActiveEndsComeToKnow, EndKnows, EndsComeToKnow, Knows}
 pub use Rattle.lagprogress.specs.Rounds.{AtEnd, IsDeliver, IsHealthy, IsHealthyAt, IsRound, NothingInFlight, OfPort, Rounds, asks_all, asks_ends}
 pub use Rattle.lagprogress.specs.Rounds.{freed_if_both_active, freed_if_one_is, known_if_both_active, known_if_one_is, ticks_of_both}

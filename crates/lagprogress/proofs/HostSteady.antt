@@ -3,30 +3,28 @@ use Rattle.lagprogress.proofs.Common.{Bool, Err, List, None, Ok, Option, Result,
 use Rattle.lagprogress.proofs.Common.{◌∷◌, ◌≡◌, ◌≤◌, ◌⊎◌, none-some, same_Some, AggId, Lacpdu, One, Side, Two, peer, Assignment, Table}
 use Rattle.lagprogress.proofs.Common.{next_identifier, HostCall, HostReply, Answer, SystemFault, OffersIf, Call, Carries, IsFrame, Step, call_of}
 use Rattle.lagprogress.proofs.Common.{HostPromise, GivesOrRefuses, ProbesAt, ProbesIf, SendsMarkerOf, Set_max_delay, SettingPromise, IsSound}
-use Rattle.lagprogress.proofs.Common.{SystemState, port_index, with_table, IsOther, TableAlone, host_alone, Step-sound, Algorithms, transmitted_item}
-use Rattle.lagprogress.proofs.Common.{with_item_sent, forced_if_accepted, HalfState, ItemValue, LinkState, WorldState, half, put_on_port, with_half}
-use Rattle.lagprogress.proofs.Common.{start_sound, AfterNumberedOffer, AfterProbe, CountsHeldIfOk, ForcesPort, HalfTells, HostEvent, HostRuns}
-use Rattle.lagprogress.proofs.Common.{HostSteps, Leaves, Offers, Plays, Probes, Rests, Sets, numbered_item, hosts_keep_headline, PortsAreTimed}
-use Rattle.lagprogress.proofs.Common.{Step-each, calls_each, TimedAt, setting_timed, timed_kept, timed_settles, EachHostReachedIsSteady}
-use Rattle.lagprogress.proofs.Common.{EachHostRunKeepsSteady}
+use Rattle.lagprogress.proofs.Common.{SystemState, port_index, with_table, IsOther, TableAlone, host_alone, setting_sound, Step-sound, Algorithms}
+use Rattle.lagprogress.proofs.Common.{transmitted_item, with_item_sent, forced_if_accepted, HalfState, ItemValue, LinkState, WorldState, half}
+use Rattle.lagprogress.proofs.Common.{put_on_port, with_half, start_sound, AfterNumberedOffer, AfterProbe, CountsHeldIfOk, ForcesPort, HalfTells}
+use Rattle.lagprogress.proofs.Common.{HostEvent, HostRuns, HostSteps, Leaves, Offers, Plays, Probes, Rests, Sets, numbered_item, hosts_keep_headline}
+use Rattle.lagprogress.proofs.Common.{PortsAreTimed, Step-each, forces_port, calls_each, TimedAt, setting_timed, timed_kept, timed_settles}
+use Rattle.lagprogress.proofs.Common.{EachHostReachedIsSteady, EachHostRunKeepsSteady}
 use Rattle.slowpdu.specs.declared.pdu.Pdu.TheVariants as pdu
 use Rattle.lagsystem.specs.declared.drive.HostCall.TheVariants as host
 use Rattle.lagsystem.specs.declared.drive.HostReply.TheVariants as told
 use Rattle.lagsystem.proofs.AssigningLemmas.{offers_sound}
 use Rattle.lagsystem.proofs.LeavingLemmas.{leaves_sound, rests_sound}
 use Rattle.lagsystem.proofs.ProbingLemmas.{probes_sound}
-use Rattle.lagsystem.proofs.SettingsKeep.{setting_sound}
 use Rattle.lagworld.specs.Asking.{with_sent_in}
 use Rattle.lagworld.proofs.OneSystem.{after_call}
 use Rattle.laghosts.proofs.HostHappens.{offered_joint}
 use Rattle.lagprogress.proofs.Halves.{each_is_calls, start_steady}
-use Rattle.lagbeside.proofs.HostWaits.{forces_port}
 use Rattle.lagprogress.proofs.Linked.{each_side}
 use Rattle.lagprogress.proofs.Passing.{marker_carries_none}
 
 -- ---- one system
 
-host_sound : (gives : ℕ → ℕ → ℕ → Type 0) (old : SystemState) (call : HostCall) (answer : HostReply) (new : SystemState)
+pub host_sound : (gives : ℕ → ℕ → ℕ → Type 0) (old : SystemState) (call : HostCall) (answer : HostReply) (new : SystemState)
     → HostPromise gives old call answer new → IsSound old → IsSound new
 host_sound gives old (host.Call call) (told.Call answer) new h s = Step-sound gives old (call_of call) answer new h.step s
 host_sound gives old (host.OfferConversation agg conv) (told.OfferConversation answer) new h s = offers_sound gives agg conv old answer new h.0 s
@@ -133,9 +131,6 @@ logs_there One h ls j e One = e
 logs_there One h ls j e Two = refl
 logs_there Two h ls j e One = refl
 logs_there Two h ls j e Two = e
-
-links_there : (s : Side) (h : HalfState) (ls : List LinkState) (j : WorldState) → (after_call s h ls j).links ≡ ls
-links_there s h ls j = refl
 
 same_links : (s : Side) (h : HalfState) (j : WorldState) → with_half s h j ≡ after_call s h j.links j
 same_links One h j = refl
@@ -394,19 +389,19 @@ beside_timely : (s : Side) (old new : WorldState) → IsBeside s old new → Are
 beside_timely s old new b k = each_side (λ t. IsTimely (half t new).state) s
     (b.sound (k s).0, subst PortsAreTimed (sym b.alone) (k s).1) (subst IsTimely (sym b.peers) (k (peer s)))
 
-setting_timely : (s : Side) (mid : HalfState) (old new : WorldState) → (IsTimely (half s old).state → IsTimely mid.state)
-    → new ≡ with_half s mid old → AreTimely old → AreTimely new
-setting_timely s mid old new f y k =
+pub setting_both : (P : SystemState → Type 0) (s : Side) (mid : HalfState) (old new : WorldState) → (P (half s old).state → P mid.state)
+    → new ≡ with_half s mid old → ((t : Side) → P (half t old).state) → (t : Side) → P (half t new).state
+setting_both P s mid old new f y k =
     let e = y ∙ same_links s mid old in
-    each_side (λ t. IsTimely (half t new).state) s
-    (subst IsTimely (sym (ap (λ (j : WorldState). (half s j).state) e ∙ state_there s mid old.links old)) (f (k s)))
-    (subst IsTimely (sym (ap (λ (j : WorldState). (half (peer s) j).state) e ∙ peer_there s mid old.links old)) (k (peer s)))
+    each_side (λ t. P (half t new).state) s
+    (subst P (sym (ap (λ (j : WorldState). (half s j).state) e ∙ state_there s mid old.links old)) (f (k s)))
+    (subst P (sym (ap (λ (j : WorldState). (half (peer s) j).state) e ∙ peer_there s mid old.links old)) (k (peer s)))
 
 pub step_timely : (gives : Algorithms) (e : HostEvent) (old new : WorldState) → HostSteps gives old e new → AreTimely old → AreTimely new
 step_timely gives (Plays e) old new x k = λ s.
     (let g = each_is_calls gives e x.0 old new x.1 s in
     calls_each (gives s) IsTimely (call_timely (gives s)) (half s old).state (half s new).state g.0 g.1 g.2 (k s))
-step_timely gives (Sets s setting) old new x k = setting_timely s x.1 old new (λ t. (
+step_timely gives (Sets s setting) old new x k = setting_both IsTimely s x.1 old new (λ t. (
   setting_sound (half s old).state setting x.0 x.1.state x.2.answers.step t.0,
   setting_timed (half s old).state x.1.state setting x.0 x.2.answers.step t.1,
 )) x.3 k

@@ -67,10 +67,6 @@ module _ (at : Side → ℕ) (w : Side → Lacpdu) where
   can_known s c l (inl a) = (inl a, λ e. (l, e))
   can_known s c l (inr a) = (inr (l, a), λ e. (l, e))
 
-  pub silence_less : (b : Bool) → silence_of b + 1 ≤ timeout_time b - 1
-  silence_less true = omega arith
-  silence_less false = omega arith
-
   pub some_silence : (b : Bool) → 1 ≤ silence_of b
   some_silence true = omega arith
   some_silence false = omega arith

@@ -5,7 +5,7 @@ use Rattle.lagprogress.proofs.Common.{all-append, One, Side, Two, WorldSetup, en
 use Rattle.lagprogress.proofs.Common.{cause, cause_or_no_memory, has_system, world_setup, ends_of_cable, ports_joined, LinkState, WorldState, port_at}
 use Rattle.lagprogress.proofs.Common.{end_is, Plays, AsksInVain, DrainingRounds, IsDrainingRound, IsNoMoveOf, sent_nothing, IsBetweenTicks, Delivers}
 use Rattle.lagprogress.proofs.Common.{IsOutOfMemoryOrSpent, RefusesDelivery, RunsAll, AsksEnds, AsksOrDelivers, AsksPort, DeliversAndAsks}
-use Rattle.lagprogress.proofs.Common.{EmptiesCables, PlaysBetween, PlaysHostPart, PlaysHostRound, StopsBetween, IsDeliver, ticks_of_both, IsSteady}
+use Rattle.lagprogress.proofs.Common.{EmptiesCables, PlaysBetween, PlaysHostPart, PlaysHostRound, PlaysHostRounds, StopsBetween, IsDeliver, ticks_of_both, IsSteady}
 use Rattle.lagprogress.proofs.HostLoops.{as_played, asking_in_vain_is_draining, both_tick, draining_are_host, vain_after_ticks}
 use Rattle.std.specs.Prelude.{map}
 use Rattle.lagprogress.proofs.EachRound.{hosts_steady}
@@ -254,6 +254,11 @@ pub stops_after_ticks : (gives : Algorithms) (fault : WorldFault) (old ticked ne
 stops_after_ticks gives fault old ticked new t b = inr (inl (record { ticked = ticked; ticks = t; stops = b }))
 
 -- rounds
+
+pub one_round_more : (gives : Algorithms) (n : ℕ) (old mid new : WorldState) → PlaysHostRounds gives n old mid → PlaysHostRound gives mid new
+    → PlaysHostRounds gives (n + 1) old new
+one_round_more gives n old mid new h x =
+    let e : suc n ≡ n + 1 = omega arith in subst (λ m. PlaysHostRounds gives m old new) e (mid, h, x)
 
 pub one_draining_round_more : (gives : Algorithms) (n : ℕ) (old mid new : WorldState)
     → (IsSteady old → (s : Side) (g k : ℕ) → DrainingRounds s g k gives n old mid)

@@ -346,9 +346,6 @@ peer_logs s h j = grind (arith, nat_tests)
 pub collected_links : (st : Stamp) (j : WorldState) → (with_stamp_collected st j).links ≡ j.links
 collected_links st j = grind (arith, nat_tests)
 
-abbrev same_halves : (j new : WorldState) → new ≡ j → (t : Side) → (half t new).state ≡ (half t j).state
-same_halves j new x t = ap (λ (k : WorldState). (half t k).state) x
-
 after : (s : Side) (p : ℕ) (item : ItemValue) (a : Result Received SystemFault) (j new : WorldState) (r : Reply)
     → AfterReceive s p item a j r new → After s p item a j new
 after s p item a j new r x = grind (arith, nat_tests)

@@ -1,15 +1,15 @@
 -- What a healthy round leaves of a cable: an LACPDU of an end is nearer by a tick, or was heard.
 use Rattle.lagprogress.proofs.Common.{Bool, Err, List, None, Ok, Option, Result, Some, [], ap, arith, false, inl, inr, refl, slice_get, subst, suc}
-use Rattle.lagprogress.proofs.Common.{sym, true, zero, ℕ, ◌++◌, ◌-◌, ◌∙◌, ◌∷◌, ◌≡◌, ◌≤◌, ◌⊎◌, cases_Bool, nat_tests, none-some, same_Some}
-use Rattle.lagprogress.proofs.Common.{AllByRecursion, Lacpdu, One, Side, Two, peer, Machines, is_silent, periodic_rows, receive_rows, AtRest}
-use Rattle.lagprogress.proofs.Common.{RunsToRest, count_down, is_due, pdu_of, SystemFault, SystemPort, Step, Transmit, IsLacpduOf, SystemState}
-use Rattle.lagprogress.proofs.Common.{port_index, Event, Reply, Algorithms, WorldSteps, side_of, ItemValue, LinkState, WorldState, half, port_at}
-use Rattle.lagprogress.proofs.Common.{IsTimed, OfEach, no, AtPort, Sounds, now_due, asks_all, asks_ends}
+use Rattle.lagprogress.proofs.Common.{sym, true, zero, ℕ, ◌++◌, ◌-◌, ◌∙◌, ◌∷◌, ◌≡◌, ◌≤◌, ◌⊎◌, nat_tests, none-some, same_Some, AllByRecursion, Lacpdu}
+use Rattle.lagprogress.proofs.Common.{One, Side, Two, peer, Machines, is_silent, periodic_rows, receive_rows, AtRest, RunsToRest, count_down, is_due}
+use Rattle.lagprogress.proofs.Common.{pdu_of, SystemFault, SystemPort, Step, Transmit, IsLacpduOf, SystemState, port_index, Event, Reply, Algorithms}
+use Rattle.lagprogress.proofs.Common.{WorldSteps, side_of, ItemValue, LinkState, WorldState, half, port_at, IsTimed, OfEach, no, AtPort, Sounds}
+use Rattle.lagprogress.proofs.Common.{now_due, asks_all, asks_ends}
 use Rattle.lagprogress.proofs.EndFacts.{Along, CanSound, IsEnd, both_along, calm, nothing_along, sounds_along, ticks_sounds}
 use Rattle.lagprogress.proofs.OneCable.{Went}
 use Rattle.lagprogress.proofs.Passing.{lacpdu_is_sent, sends_due, sent_carries}
-use Rattle.lagprogress.proofs.Linked.{EndIs, Fits, Flying, Link, each_side, emit_link, HasLacpdu, has_last, asked_which, beside_link, other_side}
-use Rattle.lagprogress.proofs.Linked.{push_there, other_ports, with_ports, both_at, of_end, end_here, at_end, end_with}
+use Rattle.lagprogress.proofs.Linked.{EndIs, Fits, Flying, Link, each_side, emit_link, HasLacpdu, has_last, other_side, push_there, other_ports}
+use Rattle.lagprogress.proofs.Linked.{with_ports, both_at, of_end, end_here, at_end, end_with}
 use Rattle.slowpdu.specs.declared.pdu.Pdu.TheVariants as pdu
 use Rattle.lagsystem.specs.declared.drive.Reply.TheVariants as answer
 use Rattle.lagscript.specs.declared.event.Event.TheVariants as event
@@ -36,10 +36,6 @@ abbrev pub ticked : (Side → ℕ) → Side → ℕ
 ticked c s = c s - 1
 
 -- an end is asked whose LACPDU comes nearer
-
--- Z holds of the end of s, or an LACPDU of it is on the cable
-abbrev pub Asked : ℕ → (Side → ℕ) → (Side → Lacpdu) → (Side → ℕ) → Side → (Machines → Type 0) → WorldState → Type 0
-Asked d at w c s Z j = Link d at w c s Z j ⊎ ((l : Link d at w c s Nothing j) × Flying (l.flying (peer s)))
 
 -- Z holds of a port of which Y holds and that has no LACPDU due
 abbrev pub Asks : ℕ → (Machines → Type 0) → (Machines → Type 0) → Lacpdu → Lacpdu → ℕ → Type 0
@@ -84,23 +80,6 @@ ask_idle gives n s d at w c Y Z r old new fits named asks l not h =
     (subst (λ (y : SystemState). OfEach (AtPort (at (peer s)) (EndIs d w c s Z (peer s))) y.system_ports) (sym e.asks.peers)
     (of_end l (peer s) (EndIs d w c s Z (peer s)) (λ p rest timed a. (a.0, λ g. absurd (other_side s g))))))
 
-ask_own : (gives : Algorithms) (n : ℕ) (s : Side) (d : ℕ) (at : Side → ℕ) (w : Side → Lacpdu) (c : Side → ℕ) (Y Z : Machines → Type 0)
-    (r : Reply) (old new : WorldState) → Fits d w c → side_of n ≡ Some s → Asks d Y Z (w s) (w (peer s)) (c s)
-    → Link d at w c s Y old → WorldSteps gives old (event.Emit n (at s)) r new → Asked d at w c s Z new
-ask_own gives n s d at w c Y Z r old new fits named asks l h =
-    let bare = forget d at w c s s Y old l in
-    let e = emit_link gives n s d at w c s Nothing r old new fits named (nothing_along (w s) (w (peer s)) (c s) d) (λ f p y. y) bare h in
-    let z = end_here at w d c s Y old l s in
-    elim (cases_Bool (is_due z.port.port)) [
-      | inl due ↦ inr (
-        e.link,
-        subst (λ (f : Side → List ItemValue). Flying (f (peer s))) (sym e.same)
-            (flies (gives s) s (at s) z.index z.port e.asks.a (half s old).state (half s new).state bare.flying e.asks.now z.place z.there z.is.1.0
-            due e.asks.promise.step e.asks.went),
-      )
-      | inr not ↦ inl (ask_idle gives n s d at w c Y Z r old new fits named asks l not h)
-    ]
-
 pub ask_peer : (gives : Algorithms) (n : ℕ) (s : Side) (d : ℕ) (at : Side → ℕ) (w : Side → Lacpdu) (c : Side → ℕ) (Y : Machines → Type 0)
     (r : Reply) (old new : WorldState) → Fits d w c → side_of n ≡ Some (peer s) → Along Y (w s) (w (peer s)) (c s) d
     → Link d at w c s Y old → WorldSteps gives old (event.Emit n (at (peer s))) r new → Link d at w c s Y new
@@ -109,23 +88,6 @@ ask_peer gives n s d at w c Y r old new fits named along l h =
 
 pub one_of_both : (s t : Side) → (t ≡ s) ⊎ (t ≡ peer s)
 one_of_both s t = each_side (λ t. (t ≡ s) ⊎ (t ≡ peer s)) s (inl refl) (inr refl) t
-
--- an Emit event where the end of s may not have been asked
-pub ask_which : (gives : Algorithms) (n p : ℕ) (s : Side) (d : ℕ) (at : Side → ℕ) (w : Side → Lacpdu) (c : Side → ℕ) (Y Z : Machines → Type 0)
-    (r : Reply) (old new : WorldState) → Fits d w c → Along Y (w s) (w (peer s)) (c s) d → Asks d Y Z (w s) (w (peer s)) (c s)
-    → Link d at w c s Y old → WorldSteps gives old (event.Emit n p) r new → Link d at w c s Y new ⊎ Asked d at w c s Z new
-ask_which gives n p s d at w c Y Z r old new fits along asks l h = elim (asked_which gives n p l.index at l.flying r old new l.links h) [
-  | inl (t, named, is) ↦ asked t named (subst (λ q. WorldSteps gives old (event.Emit n q) r new) is h)
-  | inr b ↦ inl (beside_link gives (event.Emit n p) d at w c s Y r old new along l h b).link
-]
-  where
-    asked : (t : Side) → side_of n ≡ Some t → WorldSteps gives old (event.Emit n (at t)) r new → Link d at w c s Y new ⊎ Asked d at w c s Z new
-    asked t named h = elim (one_of_both s t) [
-      | inl e ↦ inr (ask_own gives n s d at w c Y Z r old new fits (subst (λ u. side_of n ≡ Some u) e named) asks l
-          (subst (λ u. WorldSteps gives old (event.Emit n (at u)) r new) e h))
-      | inr e ↦ inl (ask_peer gives n s d at w c Y r old new fits (subst (λ u. side_of n ≡ Some u) e named) along l
-          (subst (λ u. WorldSteps gives old (event.Emit n (at u)) r new) e h))
-    ]
 
 -- the events of a round
 

@@ -23,7 +23,7 @@ use Rattle.lagworld.specs.Sound.{IsStart}
 use Rattle.lagworld.specs.State.{ItemValue, LinkState, WorldState, half, is_accepted, port_at, put_on_port, towards, with_towards}
 use Rattle.lagprogress.specs.Bundle.{IsBundle}
 use Rattle.lagprogress.specs.Freed.{held_on}
-use Rattle.laghosts.specs.HostEvents.{HostEvent, Plays}
+use Rattle.laghosts.specs.HostEvents.{HostEvent, HostRuns, Plays}
 use Rattle.lagprogress.specs.HostRounds.{HostRounds, IsHostRound, RunReplies}
 use Rattle.lagprogress.specs.Passing.{EndIsUp}
 use Rattle.lagprogress.specs.Rounds.{AtEnd, IsRound, Rounds, asks_all, ticks_of_both}
@@ -129,6 +129,11 @@ DisabledAreUnsynchronized s = (k : ℕ) (x : SystemPort) → slice_get s.system_
 abbrev pub EachReachedHasUnsynchronized : Algorithms → Type 0
 EachReachedHasUnsynchronized gives = (configs : List Config) (es : List Event) (rs : List Reply) (start new : WorldState) (s : Side)
     → IsStart start → AreFirst configs start → WorldRuns gives start es rs new → DisabledAreUnsynchronized (half s new).state
+
+-- so it is if the hosts call what they like, and set what they like
+abbrev pub EachHostReachedHasUnsynchronized : Algorithms → Type 0
+EachHostReachedHasUnsynchronized gives = (configs : List Config) (es : List HostEvent) (start new : WorldState) (s : Side)
+    → IsStart start → AreFirst configs start → HostRuns gives start es new → DisabledAreUnsynchronized (half s new).state
 
 -- After so many healthy rounds of a bundle or more, whatever was before them, a frame that a system takes arrives within one round.
 abbrev pub EachFrameArrives : (LinkState → WorldState → Type 0) → ℕ → Algorithms → Type 0

@@ -13,6 +13,7 @@ use Rattle.lagworld.specs.Events.{Algorithms, WorldRuns}
 use Rattle.lagworld.specs.Making.{AreFirst}
 use Rattle.lagworld.specs.Sound.{IsStart}
 use Rattle.lagworld.specs.State.{LinkState, WorldState, half, port_at}
+use Rattle.laghosts.specs.HostEvents.{HostEvent, HostRuns}
 use Rattle.lagprogress.specs.Bundle.{IsBundle}
 use Rattle.lagprogress.specs.Rounds.{IsHealthyAt, Rounds}
 
@@ -74,3 +75,8 @@ NothingIsHeld Holds least gives = (n : ℕ) (old new : WorldState) (s : Side) �
 abbrev pub EachReachedHasCarriersUp : Algorithms → Type 0
 EachReachedHasCarriersUp gives = (configs : List Config) (es : List Event) (rs : List Reply) (start new : WorldState) → IsStart start
     → AreFirst configs start → WorldRuns gives start es rs new → (s : Side) → CarriersAreUp (half s new).state
+
+-- So it is if the hosts call what they like, and set what they like.
+abbrev pub EachHostReachedHasCarriersUp : Algorithms → Type 0
+EachHostReachedHasCarriersUp gives = (configs : List Config) (es : List HostEvent) (start new : WorldState) → IsStart start
+    → AreFirst configs start → HostRuns gives start es new → (s : Side) → CarriersAreUp (half s new).state

@@ -73,6 +73,11 @@ pub record PlaysHostRound (gives : Algorithms) (old new : WorldState) : Type 0 w
   pub asks : AsksEnds gives (length old.links) ticked asked
   pub later : EmptiesCables gives (length old.links) asked new
 
+-- and so many of them
+abbrev pub PlaysHostRounds : Algorithms → ℕ → WorldState → WorldState → Type 0
+PlaysHostRounds gives zero old new = new ≡ old
+PlaysHostRounds gives (suc n) old new = (mid : WorldState) × PlaysHostRounds gives n old mid × PlaysHostRound gives mid new
+
 -- both systems tick, and then such events act, until one is refused with this fault
 pub record StopsAfterTicks (gives : Algorithms) (fault : WorldFault) (old new : WorldState) : Type 0 where
   pub ticked : WorldState
@@ -90,6 +95,7 @@ pub record StopsInHostRounds (gives : Algorithms) (fault : WorldFault) (count : 
   pub done : ℕ
   pub mid : WorldState
   pub within : done < count
+  pub plays : PlaysHostRounds gives done old mid
   pub before : IsSteady old → HostRounds gives done old mid
   pub last : PlaysHostPart gives fault mid new
   pub refused : IsRefused fault mid new

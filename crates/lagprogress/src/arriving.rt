@@ -20,12 +20,13 @@ pub fn frames_pass_cables<F: Fn(u16, usize) -> usize>()
     ensures delivered { (one two : F) → DeliverHandsUp (both_algorithms (F.post one) (F.post two)) }
 {}
 
-ghost use Rattle.lagprogress.specs.Arriving.{EachReachedHasUnsynchronized};
+ghost use Rattle.lagprogress.specs.Arriving.{EachHostReachedHasUnsynchronized, EachReachedHasUnsynchronized};
 
-/// The recorded partner of each port in PORT_DISABLED has Synchronization FALSE, in both systems of each world that events
-/// lead to from a start, as `each_frame_arrives` wants it (6.4.12).
+/// The recorded partner of each port in PORT_DISABLED has Synchronization FALSE, in both systems of each world that events, or
+/// calls and settings of hosts, lead to from a start, as `each_frame_arrives` wants it (6.4.12).
 pub fn disabled_ports_have_unsynchronized_partners<F: Fn(u16, usize) -> usize>()
-    ensures { (one two : F) → EachReachedHasUnsynchronized (both_algorithms (F.post one) (F.post two)) }
+    ensures events { (one two : F) → EachReachedHasUnsynchronized (both_algorithms (F.post one) (F.post two)) }
+    ensures hosts { (one two : F) → EachHostReachedHasUnsynchronized (both_algorithms (F.post one) (F.post two)) }
 {}
 
 ghost use Rattle.lagprogress.specs.Arriving.{EachFrameArrives};
@@ -36,8 +37,8 @@ ghost use Rattle.lagprogress.specs.Rounds.{up_if_both_active, up_if_one_is};
 //    octet by octet: 352 | 652
 // contract: `each_frame_arrives` (`Arrives`, `HandsUp`)
 // premises: `IsBundle` before the rounds; `TakesFrame` when it is offered; a partner recorded in PORT_DISABLED has Synchronization FALSE,
-//    as after any events (`disabled_ports_have_unsynchronized_partners`); the Offer comes between two rounds. Nothing is said of a second
-//    frame in it
+//    as after any events, or calls and settings of hosts (`disabled_ports_have_unsynchronized_partners`); the Offer comes between two
+//    rounds. Nothing is said of a second frame in it
 /// A data frame that a bundle as in `each_link_comes_up` is offered after 352 healthy rounds (35.2 s) or more if both ends of each
 /// healthy cable are active, after 652 (65.2 s) if one is, arrives within one healthy round (100 ms), whatever was before them:
 /// it gets a port that distributes in the aggregator, its cable accepts it, and at the other end it is handed up, with the same

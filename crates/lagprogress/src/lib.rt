@@ -208,8 +208,8 @@ ghost use Rattle.lagprogress.specs.Rounds.{freed_if_both_active, freed_if_one_is
 // premises: those of `each_link_comes_up`; an identifier is left in the end (`HasIdentifierLeft`)
 // promise: no conversation is held in the whole system: 382 | 682
 // contract: `held_conversations_are_freed` (`all_both`, `all_one`)
-// premises: the same; before the rounds the links of all ports that conversations are On or held on are up, as in each world that events
-//    lead to (`carriers_are_up`)
+// premises: the same; before the rounds the links of all ports that conversations are On or held on are up, as in each world that events,
+//    or calls and settings of hosts, lead to (`carriers_are_up`)
 /// Conversations that are held in a bundle as in `each_link_comes_up` are freed: from 382 healthy rounds (38.2 s) on if both ends
 /// of each healthy cable are active, from 682 (68.2 s) on if one is, no conversation is Wanted or Flushing on an end of a
 /// healthy cable, whatever was before them, if an identifier for a marker is left in the end. And none is at all in a system
@@ -221,10 +221,12 @@ pub fn held_conversations_are_freed<F: Fn(u16, usize) -> usize>()
     ensures all_one { (one two : F) → NothingIsHeld OneIsActive freed_if_one_is (both_algorithms (F.post one) (F.post two)) }
 {}
 
-ghost use Rattle.lagprogress.specs.Freed.{EachReachedHasCarriersUp};
+ghost use Rattle.lagprogress.specs.Freed.{EachHostReachedHasCarriersUp, EachReachedHasCarriersUp};
 
 /// The link of each port that carries a conversation, or on which one is held, is up, in both systems of each world that
-/// events lead to from a start, as `held_conversations_are_freed` wants it (6.4.12, 6.4.15; profile).
+/// events, or calls and settings of hosts, lead to from a start, as `held_conversations_are_freed` wants it (6.4.12, 6.4.15;
+/// profile).
 pub fn carriers_are_up<F: Fn(u16, usize) -> usize>()
-    ensures { (one two : F) → EachReachedHasCarriersUp (both_algorithms (F.post one) (F.post two)) }
+    ensures events { (one two : F) → EachReachedHasCarriersUp (both_algorithms (F.post one) (F.post two)) }
+    ensures hosts { (one two : F) → EachHostReachedHasCarriersUp (both_algorithms (F.post one) (F.post two)) }
 {}

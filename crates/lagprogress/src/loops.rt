@@ -8,7 +8,7 @@ ghost use Rattle.lagprogress.specs.Bundle.{BothAreActive, OneIsActive};
 ghost use Rattle.lagprogress.specs.HostFreed.{DrainingRounds, IsDrainingRound, sent_nothing};
 ghost use Rattle.lagprogress.specs.HostRounds.{HostRounds, IsHostRound};
 ghost use Rattle.lagprogress.specs.Played.{EachAgrees, EachDistributes, IsOutOfMemoryOrSpent, IsRefused, LeadsTo, NothingStaysHeld};
-ghost use Rattle.lagprogress.specs.PlayedByHosts.{AsksEnds, AsksPort, EmptiesCables, PlaysHostPart, PlaysHostRound, StopsBetween, StopsInHostRounds};
+ghost use Rattle.lagprogress.specs.PlayedByHosts.{AsksEnds, AsksPort, EmptiesCables, PlaysHostPart, PlaysHostRound, PlaysHostRounds, StopsBetween, StopsInHostRounds};
 ghost use Rattle.lagprogress.specs.Rounds.{freed_if_both_active, freed_if_one_is, up_if_both_active, up_if_one_is};
 ghost use Rattle.lagprogress.specs.Steady.{IsSteady};
 
@@ -114,7 +114,7 @@ fn deliver_and_ask<C: Cable, F: Fn(u16, usize) -> usize + Drop>(
 }
 
 // promise: `play_host_round` plays such a round, whatever the conversation, `play_host_rounds` so many; the first asks the ends of all cables
-// contract: `play_host_round` (`round`, `drains`, `plays`), `play_host_rounds` (`rounds`, `drains`)
+// contract: `play_host_round` (`round`, `drains`, `plays`), `play_host_rounds` (`plays`, `rounds`, `drains`)
 // premises: both algorithms meet the condition; steady
 // promise: rounds of hosts are refused as `NoCable` above 65,535 cables, with nothing played; else as `Spent`, or after both ticks as `NoMemory`
 // contract: `play_host_round` (`refused`, `part`), `play_host_rounds` (`stopped`)
@@ -162,6 +162,8 @@ pub fn play_host_rounds<C: Cable, F: Fn(u16, usize) -> usize + Drop>(
 ) -> Result<(), WorldFault>
     requires one { PicksIndexes (F.pre world.old.one) (F.post world.old.one) }
     requires two { PicksIndexes (F.pre world.old.two) (F.post world.old.two) }
+    ensures plays { IfOk result (λ done. PlaysHostRounds (both_algorithms (F.post world.old.one) (F.post world.old.two)) count
+        world.old.state world.new.state) }
     ensures rounds { IfOk result (λ done. IsSteady world.old.state → HostRounds (both_algorithms (F.post world.old.one)
         (F.post world.old.two)) count world.old.state world.new.state) }
     ensures drains { IfOk result (λ done. IsSteady world.old.state → (s : Side) (g k : ℕ) → DrainingRounds s g k

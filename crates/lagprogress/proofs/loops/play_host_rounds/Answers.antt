@@ -1,10 +1,10 @@
 use Rattle.lagprogress.proofs.Common.{arith, refl, subst, ℕ, ◌∙◌, ◌≡◌, ◌≤◌, One, Side, Algorithms, WorldState, BothAreActive, OneIsActive}
-use Rattle.lagprogress.proofs.Common.{DrainingRounds, HostRounds, up_if_both_active, up_if_one_is, IsSteady}
+use Rattle.lagprogress.proofs.Common.{DrainingRounds, HostRounds, PlaysHostRounds, up_if_both_active, up_if_one_is, IsSteady}
 use Rattle.lagprogress.proofs.Bundling.{each_active_link_agrees_by_hosts, each_active_link_comes_up_by_hosts, each_link_agrees_by_hosts}
 use Rattle.lagprogress.proofs.Bundling.{each_link_comes_up_by_hosts}
 use Rattle.lagprogress.proofs.Freeing.{none_is_held_where_active_by_hosts, nothing_is_held_by_hosts}
 use Rattle.lagprogress.proofs.HostLoops.{draining_are_host}
-use Rattle.lagprogress.proofs.Looping.{one_draining_round_more, round_runs, runs_none}
+use Rattle.lagprogress.proofs.Looping.{one_draining_round_more, one_round_more, round_runs, runs_none}
 use Rattle.lagprogress.proofs.MadeWorlds.{agree, distribute, free_by_hosts}
 use Rattle.lagprogress.proofs.Played.{on_err}
 use Rattle.lagprogress.proofs.loops.play_host_rounds.Goals as goal
@@ -16,13 +16,15 @@ pub play_host_round-requires-clause-two : goal.play_host_round-requires-clause-t
 play_host_round-requires-clause-two g c = rw c.loop-done.invariant.two c.requires.two
 
 pub loop-done-init : goal.loop-done-init
-loop-done-init g c = record { within = omega arith; played = λ steady s agg conv. refl; events = runs_none _ _; fixed = refl; one = refl; two = refl }
+loop-done-init g c = record { within = omega arith; played = λ steady s agg conv. refl; rounds = refl; events = runs_none _ _; fixed = refl; one = refl; two = refl }
 
 pub loop-done-preserved : goal.loop-done-preserved
 loop-done-preserved g c = record {
   within = omega (arith, c.loop-done-test.true);
   played = one_draining_round_more _ c.loop-done.done _ _ _ c.loop-done.invariant.played
       (rw (c.loop-done.invariant.one, c.loop-done.invariant.two) at c.in_ok-play_host_round.ensures.drains);
+  rounds = one_round_more _ c.loop-done.done _ _ _ c.loop-done.invariant.rounds
+      (rw (c.loop-done.invariant.one, c.loop-done.invariant.two) at c.in_ok-play_host_round.ensures.plays);
   events = round_runs _ _ _ _ c.loop-done.invariant.events
       (rw (c.loop-done.invariant.one, c.loop-done.invariant.two) at c.in_ok-play_host_round.ensures.plays);
   fixed = c.play_host_round.ensures.fixed ∙ c.loop-done.invariant.fixed;
@@ -36,6 +38,7 @@ returns-in_err-play_host_round-clause-stopped g c =
       done = c.loop-done.done;
       mid = c.loop-done.world.state;
       within = c.loop-done-test.true;
+      plays = c.loop-done.invariant.rounds;
       before = λ steady. draining_are_host _ One 0 0 c.loop-done.done _ _ (c.loop-done.invariant.played steady One 0 0);
       last = rw (c.loop-done.invariant.one, c.loop-done.invariant.two) at c.in_err-play_host_round.ensures.part;
       refused = c.in_err-play_host_round.ensures.refused;
@@ -52,6 +55,15 @@ all_played : (gives : Algorithms) (count done : ℕ) (old new : WorldState) → 
     → (IsSteady old → (s : Side) (g k : ℕ) → DrainingRounds s g k gives done old new) → IsSteady old → HostRounds gives count old new
 all_played gives count done old new l m h =
     λ steady. draining_are_host gives One 0 0 count old new (all_drain gives count done old new l m h steady One 0 0)
+
+all_rounds : (gives : Algorithms) (count done : ℕ) (old new : WorldState) → count ≤ done → done ≤ count → PlaysHostRounds gives done old new
+    → PlaysHostRounds gives count old new
+all_rounds gives count done old new l m h =
+    let all : done ≡ count = omega (arith, l, m) in subst (λ n. PlaysHostRounds gives n old new) all h
+
+pub returns-clause-plays : goal.returns-clause-plays
+returns-clause-plays g c =
+    all_rounds _ c.args.count c.loop-done.done _ _ c.loop-done-test.false c.loop-done.invariant.within c.loop-done.invariant.rounds
 
 pub returns-clause-drains : goal.returns-clause-drains
 returns-clause-drains g c =
