@@ -5,7 +5,8 @@ use Rattle.lagprogress.proofs.Common.{all-append, One, Side, Two, WorldSetup, en
 use Rattle.lagprogress.proofs.Common.{cause, cause_or_no_memory, has_system, world_setup, ends_of_cable, ports_joined, LinkState, WorldState, port_at}
 use Rattle.lagprogress.proofs.Common.{end_is, Plays, AsksInVain, DrainingRounds, IsDrainingRound, IsNoMoveOf, sent_nothing, IsBetweenTicks, Delivers}
 use Rattle.lagprogress.proofs.Common.{IsOutOfMemoryOrSpent, RefusesDelivery, RunsAll, AsksEnds, AsksOrDelivers, AsksPort, DeliversAndAsks}
-use Rattle.lagprogress.proofs.Common.{EmptiesCables, PlaysBetween, PlaysHostPart, PlaysHostRound, PlaysHostRounds, StopsBetween, IsDeliver, ticks_of_both, IsSteady}
+use Rattle.lagprogress.proofs.Common.{EmptiesCables, PlaysBetween, PlaysHostPart, PlaysHostRound, PlaysHostRounds, StopsBetween, IsDeliver}
+use Rattle.lagprogress.proofs.Common.{ticks_of_both, IsSteady}
 use Rattle.lagprogress.proofs.HostLoops.{as_played, asking_in_vain_is_draining, both_tick, draining_are_host, vain_after_ticks}
 use Rattle.std.specs.Prelude.{map}
 use Rattle.lagprogress.proofs.EachRound.{hosts_steady}

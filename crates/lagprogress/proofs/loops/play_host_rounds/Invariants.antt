@@ -1,4 +1,4 @@
-use Rattle.lagprogress.proofs.Common.{ℕ, ◌-◌, ◌≡◌, ◌≤◌, Side, world_setup, both_algorithms, DrainingRounds, IsSteady, PlaysHostRounds}
+use Rattle.lagprogress.proofs.Common.{ℕ, ◌-◌, ◌≡◌, ◌≤◌, Side, world_setup, both_algorithms, DrainingRounds, PlaysHostRounds, IsSteady}
 use Rattle.lagprogress.proofs.Looping.{RunsEvents}
 use Rattle.lagprogress.proofs.loops.play_host_rounds.Given as goal
 
