@@ -24,7 +24,7 @@
 #include "tagging.skel.h"
 
 #define ROOM 3200
-#define LINE_ROOM 8192
+#define LONGEST_OUTPUT 8192
 #define MOST_LEFT (HOST_QUEUE - 96)
 #define MTU 1500
 #define PORT 3
@@ -94,7 +94,7 @@ static void print_conversations(const uint8_t *frame, size_t length) {
 }
 
 static int print_all(void) {
-    static char line[LINE_ROOM];
+    static char line[LONGEST_OUTPUT];
     static uint8_t frame[ROOM];
     while (fgets(line, sizeof line, stdin)) {
         size_t length = 0;
