@@ -173,7 +173,7 @@ def build_buckets(folder: str) -> str:
 
 def build_kernel(folder: str, libraries: Sequence[str]) -> str:
     """Builds what runs the programs of the kernel for frames, with ASan and UBSan; answers the path of the program."""
-    sources = [*(f"{MAINTAIN}/live.d/{name}.c" for name in ("programs", "checks")), *sources_of("hash", "bpf", "programs", "settings")]
+    sources = [*(f"{MAINTAIN}/live.d/{name}.c" for name in ("programs", "checks")), *sources_of("hash", "bpf", "names", "programs", "settings")]
     compiled, linked = daemon_words()
     words = [*STRICT, *compiled, "-isystem", kernel_programs("tagging", f"{MAINTAIN}/live.d"), f"-I{DAEMON}", *SANITIZED]
     return build(os.path.join(folder, "programs"), sources, [*libraries, *linked], *words)
