@@ -8,8 +8,8 @@ ghost use Rattle.std.specs.Prelude.{ℕ};
 ghost use Rattle.lagfleet.specs.Fleet.{FleetTookFromFixedEnd, IsFleetInvariant};
 
 // promise: **any number of `System`s**: the first five rows of lagnetwork, and that of `took_from_far_end`, hold after any calls, those of
-//    hosts, settings and takeovers among them, octets received, whatever the algorithms return; cables may be moved at any time, LACPDUs
-//    may overtake data, and no frame comes twice
+//    hosts, settings and takeovers among them, octets received, whatever the algorithms return; cables may be moved at any time, and lose then
+//    what is on them; LACPDUs may overtake data, and no frame comes twice
 // contract: `fleet` (`one_partner`, `agree`, `in_order`, `each_in_order`, `counts_from_zero`, `took_from_far_end`, `took_from_fixed_end`,
 //    `names_far_end`, `took_synchronized`, `one_device`, `not_with_itself`)
 // premises: those of the law of two systems; no slow protocols frame is offered by number; a system that takes over has the configuration
@@ -67,14 +67,14 @@ ghost use Rattle.lagfleet.specs.BesideAnyPeer.{EachCallBesideAnyPeer, EachForceB
 ghost use Rattle.lagfleet.specs.BesideAnyPeer.{EachRestartBesideAnyPeer, EachSettingBesideAnyPeer, HoldsBesideAnyPeer, MayGiveWayToItself};
 
 // promise: **one `System` beside any peers**, which may lie, overtake and send what others sent, however they are wired: ports that
-//    distribute in one aggregator name one partner; a distributing port, not on defaults, took last an LACPDU that said IN_SYNC, and names
-//    its Actor; what the peers hand up of an unforced conversation is in order, and nothing twice. Each call of `drive`, each of the five
-//    calls of hosts and each setting is such an event, and leaves what its answer shows, whatever cables accept; a system of which no
+//    distribute in one aggregator name one partner; a distributing port, not on defaults, took last an LACPDU that said IN_SYNC, whose
+//    Actor it names, and that named the port or was of an individual link; what the peers hand up of an unforced conversation is in order,
+//    and nothing twice. Each call of `drive`, each of the five calls of hosts and each setting is such an event, and leaves what its answer shows, whatever cables accept; a system of which no
 //    conversation waits may take its own place
 // contract: `beside_any_peer` (`one_partner`, `took_synchronized`, `in_order`, `counts_from_zero`, `each_call`, `each_restart`,
 //    `each_force`, `each_host_call`, `each_setting`, `each_happening`, `takeovers`)
 // premises: a Marker Response on a cable answers the marker that came there first; no port has two cables; cables and peers keep the order
-//    of frames, and repeat none; a link is said to be down only while its cable is cut; what comes in a call stands first on its cable
+//    of data and markers, and repeat no data; a link is said to be down only while its cable is cut; what comes in a call stands first on its cable
 //    (`Fits`); a restart loses what is on the cables; a takeover is by a system that may follow (`IsSuccessor` of lagmodel)
 /// One system beside peers of any kind and number, however they are wired, as `order_with_any_peer` of `lagmodel` has it of definitions:
 /// after every list of calls, octets received, with those of hosts, settings and takeovers. One premise: on a cable a Marker Response

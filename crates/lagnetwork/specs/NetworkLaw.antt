@@ -189,8 +189,8 @@ OneAggregatorReachesTwo =
     × (w.arrived 2 1 1 1 48 ≡ 0 ∷ [])
     × (w.arrived 3 1 1 1 48 ≡ 1 ∷ [])
 
--- There is a run in which port 1 of system 1 and port 1 of system 2 are up with each other, the cable between them is taken out, both see
--- that, and it is put in between port 1 of system 1 and port 1 of system 3: and these two come up with each other.
+-- There is a run in which port 1 of system 1 and port 1 of system 2 are up with each other, the cable between them is taken out, port 1 of
+-- system 1 sees that, and it is put in between this and port 1 of system 3: and these two come up with each other.
 abbrev pub EndsMeetAfterMove : Type 0
 EndsMeetAfterMove =
     (x : NetworkSetup) × (before after : List NetworkEvent) × (v w : Network) × (a b c d : PortFacts)

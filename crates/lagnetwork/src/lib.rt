@@ -19,8 +19,8 @@ ghost use Rattle.lagnetwork.specs.NetworkLaw.{EachTookInSync, MaySucceedItself, 
 // contract: `network` (`took_from_far_end`, `took_from_fixed_end`), `ends_meet_after_move`
 // promise: a port that is not on defaults names the system and port that its last LACPDU came from
 // contract: `network` (`names_far_end`)
-// promise: a distributing port that is not on defaults took last an LACPDU that said IN_SYNC, whose Actor it names; if that is aggregatable,
-//    its two parties have the port's group
+// promise: a distributing port that is not on defaults took last an LACPDU that said IN_SYNC, whose Actor it names, and that named
+//    the port or was of an individual link
 // contract: `network` (`took_synchronized`)
 // promise: ports that distribute in one aggregator, not on defaults, took their last LACPDUs from one system, if no other claims its
 //    identifier. Else one aggregator may reach two devices, as an MLAG pair, and a run does
