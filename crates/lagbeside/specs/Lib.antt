@@ -6,4 +6,5 @@ pub mod Hearing
 pub mod Knowing
 pub mod Waits
 pub mod Told
+pub mod Runs
 pub mod Serving

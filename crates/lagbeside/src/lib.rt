@@ -137,19 +137,21 @@ ghost use Rattle.lagbeside.specs.Serving.{CarriesBeside, ComesUp, ComesUpAlone, 
 //    ports hear, and whatever is asked of the system in between
 // contract: `a_served_port_stays_up` (`StaysUp`)
 // premises: its link stays up, it is not configured, and no restart; each LACPDU that it processes is of one party and in sync with it; at
-//    most 29 ticks between two, 899 with Long Timeout. Settings come in no run; the five calls of a data plane come between, as far as they
-//    leave the system sound and its ports as they are (`IsAside`)
+//    most 29 ticks between two, 899 with Long Timeout. Between calls come the five calls of a data plane, as far as they leave the system
+//    sound and its ports as they are, and any settings but `hold_port` and `set_mode` of the port (`IsAside`, `LeavesPort`): held, it is
+//    UNSELECTED at once; with Short Timeout it wants more LACPDUs; and passive, it is out of sync with a passive partner
 /// A port that is served and SELECTED stays so, and in COLLECTING_DISTRIBUTING, whatever comes on other ports: its link stays up,
 /// it is not configured anew, each LACPDU that it processes is of one party and in sync with it, and at most 29 ticks go between
-/// two of them (899 with Long Timeout) (6.4.12 to 6.4.15).
+/// two of them (899 with Long Timeout) (6.4.12 to 6.4.15). Other ports may be held, let go and set to another mode, the limit of links
+/// may be set to any that is not refused, and so may CollectorMaxDelay (profile).
 pub fn a_served_port_stays_up<F: Fn(u16, usize) -> usize>()
     ensures { (algorithm : F) → StaysUp (F.post algorithm) }
 {}
 
 // promise: such a port carries after 20 ticks
 // contract: `a_served_port_comes_up` (`ComesUp`)
-// premises: the same; from the first of these ticks on no other port of its aggregator begins to wait (`NoneBegins`); no port has more ticks
-//    of wait_while left than it starts with (`WaitsAreBounded`)
+// premises: the same; after the first of these ticks no other port of its aggregator begins to wait, by a call or a setting (`NoneBegins`);
+//    no port has more ticks of wait_while left than it starts with (`WaitsAreBounded`)
 /// A port that is served and SELECTED is in COLLECTING_DISTRIBUTING after 20 ticks in which no other port began to wait in its
 /// aggregator (6.4.14, 6.4.15).
 pub fn a_served_port_comes_up<F: Fn(u16, usize) -> usize>()
@@ -178,7 +180,8 @@ pub fn the_only_port_of_a_key_comes_up<F: Fn(u16, usize) -> usize>()
 // promise: **a port does not carry unanswered**: while no LACPDU is in sync with it (it names another port, is OUT_OF_SYNC, or the link is not
 //    actively maintained), it carries on defaults alone
 // contract: `no_port_carries_unanswered` (`NeverAlone`)
-// premises: it is on defaults, or its partner is not synchronized, before; it is not configured, and no restart
+// premises: it is on defaults, or its partner is not synchronized, before; it is not configured, and no restart. Any settings come between,
+//    but `set_mode` to another LACP_Activity of the port: active, it is in sync with more (`LeavesActivity`)
 /// A port that no LACPDU was in sync with distributes on defaults alone: off defaults it is not in COLLECTING_DISTRIBUTING
 /// (6.4.9, recordPDU; 6.4.15).
 pub fn no_port_carries_unanswered<F: Fn(u16, usize) -> usize>()
