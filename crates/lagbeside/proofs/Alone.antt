@@ -7,7 +7,7 @@ use Rattle.lagbeside.proofs.Beside.{comes_up}
 use Rattle.lagbeside.proofs.EachSetting.{asides_sound, kept_key}
 use Rattle.lagbeside.proofs.Selecting.{occupies_is}
 
-begins_not : (agg : AggId) (key : Key) (keys : List Key) (y : SystemPort) (b : Bool) → begins_in agg y ≡ b → key_of keys agg.0 ≡ Some key
+pub begins_not : (agg : AggId) (key : Key) (keys : List Key) (y : SystemPort) (b : Bool) → begins_in agg y ≡ b → key_of keys agg.0 ≡ Some key
     → (occupied y.port.choice ≡ Some agg.0 → key_of keys agg.0 ≡ Some y.port.party.key) → y.port.party.key ≢ key → b ≡ false
 begins_not agg key keys y false e k agree other = refl
 begins_not agg key keys y true e k agree other =

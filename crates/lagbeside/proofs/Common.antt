@@ -69,7 +69,7 @@ pub use Rattle.lagsystem.specs.Views.{may_choose, selection_view, stage_of, view
 pub use Rattle.lagsystem.specs.Windows.{reply_has_lacpdu, subtype}
 pub use Rattle.lagsystem.proofs.Effects.{named}
 pub use Rattle.lagsystem.proofs.Keeps.{Step-frame, keeps_place, keeps_settled, ports_table, settling_keeps, settling_parts}
-pub use Rattle.lagsystem.proofs.Rest.{becomes_slots, can_receive_at_rest, last_slots, marker_slots, offers_slots, same_slots, zip_all}
+pub use Rattle.lagsystem.proofs.Rest.{becomes_slots, can_receive_at_rest, last_slots, marker_slots, offers_slots, rests, same_slots, zip_all}
 pub use Rattle.lagsystem.proofs.Rising.{Rises, all-get, all-set, found_place, ports_rise}
 pub use Rattle.lagsystem.proofs.Sound.{Step-sound}
 pub use Rattle.lagbeside.specs.Hearing.{IsNoticed, LeavesUnheard, processed_on}

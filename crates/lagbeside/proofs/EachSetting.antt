@@ -93,6 +93,17 @@ setting_stands old new (Setting.Set_max_links max_links) (Err fault) h = stands_
 
 -- what stands between two calls
 
+module _ (Sets More : Setting → Type 0) (k : (setting : Setting) → Sets setting → More setting) where
+  one_weaker : (old new : SystemState) → IsAside Sets old new → IsAside More old new
+  one_weaker old new h = (h.0, elim h.1 [ inl e ↦ inl e | inr s ↦ inr (s.0, s.1, k s.0 s.2, s.3) ])
+
+  times_weaker : (n : ℕ) (old new : SystemState) → AsideTimes Sets n old new → AsideTimes More n old new
+  times_weaker zero old new h = one_weaker old new h
+  times_weaker (suc n) old new h = (h.0, one_weaker old h.0 h.1, times_weaker n h.0 new h.2)
+
+  pub asides_weaken : (old new : SystemState) → Asides Sets old new → Asides More old new
+  asides_weaken old new h = (h.0, times_weaker h.0 old new h.1)
+
 table_each : (P : ℕ → Machines → Type 0) (s t : SystemState) → t ≡ with_table s t.table → OfEach P s.system_ports → OfEach P t.system_ports
 table_each P s t e a = subst (OfEach P) (sym (ap (λ (w : SystemState). w.system_ports) e)) a
 

@@ -21,3 +21,4 @@ mod Beside
 mod Alone
 mod First
 mod Never
+mod Joining

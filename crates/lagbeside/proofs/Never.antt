@@ -16,7 +16,7 @@ use Rattle.lagbeside.proofs.Timers.{RowsKeep, runs_keep}
 abbrev Lonely : Party → Bool → Machines → Type 0
 Lonely own active p = (p.party ≡ own) × (p.active ≡ active) × IsUnanswered p
 
-timed_bits : (info : Info) → bits_of (with_timeout true (with_synchronization false info.state)) ≡ record (bits_of (with_synchronization false
+pub timed_bits : (info : Info) → bits_of (with_timeout true (with_synchronization false info.state)) ≡ record (bits_of (with_synchronization false
     info.state)) { timeout = true }
 timed_bits info = encode_then_decode (record (bits_of (with_synchronization false info.state)) { timeout = true })
 

@@ -5,8 +5,8 @@ use Rattle.lagbeside.proofs.Common.{is_selected, is_unselected, same_party, part
 use Rattle.lagbeside.proofs.Common.{Machines, is_synchronized, mux_rows, same_mux_state, receive_rows, recorded_synchronization, AtRest, RunsToRest}
 use Rattle.lagbeside.proofs.Common.{count_down, Reply, TookLacpdu, SystemPort, Call, Configure, OnlyPortChangesBy, ProcessesLacpdu, Receive, Restart}
 use Rattle.lagbeside.proofs.Common.{Set_link, Step, ThenSettles, Tick, Transmit, choice_with_link, can_receive, can_receive_in, Setting, IsSound}
-use Rattle.lagbeside.proofs.Common.{SystemState, port_index, with_table, named, all-get, found_place, processed_on, EachCall, tick_count, Asides}
-use Rattle.lagbeside.proofs.Common.{LeavesPort, RunsWhile, Fed, IsServed, LeavesServed, Serves, Service, in_sync, timeout_time}
+use Rattle.lagbeside.proofs.Common.{SystemState, port_index, named, all-get, found_place, processed_on, EachCall, tick_count, Asides, LeavesPort}
+use Rattle.lagbeside.proofs.Common.{RunsWhile, Fed, IsServed, LeavesServed, Serves, Service, in_sync, timeout_time}
 use Rattle.lagsystem.specs.declared.drive.Reply.TheVariants as reply
 use Rattle.lagbeside.proofs.EachSetting.{KeptBySetting, asides_each, asides_sound}
 use Rattle.lagbeside.proofs.EachPort.{KeptByCall, KeptBySettling, OfEach, Step-each, Tick-each, took}

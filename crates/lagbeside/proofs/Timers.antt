@@ -1,12 +1,11 @@
 -- What happens to a port leaves no timer above the ticks that it can start with.
-use Rattle.lagbeside.proofs.Common.{Bool, Err, List, None, Ok, Option, Result, Some, [], arith, cond, false, if◌then◌else◌, inl, inr, nat_lt, refl}
-use Rattle.lagbeside.proofs.Common.{subst, suc, sym, true, zero, ℕ, ◌++◌, ◌+◌, ◌-◌, ◌<◌, ◌∷◌, ◌≡◌, ◌≤◌, nat_tests, AllByRecursion, Choice, Unselected}
-use Rattle.lagbeside.proofs.Common.{Lacpdu, PeriodicState, Setup, ReceiveState, Current, Defaulted, Initialize, PortDisabled, with_mode, Machines}
-use Rattle.lagbeside.proofs.Common.{mux_rows, periodic_rows, lacpdu_rows, receive_rows, start_receive, Fires, FiresTimes, Row, RunsToRest, Starts}
-use Rattle.lagbeside.proofs.Common.{before_start, aged, count_down, Reply, SystemFault, SystemPort, Call, Configure, ProcessesLacpdu, Receive}
-use Rattle.lagbeside.proofs.Common.{Restart, Set_link, Tick, Transmit, changed_party, choice_with_link, Setting, SettingStep, SystemState, port_index}
-use Rattle.lagbeside.proofs.Common.{all-get, all-set, EachSettingKeepsTimed, IsTimed, KeepsTimeout, PortsAreTimed, most_current_while}
-use Rattle.lagbeside.proofs.Common.{most_periodic_timer, timeout_time}
+use Rattle.lagbeside.proofs.Common.{Bool, List, Result, [], arith, cond, false, if◌then◌else◌, inl, inr, nat_lt, refl, subst, suc, sym, true, zero, ℕ}
+use Rattle.lagbeside.proofs.Common.{◌++◌, ◌+◌, ◌-◌, ◌<◌, ◌∷◌, ◌≡◌, ◌≤◌, nat_tests, AllByRecursion, Choice, Unselected, Lacpdu, PeriodicState, Setup}
+use Rattle.lagbeside.proofs.Common.{ReceiveState, Current, Defaulted, Initialize, PortDisabled, with_mode, Machines, mux_rows, periodic_rows}
+use Rattle.lagbeside.proofs.Common.{lacpdu_rows, receive_rows, start_receive, Fires, FiresTimes, Row, RunsToRest, Starts, before_start, aged}
+use Rattle.lagbeside.proofs.Common.{count_down, Reply, SystemFault, Call, Configure, ProcessesLacpdu, Receive, Restart, Set_link, Tick, Transmit}
+use Rattle.lagbeside.proofs.Common.{changed_party, choice_with_link, Setting, SettingStep, SystemState, EachSettingKeepsTimed, IsTimed, KeepsTimeout}
+use Rattle.lagbeside.proofs.Common.{most_current_while, most_periodic_timer, timeout_time}
 use Rattle.lagbeside.proofs.EachPort.{KeptByCall, KeptBySettling, OfEach}
 use Rattle.lagbeside.proofs.EachSetting.{KeptBySetting, Setting-each}
 

@@ -8,3 +8,4 @@ pub mod Waits
 pub mod Told
 pub mod Runs
 pub mod Serving
+pub mod Joining

@@ -158,6 +158,21 @@ pub fn a_served_port_comes_up<F: Fn(u16, usize) -> usize>()
     ensures { (algorithm : F) → ComesUp (F.post algorithm) }
 {}
 
+ghost use Rattle.lagbeside.specs.Joining.{NoneBeginsToWait};
+
+// promise: while the other ports of a key hear what they heard, none of them begins to wait in an aggregator, as `a_served_port_comes_up` asks:
+//    each hears the party that it has recorded, or nothing
+// contract: `ports_that_hear_the_same_do_not_begin` (`NoneBeginsToWait`)
+// premises: at most 30 ticks, and `WaitsAreBounded`; each of them is SELECTED or STANDBY at first, and in EXPIRED only with more ticks left than
+//    come, or its link is down (`HasJoined`); no link of them comes up, none of them is held or let go, and no other port is configured; no restart.
+//    Ports of other keys may hear anything
+/// Ports that hear the same do not begin to wait: in at most 30 ticks, with which EXPIRED begins, none of the other ports of a key that
+/// is in an aggregator, or whose link is down, begins to wait in one after the first tick, while each hears the party that it has
+/// recorded, or nothing, whatever ports of other keys hear (6.4.12 to 6.4.15).
+pub fn ports_that_hear_the_same_do_not_begin<F: Fn(u16, usize) -> usize>()
+    ensures { (algorithm : F) → NoneBeginsToWait (F.post algorithm) }
+{}
+
 // promise: **any peer that serves a port brings it up**: at the first LACPDU of the service the port is SELECTED, whatever was before, and 20
 //    ticks later it carries
 // contract: `any_peer_brings_a_port_up` (`CarriesBeside`)
