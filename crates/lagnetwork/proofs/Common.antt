@@ -28,7 +28,7 @@ pub use Rattle.lagmodel.proofs.Stamps.{AllHeard, Fresh, FreshPdu, Stamps, heard_
 pub use Rattle.lagmodel.proofs.Stamps.{stamps_emptied, stamps_first, stamps_own}
 pub use Rattle.lagnetwork.specs.Network.{AllNetworkMoves, CountsNetworkChanges, DeliversFirstAt, IsNetworkSetup, IsNetworkSuccessor, Moved}
 pub use Rattle.lagnetwork.specs.Network.{Moved_down, Moved_up, Network, NetworkCall, NetworkEvent, NetworkHappens, NetworkRun, NetworkSetup, Place}
-pub use Rattle.lagnetwork.specs.Network.{RepeatsFirstAt, Unmoved, also_forced, at_place, at_system, ends_at, first_network, freed_view}
+pub use Rattle.lagnetwork.specs.Network.{RepeatsFirstAt, Unmoved, also_forced, at_place, at_system, ends_at, first_network, follows_down, freed_view}
 pub use Rattle.lagnetwork.specs.Network.{handed_up_from, is_at, is_end, is_place, moved_again, moved_of, network_after, network_after_act}
 pub use Rattle.lagnetwork.specs.Network.{network_after_acts, network_after_all, put_on_line, recabled, recabled_all, source_after, towards_after}
 pub use Rattle.lagnetwork.specs.Network.{with_cable_moved, without_first}

@@ -424,7 +424,7 @@ freed_kept x s test w i = record {
 
 -- another system takes the place of one
 succeeded_kept : (x : NetworkSetup) (s : ℕ) (after : View) (w : Network) → IsNetworkSuccessor x w s after → AllFine x w
-    → AllFine x (record w { view = at_system w.view s after; moved = at_system w.moved s (λ p. moved_again (w.moved s p) (after.port p)) })
+    → AllFine x (record w { view = at_system w.view s after; moved = at_system w.moved s (λ p. moved_again (w.moved s p) ((w.view s).port p) (after.port p)) })
 succeeded_kept x s after w y i = record {
   alike = i.alike;
   each = λ r. is_or_not (With (at_system w.view s after r) r) r s

@@ -6,8 +6,8 @@ use Rattle.lagnetwork.proofs.Common.{distributor_act, port_act, port_after, view
 use Rattle.lagnetwork.proofs.Common.{first_view, Control, Data, Message, TakenLacpdu, taken_after, cond_false, cond_true, mapped_some, value_of}
 use Rattle.lagnetwork.proofs.Common.{changed_port, AllNetworkMoves, DeliversFirstAt, IsNetworkSetup, Moved, Moved_down, Moved_up, Network}
 use Rattle.lagnetwork.proofs.Common.{NetworkCall, NetworkEvent, NetworkHappens, NetworkRun, NetworkSetup, Place, RepeatsFirstAt, Unmoved, at_system}
-use Rattle.lagnetwork.proofs.Common.{first_network, freed_view, handed_up_from, is_end, moved_again, moved_of, network_after, network_after_all}
-use Rattle.lagnetwork.proofs.Common.{recabled, recabled_all, source_after, with_cable_moved, without_first, CablesStay}
+use Rattle.lagnetwork.proofs.Common.{first_network, follows_down, freed_view, handed_up_from, is_end, moved_again, moved_of, network_after}
+use Rattle.lagnetwork.proofs.Common.{network_after_all, recabled, recabled_all, source_after, with_cable_moved, without_first, CablesStay}
 use Rattle.lagnetwork.proofs.NetworkCalls.{itself}
 use Rattle.lagnetwork.proofs.NetworkEvents.{setup_kept}
 use Rattle.lagnetwork.proofs.NetworkMoves.{plug_away, pull_away}
@@ -195,23 +195,46 @@ sourced_view x w s v i h = subst (λ (m : ℕ → ℕ → Moved). Sourced x (rec
     (λ j t. sym (itself w.moved s t) j) (sourced_with x w s v (w.moved s) i h)
 
 -- a system follows
+
+up_parts : (a : PortFacts) → moved_of (Some a) ≡ Moved_up → (a.synchronized ≡ true) × (a.defaulted ≡ false)
+up_parts a h = go a.defaulted a.synchronized h
+  where
+    go : (b c : Bool) → cond b Moved_down (cond c Moved_up Moved_down) ≡ Moved_up → (c ≡ true) × (b ≡ false)
+    go true c e = absurd (up-down (sym e))
+    go false true e = (refl, refl)
+    go false false e = absurd (up-down (sym e))
+
+follows_unmoved : (now next : Moved) → (next ≡ Unmoved → ⊥) → follows_down now next ≡ Unmoved → now ≡ Moved_up
+follows_unmoved Moved_up next h e = refl
+follows_unmoved Moved_down next h e = absurd (h e)
+follows_unmoved Unmoved next h e = absurd (h e)
+
+follows_moved : (now next : Moved) → (next ≡ Moved_down → ⊥) → follows_down now next ≡ Moved_down → ⊥
+follows_moved Moved_up next h e = unmoved-down e
+follows_moved Moved_down next h e = h e
+follows_moved Unmoved next h e = h e
+
 sourced_next : (x : NetworkSetup) (w : Network) (s : ℕ) (after : View) → Sourced x w
-    → SourcedAt (x.far s) (λ p. moved_again (w.moved s p) (after.port p)) after.port (w.taken s) (w.source s)
+    → SourcedAt (x.far s) (λ p. moved_again (w.moved s p) ((w.view s).port p) (after.port p)) after.port (w.taken s) (w.source s)
 sourced_next x w s after i = record {
-  start = λ p m e h. (i s).start p m (was (w.moved s p) (after.port p) e) h;
-  down = λ p a e h y d. absurd (is_down (w.moved s p) (after.port p) a h y d e);
+  start = λ p m e h. begins p m (w.moved s p) ((w.view s).port p) refl refl (after.port p) e h;
+  down = λ p a e h y d. absurd (is_down (w.moved s p) ((w.view s).port p) (after.port p) a h y d e);
 }
   where
-    was : (m : Moved) (o : Option PortFacts) → moved_again m o ≡ Unmoved → m ≡ Unmoved
-    was Unmoved o e = refl
-    was Moved_down o e = absurd (moved_unmoved o e)
-    was Moved_up o e = absurd (moved_unmoved o e)
+    begins : (p : ℕ) (m : TakenLacpdu) (k : Moved) (now : Option PortFacts) → w.moved s p ≡ k → (w.view s).port p ≡ now
+        → (next : Option PortFacts) → moved_again k now next ≡ Unmoved → w.taken s p ≡ Some m → w.source s p ≡ x.far s p
+    begins p m Unmoved now is there next e h = (i s).start p m is h
+    begins p m Moved_down None is there next e h = absurd (up-down (sym (follows_unmoved (moved_of None) (moved_of next) (moved_unmoved next) e)))
+    begins p m Moved_down (Some a) is there next e h =
+        let up = up_parts a (follows_unmoved (moved_of (Some a)) (moved_of next) (moved_unmoved next) e) in
+        (i s).down p a is there up.0 up.1
+    begins p m Moved_up now is there next e h = absurd (moved_unmoved next e)
 
-    is_down : (m : Moved) (o : Option PortFacts) (a : PortFacts) → o ≡ Some a → a.synchronized ≡ true → a.defaulted ≡ false
-        → moved_again m o ≡ Moved_down → ⊥
-    is_down Unmoved o a h y d e = unmoved-down e
-    is_down Moved_down o a h y d e = moved_is_down o a h y d e
-    is_down Moved_up o a h y d e = moved_is_down o a h y d e
+    is_down : (m : Moved) (now next : Option PortFacts) (a : PortFacts) → next ≡ Some a → a.synchronized ≡ true → a.defaulted ≡ false
+        → moved_again m now next ≡ Moved_down → ⊥
+    is_down Unmoved now next a h y d e = unmoved-down e
+    is_down Moved_down now next a h y d e = follows_moved (moved_of now) (moved_of next) (moved_is_down next a h y d) e
+    is_down Moved_up now next a h y d e = moved_is_down next a h y d e
 
 -- these cables are moved
 sourced_moved : (x : NetworkSetup) (far' : ℕ → ℕ → Option Place) (ends : ℕ → ℕ → Bool) (whole : ℕ → ℕ → Bool)
@@ -256,7 +279,7 @@ sourced_happens x f (NetworkEvent.Frees s test) old new i z = subst (Sourced x) 
     (sourced_view x old s (freed_view test (old.view s)) i (i s))
 sourced_happens x f (NetworkEvent.Overtake s p line) old new i z = subst (Sourced x) (sym z.1) i
 sourced_happens x f (NetworkEvent.Succeed s after) old new i z = subst (Sourced x) (sym z.1)
-    (sourced_with x old s after (λ p. moved_again (old.moved s p) (after.port p)) i (sourced_next x old s after i))
+    (sourced_with x old s after (λ p. moved_again (old.moved s p) ((old.view s).port p) (after.port p)) i (sourced_next x old s after i))
 sourced_happens x f (NetworkEvent.Hear s p pdu stamp) old new i z = sourced_call x s (ModelCall.Receive p pdu) stamp old old new i z.1
 sourced_happens x f (NetworkEvent.Pull s p) old new i z = subst (Sourced (recabled x (NetworkEvent.Pull s p))) (sym z)
     (sourced_moved x (recabled x (NetworkEvent.Pull s p)).far (is_end x s p) (with_cable_moved x false s p old).whole
@@ -313,12 +336,12 @@ unmoved_again x s p (Data origin g k n ∷ ms) old new h z = subst AllUnmoved (s
 unmoved_again x s p (Control pdu stamp ∷ ms) old new h z = unmoved_call x s (ModelCall.Receive p (Some pdu)) stamp old old new h z
 
 unmoved_next : (w : Network) (s : ℕ) (after : View) → AllUnmoved w
-    → AllUnmoved (record w { view = at_system w.view s after; moved = at_system w.moved s (λ p. moved_again (w.moved s p) (after.port p)) })
-unmoved_next w s after h t p = is_or_not (at_system w.moved s (λ p. moved_again (w.moved s p) (after.port p)) t p ≡ Unmoved) t s
-    (λ e. ap (λ t. at_system w.moved s (λ p. moved_again (w.moved s p) (after.port p)) t p) e
-    ∙ ap (λ (m : ℕ → Moved). m p) (there w.moved s (λ p. moved_again (w.moved s p) (after.port p)))
-    ∙ ap (λ (m : Moved). moved_again m (after.port p)) (h s p))
-    (λ ne. ap (λ (m : ℕ → Moved). m p) (elsewhere w.moved s (λ p. moved_again (w.moved s p) (after.port p)) t ne) ∙ h t p)
+    → AllUnmoved (record w { view = at_system w.view s after; moved = at_system w.moved s (λ p. moved_again (w.moved s p) ((w.view s).port p) (after.port p)) })
+unmoved_next w s after h t p = is_or_not (at_system w.moved s (λ p. moved_again (w.moved s p) ((w.view s).port p) (after.port p)) t p ≡ Unmoved) t s
+    (λ e. ap (λ t. at_system w.moved s (λ p. moved_again (w.moved s p) ((w.view s).port p) (after.port p)) t p) e
+    ∙ ap (λ (m : ℕ → Moved). m p) (there w.moved s (λ p. moved_again (w.moved s p) ((w.view s).port p) (after.port p)))
+    ∙ ap (λ (m : Moved). moved_again m ((w.view s).port p) (after.port p)) (h s p))
+    (λ ne. ap (λ (m : ℕ → Moved). m p) (elsewhere w.moved s (λ p. moved_again (w.moved s p) ((w.view s).port p) (after.port p)) t ne) ∙ h t p)
 
 unmoved_happens : (x : NetworkSetup) (e : NetworkEvent) (old new : Network) → CablesStay (e ∷ []) → AllUnmoved old
     → NetworkHappens x e old new → (recabled x e ≡ x) × AllUnmoved new

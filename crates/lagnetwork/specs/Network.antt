@@ -24,7 +24,8 @@ pub record IsNetworkSetup (x : NetworkSetup) : Type 0 where
   pub setup : (s : ℕ) → IsSystemSetup (x.setup s)
   pub cables : (s p t q : ℕ) → x.far s p ≡ Some (record { system = t; port = q }) → x.far t q ≡ Some (record { system = s; port = p })
 
--- Whether the cable of a port was ever moved, and how the port was when it last was: down, that is, out of sync or on defaults; or up.
+-- Whether the cable of a port was ever moved, and how the port was when it last was: down, that is, out of sync or on defaults; or up. If
+-- it was, one that takes the place of the port is noted anew (`moved_again`).
 pub data Moved : Type 0 where
   Unmoved : Moved
   Moved_down : Moved
@@ -194,11 +195,16 @@ abbrev pub moved_of : Option PortFacts → Moved
 moved_of None = Moved_down
 moved_of (Some a) = cond a.defaulted Moved_down (cond a.synchronized Moved_up Moved_down)
 
--- and how one is that takes the place of a port, of which this is known
-abbrev pub moved_again : Moved → Option PortFacts → Moved
-moved_again Unmoved o = Unmoved
-moved_again Moved_down o = moved_of o
-moved_again Moved_up o = moved_of o
+-- how a port is that follows one whose cable was moved while it was down, and which is so now: if it is up, it came up by that cable
+abbrev pub follows_down : Moved → Moved → Moved
+follows_down Moved_up next = Unmoved
+follows_down now next = next
+
+-- how one is that takes the place of a port, of which this is known, with what the port is now, and what it is then
+abbrev pub moved_again : Moved → Option PortFacts → Option PortFacts → Moved
+moved_again Unmoved now next = Unmoved
+moved_again Moved_down now next = follows_down (moved_of now) (moved_of next)
+moved_again Moved_up now next = moved_of next
 
 -- the cable of port p of system s is moved: nothing is on it, and it is whole or not
 abbrev pub with_cable_moved : NetworkSetup → Bool → ℕ → ℕ → Network → Network
@@ -292,7 +298,7 @@ NetworkHappens x (Overtake s p line) old new =
     Overtakes (old.towards s p) line × (new ≡ record old { towards = at_place old.towards s p line })
 NetworkHappens x (Succeed s after) old new = IsNetworkSuccessor x old s after × (new ≡ record old {
   view = at_system old.view s after;
-  moved = at_system old.moved s (λ p. moved_again (old.moved s p) (after.port p));
+  moved = at_system old.moved s (λ p. moved_again (old.moved s p) ((old.view s).port p) (after.port p));
 })
 NetworkHappens x (Hear s p pdu stamp) old new = (x.far s p ≡ None) × NetworkCall x s (ModelCall.Receive p pdu) stamp old old new
 NetworkHappens x (Pull s p) old new = new ≡ with_cable_moved x false s p old
