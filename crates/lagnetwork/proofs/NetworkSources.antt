@@ -3,14 +3,15 @@ use Rattle.lagnetwork.proofs.Common.{Bool, List, None, Option, Some, [], ap, con
 use Rattle.lagnetwork.proofs.Common.{◌∷◌, ◌≡◌, cases_Bool, eqb-false, false≢true, true≢false, none-some, Act, Default, Desynchronize, DistributorMove}
 use Rattle.lagnetwork.proofs.Common.{Flow, Move, MoveAllowed, Port, PortAllowed, PortMove, Reconfigure, Restart, Send, Take, act, act_of_port}
 use Rattle.lagnetwork.proofs.Common.{distributor_act, port_act, port_after, view_after, ModelCall, PortFacts, SystemSetup, View, at_port, first_port}
-use Rattle.lagnetwork.proofs.Common.{first_view, Control, Data, Message, TakenLacpdu, taken_after, cond_false, cond_true, mapped_some, value_of}
-use Rattle.lagnetwork.proofs.Common.{changed_port, AllNetworkMoves, DeliversFirstAt, IsNetworkSetup, Moved, Moved_down, Moved_up, Network}
-use Rattle.lagnetwork.proofs.Common.{NetworkCall, NetworkEvent, NetworkHappens, NetworkRun, NetworkSetup, Place, RepeatsFirstAt, Unmoved, at_system}
-use Rattle.lagnetwork.proofs.Common.{first_network, follows_down, freed_view, handed_up_from, is_end, moved_again, moved_of, network_after}
-use Rattle.lagnetwork.proofs.Common.{network_after_all, recabled, recabled_all, source_after, with_cable_moved, without_first, CablesStay}
+use Rattle.lagnetwork.proofs.Common.{first_view, Message, TakenLacpdu, taken_after, cond_false, cond_true, mapped_some, value_of, changed_port}
+use Rattle.lagnetwork.proofs.Common.{AllNetworkMoves, IsNetworkSetup, Moved, Moved_down, Moved_up, Network, NetworkCall, NetworkEvent, NetworkHappens}
+use Rattle.lagnetwork.proofs.Common.{NetworkRun, NetworkSetup, Place, Unmoved, at_system, first_network, follows_down, freed_view, is_end}
+use Rattle.lagnetwork.proofs.Common.{moved_again, moved_of, network_after, network_after_all, recabled, recabled_all, source_after, with_cable_moved}
+use Rattle.lagnetwork.proofs.Common.{CablesStay}
 use Rattle.lagnetwork.proofs.NetworkCalls.{itself}
 use Rattle.lagnetwork.proofs.NetworkEvents.{setup_kept}
 use Rattle.lagnetwork.proofs.NetworkMoves.{plug_away, pull_away}
+use Rattle.lagnetwork.proofs.NetworkReceives.{again_kept, comes_kept}
 use Rattle.lagnetwork.proofs.Networks.{elsewhere, is_or_not, there}
 
 -- of one system
@@ -153,26 +154,6 @@ sourced_call : (x : NetworkSetup) (s : ℕ) (call : ModelCall) (stamp : ℕ) (ol
     → NetworkCall x s call stamp old mid new → Sourced x new
 sourced_call x s call stamp old mid new i z = subst (Sourced x) (sym z.2.2) (sourced_all x s call stamp z.0 mid z.1 i)
 
-sourced_up : (x : NetworkSetup) (t : ℕ) (o : Option Place) (up : Option ℕ) (g k n : ℕ) (w : Network) → Sourced x w
-    → Sourced x (handed_up_from t o up g k n w)
-sourced_up x t None up g k n w i = i
-sourced_up x t (Some a) None g k n w i = i
-sourced_up x t (Some a) (Some h) g k n w i = i
-
-sourced_comes : (x : NetworkSetup) (s p : ℕ) (line : List Message) (old new : Network) → Sourced x old
-    → DeliversFirstAt x s p line old new → Sourced x new
-sourced_comes x s p [] old new i z = subst (Sourced x) (sym z) i
-sourced_comes x s p (Control pdu stamp ∷ ms) old new i z = subst (Sourced x) (sym z.2)
-    (sourced_call x s (ModelCall.Receive p (Some pdu)) stamp old old z.0 i z.1)
-sourced_comes x s p (Data origin g k n ∷ ms) old new i z = subst (Sourced x) (sym z.3)
-    (sourced_up x s (x.far s p) z.0 g k n (without_first s p z.1) (sourced_call x s (ModelCall.Receive p None) 0 old old z.1 i z.2))
-
-sourced_again : (x : NetworkSetup) (s p : ℕ) (line : List Message) (old new : Network) → Sourced x old
-    → RepeatsFirstAt x s p line old new → Sourced x new
-sourced_again x s p [] old new i z = subst (Sourced x) (sym z) i
-sourced_again x s p (Data origin g k n ∷ ms) old new i z = subst (Sourced x) (sym z) i
-sourced_again x s p (Control pdu stamp ∷ ms) old new i z = sourced_call x s (ModelCall.Receive p (Some pdu)) stamp old old new i z
-
 -- one system has another view, of which this holds
 sourced_with : (x : NetworkSetup) (w : Network) (s : ℕ) (v : View) (moved : ℕ → Moved) → Sourced x w
     → SourcedAt (x.far s) moved v.port (w.taken s) (w.source s)
@@ -260,9 +241,9 @@ sourced_happens : (x : NetworkSetup) → IsNetworkSetup x → (e : NetworkEvent)
     → NetworkHappens x e old new → Sourced (recabled x e) new
 sourced_happens x f (NetworkEvent.Tick s n) old new i z = sourced_call x s ModelCall.Tick 0 old old new i z
 sourced_happens x f (NetworkEvent.Emit s p) old new i z = sourced_call x s ModelCall.Transmit 0 old old new i z
-sourced_happens x f (NetworkEvent.Deliver s p) old new i z = sourced_comes x s p (old.towards s p) old new i z
+sourced_happens x f (NetworkEvent.Deliver s p) old new i z = comes_kept (Sourced x) x (sourced_call x) (λ w towards h. h) (λ w collected arrived h. h) s p (old.towards s p) old new i z
 sourced_happens x f (NetworkEvent.Lose s p) old new i z = subst (Sourced x) (sym z) i
-sourced_happens x f (NetworkEvent.Repeat s p) old new i z = sourced_again x s p (old.towards s p) old new i z
+sourced_happens x f (NetworkEvent.Repeat s p) old new i z = again_kept (Sourced x) x (sourced_call x) (λ w towards h. h) (λ w collected arrived h. h) s p (old.towards s p) old new i z
 sourced_happens x f (NetworkEvent.Cut s p) old new i z = subst (Sourced x) (sym z) i
 sourced_happens x f (NetworkEvent.Join s p) old new i z = subst (Sourced x) (sym z) i
 sourced_happens x f (NetworkEvent.Sense s p) old new i z = sourced_call x s (ModelCall.Set_link p (old.whole s p)) 0 old old new i z
@@ -315,26 +296,6 @@ unmoved_call x s call stamp old mid new h z = subst AllUnmoved (sym z.2.2) (stil
     still [] w h = h
     still (m ∷ ms) w h = still ms (network_after x s stamp m w) h
 
-unmoved_up : (t : ℕ) (o : Option Place) (up : Option ℕ) (g k n : ℕ) (w : Network) → AllUnmoved w
-    → AllUnmoved (handed_up_from t o up g k n w)
-unmoved_up t None up g k n w h = h
-unmoved_up t (Some a) None g k n w h = h
-unmoved_up t (Some a) (Some y) g k n w h = h
-
-unmoved_comes : (x : NetworkSetup) (s p : ℕ) (line : List Message) (old new : Network) → AllUnmoved old
-    → DeliversFirstAt x s p line old new → AllUnmoved new
-unmoved_comes x s p [] old new h z = subst AllUnmoved (sym z) h
-unmoved_comes x s p (Control pdu stamp ∷ ms) old new h z = subst AllUnmoved (sym z.2)
-    (unmoved_call x s (ModelCall.Receive p (Some pdu)) stamp old old z.0 h z.1)
-unmoved_comes x s p (Data origin g k n ∷ ms) old new h z = subst AllUnmoved (sym z.3)
-    (unmoved_up s (x.far s p) z.0 g k n (without_first s p z.1) (unmoved_call x s (ModelCall.Receive p None) 0 old old z.1 h z.2))
-
-unmoved_again : (x : NetworkSetup) (s p : ℕ) (line : List Message) (old new : Network) → AllUnmoved old
-    → RepeatsFirstAt x s p line old new → AllUnmoved new
-unmoved_again x s p [] old new h z = subst AllUnmoved (sym z) h
-unmoved_again x s p (Data origin g k n ∷ ms) old new h z = subst AllUnmoved (sym z) h
-unmoved_again x s p (Control pdu stamp ∷ ms) old new h z = unmoved_call x s (ModelCall.Receive p (Some pdu)) stamp old old new h z
-
 unmoved_next : (w : Network) (s : ℕ) (after : View) → AllUnmoved w
     → AllUnmoved (record w { view = at_system w.view s after; moved = at_system w.moved s (λ p. moved_again (w.moved s p) ((w.view s).port p) (after.port p)) })
 unmoved_next w s after h t p = is_or_not (at_system w.moved s (λ p. moved_again (w.moved s p) ((w.view s).port p) (after.port p)) t p ≡ Unmoved) t s
@@ -347,9 +308,9 @@ unmoved_happens : (x : NetworkSetup) (e : NetworkEvent) (old new : Network) → 
     → NetworkHappens x e old new → (recabled x e ≡ x) × AllUnmoved new
 unmoved_happens x (NetworkEvent.Tick s n) old new c h z = (refl, unmoved_call x s ModelCall.Tick 0 old old new h z)
 unmoved_happens x (NetworkEvent.Emit s p) old new c h z = (refl, unmoved_call x s ModelCall.Transmit 0 old old new h z)
-unmoved_happens x (NetworkEvent.Deliver s p) old new c h z = (refl, unmoved_comes x s p (old.towards s p) old new h z)
+unmoved_happens x (NetworkEvent.Deliver s p) old new c h z = (refl, comes_kept AllUnmoved x (unmoved_call x) (λ w towards h. h) (λ w collected arrived h. h) s p (old.towards s p) old new h z)
 unmoved_happens x (NetworkEvent.Lose s p) old new c h z = (refl, subst AllUnmoved (sym z) h)
-unmoved_happens x (NetworkEvent.Repeat s p) old new c h z = (refl, unmoved_again x s p (old.towards s p) old new h z)
+unmoved_happens x (NetworkEvent.Repeat s p) old new c h z = (refl, again_kept AllUnmoved x (unmoved_call x) (λ w towards h. h) (λ w collected arrived h. h) s p (old.towards s p) old new h z)
 unmoved_happens x (NetworkEvent.Cut s p) old new c h z = (refl, subst AllUnmoved (sym z) h)
 unmoved_happens x (NetworkEvent.Join s p) old new c h z = (refl, subst AllUnmoved (sym z) h)
 unmoved_happens x (NetworkEvent.Sense s p) old new c h z =
