@@ -64,7 +64,7 @@ counted_happens x (NetworkEvent.Force s g k) old new h z = elim z [
 ]
 counted_happens x (NetworkEvent.Frees s test) old new h z = subst AllCountFromZero (sym z) h
 counted_happens x (NetworkEvent.Overtake s p line) old new h z = subst AllCountFromZero (sym z.1) h
-counted_happens x (NetworkEvent.Succeed s after) old new h z = subst AllCountFromZero (sym z.1) h
+counted_happens x (NetworkEvent.Succeed s setup after) old new h z = subst AllCountFromZero (sym z.2) h
 counted_happens x (NetworkEvent.Hear s p pdu stamp) old new h z = counted_call x s (ModelCall.Receive p pdu) stamp old old new h z.1
 counted_happens x (NetworkEvent.Pull s p) old new h z = subst AllCountFromZero (sym z) h
 counted_happens x (NetworkEvent.Plug s p t q) old new h z = subst AllCountFromZero (sym z.2) h

@@ -259,7 +259,7 @@ sourced_happens x f (NetworkEvent.Force s g k) old new i z = elim z [
 sourced_happens x f (NetworkEvent.Frees s test) old new i z = subst (Sourced x) (sym z)
     (sourced_view x old s (freed_view test (old.view s)) i (i s))
 sourced_happens x f (NetworkEvent.Overtake s p line) old new i z = subst (Sourced x) (sym z.1) i
-sourced_happens x f (NetworkEvent.Succeed s after) old new i z = subst (Sourced x) (sym z.1)
+sourced_happens x f (NetworkEvent.Succeed s setup after) old new i z = subst (Sourced x) (sym z.2)
     (sourced_with x old s after (λ p. moved_again (old.moved s p) ((old.view s).port p) (after.port p)) i (sourced_next x old s after i))
 sourced_happens x f (NetworkEvent.Hear s p pdu stamp) old new i z = sourced_call x s (ModelCall.Receive p pdu) stamp old old new i z.1
 sourced_happens x f (NetworkEvent.Pull s p) old new i z = subst (Sourced (recabled x (NetworkEvent.Pull s p))) (sym z)
@@ -305,7 +305,7 @@ unmoved_next w s after h t p = is_or_not (at_system w.moved s (λ p. moved_again
     (λ ne. ap (λ (m : ℕ → Moved). m p) (elsewhere w.moved s (λ p. moved_again (w.moved s p) ((w.view s).port p) (after.port p)) t ne) ∙ h t p)
 
 unmoved_happens : (x : NetworkSetup) (e : NetworkEvent) (old new : Network) → CablesStay (e ∷ []) → AllUnmoved old
-    → NetworkHappens x e old new → (recabled x e ≡ x) × AllUnmoved new
+    → NetworkHappens x e old new → ((recabled x e).far ≡ x.far) × AllUnmoved new
 unmoved_happens x (NetworkEvent.Tick s n) old new c h z = (refl, unmoved_call x s ModelCall.Tick 0 old old new h z)
 unmoved_happens x (NetworkEvent.Emit s p) old new c h z = (refl, unmoved_call x s ModelCall.Transmit 0 old old new h z)
 unmoved_happens x (NetworkEvent.Deliver s p) old new c h z = (refl, comes_kept AllUnmoved x (unmoved_call x) (λ w towards h. h) (λ w collected arrived h. h) s p (old.towards s p) old new h z)
@@ -326,7 +326,7 @@ unmoved_happens x (NetworkEvent.Force s g k) old new c h z = elim z [
 ]
 unmoved_happens x (NetworkEvent.Frees s test) old new c h z = (refl, subst AllUnmoved (sym z) h)
 unmoved_happens x (NetworkEvent.Overtake s p line) old new c h z = (refl, subst AllUnmoved (sym z.1) h)
-unmoved_happens x (NetworkEvent.Succeed s after) old new c h z = (refl, subst AllUnmoved (sym z.1) (unmoved_next old s after h))
+unmoved_happens x (NetworkEvent.Succeed s setup after) old new c h z = (refl, subst AllUnmoved (sym z.2) (unmoved_next old s after h))
 unmoved_happens x (NetworkEvent.Hear s p pdu stamp) old new c h z =
     (refl, unmoved_call x s (ModelCall.Receive p pdu) stamp old old new h z.1)
 unmoved_happens x (NetworkEvent.Pull s p) old new c h z = absurd c
@@ -338,7 +338,7 @@ stay_parts (NetworkEvent.Plug s p t q) es c = absurd c
 stay_parts e es c = (tt, c)
 
 unmoved_run : (x : NetworkSetup) (es : List NetworkEvent) (old new : Network) → CablesStay es → AllUnmoved old → NetworkRun x es old new
-    → (recabled_all x es ≡ x) × AllUnmoved new
+    → ((recabled_all x es).far ≡ x.far) × AllUnmoved new
 unmoved_run x [] old new c h z = (refl, subst AllUnmoved (sym z) h)
 unmoved_run x (e ∷ es) old new c h z =
     let both = stay_parts e es c in
@@ -347,5 +347,5 @@ unmoved_run x (e ∷ es) old new c h z =
     (b.0 ∙ a.0, b.1)
 
 pub unmoved : (x : NetworkSetup) (es : List NetworkEvent) (w : Network) → CablesStay es → NetworkRun x es (first_network x) w
-    → (recabled_all x es ≡ x) × AllUnmoved w
+    → ((recabled_all x es).far ≡ x.far) × AllUnmoved w
 unmoved x es w c z = unmoved_run x es (first_network x) w c (λ s p. refl) z
