@@ -2,10 +2,11 @@
 use Rattle.lagbeside.proofs.Common.{Bool, List, Some, [], ap, arith, false, inl, inr, not, refl, slice_get, subst, sym, true, ℕ, ◌&&◌, ◌-◌, ◌∙◌, ◌∷◌}
 use Rattle.lagbeside.proofs.Common.{◌≡◌, ◌≤◌, nat_tests, AggId, Choice, Selected, is_selected, is_unselected, MuxState, Attached}
 use Rattle.lagbeside.proofs.Common.{CollectingDistributing, Detached, Waiting, is_synchronized, mux_rows, partner_synchronized, same_mux_state}
-use Rattle.lagbeside.proofs.Common.{AtRest, Reply, SystemPort, Call, configured_numbers, MuxIsSettled, IsSound, SystemState, port_numbers, Step-frame}
-use Rattle.lagbeside.proofs.Common.{all-get, ports_rise, EachCall, tick_count, ComesUp, Fed, IsServed, LeavesServed, NoneBegins, RunsWhile, Service}
-use Rattle.lagbeside.proofs.Common.{StaysUp}
+use Rattle.lagbeside.proofs.Common.{AtRest, Reply, SystemPort, Call, configured_numbers, MuxIsSettled, Setting, IsSound, SystemState, port_numbers}
+use Rattle.lagbeside.proofs.Common.{Step-frame, all-get, ports_rise, EachCall, tick_count, LeavesPort, RunsWhile, ComesUp, Fed, IsServed}
+use Rattle.lagbeside.proofs.Common.{LeavesServed, NoneBegins, Service, StaysUp}
 use Rattle.lagbeside.proofs.EachPort.{OfEach}
+use Rattle.lagbeside.proofs.EachSetting.{asides_stand}
 use Rattle.lagbeside.proofs.Hearing.{no}
 use Rattle.lagbeside.proofs.OnePort.{AtPort, at_number, same_place}
 use Rattle.lagbeside.proofs.Serving.{Climbs, Comes, run_served}
@@ -27,18 +28,18 @@ same_number old new i x y s t e at there =
     let numbers : port_numbers new.system_ports ≡ port_numbers old.system_ports = t.ports.same ∙ (ap configured_numbers e ∙ sym s.ports.same) in
     same_place old.system_ports new.system_ports i x y numbers at there
 
-pub runs_ports : (Is : SystemState → Type 0) (gives : ℕ → ℕ → ℕ → Type 0) (old new : SystemState) (calls : List Call) (replies : List Reply)
-    → RunsWhile Is gives old calls replies new → new.ports ≡ old.ports
-runs_ports Is gives old new [] [] h = ap (λ (s : SystemState). s.ports) h.0.1
-runs_ports Is gives old new (call ∷ calls) (answer ∷ answers) h =
-    runs_ports Is gives h.1 new calls answers h.5 ∙ (ap (λ (s : SystemState). s.ports) (Step-frame gives h.0 call answer h.1 h.4)
-    ∙ ap (λ (s : SystemState). s.ports) h.3.1)
-runs_ports Is gives old new calls replies h = absurd h
+pub runs_ports : (Sets : Setting → Type 0) (Is : SystemState → Type 0) (gives : ℕ → ℕ → ℕ → Type 0) (old new : SystemState) (calls : List Call) (replies : List Reply)
+    → RunsWhile Sets Is gives old calls replies new → new.ports ≡ old.ports
+runs_ports Sets Is gives old new [] [] h = (asides_stand Sets old new h.0).1
+runs_ports Sets Is gives old new (call ∷ calls) (answer ∷ answers) h =
+    runs_ports Sets Is gives h.1 new calls answers h.5 ∙ (ap (λ (s : SystemState). s.ports) (Step-frame gives h.0 call answer h.1 h.4)
+    ∙ (asides_stand Sets old h.0 h.3).1)
+runs_ports Sets Is gives old new calls replies h = absurd h
 
 -- the port after the calls
 after : (Is : SystemState → Type 0) (gives : ℕ → ℕ → ℕ → Type 0) (u : Service) (left : ℕ) (agg : AggId) (old new : SystemState) (calls : List Call) (replies : List Reply)
     (i : ℕ) (x : SystemPort) (may : Bool) (t : ℕ) → IsSound old → slice_get old.system_ports i ≡ Some x → IsServed u left x.port → 1 ≤ left
-    → x.port.choice ≡ Selected agg → Comes may t x.port.mux x.port.wait_while → RunsWhile Is gives old calls replies new
+    → x.port.choice ≡ Selected agg → Comes may t x.port.mux x.port.wait_while → RunsWhile (LeavesPort x.number) Is gives old calls replies new
     → EachCall (LeavesServed u x.number) calls replies → Fed u.short x.number left calls replies
     → IsSound new × OfEach (AtPort x.number (Climbs u (Selected agg) may 1 (t - tick_count calls))) new.system_ports
 after Is gives u left agg old new calls replies i x may t s at served l c comes run each fed =
@@ -54,7 +55,7 @@ stays_up gives u left agg old new calls replies i x y s at served l c run each f
     let first : Comes true x.port.wait_while x.port.mux x.port.wait_while =
     comes_first x.port.mux (is_unselected x.port.choice) x.port.wait_while x.port.wait_while (chosen x.port.choice agg c).1 rest.0 (omega arith) in
     let end = after (λ w. Unit {0}) gives u left agg old new calls replies i x true x.port.wait_while s at served l c first run each fed in
-    let number = same_number old new i x y s end.0 (runs_ports _ gives old new calls replies run) at there in
+    let number = same_number old new i x y s end.0 (runs_ports _ _ gives old new calls replies run) at there in
     let b = all-get (λ (z : SystemPort). AtPort x.number (Climbs u (Selected agg) true 1 (x.port.wait_while - tick_count calls)) z.number z.port)
     new.system_ports i y there end.1 number in (
       b.0.0,
@@ -82,17 +83,17 @@ wait_only n u c t (x ∷ xs) a = (
 
 pub comes_up : (gives : ℕ → ℕ → ℕ → Type 0) → ComesUp gives
 comes_up gives u left agg old new calls replies i x y s timed at served l c runs each fed many there =
-    let run = once_runs x.number agg gives (NoneBegins agg x.number) old new calls replies runs in
+    let run = once_runs (LeavesPort x.number) x.number agg gives (NoneBegins agg x.number) old new calls replies runs in
     let rest = rested old i x s at in
     let time = all-get (λ (z : SystemPort). z.port.wait_while ≤ 20) old.system_ports i x at timed in
     let first : Comes true 20 x.port.mux x.port.wait_while =
     comes_first x.port.mux (is_unselected x.port.choice) x.port.wait_while 20 (chosen x.port.choice agg c).1 rest.0 time in
     let end = after (λ w. Unit {0}) gives u left agg old new calls replies i x true 20 s at served l c first run each fed in
-    let number = same_number old new i x y s end.0 (runs_ports _ gives old new calls replies run) at there in
+    let number = same_number old new i x y s end.0 (runs_ports _ _ gives old new calls replies run) at there in
     let t = 20 - tick_count calls in
     let r = 20 - tick_count calls in
     let b = all-get (λ (z : SystemPort). AtPort x.number (Climbs u (Selected agg) true 1 t) z.number z.port) new.system_ports i y there end.1 number in
-    let others = others_once x.number agg gives old new calls replies (timed_soft x.number agg old.system_ports timed) runs (omega (arith, many)) in
+    let others = others_once (LeavesPort x.number) x.number agg gives old new calls replies (timed_soft x.number agg old.system_ports timed) runs (omega (arith, many)) in
     elim b.1 [
       | inl sync ↦ distributing_now y.port.mux (is_selected y.port.choice) (partner_synchronized y.port) sync (chosen y.port.choice agg b.0.1).0
           b.0.0.6 (rested new i y end.0 there).1.1.1.1.0

@@ -27,6 +27,7 @@ pub use Rattle.portmachines.specs.declared.periodic.PeriodicState.TheVariants.{F
 pub use Rattle.portmachines.specs.declared.port.Setup.{Setup}
 pub use Rattle.portmachines.specs.declared.receive.ReceiveState.{ReceiveState}
 pub use Rattle.portmachines.specs.declared.receive.ReceiveState.TheVariants.{Current, Defaulted, Expired, Initialize, PortDisabled}
+pub use Rattle.portmachines.specs.Calls.{with_mode}
 pub use Rattle.portmachines.specs.Machines.{Machines}
 pub use Rattle.portmachines.specs.Mux.{is_synchronized, mux_rows, partner_synchronized, same_mux_state}
 pub use Rattle.portmachines.specs.Periodic.{RunsPeriodic, is_silent, partner_short, periodic_rows, periodic_table, same_periodic_state, timer_expired}
@@ -60,22 +61,23 @@ pub use Rattle.lagsystem.specs.Occupants.{OccupantsAgree, WithinLimit, occupied}
 pub use Rattle.lagsystem.specs.Offers.{GivesOrRefuses, Offers, in_system, system_force_result, system_move_result}
 pub use Rattle.lagsystem.specs.Readers.{aggregator_numbered, collecting, distributing}
 pub use Rattle.lagsystem.specs.Sending.{SendsMarkerOf, TransmitsAt, TransmitsIf}
+pub use Rattle.lagsystem.specs.Settings.{SetsPort, Setting, SettingStep, in_mode, is_held_so, is_in_mode, with_held}
 pub use Rattle.lagsystem.specs.Settling.{ChoosesIn, PortsChangeBy, PromotesNext, Settling, choice_for, held_unless_on, ready_of, with_choice}
 pub use Rattle.lagsystem.specs.Sound.{IsSound}
 pub use Rattle.lagsystem.specs.State.{SystemState, aggregators_value, port_index, port_numbers, with_system_ports, with_table}
 pub use Rattle.lagsystem.specs.Views.{may_choose, selection_view, stage_of, views}
 pub use Rattle.lagsystem.specs.Windows.{reply_has_lacpdu, subtype}
 pub use Rattle.lagsystem.proofs.Effects.{named}
-pub use Rattle.lagsystem.proofs.Keeps.{Step-frame, keeps_place, keeps_settled, ports_table, settling_parts}
-pub use Rattle.lagsystem.proofs.Rest.{becomes_slots, can_receive_at_rest, last_slots, marker_slots, offers_slots, same_slots, zip_all}
+pub use Rattle.lagsystem.proofs.Keeps.{Step-frame, keeps_place, keeps_settled, ports_table, settling_keeps, settling_parts}
+pub use Rattle.lagsystem.proofs.Rest.{becomes_slots, can_receive_at_rest, last_slots, marker_slots, offers_slots, rests, same_slots, zip_all}
 pub use Rattle.lagsystem.proofs.Rising.{Rises, all-get, all-set, found_place, ports_rise}
 pub use Rattle.lagsystem.proofs.Sound.{Step-sound}
 pub use Rattle.lagbeside.specs.Hearing.{IsNoticed, LeavesUnheard, processed_on}
 pub use Rattle.lagbeside.specs.Heartbeat.{EachCall, IsHeard, IsSilentShortly, LeavesUpAndSilent, tick_count}
+pub use Rattle.lagbeside.specs.Runs.{AsideTimes, Asides, IsAside, LeavesActivity, LeavesPort, Runs, RunsOnceTicked, RunsWhile}
 pub use Rattle.lagbeside.specs.Selecting.{IsFull, SharesGroup, StandsByFull, WantsAggregator, aggregators_with, ports_with}
 pub use Rattle.lagbeside.specs.Serving.{Brings, CarriesBeside, ComesUp, ComesUpAlone, Fed, IsOnlyOfKey, IsServed, IsUnanswered, LeavesServed}
-pub use Rattle.lagbeside.specs.Serving.{LeavesUnanswered, NeverAlone, NoneBegins, Runs, RunsOnceTicked, RunsWhile, Serves, Service, StaysUp}
-pub use Rattle.lagbeside.specs.Serving.{WaitsAreBounded, begins_in, in_sync}
+pub use Rattle.lagbeside.specs.Serving.{LeavesUnanswered, NeverAlone, NoneBegins, Serves, Service, StaysUp, WaitsAreBounded, begins_in, in_sync}
 pub use Rattle.lagbeside.specs.Silence.{IsLoud, SilentFor, Speaks}
 pub use Rattle.lagbeside.specs.Timers.{EachCallKeepsTimed, EachHostCallKeepsTimed, EachSettingKeepsTimed, IsTimed, KeepsTimeout, PortsAreTimed}
 pub use Rattle.lagbeside.specs.Timers.{most_current_while, most_periodic_timer, timeout_time}

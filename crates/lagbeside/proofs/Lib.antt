@@ -3,6 +3,7 @@ pub mod Counting
 pub mod Selecting
 pub mod ReadyMembers
 pub mod EachPort
+pub mod EachSetting
 pub mod Timers
 pub mod OnePort
 pub mod Hearing
@@ -20,3 +21,4 @@ mod Beside
 mod Alone
 mod First
 mod Never
+mod Joining

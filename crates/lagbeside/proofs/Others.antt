@@ -5,13 +5,13 @@ use Rattle.lagbeside.proofs.Common.{Key, Choice, Selected, Standby, Unselected, 
 use Rattle.lagbeside.proofs.Common.{CollectingDistributing, Detached, Waiting, Machines, mux_rows, same_mux_state, default_partner, lacpdu_rows}
 use Rattle.lagbeside.proofs.Common.{receive_rows, RunsToRest, Starts, before_start, count_down, has_chosen, has_waited, is_detached_or_waiting}
 use Rattle.lagbeside.proofs.Common.{occupies, Reply, SystemPort, Call, Configure, ProcessesLacpdu, Receive, Restart, Set_link, Tick, Transmit}
-use Rattle.lagbeside.proofs.Common.{changed_party, choice_with_link, MuxIsSettled, IsSound, SystemState, stage_of, tick_count, NoneBegins, Runs}
-use Rattle.lagbeside.proofs.Common.{RunsOnceTicked, RunsWhile, Service, begins_in}
+use Rattle.lagbeside.proofs.Common.{changed_party, choice_with_link, MuxIsSettled, Setting, IsSound, SystemState, stage_of, tick_count, Asides, Runs}
+use Rattle.lagbeside.proofs.Common.{RunsOnceTicked, RunsWhile, NoneBegins, Service, begins_in}
 use Rattle.lagbeside.proofs.EachPort.{KeptByCall, KeptBySettling, OfEach, Step-each, Tick-each}
 use Rattle.lagbeside.proofs.Hearing.{no}
 use Rattle.lagbeside.proofs.OnePort.{AtPort, periodic_leaves}
 use Rattle.lagbeside.proofs.Timers.{RowsKeep, runs_keep, takes_keep}
-use Rattle.lagbeside.proofs.Serving.{aside_each}
+use Rattle.lagbeside.proofs.EachSetting.{KeptBySetting, asides_each}
 use Rattle.lagbeside.proofs.ReadyMembers.{Fine, no_member_waits}
 
 -- an occupant in WAITING has so many ticks left at the most
@@ -98,6 +98,12 @@ soft_calls n agg t Restart answer none = λ m s q h e. starts_soft agg t (before
 soft_calls n agg t (Transmit m) answer none = λ p told a e. a e
 soft_calls n agg t call answer none = tt
 
+soft_sets : (n : ℕ) (agg : AggId) (t : ℕ) (setting : Setting) → KeptBySetting (Beside n (Soft agg t)) setting
+soft_sets n agg t (Setting.Hold_port m held) = λ p a e o w. absurd (no o)
+soft_sets n agg t (Setting.Set_mode m active short) = λ p a. a
+soft_sets n agg t (Setting.Set_max_delay max_delay) = tt
+soft_sets n agg t (Setting.Set_max_links max_links) = λ m p down a e o w. absurd (no o)
+
 -- where none begins
 
 not_begun : (agg : AggId) (c : Choice) (m : MuxState) (w : ℕ) → occupies agg c ≡ true → m ≡ Waiting → w ≡ 20
@@ -145,24 +151,29 @@ bounded_settles = record {
 pub bounded_takes : (v : Lacpdu) (p q : Machines) → ProcessesLacpdu v p q → Bounded p → Bounded q
 bounded_takes v p q h a = takes_keep Bounded v (λ p a. a, tt) p q h a
 
-module _ (n : ℕ) (agg : AggId) (gives : ℕ → ℕ → ℕ → Type 0) where
+module _ (Sets : Setting → Type 0) (n : ℕ) (agg : AggId) (gives : ℕ → ℕ → ℕ → Type 0) where
+  aside_soft : (t : ℕ) (old new : SystemState) → Asides Sets old new → OfEach (Beside n (Soft agg t)) old.system_ports
+      → OfEach (Beside n (Soft agg t)) new.system_ports
+  aside_soft t old new h a =
+      asides_each Sets (Beside n (Soft agg t)) (soft_settles n agg t) (λ setting v. soft_sets n agg t setting) old new h a
+
   more_gone : (t ticks : ℕ) (ports : List SystemPort) → OfEach (Beside n (Hard agg (t - 1 - ticks))) ports
       → OfEach (Beside n (Hard agg (t - (ticks + 1)))) ports
   more_gone t ticks ports a = subst (λ m. OfEach (Beside n (Hard agg m)) ports) (omega arith) a
 
   pub others_run : (t : ℕ) (old new : SystemState) (calls : List Call) (replies : List Reply) → OfEach (Beside n (Soft agg t)) old.system_ports
-      → RunsWhile (NoneBegins agg n) gives old calls replies new → OfEach (Beside n (Hard agg (t - tick_count calls))) new.system_ports
-  others_run t old new [] [] a h = aside_each (Beside n (Hard agg (t - 0))) old new h.0.1
-      (subst (λ m. OfEach (Beside n (Hard agg m)) old.system_ports) (omega arith) (harden n agg t old.system_ports h.1 a))
+      → RunsWhile Sets (NoneBegins agg n) gives old calls replies new → OfEach (Beside n (Hard agg (t - tick_count calls))) new.system_ports
+  others_run t old new [] [] a h = subst (λ m. OfEach (Beside n (Hard agg m)) new.system_ports) (omega arith)
+      (harden n agg t new.system_ports h.1 (aside_soft t old new h.0 a))
   others_run t old new (Tick ∷ calls) (answer ∷ answers) a h =
       let mid = Tick-each (Beside n (Hard agg t)) (Beside n (Soft agg (t - 1))) (soft_settles n agg (t - 1))
       (λ m p q r b e. soft_ticks agg t p q r (b e)) gives h.0 answer h.1 h.4
-      (aside_each (Beside n (Hard agg t)) old h.0 h.3.1 (harden n agg t old.system_ports h.2 a)) in
+      (harden n agg t h.0.system_ports h.2 (aside_soft t old h.0 h.3 a)) in
       more_gone t (tick_count calls) new.system_ports (others_run (t - 1) h.1 new calls answers mid h.5)
   others_run t old new (call ∷ calls) (answer ∷ answers) a h =
       others_run t h.1 new calls answers
       (Step-each (Beside n (Soft agg t)) (soft_settles n agg t) gives h.0 call answer h.1 (soft_calls n agg t call answer (λ e. cc)) h.4
-      (aside_each (Beside n (Soft agg t)) old h.0 h.3.1 a)) h.5
+      (aside_soft t old h.0 h.3 a)) h.5
   others_run t old new calls replies a h = absurd h
 
   one_gone : (ticks : ℕ) (ports : List SystemPort) → OfEach (Beside n (Hard agg (19 - ticks))) ports
@@ -170,28 +181,28 @@ module _ (n : ℕ) (agg : AggId) (gives : ℕ → ℕ → ℕ → Type 0) where
   one_gone ticks ports a = subst (λ m. OfEach (Beside n (Hard agg m)) ports) (omega arith) a
 
   pub others_once : (old new : SystemState) (calls : List Call) (replies : List Reply) → OfEach (Beside n (Soft agg 20)) old.system_ports
-      → RunsOnceTicked (NoneBegins agg n) gives old calls replies new → 1 ≤ tick_count calls
+      → RunsOnceTicked Sets (NoneBegins agg n) gives old calls replies new → 1 ≤ tick_count calls
       → OfEach (Beside n (Hard agg (20 - tick_count calls))) new.system_ports
   others_once old new [] [] a h l = absurd (omega (arith, l))
   others_once old new (Tick ∷ calls) (answer ∷ answers) a h l =
       let mid = Tick-each (Beside n (Hard agg 20)) (Beside n (Soft agg 19)) (soft_settles n agg 19)
       (λ m p q r b e. soft_ticks agg 20 p q r (b e)) gives h.0 answer h.1 h.3
-      (aside_each (Beside n (Hard agg 20)) old h.0 h.2.1 (all_hard n agg old.system_ports a)) in
+      (all_hard n agg h.0.system_ports (aside_soft 20 old h.0 h.2 a)) in
       one_gone (tick_count calls) new.system_ports (others_run 19 h.1 new calls answers mid h.4)
   others_once old new (call ∷ calls) (answer ∷ answers) a h l =
       others_once h.1 new calls answers
       (Step-each (Beside n (Soft agg 20)) (soft_settles n agg 20) gives h.0 call answer h.1 (soft_calls n agg 20 call answer (λ e. cc)) h.3
-      (aside_each (Beside n (Soft agg 20)) old h.0 h.2.1 a)) h.4 l
+      (aside_soft 20 old h.0 h.2 a)) h.4 l
   others_once old new calls replies a h l = absurd h
 
   forget : (Is : SystemState → Type 0) (old new : SystemState) (calls : List Call) (replies : List Reply)
-      → RunsWhile Is gives old calls replies new → Runs gives old calls replies new
+      → RunsWhile Sets Is gives old calls replies new → Runs Sets gives old calls replies new
   forget Is old new [] [] h = (h.0, tt)
   forget Is old new (call ∷ calls) (answer ∷ answers) h = (h.0, h.1, tt, h.3, h.4, forget Is h.1 new calls answers h.5)
   forget Is old new calls replies h = absurd h
 
   pub once_runs : (Is : SystemState → Type 0) (old new : SystemState) (calls : List Call) (replies : List Reply)
-      → RunsOnceTicked Is gives old calls replies new → Runs gives old calls replies new
+      → RunsOnceTicked Sets Is gives old calls replies new → Runs Sets gives old calls replies new
   once_runs Is old new [] [] h = (h, tt)
   once_runs Is old new (Tick ∷ calls) (answer ∷ answers) h = (h.0, h.1, tt, h.2, h.3, forget Is h.1 new calls answers h.4)
   once_runs Is old new (call ∷ calls) (answer ∷ answers) h = (h.0, h.1, tt, h.2, h.3, once_runs Is h.1 new calls answers h.4)

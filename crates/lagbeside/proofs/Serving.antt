@@ -4,10 +4,11 @@ use Rattle.lagbeside.proofs.Common.{true, ℕ, ◌&&◌, ◌+◌, ◌-◌, ◌==
 use Rattle.lagbeside.proofs.Common.{is_selected, is_unselected, same_party, party_itself, Lacpdu, party_of, MuxState, Detached, Waiting, Current}
 use Rattle.lagbeside.proofs.Common.{Machines, is_synchronized, mux_rows, same_mux_state, receive_rows, recorded_synchronization, AtRest, RunsToRest}
 use Rattle.lagbeside.proofs.Common.{count_down, Reply, TookLacpdu, SystemPort, Call, Configure, OnlyPortChangesBy, ProcessesLacpdu, Receive, Restart}
-use Rattle.lagbeside.proofs.Common.{Set_link, Step, ThenSettles, Tick, Transmit, choice_with_link, can_receive, can_receive_in, IsSound, SystemState}
-use Rattle.lagbeside.proofs.Common.{port_index, with_table, named, all-get, found_place, processed_on, EachCall, tick_count, Fed, IsServed}
-use Rattle.lagbeside.proofs.Common.{LeavesServed, RunsWhile, Serves, Service, in_sync, timeout_time}
+use Rattle.lagbeside.proofs.Common.{Set_link, Step, ThenSettles, Tick, Transmit, choice_with_link, can_receive, can_receive_in, Setting, IsSound}
+use Rattle.lagbeside.proofs.Common.{SystemState, port_index, named, all-get, found_place, processed_on, EachCall, tick_count, Asides, LeavesPort}
+use Rattle.lagbeside.proofs.Common.{RunsWhile, Fed, IsServed, LeavesServed, Serves, Service, in_sync, timeout_time}
 use Rattle.lagsystem.specs.declared.drive.Reply.TheVariants as reply
+use Rattle.lagbeside.proofs.EachSetting.{KeptBySetting, asides_each, asides_sound}
 use Rattle.lagbeside.proofs.EachPort.{KeptByCall, KeptBySettling, OfEach, Step-each, Tick-each, took}
 use Rattle.lagbeside.proofs.Hearing.{EnabledKeep, both, is_number, no, not_down, stays_up, times_keep}
 use Rattle.lagbeside.proofs.Knowing.{decoded, rests_still, takes_each}
@@ -167,9 +168,6 @@ takes_at P Q m old new v (Some k) sound e does settles h a =
 link_choice : (o : Option ℕ) (up : Bool) (c : Choice) → up ≡ true → choice_with_link o up c ≡ c
 link_choice o up c e = grind (arith, nat_tests)
 
-pub aside_each : (P : ℕ → Machines → Type 0) (s t : SystemState) → t ≡ with_table s t.table → OfEach P s.system_ports → OfEach P t.system_ports
-aside_each P s t e a = subst (OfEach P) (sym (ap (λ (w : SystemState). w.system_ports) e)) a
-
 module _ (u : Service) (c : Choice) (sel : is_selected c ≡ true) (n : ℕ) (gives : ℕ → ℕ → ℕ → Type 0) where
   kept : (may : Bool) (left t : ℕ) → 1 ≤ left → (call : Call) (answer : Reply) → LeavesServed u n call answer → (call ≡ Tick → ⊥)
       → processed_on n call answer ≡ false → KeptByCall (AtPort n (Climbs u c may left t)) call answer
@@ -187,6 +185,17 @@ module _ (u : Service) (c : Choice) (sel : is_selected c ≡ true) (n : ℕ) (gi
   kept may left t l Restart answer v none f = absurd (no (sym v.0))
   kept may left t l (Transmit m) answer v none f = λ p told a e. a e
   kept may left t l call answer v none f = tt
+
+  set_kept : (may : Bool) (left t : ℕ) (setting : Setting) → LeavesPort n setting → KeptBySetting (AtPort n (Climbs u c may left t)) setting
+  set_kept may left t (Setting.Hold_port m held) v = λ p a e. absurd (v e)
+  set_kept may left t (Setting.Set_mode m active short) v = λ p a e. absurd (v e)
+  set_kept may left t (Setting.Set_max_delay max_delay) v = tt
+  set_kept may left t (Setting.Set_max_links max_links) v = λ m p down a e. let s = (a e).0.0 in absurd (no (sym down ∙ s.0))
+
+  aside_kept : (may : Bool) (left t : ℕ) (old new : SystemState) → Asides (LeavesPort n) old new
+      → OfEach (AtPort n (Climbs u c may left t)) old.system_ports → OfEach (AtPort n (Climbs u c may left t)) new.system_ports
+  aside_kept may left t old new h a =
+      asides_each (LeavesPort n) (AtPort n (Climbs u c may left t)) (climbs_settles n u c may left t sel) (set_kept may left t) old new h a
 
   fed_kept : (left : ℕ) (call : Call) (answer : Reply) → 1 ≤ left → 1 ≤ (if processed_on n call answer then timeout_time u.short else left)
   fed_kept left call answer l = at_least (processed_on n call answer) u.short left l
@@ -245,20 +254,21 @@ module _ (u : Service) (c : Choice) (sel : is_selected c ≡ true) (n : ℕ) (gi
   one_more may t ticks ports a = subst (λ m. OfEach (AtPort n (Climbs u c may 1 m)) ports) (omega arith) a
 
   pub run_served : (Is : SystemState → Type 0) (may : Bool) (left t : ℕ) → 1 ≤ left → (old new : SystemState) (calls : List Call) (replies : List Reply)
-      → OfEach (AtPort n (Climbs u c may left t)) old.system_ports → RunsWhile Is gives old calls replies new → EachCall (LeavesServed u n) calls replies
+      → OfEach (AtPort n (Climbs u c may left t)) old.system_ports → RunsWhile (LeavesPort n) Is gives old calls replies new → EachCall (LeavesServed u n) calls replies
       → Fed u.short n left calls replies → IsSound new × OfEach (AtPort n (Climbs u c may 1 (t - tick_count calls))) new.system_ports
   run_served Is may left t l old new [] [] a h v f = (
-    h.0.0,
-    aside_each (AtPort n (Climbs u c may 1 (t - 0))) old new h.0.1
+    asides_sound (LeavesPort n) old new h.0,
+    aside_kept may 1 (t - 0) old new h.0
         (subst (λ m. OfEach (AtPort n (Climbs u c may 1 m)) old.system_ports) (omega arith) (weaker may left t l old.system_ports a)),
   )
   run_served Is may left t l old new (Tick ∷ calls) (answer ∷ answers) a h v f =
       let mid = Tick-each (AtPort n (Climbs u c may left t)) (AtPort n (Climbs u c may (left - 1) (t - 1)))
       (climbs_settles n u c may (left - 1) (t - 1) sel) (λ m p q r b e. climbs_ticks u c may left t p q f.0 r (b e)) gives h.0 answer h.1 h.4
-      (aside_each (AtPort n (Climbs u c may left t)) old h.0 h.3.1 a) in
+      (aside_kept may left t old h.0 h.3 a) in
       let end = run_served Is may (left - 1) (t - 1) (omega (arith, f.0)) h.1 new calls answers mid h.5 v.1 f.1 in
       (end.0, one_more may t (tick_count calls) new.system_ports end.1)
   run_served Is may left t l old new (call ∷ calls) (answer ∷ answers) a h v f =
       run_served Is may (if processed_on n call answer then timeout_time u.short else left) t (fed_kept left call answer l) h.1 new calls answers
-      (served_call may left t l call answer h.0 h.1 h.3.0 v.0 (λ e. cc) h.4 (aside_each (AtPort n (Climbs u c may left t)) old h.0 h.3.1 a)) h.5 v.1 f
+      (served_call may left t l call answer h.0 h.1 (asides_sound (LeavesPort n) old h.0 h.3) v.0 (λ e. cc) h.4 (aside_kept may left t old h.0 h.3 a)) h.5
+      v.1 f
   run_served Is may left t l old new calls replies a h v f = absurd h

@@ -1,14 +1,13 @@
 -- What happens to a port leaves no timer above the ticks that it can start with.
-use Rattle.lagbeside.proofs.Common.{Bool, Err, List, None, Ok, Option, Result, Some, [], arith, cond, false, if◌then◌else◌, inl, inr, nat_lt, refl}
-use Rattle.lagbeside.proofs.Common.{subst, suc, sym, true, zero, ℕ, ◌++◌, ◌+◌, ◌-◌, ◌<◌, ◌∷◌, ◌≡◌, ◌≤◌, nat_tests, AllByRecursion, Choice, Lacpdu}
-use Rattle.lagbeside.proofs.Common.{PeriodicState, Setup, ReceiveState, Current, Defaulted, Initialize, PortDisabled, Machines, mux_rows}
-use Rattle.lagbeside.proofs.Common.{periodic_rows, lacpdu_rows, receive_rows, start_receive, Fires, FiresTimes, Row, RunsToRest, Starts, before_start}
-use Rattle.lagbeside.proofs.Common.{aged, count_down, Reply, SystemFault, SystemPort, Call, Configure, ProcessesLacpdu, Receive, Restart, Set_link}
-use Rattle.lagbeside.proofs.Common.{Tick, Transmit, changed_party, choice_with_link, SystemState, port_index, all-get, all-set, EachSettingKeepsTimed}
-use Rattle.lagbeside.proofs.Common.{IsTimed, KeepsTimeout, PortsAreTimed, most_current_while, most_periodic_timer, timeout_time}
-use Rattle.portmachines.specs.Calls.{with_mode}
-use Rattle.lagsystem.specs.Settings.{Setting, SettingStep, SetsPort, in_mode, is_held_so, is_in_mode, with_held}
-use Rattle.lagbeside.proofs.EachPort.{KeptByCall, KeptBySettling, OfEach, settling_each, zip_kept}
+use Rattle.lagbeside.proofs.Common.{Bool, List, Result, [], arith, cond, false, if◌then◌else◌, inl, inr, nat_lt, refl, subst, suc, sym, true, zero, ℕ}
+use Rattle.lagbeside.proofs.Common.{◌++◌, ◌+◌, ◌-◌, ◌<◌, ◌∷◌, ◌≡◌, ◌≤◌, nat_tests, AllByRecursion, Choice, Unselected, Lacpdu, PeriodicState, Setup}
+use Rattle.lagbeside.proofs.Common.{ReceiveState, Current, Defaulted, Initialize, PortDisabled, with_mode, Machines, mux_rows, periodic_rows}
+use Rattle.lagbeside.proofs.Common.{lacpdu_rows, receive_rows, start_receive, Fires, FiresTimes, Row, RunsToRest, Starts, before_start, aged}
+use Rattle.lagbeside.proofs.Common.{count_down, Reply, SystemFault, Call, Configure, ProcessesLacpdu, Receive, Restart, Set_link, Tick, Transmit}
+use Rattle.lagbeside.proofs.Common.{changed_party, choice_with_link, Setting, SettingStep, SystemState, EachSettingKeepsTimed, IsTimed, KeepsTimeout}
+use Rattle.lagbeside.proofs.Common.{most_current_while, most_periodic_timer, timeout_time}
+use Rattle.lagbeside.proofs.EachPort.{KeptByCall, KeptBySettling, OfEach}
+use Rattle.lagbeside.proofs.EachSetting.{KeptBySetting, Setting-each}
 
 -- what each row keeps, its machine keeps
 
@@ -161,38 +160,19 @@ within_kept call answer = tt
 
 -- a setting keeps the bounds
 
-set_each : (P : ℕ → Machines → Type 0) → KeptBySettling P → (already : SystemPort → Bool) (change : SystemPort → SystemPort)
-    → ((x : SystemPort) → P x.number x.port → P (change x).number (change x).port) → (o : Option ℕ) (old new : SystemState)
-    → SetsPort already change o old new → OfEach P old.system_ports → OfEach P new.system_ports
-set_each P k already change c None old new h a = absurd h
-set_each P k already change c (Some i) old new h a = elim h [
-  | inl same ↦ subst (λ (s : SystemState). OfEach P s.system_ports) (sym same.1) a
-  | inr settled ↦ (let b = settled.1.0 in
-      let is : SystemPort → Type 0 = λ x. P x.number x.port in
-      settling_each P k settled.0 new settled.2 (subst (OfEach P) (sym b.3)
-      (all-set is old.system_ports i (change b.0) a (c b.0 (all-get is old.system_ports i b.0 b.1 a)))))
-]
-
 -- what each settling keeps, whatever the choice and the mode of the port, each setting keeps
 pub setting_each : (P : ℕ → Machines → Type 0) → KeptBySettling P
     → ((n : ℕ) (p : Machines) (choice : Choice) → P n p → P n (record p { choice = choice }))
     → ((n : ℕ) (p : Machines) (active short : Bool) → P n p → P n (with_mode active short p))
     → (old new : SystemState) (setting : Setting) (answer : Result Unit SystemFault) → SettingStep old setting answer new
     → OfEach P old.system_ports → OfEach P new.system_ports
-setting_each P k chosen moded old new (Setting.Hold_port n held) (Ok done) h t = set_each P k (is_held_so held) (with_held held)
-    (λ x a. chosen x.number x.port _ a) (port_index n old.system_ports) old new h t
-setting_each P k chosen moded old new (Setting.Hold_port n held) (Err fault) h t = subst (λ (s : SystemState). OfEach P s.system_ports) (sym h.same) t
-setting_each P k chosen moded old new (Setting.Set_mode n active short) (Ok done) h t = set_each P k (is_in_mode active short)
-    (in_mode active short) (λ x a. moded x.number x.port active short a) (port_index n old.system_ports) old new h t
-setting_each P k chosen moded old new (Setting.Set_mode n active short) (Err fault) h t =
-    subst (λ (s : SystemState). OfEach P s.system_ports) (sym h.same) t
-setting_each P k chosen moded old new (Setting.Set_max_delay max_delay) (Ok done) h t = subst (λ (s : SystemState). OfEach P s.system_ports) (sym h) t
-setting_each P k chosen moded old new (Setting.Set_max_delay max_delay) (Err fault) h t = absurd h
-setting_each P k chosen moded old new (Setting.Set_max_links max_links) (Ok done) h t = settling_each P k h.1.0 new h.1.2
-    (zip_kept (λ p q. q ≡ record p { choice = choice_with_link max_links p.enabled p.choice }) P P
-    (λ n p q e a. subst (P n) (sym e) (chosen n p _ a)) old.system_ports h.1.0.system_ports h.1.1.0 t)
-setting_each P k chosen moded old new (Setting.Set_max_links max_links) (Err fault) h t =
-    subst (λ (s : SystemState). OfEach P s.system_ports) (sym h.1) t
+setting_each P k chosen moded old new setting answer = Setting-each P k old new setting answer (kept setting)
+  where
+    kept : (setting : Setting) → KeptBySetting P setting
+    kept (Setting.Hold_port n held) = λ p a. chosen n p Unselected a
+    kept (Setting.Set_mode n active short) = λ p a. moded n p active short a
+    kept (Setting.Set_max_delay max_delay) = tt
+    kept (Setting.Set_max_links max_links) = λ n p down a. chosen n p Unselected a
 
 pub setting_timed : EachSettingKeepsTimed
 setting_timed = setting_each TimedAt timed_settles (λ n p choice a. a) (λ n p active short a. a)

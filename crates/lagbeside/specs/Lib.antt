@@ -6,4 +6,6 @@ pub mod Hearing
 pub mod Knowing
 pub mod Waits
 pub mod Told
+pub mod Runs
 pub mod Serving
+pub mod Joining

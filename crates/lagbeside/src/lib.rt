@@ -137,23 +137,40 @@ ghost use Rattle.lagbeside.specs.Serving.{CarriesBeside, ComesUp, ComesUpAlone, 
 //    ports hear, and whatever is asked of the system in between
 // contract: `a_served_port_stays_up` (`StaysUp`)
 // premises: its link stays up, it is not configured, and no restart; each LACPDU that it processes is of one party and in sync with it; at
-//    most 29 ticks between two, 899 with Long Timeout. Settings come in no run; the five calls of a data plane come between, as far as they
-//    leave the system sound and its ports as they are (`IsAside`)
+//    most 29 ticks between two, 899 with Long Timeout. Between calls come the five calls of a data plane, as far as they leave the system
+//    sound and its ports as they are, and any settings but `hold_port` and `set_mode` of the port (`IsAside`, `LeavesPort`): held, it is
+//    UNSELECTED at once; with Short Timeout it wants more LACPDUs; and passive, it is out of sync with a passive partner
 /// A port that is served and SELECTED stays so, and in COLLECTING_DISTRIBUTING, whatever comes on other ports: its link stays up,
 /// it is not configured anew, each LACPDU that it processes is of one party and in sync with it, and at most 29 ticks go between
-/// two of them (899 with Long Timeout) (6.4.12 to 6.4.15).
+/// two of them (899 with Long Timeout) (6.4.12 to 6.4.15). Other ports may be held, let go and set to another mode, the limit of links
+/// may be set to any that is not refused, and so may CollectorMaxDelay (profile).
 pub fn a_served_port_stays_up<F: Fn(u16, usize) -> usize>()
     ensures { (algorithm : F) → StaysUp (F.post algorithm) }
 {}
 
 // promise: such a port carries after 20 ticks
 // contract: `a_served_port_comes_up` (`ComesUp`)
-// premises: the same; from the first of these ticks on no other port of its aggregator begins to wait (`NoneBegins`); no port has more ticks
-//    of wait_while left than it starts with (`WaitsAreBounded`)
+// premises: the same; after the first of these ticks no other port of its aggregator begins to wait, by a call or a setting (`NoneBegins`);
+//    no port has more ticks of wait_while left than it starts with (`WaitsAreBounded`)
 /// A port that is served and SELECTED is in COLLECTING_DISTRIBUTING after 20 ticks in which no other port began to wait in its
 /// aggregator (6.4.14, 6.4.15).
 pub fn a_served_port_comes_up<F: Fn(u16, usize) -> usize>()
     ensures { (algorithm : F) → ComesUp (F.post algorithm) }
+{}
+
+ghost use Rattle.lagbeside.specs.Joining.{NoneBeginsToWait};
+
+// promise: while the other ports of a key hear what they heard, none of them begins to wait in an aggregator, as `a_served_port_comes_up` asks:
+//    each hears the party that it has recorded, or nothing
+// contract: `ports_that_hear_the_same_do_not_begin` (`NoneBeginsToWait`)
+// premises: at most 30 ticks, and `WaitsAreBounded`; each of them is SELECTED or STANDBY at first, and in EXPIRED only with more ticks left than
+//    come, or its link is down (`HasJoined`); no link of them comes up, none of them is held or let go, and no other port is configured; no restart.
+//    Ports of other keys may hear anything
+/// Ports that hear the same do not begin to wait: in at most 30 ticks, with which EXPIRED begins, none of the other ports of a key that
+/// is in an aggregator, or whose link is down, begins to wait in one after the first tick, while each hears the party that it has
+/// recorded, or nothing, whatever ports of other keys hear (6.4.12 to 6.4.15).
+pub fn ports_that_hear_the_same_do_not_begin<F: Fn(u16, usize) -> usize>()
+    ensures { (algorithm : F) → NoneBeginsToWait (F.post algorithm) }
 {}
 
 // promise: **any peer that serves a port brings it up**: at the first LACPDU of the service the port is SELECTED, whatever was before, and 20
@@ -178,7 +195,8 @@ pub fn the_only_port_of_a_key_comes_up<F: Fn(u16, usize) -> usize>()
 // promise: **a port does not carry unanswered**: while no LACPDU is in sync with it (it names another port, is OUT_OF_SYNC, or the link is not
 //    actively maintained), it carries on defaults alone
 // contract: `no_port_carries_unanswered` (`NeverAlone`)
-// premises: it is on defaults, or its partner is not synchronized, before; it is not configured, and no restart
+// premises: it is on defaults, or its partner is not synchronized, before; it is not configured, and no restart. Any settings come between,
+//    but `set_mode` to another LACP_Activity of the port: active, it is in sync with more (`LeavesActivity`)
 /// A port that no LACPDU was in sync with distributes on defaults alone: off defaults it is not in COLLECTING_DISTRIBUTING
 /// (6.4.9, recordPDU; 6.4.15).
 pub fn no_port_carries_unanswered<F: Fn(u16, usize) -> usize>()

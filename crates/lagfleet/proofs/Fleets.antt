@@ -1,39 +1,26 @@
 -- Each event of a fleet is an event of its network.
-use Rattle.lagnetwork.specs.NetworkLaw.{CablesStay, TookFromFixedEnd, IsNetworkInvariant}
-use Rattle.lagfleet.specs.Fleet.{FleetCablesStay, FleetTookFromFixedEnd, StaysBy, Answers, Asks_call, Befalls, Changes_setting, Fleet}
-use Rattle.lagfleet.specs.Fleet.{FleetAlgorithms, FleetAsks, FleetCalls, FleetEvent, FleetForces, FleetReceives, FleetRepeats, FleetRun, FleetSteps}
-use Rattle.lagfleet.specs.Fleet.{ForcesHeld, Gives_way, Hears_again, IsCabled, IsFirstFleet, IsFleetInvariant, IsOnCables, Makes_call, Restarts}
-use Rattle.lagfleet.specs.Fleet.{fleet_setup, handed_up_in, is_held, recabled_by, recabled_by_all}
-use Rattle.std.proofs.Common.{Bool, Err, List, None, Ok, Option, Some, [], ap, cond, inr, refl, subst, sym, true, ℕ, ◌++◌, ◌∙◌, ◌∷◌, ◌≡◌}
-use Rattle.lagtypes.specs.declared.identifiers.AggId.{AggId}
-use Rattle.lagmodel.specs.Move.{Act, LawfulMoves}
-use Rattle.lagmodel.specs.Succession.{IsSuccessor}
-use Rattle.lagmodel.specs.View.{ModelCall, SystemSetup, View, first_view}
-use Rattle.lagmodel.specs.World.{Control, Data, Message, at_two, sent_after, taken_after}
-use Rattle.lagnetwork.specs.Network.{Configure, CountsNetworkChanges, Cut, Deliver, DeliversFirstAt, Emit, Frees, Hear, IsNetworkSetup, Join, Lose}
-use Rattle.lagnetwork.specs.Network.{Move_conversation, Network, NetworkCall, NetworkEvent, NetworkHappens, NetworkRun, NetworkSetup, Offer, Overtake}
-use Rattle.lagnetwork.specs.Network.{Place, Plug, Pull, Repeat, RepeatsFirstAt, Restart, Sense, Succeed, Tick, also_forced, at_system, ends_at}
-use Rattle.lagnetwork.specs.Network.{first_network, freed_view, handed_up_from, network_after_acts, recabled, recabled_all, source_after}
-use Rattle.lagnetwork.specs.Network.{towards_after, without_first, Force}
-use Rattle.lagnetwork.proofs.NetworkCalls.{calls_from}
-use Rattle.lagnetwork.proofs.NetworkEvents.{recabled_joined, runs_joined}
-use Rattle.lagnetwork.proofs.Networks.{elsewhere, is_or_not, there}
-use Rattle.lagsystem.specs.declared.drive.HostCall.{HostCall}
-use Rattle.lagsystem.specs.declared.drive.HostReply.{HostReply}
-use Rattle.lagsystem.specs.declared.drive.Reply.{Reply}
-use Rattle.lagsystem.specs.Calls.{Call}
-use Rattle.lagsystem.specs.ModelView.{model_setup, model_view}
-use Rattle.lagsystem.specs.State.{SystemState}
-use Rattle.lagsystem.proofs.FirstView.{configured_setup, first_shows}
-use Rattle.lagfleet.specs.Doing.{Doing, Forces, Leaves, Makes, Offers, Probes, Rests, Sets}
+use Rattle.lagfleet.proofs.Common.{Bool, Err, List, None, Ok, Option, Some, [], ap, cond, inr, refl, subst, sym, true, ℕ, ◌++◌, ◌∙◌, ◌∷◌, ◌≡◌, AggId}
+use Rattle.lagfleet.proofs.Common.{Act, LawfulMoves, IsSuccessor, ModelCall, SystemSetup, View, first_view, Control, Data, Message, at_two}
+use Rattle.lagfleet.proofs.Common.{sent_after, taken_after, Configure, CountsNetworkChanges, Cut, Deliver, DeliversFirstAt, Emit, Frees, Hear}
+use Rattle.lagfleet.proofs.Common.{IsAlikeSetup, IsNetworkSetup, Join, Lose, Move_conversation, Network, NetworkCall, NetworkEvent, NetworkHappens}
+use Rattle.lagfleet.proofs.Common.{NetworkRun, NetworkSetup, Offer, Overtake, Place, Plug, Pull, Repeat, RepeatsFirstAt, Restart, Sense, Succeed}
+use Rattle.lagfleet.proofs.Common.{Tick, also_forced, at_system, ends_at, first_network, freed_view, handed_up_from, network_after_acts, recabled}
+use Rattle.lagfleet.proofs.Common.{recabled_all, source_after, towards_after, without_first, CablesStay, IsNetworkInvariant, TookFromFixedEnd}
+use Rattle.lagfleet.proofs.Common.{calls_from, recabled_joined, runs_joined, elsewhere, is_or_not, there, HostCall, HostReply, Reply, Call}
+use Rattle.lagfleet.proofs.Common.{model_setup, model_view, SystemState, configured_setup, first_shows, Doing, Forces, Leaves, Makes, Offers, Probes}
+use Rattle.lagfleet.proofs.Common.{Rests, Sets, Answers, Asks_call, Befalls, Changes_setting, Fleet, FleetAlgorithms, FleetAsks, FleetCablesStay}
+use Rattle.lagfleet.proofs.Common.{FleetCalls, FleetEvent, FleetForces, FleetReceives, FleetRepeats, FleetRun, FleetSteps, FleetTookFromFixedEnd}
+use Rattle.lagfleet.proofs.Common.{ForcesHeld, Gives_way, Hears_again, IsCabled, IsFirstFleet, IsFleetInvariant, IsOnCables, Makes_call, Restarts}
+use Rattle.lagfleet.proofs.Common.{StaysBy, fleet_setup, handed_up_in, is_held, recabled_by, recabled_by_all}
+use Rattle.lagnetwork.specs.Network.{Force}
 use Rattle.lagsystem.specs.declared.drive.HostCall.TheVariants as host
 use Rattle.lagsystem.specs.declared.drive.HostReply.TheVariants as told
 use Rattle.lagsystem.specs.declared.drive.Reply.TheVariants as reply
 use Rattle.lagfleet.proofs.Doings.{does_lawfully, held_freed}
 
--- what stays true of a fleet: its systems keep their configurations, and the network shows them
-pub record Shown (start : ℕ → SystemState) (systems : ℕ → SystemState) (net : Network) : Type 0 where
-  pub setup : (t : ℕ) → model_setup (systems t) ≡ model_setup (start t)
+-- what stays true of a fleet: its systems have these configurations, and the network shows them
+pub record Shown (setups : ℕ → SystemSetup) (systems : ℕ → SystemState) (net : Network) : Type 0 where
+  pub setup : (t : ℕ) → model_setup (systems t) ≡ setups t
   pub view : (t : ℕ) → net.view t ≡ model_view (systems t)
 
 -- acts leave the view in which the call ended
@@ -54,75 +41,88 @@ one_by_one old new s P e here others t = is_or_not (P t (old t) (new t)) t s
     (λ same. subst (λ t. P t (old t) (new t)) (sym same) here)
     (λ ne. subst (λ y. P t (old t) y) (sym (ap (λ (f : ℕ → SystemState). f t) e ∙ elsewhere old s (new s) t ne)) (others t ne))
 
-module _ (gives : FleetAlgorithms) (far : ℕ → ℕ → Option Place) (start : ℕ → SystemState) where
-  x₀ : NetworkSetup
-  x₀ = fleet_setup far start
+module _ (gives : FleetAlgorithms) (x : NetworkSetup) where
+  -- one system is another, and the network shows it
+  seen : (s : ℕ) (old : Fleet) (systems : ℕ → SystemState) (net : Network) → Shown x.setup old.systems old.net
+      → systems ≡ at_system old.systems s (systems s) → net.view ≡ at_system old.net.view s (model_view (systems s))
+      → (t : ℕ) → net.view t ≡ model_view (systems t)
+  seen s old systems net i others view t = ap (λ (f : ℕ → View). f t) view
+      ∙ is_or_not (at_system old.net.view s (model_view (systems s)) t ≡ model_view (systems t)) t s
+      (λ e. subst (λ t. at_system old.net.view s (model_view (systems s)) t ≡ model_view (systems t)) (sym e)
+      (there old.net.view s (model_view (systems s))))
+      (λ ne. elsewhere old.net.view s (model_view (systems s)) t ne ∙ i.view t
+      ∙ ap model_view (sym (ap (λ (f : ℕ → SystemState). f t) others ∙ elsewhere old.systems s (systems s) t ne)))
 
-  -- one system is another, of the same configuration, and the network shows it
-  placed : (s : ℕ) (old : Fleet) (systems : ℕ → SystemState) (net : Network) → Shown start old.systems old.net
+  -- of the same configuration
+  placed : (s : ℕ) (old : Fleet) (systems : ℕ → SystemState) (net : Network) → Shown x.setup old.systems old.net
       → systems ≡ at_system old.systems s (systems s) → model_setup (systems s) ≡ model_setup (old.systems s)
-      → net.view ≡ at_system old.net.view s (model_view (systems s)) → Shown start systems net
+      → net.view ≡ at_system old.net.view s (model_view (systems s)) → Shown x.setup systems net
   placed s old systems net i others kept view = record {
-    setup = one_by_one old.systems systems s (λ t o n. model_setup n ≡ model_setup (start t)) others (kept ∙ i.setup s) (λ t ne. i.setup t);
-    view = λ t. ap (λ (f : ℕ → View). f t) view
-        ∙ is_or_not (at_system old.net.view s (model_view (systems s)) t ≡ model_view (systems t)) t s
-        (λ e. subst (λ t. at_system old.net.view s (model_view (systems s)) t ≡ model_view (systems t)) (sym e)
-        (there old.net.view s (model_view (systems s))))
-        (λ ne. elsewhere old.net.view s (model_view (systems s)) t ne ∙ i.view t
-        ∙ ap model_view (sym (ap (λ (f : ℕ → SystemState). f t) others ∙ elsewhere old.systems s (systems s) t ne)));
+    setup = one_by_one old.systems systems s (λ t o n. model_setup n ≡ x.setup t) others (kept ∙ i.setup s) (λ t ne. i.setup t);
+    view = seen s old systems net i others view;
+  }
+
+  -- or of this configuration
+  given_way : (s : ℕ) (setup : SystemSetup) (old : Fleet) (systems : ℕ → SystemState) (net : Network) → Shown x.setup old.systems old.net
+      → systems ≡ at_system old.systems s (systems s) → model_setup (systems s) ≡ setup
+      → net.view ≡ at_system old.net.view s (model_view (systems s)) → Shown (at_system x.setup s setup) systems net
+  given_way s setup old systems net i others is view = record {
+    setup = one_by_one old.systems systems s (λ t o n. model_setup n ≡ at_system x.setup s setup t) others
+        (is ∙ sym (there x.setup s setup)) (λ t ne. i.setup t ∙ sym (elsewhere x.setup s setup t ne));
+    view = seen s old systems net i others view;
   }
 
   answered : (s : ℕ) (doing : Doing) (law : ModelCall) (stamp : ℕ) (accepts : Act → Bool) (old : Fleet) (before : Network)
-      (systems : ℕ → SystemState) (after : Network) → Shown start old.systems old.net → before.view ≡ old.net.view
-      → Answers gives far s doing law stamp accepts old before systems after
-      → NetworkCall (fleet_setup far start) s law stamp old.net before after × Shown start systems after
+      (systems : ℕ → SystemState) (after : Network) → Shown x.setup old.systems old.net → before.view ≡ old.net.view
+      → Answers gives x.far s doing law stamp accepts old before systems after
+      → NetworkCall x s law stamp old.net before after × Shown x.setup systems after
   answered s doing law stamp accepts old before systems after i same a =
       let both = does_lawfully (gives s) doing law a.acts (old.systems s) (systems s) a.does in
       let shown : View = model_view (systems s) in
-      let lawful : LawfulMoves (model_setup (start s)) law (before.view s) a.acts shown =
-      subst (λ (v : View). LawfulMoves (model_setup (start s)) law v a.acts shown)
+      let lawful : LawfulMoves (x.setup s) law (before.view s) a.acts shown =
+      subst (λ (v : View). LawfulMoves (x.setup s) law v a.acts shown)
       (sym (ap (λ (f : ℕ → View). f s) same ∙ i.view s))
       (subst (λ (u : SystemSetup). LawfulMoves u law (model_view (old.systems s)) a.acts shown) (i.setup s) both.0) in (
-        calls_from (fleet_setup far start) s law stamp old.net before after shown a.acts accepts a.count lawful a.counts a.leaves,
+        calls_from x s law stamp old.net before after shown a.acts accepts a.count lawful a.counts a.leaves,
         placed s old systems after i a.others both.1
             (ap (λ (w : Network). w.view) a.leaves
-            ∙ acts_view (fleet_setup far old.systems) s stamp accepts a.acts shown before
+            ∙ acts_view (fleet_setup x.far old.systems) s stamp accepts a.acts shown before
             ∙ ap (λ (v : ℕ → View). at_system v s shown) same),
       )
 
-  still : (old new : Fleet) → Shown start old.systems old.net → new.systems ≡ old.systems → new.net.view ≡ old.net.view
-      → Shown start new.systems new.net
+  still : (old new : Fleet) → Shown x.setup old.systems old.net → new.systems ≡ old.systems → new.net.view ≡ old.net.view
+      → Shown x.setup new.systems new.net
   still old new i e f = record {
     setup = λ t. ap (λ (y : ℕ → SystemState). model_setup (y t)) e ∙ i.setup t;
     view = λ t. ap (λ (y : ℕ → View). y t) f ∙ i.view t ∙ ap (λ (y : ℕ → SystemState). model_view (y t)) (sym e);
   }
 
   -- the same systems in another network that shows the same
-  renet : (systems : ℕ → SystemState) (v w : Network) → w.view ≡ v.view → Shown start systems v → Shown start systems w
+  renet : (systems : ℕ → SystemState) (v w : Network) → w.view ≡ v.view → Shown x.setup systems v → Shown x.setup systems w
   renet systems v w e i = record { setup = i.setup; view = λ t. ap (λ (y : ℕ → View). y t) e ∙ i.view t }
 
-  alike : (old new : Fleet) → new ≡ old → Shown start old.systems old.net → Shown start new.systems new.net
-  alike old new e = subst (λ (f : Fleet). Shown start f.systems f.net) (sym e)
+  alike : (old new : Fleet) → new ≡ old → Shown x.setup old.systems old.net → Shown x.setup new.systems new.net
+  alike old new e = subst (λ (f : Fleet). Shown x.setup f.systems f.net) (sym e)
 
   -- an event of a fleet, after which these are the cables, is one of its network, or none; and moves none if this holds
   abbrev PlaysTo : Type 0 → NetworkSetup → Fleet → Fleet → Type 0
-  PlaysTo stays y old new = (es : List NetworkEvent) × NetworkRun (fleet_setup far start) es old.net new.net
-      × (recabled_all (fleet_setup far start) es ≡ y) × Shown start new.systems new.net × (stays → CablesStay es)
+  PlaysTo stays y old new = (es : List NetworkEvent) × NetworkRun x es old.net new.net
+      × (recabled_all x es ≡ y) × Shown y.setup new.systems new.net × (stays → CablesStay es)
 
   abbrev IsPlayed : Fleet → Fleet → Type 0
-  IsPlayed old new = PlaysTo (Unit {0}) (fleet_setup far start) old new
+  IsPlayed old new = PlaysTo (Unit {0}) x old new
 
   one : (e : NetworkEvent) (old new : Fleet)
-      → NetworkHappens (fleet_setup far start) e old.net new.net × Shown start new.systems new.net
-      → PlaysTo (CablesStay (e ∷ [])) (recabled (fleet_setup far start) e) old new
+      → NetworkHappens x e old.net new.net × Shown (recabled x e).setup new.systems new.net
+      → PlaysTo (CablesStay (e ∷ [])) (recabled x e) old new
   one e old new h = (e ∷ [], (new.net, h.0, refl), refl, h.1, λ c. c)
 
-  nothing : (old new : Fleet) → Shown start old.systems old.net → new ≡ old → IsPlayed old new
+  nothing : (old new : Fleet) → Shown x.setup old.systems old.net → new ≡ old → IsPlayed old new
   nothing old new i e = ([], ap (λ (f : Fleet). f.net) e, refl, alike old new e i, λ c. c)
 
   received : (s p : ℕ) (octets : List ℕ) (answer : Reply) (accepts : Act → Bool) (o : Option Place) (line : List Message) (old new : Fleet)
-      → far s p ≡ o → old.net.towards s p ≡ line → Shown start old.systems old.net
-      → FleetReceives gives far s p octets answer accepts o line old new → IsPlayed old new
+      → x.far s p ≡ o → old.net.towards s p ≡ line → Shown x.setup old.systems old.net
+      → FleetReceives gives x.far s p octets answer accepts o line old new → IsPlayed old new
   received s p octets answer accepts None line old new e f i z =
       let a = answered s (Makes (Call.Receive p octets) answer) (ModelCall.Receive p z.0) z.1 accepts old old.net new.systems new.net i refl
       z.3 in
@@ -132,13 +132,13 @@ module _ (gives : FleetAlgorithms) (far : ℕ → ℕ → Option Place) (start :
       let a = answered s (Makes (Call.Receive p octets) answer) (ModelCall.Receive p (Some pdu)) stamp accepts old old.net new.systems z.0 i refl
       z.2 in
       one (Deliver s p) old new (
-        subst (λ l. DeliversFirstAt (fleet_setup far start) s p l old.net new.net) (sym f) (z.0, a.0, z.3),
+        subst (λ l. DeliversFirstAt x s p l old.net new.net) (sym f) (z.0, a.0, z.3),
         renet new.systems z.0 new.net (ap (λ (w : Network). w.view) z.3) a.1,
       )
   received s p octets answer accepts (Some place) (Data origin g k serial ∷ ms) old new e f i z =
       let a = answered s (Makes (Call.Receive p octets) answer) (ModelCall.Receive p None) 0 accepts old old.net new.systems z.0 i refl z.1 in
       one (Deliver s p) old new (
-        subst (λ l. DeliversFirstAt (fleet_setup far start) s p l old.net new.net) (sym f) (
+        subst (λ l. DeliversFirstAt x s p l old.net new.net) (sym f) (
           handed_up_in answer,
           z.0,
           a.0,
@@ -152,36 +152,36 @@ module _ (gives : FleetAlgorithms) (far : ℕ → ℕ → Option Place) (start :
       same None = refl
 
   repeated : (s p : ℕ) (octets : List ℕ) (answer : Reply) (accepts : Act → Bool) (line : List Message) (old new : Fleet)
-      → old.net.towards s p ≡ line → Shown start old.systems old.net
-      → FleetRepeats gives far s p octets answer accepts line old new → IsPlayed old new
+      → old.net.towards s p ≡ line → Shown x.setup old.systems old.net
+      → FleetRepeats gives x.far s p octets answer accepts line old new → IsPlayed old new
   repeated s p octets answer accepts [] old new f i z = absurd z
   repeated s p octets answer accepts (Data origin g k serial ∷ ms) old new f i z = absurd z
   repeated s p octets answer accepts (Control pdu stamp ∷ ms) old new f i z =
       let a = answered s (Makes (Call.Receive p octets) answer) (ModelCall.Receive p (Some pdu)) stamp accepts old old.net new.systems new.net i
       refl z.1 in
-      one (Repeat s p) old new (subst (λ l. RepeatsFirstAt (fleet_setup far start) s p l old.net new.net) (sym f) a.0, a.1)
+      one (Repeat s p) old new (subst (λ l. RepeatsFirstAt x s p l old.net new.net) (sym f) a.0, a.1)
 
-  forces : (s : ℕ) (agg : AggId) (k : ℕ) (doing : Doing) (accepts : Act → Bool) (old new : Fleet) → Shown start old.systems old.net
-      → FleetForces gives far s agg k doing accepts old new → IsPlayed old new
+  forces : (s : ℕ) (agg : AggId) (k : ℕ) (doing : Doing) (accepts : Act → Bool) (old new : Fleet) → Shown x.setup old.systems old.net
+      → FleetForces gives x.far s agg k doing accepts old new → IsPlayed old new
   forces s agg k doing accepts old new i z =
       let a = answered s doing (ModelCall.Force agg.0 k) 0 accepts old
       (record old.net { forced = at_system old.net.forced s (at_two (old.net.forced s) agg.0 k true) }) new.systems new.net i refl z in
       one (Force s agg.0 k) old new (inr a.0, a.1)
 
-  restarts : (s : ℕ) (old new : Fleet) → Shown start old.systems old.net → Restarts gives far s old new → IsPlayed old new
+  restarts : (s : ℕ) (old new : Fleet) → Shown x.setup old.systems old.net → Restarts gives x.far s old new → IsPlayed old new
   restarts s old new i z =
-      let first : model_view (new.systems s) ≡ first_view (model_setup (start s)) =
+      let first : model_view (new.systems s) ≡ first_view (x.setup s) =
       first_shows (new.systems s) z.promise.step.1 ∙ ap first_view (z.promise.configured ∙ i.setup s) in
       one (Restart s) old new (
         (
           z.count,
           subst (λ (v : View). CountsNetworkChanges old.net (record old.net {
             view = at_system old.net.view s v;
-            towards = λ t q. cond (ends_at (fleet_setup far start) s t q) [] (old.net.towards t q);
+            towards = λ t q. cond (ends_at x s t q) [] (old.net.towards t q);
           }) z.count) first z.counts,
           z.leaves ∙ ap (λ (v : View). record old.net {
             view = at_system old.net.view s v;
-            towards = λ t q. cond (ends_at (fleet_setup far start) s t q) [] (old.net.towards t q);
+            towards = λ t q. cond (ends_at x s t q) [] (old.net.towards t q);
             count = z.count;
           }) first,
         ),
@@ -189,14 +189,14 @@ module _ (gives : FleetAlgorithms) (far : ℕ → ℕ → Option Place) (start :
       )
 
   -- a call of which the law is told so
-  plain : (s : ℕ) (doing : Doing) (law seen : ModelCall) (accepts : Act → Bool) (old new : Fleet) → Shown start old.systems old.net
-      → seen ≡ law → Answers gives far s doing seen 0 accepts old old.net new.systems new.net
-      → NetworkCall (fleet_setup far start) s law 0 old.net old.net new.net × Shown start new.systems new.net
+  plain : (s : ℕ) (doing : Doing) (law seen : ModelCall) (accepts : Act → Bool) (old new : Fleet) → Shown x.setup old.systems old.net
+      → seen ≡ law → Answers gives x.far s doing seen 0 accepts old old.net new.systems new.net
+      → NetworkCall x s law 0 old.net old.net new.net × Shown x.setup new.systems new.net
   plain s doing law seen accepts old new i e z = answered s doing law 0 accepts old old.net new.systems new.net i refl
-      (subst (λ l. Answers gives far s doing l 0 accepts old old.net new.systems new.net) e z)
+      (subst (λ l. Answers gives x.far s doing l 0 accepts old old.net new.systems new.net) e z)
 
-  calls : (s : ℕ) (call : Call) (answer : Reply) (accepts : Act → Bool) (old new : Fleet) → Shown start old.systems old.net
-      → FleetCalls gives far s call answer accepts old new → IsPlayed old new
+  calls : (s : ℕ) (call : Call) (answer : Reply) (accepts : Act → Bool) (old new : Fleet) → Shown x.setup old.systems old.net
+      → FleetCalls gives x.far s call answer accepts old new → IsPlayed old new
   calls s Call.Tick answer accepts old new i z = one (Tick s 1) old new (plain s (Makes Call.Tick answer) ModelCall.Tick z.0 accepts old new i z.1 z.2)
   calls s (Call.Transmit p) answer accepts old new i z = one (Emit s p) old new
       (plain s (Makes (Call.Transmit p) answer) ModelCall.Transmit z.0 accepts old new i z.1 z.2)
@@ -204,7 +204,7 @@ module _ (gives : FleetAlgorithms) (far : ℕ → ℕ → Option Place) (start :
       (plain s (Makes (Call.Set_link p up) answer) (ModelCall.Set_link p (old.net.whole s p)) (ModelCall.Set_link p up) accepts old new i
       (ap (ModelCall.Set_link p) z.0) z.1)
   calls s (Call.Receive p octets) answer accepts old new i z =
-      received s p octets answer accepts (far s p) (old.net.towards s p) old new refl refl i z
+      received s p octets answer accepts (x.far s p) (old.net.towards s p) old new refl refl i z
   calls s (Call.Configure p to) answer accepts old new i z =
       one (Configure s p (record { key = to.key; priority = to.priority; aggregatable = to.aggregatable })) old new
       (plain s (Makes (Call.Configure p to) answer) ModelCall.Configure z.0 accepts old new i z.1 z.2)
@@ -218,7 +218,7 @@ module _ (gives : FleetAlgorithms) (far : ℕ → ℕ → Option Place) (start :
   calls s (Call.Force agg k) (reply.Force (Err fault)) accepts old new i z = nothing old new i z.1
   calls s (Call.Force agg k) answer accepts old new i z = absurd z
 
-  held : (s port count : ℕ) (old new : Fleet) → Shown start old.systems old.net → ForcesHeld gives s port count old new → IsPlayed old new
+  held : (s port count : ℕ) (old new : Fleet) → Shown x.setup old.systems old.net → ForcesHeld gives s port count old new → IsPlayed old new
   held s port count old new i z =
       let test = is_held port (old.systems s) in
       let both = held_freed port (old.systems s) (new.systems s) z.promise.0 z.promise.2 in
@@ -231,8 +231,8 @@ module _ (gives : FleetAlgorithms) (far : ℕ → ℕ → Option Place) (start :
         placed s old new.systems new.net i z.others both.1 (ap (λ (w : Network). w.view) z.leaves),
       )
 
-  asks : (s : ℕ) (call : HostCall) (answer : HostReply) (accepts : Act → Bool) (old new : Fleet) → Shown start old.systems old.net
-      → FleetAsks gives far s call answer accepts old new → IsPlayed old new
+  asks : (s : ℕ) (call : HostCall) (answer : HostReply) (accepts : Act → Bool) (old new : Fleet) → Shown x.setup old.systems old.net
+      → FleetAsks gives x.far s call answer accepts old new → IsPlayed old new
   asks s (host.OfferConversation agg conv) (told.OfferConversation answer) accepts old new i z = one (Offer s agg.0 []) old new
       (plain s (Offers agg conv answer) ModelCall.Offer ModelCall.Offer accepts old new i refl z)
   asks s (host.LeaveConversation agg conv) (told.LeaveConversation answer) accepts old new i z = one (Move_conversation s agg.0 conv 0) old new
@@ -246,7 +246,7 @@ module _ (gives : FleetAlgorithms) (far : ℕ → ℕ → Option Place) (start :
   asks s call answer accepts old new i z = absurd z
 
   -- what happens on cables leaves the views
-  cables_view : (e : NetworkEvent) (old new : Network) → IsOnCables e → NetworkHappens (fleet_setup far start) e old new
+  cables_view : (e : NetworkEvent) (old new : Network) → IsOnCables e → NetworkHappens x e old new
       → new.view ≡ old.view
   cables_view (Lose s p) old new h z = ap (λ (w : Network). w.view) z
   cables_view (Cut s p) old new h z = ap (λ (w : Network). w.view) z
@@ -256,9 +256,19 @@ module _ (gives : FleetAlgorithms) (far : ℕ → ℕ → Option Place) (start :
   cables_view (Plug s p t q) old new h z = ap (λ (w : Network). w.view) z.2
   cables_view e old new h z = absurd h
 
+  -- and the configurations
+  cables_setup : (e : NetworkEvent) → IsOnCables e → x.setup ≡ (recabled x e).setup
+  cables_setup (Lose s p) h = refl
+  cables_setup (Cut s p) h = refl
+  cables_setup (Join s p) h = refl
+  cables_setup (Overtake s p line) h = refl
+  cables_setup (Pull s p) h = refl
+  cables_setup (Plug s p t q) h = refl
+  cables_setup e h = absurd h
+
   -- the law of cables knows no configuration
   cables_alike : (e : NetworkEvent) (old new : Network) (systems : ℕ → SystemState) → IsOnCables e
-      → NetworkHappens (fleet_setup far systems) e old new → NetworkHappens (fleet_setup far start) e old new
+      → NetworkHappens (fleet_setup x.far systems) e old new → NetworkHappens x e old new
   cables_alike (Lose s p) old new systems h z = z
   cables_alike (Cut s p) old new systems h z = z
   cables_alike (Join s p) old new systems h z = z
@@ -267,38 +277,36 @@ module _ (gives : FleetAlgorithms) (far : ℕ → ℕ → Option Place) (start :
   cables_alike (Plug s p t q) old new systems h z = z
   cables_alike e old new systems h z = absurd h
 
-  steps : (e : FleetEvent) (old new : Fleet) → Shown start old.systems old.net → FleetSteps gives far e old new
-      → PlaysTo (StaysBy e) (recabled_by (fleet_setup far start) e) old new
+  steps : (e : FleetEvent) (old new : Fleet) → Shown x.setup old.systems old.net → FleetSteps gives x.far e old new
+      → PlaysTo (StaysBy e) (recabled_by x e) old new
   steps (Makes_call s call answer accepts) old new i z = calls s call answer accepts old new i z
   steps (Asks_call s call answer accepts) old new i z = asks s call answer accepts old new i z
   steps (Changes_setting s setting answer) old new i z = one (Tick s 0) old new
       (plain s (Sets setting answer) ModelCall.Tick ModelCall.Tick (λ a. true) old new i refl z)
   steps (Hears_again s p octets answer accepts) old new i z =
       repeated s p octets answer accepts (old.net.towards s p) old new refl i z
-  steps (Gives_way s) old new i z =
-      let y = z.2.0 in
-      one (Succeed s (model_view (new.systems s))) old new (
+  steps (Gives_way s setup) old new i z =
+      let y = z.2.1 in
+      one (Succeed s setup (model_view (new.systems s))) old new (
         (
+          subst (λ (u : SystemSetup). IsAlikeSetup u setup) (i.setup s) z.2.0,
           record {
             follows = subst (λ (u : SystemSetup). IsSuccessor u (old.net.view s) (old.net.taken s) (model_view (new.systems s))) (i.setup s)
                 y.follows;
             parties = y.parties;
             apart = y.apart;
           },
-          z.2.1,
+          z.2.2,
         ),
-        placed s old new.systems new.net i z.1 z.0 (ap (λ (w : Network). w.view) z.2.1),
+        given_way s setup old new.systems new.net i z.1 z.0 (ap (λ (w : Network). w.view) z.2.2),
       )
   steps (Befalls e) old new i z =
       let happens = cables_alike e old.net new.net old.systems z.0 z.2 in
-      one e old new (happens, still old new i z.1 (cables_view e old.net new.net z.0 happens))
-
--- events change the cables alone
-still_setup : (x : NetworkSetup) (e : FleetEvent) → recabled_by x e ≡ record { setup = x.setup; far = (recabled_by x e).far }
-still_setup x (Befalls (Pull s p)) = refl
-still_setup x (Befalls (Plug s p t q)) = refl
-still_setup x (Befalls e) = refl
-still_setup x e = refl
+      one e old new (
+        happens,
+        subst (λ (setups : ℕ → SystemSetup). Shown setups new.systems new.net) (cables_setup e z.0)
+            (still old new i z.1 (cables_view e old.net new.net z.0 happens)),
+      )
 
 stay_joined : (es fs : List NetworkEvent) → CablesStay es → CablesStay fs → CablesStay (es ++ fs)
 stay_joined [] fs c d = d
@@ -306,20 +314,15 @@ stay_joined (Pull s p ∷ es) fs c d = absurd c
 stay_joined (Plug s p t q ∷ es) fs c d = absurd c
 stay_joined (e ∷ es) fs c d = stay_joined es fs c d
 
-runs : (gives : FleetAlgorithms) (far : ℕ → ℕ → Option Place) (start : ℕ → SystemState) (es : List FleetEvent) (old new : Fleet)
-    → Shown start old.systems old.net → FleetRun gives (fleet_setup far start) es old new
-    → PlaysTo gives far start (FleetCablesStay es) (recabled_by_all (fleet_setup far start) es) old new
-runs gives far start [] old new i z = nothing gives far start old new i z
-runs gives far start (e ∷ es) old new i z =
-    let x : NetworkSetup = fleet_setup far start in
-    let y : NetworkSetup = recabled_by x e in
-    let same : y ≡ fleet_setup y.far start = still_setup x e in
-    let a = steps gives far start e old z.0 i z.1 in
-    let b = runs gives y.far start es z.0 new a.3 (subst (λ y. FleetRun gives y es z.0 new) same z.2) in (
+runs : (gives : FleetAlgorithms) (x : NetworkSetup) (es : List FleetEvent) (old new : Fleet) → Shown x.setup old.systems old.net
+    → FleetRun gives x es old new → PlaysTo gives x (FleetCablesStay es) (recabled_by_all x es) old new
+runs gives x [] old new i z = nothing gives x old new i z
+runs gives x (e ∷ es) old new i z =
+    let a = steps gives x e old z.0 i z.1 in
+    let b = runs gives (recabled_by x e) es z.0 new a.3 z.2 in (
       a.0 ++ b.0,
-      runs_joined x a.0 b.0 old.net z.0.net new.net a.1
-          (subst (λ y. NetworkRun y b.0 z.0.net new.net) (sym (a.2 ∙ same)) b.1),
-      recabled_joined x a.0 b.0 ∙ ap (λ y. recabled_all y b.0) (a.2 ∙ same) ∙ b.2 ∙ ap (λ y. recabled_by_all y es) (sym same),
+      runs_joined x a.0 b.0 old.net z.0.net new.net a.1 (subst (λ y. NetworkRun y b.0 z.0.net new.net) (sym a.2) b.1),
+      recabled_joined x a.0 b.0 ∙ ap (λ y. recabled_all y b.0) a.2 ∙ b.2,
       b.3,
       λ c. stay_joined a.0 b.0 (a.4 c.0) (b.4 c.1),
     )
@@ -333,11 +336,11 @@ fleet_runs : (gives : FleetAlgorithms) (far : ℕ → ℕ → Option Place) (es 
     × (FleetCablesStay es → CablesStay events)
     × ((s : ℕ) → end.net.view s ≡ model_view (end.systems s))
 fleet_runs gives far es start end f z =
-    let i : Shown start.systems start.systems start.net = record {
+    let i : Shown (fleet_setup far start.systems).setup start.systems start.net = record {
       setup = λ t. refl;
       view = λ t. ap (λ (w : Network). w.view t) f.1 ∙ sym (first_shows (start.systems t) (f.0 t));
     } in
-    let r = runs gives far start.systems es start end i z in
+    let r = runs gives (fleet_setup far start.systems) es start end i z in
     (r.0, subst (λ (w : Network). NetworkRun (fleet_setup far start.systems) r.0 w end.net) f.1 r.1, r.2, r.4, r.3.view)
 
 fleet_setup_is : (far : ℕ → ℕ → Option Place) (systems : ℕ → SystemState) → IsCabled far → IsNetworkSetup (fleet_setup far systems)

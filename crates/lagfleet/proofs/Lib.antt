@@ -1,3 +1,4 @@
+mod Common
 pub mod Doings
 pub mod Fleets
 pub mod Events

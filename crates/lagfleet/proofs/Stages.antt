@@ -1,28 +1,11 @@
 -- One system beside any peer: what it does moves the scene as the law has it.
-use Rattle.std.proofs.Common.{Bool, Err, List, Ok, Option, Result, Some, [], ap, arith, false, inl, inr, refl, subst, sym, true, ℕ, ◌∙◌, ◌∷◌, ◌≡◌}
-use Rattle.std.proofs.lemmas.Bool.{true≢false}
-use Rattle.lagtypes.specs.declared.identifiers.AggId.{AggId}
-use Rattle.lagmodel.specs.Move.{Act, LawfulMoves}
-use Rattle.lagmodel.specs.Succession.{IsSuccessor}
-use Rattle.lagmodel.specs.View.{ControlMessage, Flushing, Force, IsSystemSetup, ModelCall, On, Receive, Set_link, SystemSetup, View}
-use Rattle.lagmodel.specs.View.{conversation_port, first_view, is_restart}
-use Rattle.lagmodel.specs.World.{One, at_two, on_cable_after, sent_after, taken_after}
-use Rattle.lagnetwork.specs.Network.{also_forced, freed_view}
-use Rattle.lagnetwork.proofs.NetworkLaws.{took_in_sync}
-use Rattle.lagsystem.specs.declared.drive.HostCall.{HostCall}
-use Rattle.lagsystem.specs.declared.drive.HostReply.{HostReply}
-use Rattle.lagsystem.specs.declared.fault.SystemFault.{SystemFault}
-use Rattle.lagsystem.specs.Calls.{Call}
-use Rattle.lagsystem.specs.HostCalls.{HostPromise}
-use Rattle.lagsystem.specs.Leaving.{system_rest_result}
-use Rattle.lagsystem.specs.ModelView.{model_setup, model_view}
-use Rattle.lagsystem.specs.Offers.{system_force_result}
-use Rattle.lagsystem.specs.Sound.{CallPromise}
-use Rattle.lagsystem.specs.State.{SystemState}
-use Rattle.lagsystem.proofs.FirstView.{configured_setup, first_shows}
-use Rattle.lagfleet.specs.Doing.{Does, Doing, offered}
-use Rattle.lagfleet.specs.Fleet.{IsOther, is_held}
-use Rattle.lagmodel.specs.Law.{Members, OnePartner}
+use Rattle.lagfleet.proofs.Common.{Bool, Err, List, Ok, Option, Result, Some, [], ap, arith, false, inl, inr, refl, subst, sym, true, ℕ, ◌∙◌, ◌∷◌}
+use Rattle.lagfleet.proofs.Common.{◌≡◌, true≢false, AggId, Act, LawfulMoves, IsSuccessor, ControlMessage, Flushing, Force, IsSystemSetup, ModelCall}
+use Rattle.lagfleet.proofs.Common.{On, Receive, Set_link, SystemSetup, View, conversation_port, first_view, is_restart, One, at_two, on_cable_after}
+use Rattle.lagfleet.proofs.Common.{sent_after, taken_after, also_forced, freed_view, members_alike, took_in_sync, HostCall, HostReply, SystemFault}
+use Rattle.lagfleet.proofs.Common.{Call, HostPromise, system_rest_result, model_setup, model_view, system_force_result, CallPromise, SystemState}
+use Rattle.lagfleet.proofs.Common.{configured_setup, first_shows, Does, Doing, offered, IsOther, is_held}
+use Rattle.lagmodel.specs.Law.{OnePartner}
 use Rattle.lagmodel.specs.AnyPeer.{Answers, Calls, Comes, Cuts, Fits, Forces, Gone, HandsUp, Happening, Joins, OvertakesBack, OvertakesOut, Restarts}
 use Rattle.lagmodel.specs.AnyPeer.{Says, Scene, Takes, OrderHolds, SerialsCountFromZero, TookInSync, first_scene, scene_after_acts}
 use Rattle.lagmodel.proofs.AnyPeer.{Kept, comes_kept, counted_comes, each_call_is_one, first_kept, none_counted, unsent}
@@ -48,6 +31,10 @@ pub record Standing (u : SystemSetup) (ends : ℕ → Option ℕ) (st : Stage) :
   pub counts : SerialsCountFromZero st.scene
   pub setup : model_setup st.system ≡ u
   pub view : st.scene.view ≡ model_view st.system
+
+-- so it is of some configuration
+abbrev Stood : (ℕ → Option ℕ) → Stage → Type 0
+Stood ends st = (u : SystemSetup) × IsSystemSetup u × Standing u ends st
 
 -- acts leave the view in which the call ended
 acts_view : (ends : ℕ → Option ℕ) (stamp : ℕ) (accepts : Act → Bool) (acts : List Act) (v : View) (w : Scene)
@@ -127,9 +114,9 @@ module _ (gives : ℕ → ℕ → ℕ → Type 0) (u : SystemSetup) (ends : ℕ 
       → Acts gives ends doing law stamp accepts old old.scene new → Standing u ends new
   plain doing law stamp accepts old new i z = acted doing law stamp accepts old old.scene new i i.kept refl refl z
 
-  steps : (e : StageEvent) (old new : Stage) → Standing u ends old → StageSteps gives ends e old new → Standing u ends new
-  steps (Makes_call call answer accepts stamp) old new i z = plain (Doing.Makes call answer) z.0 stamp accepts old new i z.2
-  steps Starts_again old new i z =
+  keeps : (e : StageEvent) (old new : Stage) → (e ≡ Gives_way → ⊥) → Standing u ends old → StageSteps gives ends e old new → Standing u ends new
+  keeps (Makes_call call answer accepts stamp) old new n i z = plain (Doing.Makes call answer) z.0 stamp accepts old new i z.2
+  keeps Starts_again old new n i z =
       let first : model_view new.system ≡ first_view u = first_shows new.system z.0.step.1 ∙ ap first_view (z.0.configured ∙ i.setup) in
       record {
         kept = comes_kept u ends Restarts old.scene new.scene f one i.kept
@@ -138,27 +125,18 @@ module _ (gives : ℕ → ℕ → ℕ → Type 0) (u : SystemSetup) (ends : ℕ 
         setup = z.0.configured ∙ i.setup;
         view = ap (λ (w : Scene). w.view) z.1;
       }
-  steps (Forces_conversation agg conv answer) old new i z = forces agg conv (Doing.Forces agg conv) answer old new i z
-  steps (Offers_conversation agg conv answer accepts) old new i z =
+  keeps (Forces_conversation agg conv answer) old new n i z = forces agg conv (Doing.Forces agg conv) answer old new i z
+  keeps (Offers_conversation agg conv answer accepts) old new n i z =
       plain (Doing.Offers agg conv answer) ModelCall.Offer 0 accepts old new i z
-  steps (Leaves_conversation agg conv answer) old new i z =
+  keeps (Leaves_conversation agg conv answer) old new n i z =
       plain (Doing.Leaves agg conv answer) ModelCall.Move_conversation 0 takes_all old new i z
-  steps (Probes_port port answer accepts) old new i z = plain (Doing.Probes port answer) ModelCall.Transmit 0 accepts old new i z
-  steps (Rests_conversation agg conv answer) old new i z = forces agg conv (Doing.Rests agg conv) answer old new i z
-  steps (Forces_port port (Ok count)) old new i z = held port count old new i z
-  steps (Forces_port port (Err fault)) old new i z = stays old new z.1 i
-  steps (Changes_setting setting answer) old new i z = plain (Doing.Sets setting answer) ModelCall.Tick 0 takes_all old new i z
-  steps Gives_way old new i z = record {
-    kept = subst (Kept u ends) (sym z.2) (record {
-      lanes = lanes_succeeded i.kept.lanes ((model_view new.system).flows) z.0.on z.0.waits z.0.next;
-      members = subst (λ (u : SystemSetup). Members u ((model_view new.system).port)) i.setup z.0.members;
-      heard = z.0.heard;
-    });
-    counts = unsent old.scene new.scene (ap (λ (w : Scene). w.sent) z.2) i.counts;
-    setup = z.1 ∙ i.setup;
-    view = ap (λ (w : Scene). w.view) z.2;
-  }
-  steps (Befalls e) old new i z =
+  keeps (Probes_port port answer accepts) old new n i z = plain (Doing.Probes port answer) ModelCall.Transmit 0 accepts old new i z
+  keeps (Rests_conversation agg conv answer) old new n i z = forces agg conv (Doing.Rests agg conv) answer old new i z
+  keeps (Forces_port port (Ok count)) old new n i z = held port count old new i z
+  keeps (Forces_port port (Err fault)) old new n i z = stays old new z.1 i
+  keeps (Changes_setting setting answer) old new n i z = plain (Doing.Sets setting answer) ModelCall.Tick 0 takes_all old new i z
+  keeps Gives_way old new n i z = absurd (n refl)
+  keeps (Befalls e) old new n i z =
       let comes = subst (λ (u : SystemSetup). Comes u ends e old.scene new.scene) i.setup z.2 in
       record {
         kept = comes_kept u ends e old.scene new.scene f one i.kept comes;
@@ -167,42 +145,66 @@ module _ (gives : ℕ → ℕ → ℕ → Type 0) (u : SystemSetup) (ends : ℕ 
         view = outside_view u ends e old.scene new.scene z.0 comes ∙ i.view ∙ ap model_view (sym z.1);
       }
 
-  runs : (es : List StageEvent) (old new : Stage) → Standing u ends old → StageRun gives ends es old new → Standing u ends new
-  runs [] old new i z = stays old new z i
-  runs (e ∷ es) old new i z = runs es z.0 new (steps e old z.0 i z.1) z.2
+  -- another system goes on, of this configuration
+  steps : (e : StageEvent) (old new : Stage) → Standing u ends old → StageSteps gives ends e old new → Stood ends new
+  steps Gives_way old new i z =
+      let members = members_alike (model_setup old.system) (model_setup new.system) ((model_view new.system).port) z.1 z.0.members in (
+        model_setup new.system,
+        z.1.setup,
+        record {
+          kept = subst (Kept (model_setup new.system) ends) (sym z.2) (record {
+            lanes = lanes_succeeded i.kept.lanes ((model_view new.system).flows) z.0.on z.0.waits z.0.next;
+            members = members;
+            heard = z.0.heard;
+          });
+          counts = unsent old.scene new.scene (ap (λ (w : Scene). w.sent) z.2) i.counts;
+          setup = refl;
+          view = ap (λ (w : Scene). w.view) z.2;
+        },
+      )
+  steps e old new i z = (u, f, keeps e old new (λ h. cc) i z)
+
+runs : (gives : ℕ → ℕ → ℕ → Type 0) (ends : ℕ → Option ℕ) → ((c d p : ℕ) → ends c ≡ Some p → ends d ≡ Some p → c ≡ d) → (es : List StageEvent)
+    (old new : Stage) → Stood ends old → StageRun gives ends es old new → Stood ends new
+runs gives ends one [] old new i z = subst (Stood ends) (sym z) i
+runs gives ends one (e ∷ es) old new i z =
+    runs gives ends one es z.0 new (steps gives i.0 ends i.1 one e old z.0 i.2 z.1) z.2
 
 stood : (gives : ℕ → ℕ → ℕ → Type 0) (ends : ℕ → Option ℕ) (events : List StageEvent) (start end : Stage)
     → ((c d p : ℕ) → ends c ≡ Some p → ends d ≡ Some p → c ≡ d) → IsFirst start.system
-    → start.scene ≡ first_scene (model_setup start.system) → StageRun gives ends events start end
-    → Standing (model_setup start.system) ends end
+    → start.scene ≡ first_scene (model_setup start.system) → StageRun gives ends events start end → Stood ends end
 stood gives ends events start end one first e z =
     let u = model_setup start.system in
     let f = configured_setup start.system in
-    runs gives u ends f one events start end (record {
-      kept = subst (Kept u ends) (sym e) (first_kept u ends f);
-      counts = subst SerialsCountFromZero (sym e) (none_counted u);
-      setup = refl;
-      view = ap (λ (w : Scene). w.view) e ∙ sym (first_shows start.system first);
-    }) z
+    runs gives ends one events start end (
+      u,
+      f,
+      record {
+        kept = subst (Kept u ends) (sym e) (first_kept u ends f);
+        counts = subst SerialsCountFromZero (sym e) (none_counted u);
+        setup = refl;
+        view = ap (λ (w : Scene). w.view) e ∙ sym (first_shows start.system first);
+      },
+    ) z
 
 pub partner_beside : (gives : ℕ → ℕ → ℕ → Type 0) → HoldsBesideAnyPeer gives (λ w. OnePartner w.view)
 partner_beside gives ends events start end one first e z =
     let i = stood gives ends events start end one first e z in
-    (one_partner (model_setup start.system) end.scene.view i.kept.members, i.view)
+    (one_partner i.0 end.scene.view i.2.kept.members, i.2.view)
 
 pub order_beside : (gives : ℕ → ℕ → ℕ → Type 0) → HoldsBesideAnyPeer gives OrderHolds
 order_beside gives ends events start end one first e z =
     let i = stood gives ends events start end one first e z in
-    (λ g k h. handed_front (i.kept.lanes.orderly g k 0 h), i.view)
+    (λ g k h. handed_front (i.2.kept.lanes.orderly g k 0 h), i.2.view)
 
 pub took_beside : (gives : ℕ → ℕ → ℕ → Type 0) → HoldsBesideAnyPeer gives TookInSync
 took_beside gives ends events start end one first e z =
     let i = stood gives ends events start end one first e z in
-    (took_in_sync (model_setup start.system) end.scene i.kept.members i.kept.heard, i.view)
+    (took_in_sync i.0 end.scene i.2.kept.members i.2.kept.heard, i.2.view)
 
 pub counts_beside : (gives : ℕ → ℕ → ℕ → Type 0) → HoldsBesideAnyPeer gives SerialsCountFromZero
 counts_beside gives ends events start end one first e z =
-    let i = stood gives ends events start end one first e z in (i.counts, i.view)
+    let i = stood gives ends events start end one first e z in (i.2.counts, i.2.view)
 
 -- ---- each call is an event
 
@@ -338,15 +340,15 @@ waits_not_on p q n e = cc
 pub gives_way_beside : (gives : ℕ → ℕ → ℕ → Type 0) → MayGiveWayToItself gives
 gives_way_beside gives ends events start end one first e z on =
     let i = stood gives ends events start end one first e z in
-    let own : IsSuccessor (model_setup start.system) end.scene.view end.scene.taken end.scene.view = record {
-      members = i.kept.members;
-      heard = i.kept.heard;
+    let own : IsSuccessor i.0 end.scene.view end.scene.taken end.scene.view = record {
+      members = i.2.kept.members;
+      heard = i.2.kept.heard;
       on = on;
       waits = λ g k p n h. waits_not_on p p n (sym h ∙ on g k p (ap conversation_port h));
       next = omega arith;
     } in (
-      subst (λ (u : SystemSetup). IsSuccessor u end.scene.view end.scene.taken (model_view end.system)) (sym i.setup)
-          (subst (λ (v : View). IsSuccessor (model_setup start.system) end.scene.view end.scene.taken v) i.view own),
-      refl,
-      ap (λ (v : View). record end.scene { view = v }) i.view,
+      subst (λ (u : SystemSetup). IsSuccessor u end.scene.view end.scene.taken (model_view end.system)) (sym i.2.setup)
+          (subst (λ (v : View). IsSuccessor i.0 end.scene.view end.scene.taken v) i.2.view own),
+      record { setup = configured_setup end.system; system = refl; key = λ g. refl; ports = λ p. refl },
+      ap (λ (v : View). record end.scene { view = v }) i.2.view,
     )

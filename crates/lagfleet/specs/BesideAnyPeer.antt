@@ -21,7 +21,7 @@ use Rattle.lagsystem.specs.ModelView.{CallSeenAs, EffectsSeenAs, model_setup, mo
 use Rattle.lagsystem.specs.Settings.{Setting, SettingPromise}
 use Rattle.lagsystem.specs.Sound.{CallPromise}
 use Rattle.lagsystem.specs.State.{SystemState}
-use Rattle.lagnetwork.specs.Network.{also_forced}
+use Rattle.lagnetwork.specs.Network.{IsAlikeSetup, also_forced}
 use Rattle.lagfleet.specs.Doing.{Doing, Does, IsRefused, offered}
 use Rattle.lagfleet.specs.Fleet.{IsOther, is_held}
 
@@ -103,7 +103,7 @@ StageSteps gives ends (Changes_setting setting answer) old new =
     Acts gives ends (Doing.Sets setting answer) ModelCall.Tick 0 takes_all old old.scene new
 StageSteps gives ends Gives_way old new =
     IsSuccessor (model_setup old.system) old.scene.view old.scene.taken (model_view new.system)
-    × (model_setup new.system ≡ model_setup old.system)
+    × IsAlikeSetup (model_setup old.system) (model_setup new.system)
     × (new.scene ≡ record old.scene { view = model_view new.system })
 StageSteps gives ends (Befalls e) old new =
     IsOutside e × (new.system ≡ old.system) × Comes (model_setup old.system) ends e old.scene new.scene

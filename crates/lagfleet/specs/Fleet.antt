@@ -3,7 +3,7 @@ use Rattle.std.specs.Prelude.{◌≡◌, ℕ, Bool, ◌&&◌, true, false, cond,
 use Rattle.lagtypes.specs.declared.identifiers.AggId.{AggId}
 use Rattle.distributor.specs.Chains.{is_held_on}
 use Rattle.distributor.specs.Conversations.{assignment_of}
-use Rattle.lagmodel.specs.View.{ControlMessage, ModelCall, PortFacts}
+use Rattle.lagmodel.specs.View.{ControlMessage, ModelCall, PortFacts, SystemSetup}
 use Rattle.lagmodel.specs.Move.{Act}
 use Rattle.lagmodel.specs.World.{Message, Control, Data, at_two}
 use Rattle.lagsystem.specs.declared.drive.HostCall.{HostCall}
@@ -163,7 +163,7 @@ pub data FleetEvent : Type 0 where
   Asks_call : (s : ℕ) (call : HostCall) (answer : HostReply) (accepts : Act → Bool) → FleetEvent
   Changes_setting : (s : ℕ) (setting : Setting) (answer : Result Unit SystemFault) → FleetEvent
   Hears_again : (s p : ℕ) (octets : List ℕ) (answer : Reply) (accepts : Act → Bool) → FleetEvent
-  Gives_way : (s : ℕ) → FleetEvent
+  Gives_way : (s : ℕ) (setup : SystemSetup) → FleetEvent
   Befalls : (e : NetworkEvent) → FleetEvent
 
 -- it happens on cables alone
@@ -184,16 +184,17 @@ FleetSteps gives far (Changes_setting s setting answer) old new =
     Answers gives far s (Sets setting answer) ModelCall.Tick 0 (λ a. true) old old.net new.systems new.net
 FleetSteps gives far (Hears_again s p octets answer accepts) old new =
     FleetRepeats gives far s p octets answer accepts (old.net.towards s p) old new
--- a system gives way to one of the same configuration, as after a warm start
-FleetSteps gives far (Gives_way s) old new =
-    (model_setup (new.systems s) ≡ model_setup (old.systems s))
+-- a system gives way to one with this configuration, as after a warm start
+FleetSteps gives far (Gives_way s setup) old new =
+    (model_setup (new.systems s) ≡ setup)
     × (new.systems ≡ at_system old.systems s (new.systems s))
-    × NetworkHappens (fleet_setup far old.systems) (Succeed s (model_view (new.systems s))) old.net new.net
+    × NetworkHappens (fleet_setup far old.systems) (Succeed s setup (model_view (new.systems s))) old.net new.net
 FleetSteps gives far (Befalls e) old new =
     IsOnCables e × (new.systems ≡ old.systems) × NetworkHappens (fleet_setup far old.systems) e old.net new.net
 
--- the cables after an event
+-- the cables and the configurations after an event
 abbrev pub recabled_by : NetworkSetup → FleetEvent → NetworkSetup
+recabled_by x (Gives_way s setup) = record x { setup = at_system x.setup s setup }
 recabled_by x (Befalls e) = recabled x e
 recabled_by x e = x
 

@@ -12,8 +12,8 @@ ghost use Rattle.lagfleet.specs.Fleet.{FleetTookFromFixedEnd, IsFleetInvariant};
 //    what is on them; LACPDUs may overtake data, and no frame comes twice
 // contract: `fleet` (`one_partner`, `agree`, `in_order`, `each_in_order`, `counts_from_zero`, `took_from_far_end`, `took_from_fixed_end`,
 //    `names_far_end`, `took_synchronized`, `one_device`, `not_with_itself`)
-// premises: those of the law of two systems; no slow protocols frame is offered by number; a system that takes over has the configuration
-//    and meets `IsNetworkSuccessor`
+// premises: those of the law of two systems; no slow protocols frame is offered by number; a system that takes over has the identifier, the
+//    keys of aggregators and the ports of the one before (`IsAlikeSetup`), and meets `IsNetworkSuccessor`: its first marker may be any
 /// After every list of calls of any number of systems, each with an algorithm of its own, whatever the algorithms return: those of
 /// `HostCall`, settings, and takeovers by a system that goes on where another was, as after a warm start. LACPDUs may overtake data, and
 /// cables may be taken out and put in elsewhere at any time (6.2.4, 6.3.6, 6.4.14, 6.5; profile).
@@ -75,7 +75,8 @@ ghost use Rattle.lagfleet.specs.BesideAnyPeer.{EachRestartBesideAnyPeer, EachSet
 //    `each_force`, `each_host_call`, `each_setting`, `each_happening`, `takeovers`)
 // premises: a Marker Response on a cable answers the marker that came there first; no port has two cables; cables and peers keep the order
 //    of data and markers, and repeat no data; a link is said to be down only while its cable is cut; what comes in a call stands first on its cable
-//    (`Fits`); a restart loses what is on the cables; a takeover is by a system that may follow (`IsSuccessor` of lagmodel)
+//    (`Fits`); a restart loses what is on the cables; a takeover is by a system that may follow (`IsSuccessor` of lagmodel), and has the
+//    identifier, the keys of aggregators and the ports of the one before (`IsAlikeSetup`)
 /// One system beside peers of any kind and number, however they are wired, as `order_with_any_peer` of `lagmodel` has it of definitions:
 /// after every list of calls, octets received, with those of hosts, settings and takeovers. One premise: on a cable a Marker Response
 /// answers the marker that has come there first (6.2.4, 6.4.9, 6.4.14, 6.5.4; profile).

@@ -3,6 +3,7 @@ pub mod NetworkLines
 pub mod Networks
 pub mod NetworkMoves
 pub mod NetworkEvents
+mod NetworkReceives
 pub mod NetworkSources
 pub mod NetworkLaws
 pub mod NetworkWitness

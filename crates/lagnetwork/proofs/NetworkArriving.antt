@@ -124,7 +124,7 @@ happens x (NetworkEvent.Force s g k) old new h z = elim z [
 ]
 happens x (NetworkEvent.Frees s test) old new h z = subst Parts (sym z) h
 happens x (NetworkEvent.Overtake s p line) old new h z = subst Parts (sym z.1) h
-happens x (NetworkEvent.Succeed s after) old new h z = subst Parts (sym z.1) h
+happens x (NetworkEvent.Succeed s setup after) old new h z = subst Parts (sym z.2) h
 happens x (NetworkEvent.Hear s p pdu stamp) old new h z = called x s (ModelCall.Receive p pdu) stamp old old new h z.1
 happens x (NetworkEvent.Pull s p) old new h z = subst Parts (sym z) h
 happens x (NetworkEvent.Plug s p t q) old new h z = subst Parts (sym z.2) h

@@ -1,10 +1,10 @@
 -- The serial numbers of each conversation of a network are 0, 1, 2 and so on.
 use Rattle.lagnetwork.proofs.Common.{Bool, List, None, Option, Some, [], arith, get_or, inl, inr, length, length-append, subst, sym, ℕ, ◌++◌, ◌<◌}
-use Rattle.lagnetwork.proofs.Common.{◌∙◌, ◌∷◌, ◌≡◌, cases_lt, Act, Move, Sends, Sends_frame, Took, act, ModelCall, Control, Data, Message, sent_after}
-use Rattle.lagnetwork.proofs.Common.{two_cases, DeliversFirstAt, Network, NetworkCall, NetworkEvent, NetworkHappens, NetworkRun, NetworkSetup, Place}
-use Rattle.lagnetwork.proofs.Common.{RepeatsFirstAt, at_system, first_network, handed_up_from, network_after, network_after_all, recabled}
-use Rattle.lagnetwork.proofs.Common.{without_first, AllCountFromZero}
+use Rattle.lagnetwork.proofs.Common.{◌∙◌, ◌∷◌, ◌≡◌, cases_lt, Act, Move, Sends, Sends_frame, Took, act, ModelCall, sent_after, two_cases, Network}
+use Rattle.lagnetwork.proofs.Common.{NetworkCall, NetworkEvent, NetworkHappens, NetworkRun, NetworkSetup, at_system, first_network, network_after}
+use Rattle.lagnetwork.proofs.Common.{network_after_all, recabled, AllCountFromZero}
 use Rattle.std.proofs.lemmas.List.{get_or_append_left, get_or_push}
+use Rattle.lagnetwork.proofs.NetworkReceives.{again_kept, comes_kept}
 use Rattle.lagnetwork.proofs.Networks.{there, elsewhere, is_or_not}
 
 abbrev IsCount : List ℕ → Type 0
@@ -44,33 +44,13 @@ counted_call : (x : NetworkSetup) (s : ℕ) (call : ModelCall) (stamp : ℕ) (ol
     → NetworkCall x s call stamp old mid new → AllCountFromZero new
 counted_call x s call stamp old mid new h z = subst AllCountFromZero (sym z.2.2) (counted_all x s stamp z.0 mid h)
 
-counted_up : (t : ℕ) (o : Option Place) (up : Option ℕ) (g k n : ℕ) (w : Network) → AllCountFromZero w
-    → AllCountFromZero (handed_up_from t o up g k n w)
-counted_up t None up g k n w h = h
-counted_up t (Some a) None g k n w h = h
-counted_up t (Some a) (Some y) g k n w h = h
-
-counted_comes : (x : NetworkSetup) (s p : ℕ) (line : List Message) (old new : Network) → AllCountFromZero old
-    → DeliversFirstAt x s p line old new → AllCountFromZero new
-counted_comes x s p [] old new h z = subst AllCountFromZero (sym z) h
-counted_comes x s p (Control pdu stamp ∷ ms) old new h z = subst AllCountFromZero (sym z.2)
-    (counted_call x s (ModelCall.Receive p (Some pdu)) stamp old old z.0 h z.1)
-counted_comes x s p (Data origin g k n ∷ ms) old new h z = subst AllCountFromZero (sym z.3)
-    (counted_up s (x.far s p) z.0 g k n (without_first s p z.1) (counted_call x s (ModelCall.Receive p None) 0 old old z.1 h z.2))
-
-counted_again : (x : NetworkSetup) (s p : ℕ) (line : List Message) (old new : Network) → AllCountFromZero old
-    → RepeatsFirstAt x s p line old new → AllCountFromZero new
-counted_again x s p [] old new h z = subst AllCountFromZero (sym z) h
-counted_again x s p (Data origin g k n ∷ ms) old new h z = subst AllCountFromZero (sym z) h
-counted_again x s p (Control pdu stamp ∷ ms) old new h z = counted_call x s (ModelCall.Receive p (Some pdu)) stamp old old new h z
-
 counted_happens : (x : NetworkSetup) (e : NetworkEvent) (old new : Network) → AllCountFromZero old → NetworkHappens x e old new
     → AllCountFromZero new
 counted_happens x (NetworkEvent.Tick s n) old new h z = counted_call x s ModelCall.Tick 0 old old new h z
 counted_happens x (NetworkEvent.Emit s p) old new h z = counted_call x s ModelCall.Transmit 0 old old new h z
-counted_happens x (NetworkEvent.Deliver s p) old new h z = counted_comes x s p (old.towards s p) old new h z
+counted_happens x (NetworkEvent.Deliver s p) old new h z = comes_kept AllCountFromZero x (counted_call x) (λ w towards h. h) (λ w collected arrived h. h) s p (old.towards s p) old new h z
 counted_happens x (NetworkEvent.Lose s p) old new h z = subst AllCountFromZero (sym z) h
-counted_happens x (NetworkEvent.Repeat s p) old new h z = counted_again x s p (old.towards s p) old new h z
+counted_happens x (NetworkEvent.Repeat s p) old new h z = again_kept AllCountFromZero x (counted_call x) (λ w towards h. h) (λ w collected arrived h. h) s p (old.towards s p) old new h z
 counted_happens x (NetworkEvent.Cut s p) old new h z = subst AllCountFromZero (sym z) h
 counted_happens x (NetworkEvent.Join s p) old new h z = subst AllCountFromZero (sym z) h
 counted_happens x (NetworkEvent.Sense s p) old new h z = counted_call x s (ModelCall.Set_link p (old.whole s p)) 0 old old new h z
@@ -84,7 +64,7 @@ counted_happens x (NetworkEvent.Force s g k) old new h z = elim z [
 ]
 counted_happens x (NetworkEvent.Frees s test) old new h z = subst AllCountFromZero (sym z) h
 counted_happens x (NetworkEvent.Overtake s p line) old new h z = subst AllCountFromZero (sym z.1) h
-counted_happens x (NetworkEvent.Succeed s after) old new h z = subst AllCountFromZero (sym z.1) h
+counted_happens x (NetworkEvent.Succeed s setup after) old new h z = subst AllCountFromZero (sym z.2) h
 counted_happens x (NetworkEvent.Hear s p pdu stamp) old new h z = counted_call x s (ModelCall.Receive p pdu) stamp old old new h z.1
 counted_happens x (NetworkEvent.Pull s p) old new h z = subst AllCountFromZero (sym z) h
 counted_happens x (NetworkEvent.Plug s p t q) old new h z = subst AllCountFromZero (sym z.2) h

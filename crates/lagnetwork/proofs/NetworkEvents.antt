@@ -1,19 +1,19 @@
 -- Every event of a network preserves the facts, and so does every run.
 use Rattle.lagnetwork.proofs.Common.{Bool, List, None, Option, Some, [], ap, cond, eq-eqb, eqb, eqb-true, false, inl, inr, refl, subst, sym, true, ℕ}
 use Rattle.lagnetwork.proofs.Common.{◌&&◌, ◌++◌, ◌∙◌, ◌∷◌, ◌≡◌, and_from, and_parts, cases_Bool, false≢true, true≢false, none-some, drop, Party}
-use Rattle.lagnetwork.proofs.Common.{Configure, ControlMessage, Force, ModelCall, Move_conversation, Offer, Receive, Set_link, Tick, Transmit, View}
-use Rattle.lagnetwork.proofs.Common.{first_view, is_restart, Control, Data, Message, One, Side, at_cable, at_two, party_at, cond_false, cond_true}
-use Rattle.lagnetwork.proofs.Common.{cable_cases, lanes_first, lanes_handed, lanes_restarted, two_cases, Every, IsFrom, members_first, Stamps}
-use Rattle.lagnetwork.proofs.Common.{heard_first, stamps_emptied, stamps_first, CountsNetworkChanges, DeliversFirstAt, IsNetworkSetup}
-use Rattle.lagnetwork.proofs.Common.{IsNetworkSuccessor, Network, NetworkCall, NetworkEvent, NetworkHappens, NetworkRun, NetworkSetup, Place}
-use Rattle.lagnetwork.proofs.Common.{RepeatsFirstAt, also_forced, at_place, at_system, ends_at, first_network, freed_view, handed_up_from, is_at}
-use Rattle.lagnetwork.proofs.Common.{is_end, moved_again, recabled, recabled_all, without_first}
+use Rattle.lagnetwork.proofs.Common.{Members, Configure, ControlMessage, Force, IsSystemSetup, ModelCall, Move_conversation, Offer, PortFacts}
+use Rattle.lagnetwork.proofs.Common.{Receive, Set_link, SystemSetup, Tick, Transmit, View, first_view, is_restart, Control, Data, Message, One, Side}
+use Rattle.lagnetwork.proofs.Common.{at_cable, at_two, party_at, cond_false, cond_true, cable_cases, lanes_first, lanes_handed, lanes_restarted}
+use Rattle.lagnetwork.proofs.Common.{two_cases, Every, IsFrom, members_first, Stamps, heard_first, stamps_emptied, stamps_first, CountsNetworkChanges}
+use Rattle.lagnetwork.proofs.Common.{DeliversFirstAt, IsAlikeSetup, IsNetworkSetup, IsNetworkSuccessor, Network, NetworkCall, NetworkEvent}
+use Rattle.lagnetwork.proofs.Common.{NetworkHappens, NetworkRun, NetworkSetup, Place, RepeatsFirstAt, also_forced, at_place, at_system, ends_at}
+use Rattle.lagnetwork.proofs.Common.{first_network, freed_view, handed_up_from, is_at, is_end, moved_again, recabled, recabled_all, without_first}
+use Rattle.lagmodel.specs.View.{Restart}
+use Rattle.lagnetwork.proofs.NetworkLines.{IsOwn, NamesSender, lanes_succeeded, ends_of, at_far, out_of, SeenAlike, BeginsWith, Amid, IsLess}
+use Rattle.lagnetwork.proofs.NetworkLines.{lanes_less, ends_once, same_near}
 use Rattle.lagnetwork.proofs.NetworkMoves.{end_alike, plug_setup, plugged_kept, pull_setup, pulled_kept}
 use Rattle.lagnetwork.proofs.Networks.{Last, freed_part, apart_first, Fine, FineIn, AllFine, Calling, call_kept, begins_call, fine_along, less_part}
 use Rattle.lagnetwork.proofs.Networks.{counted_part, forced_part, there, elsewhere, is_or_not}
-use Rattle.lagmodel.specs.View.{Restart}
-use Rattle.lagnetwork.proofs.NetworkLines.{lanes_succeeded, ends_of, at_far, out_of, SeenAlike, BeginsWith, Amid, IsLess, lanes_less, ends_once}
-use Rattle.lagnetwork.proofs.NetworkLines.{same_near}
 use Rattle.lagmodel.proofs.Events.{quiet}
 
 quiet_not : (call other : ModelCall) → quiet call ≡ true → quiet other ≡ false → call ≡ other → ⊥
@@ -424,7 +424,7 @@ freed_kept x s test w i = record {
 
 -- another system takes the place of one
 succeeded_kept : (x : NetworkSetup) (s : ℕ) (after : View) (w : Network) → IsNetworkSuccessor x w s after → AllFine x w
-    → AllFine x (record w { view = at_system w.view s after; moved = at_system w.moved s (λ p. moved_again (w.moved s p) (after.port p)) })
+    → AllFine x (record w { view = at_system w.view s after; moved = at_system w.moved s (λ p. moved_again (w.moved s p) ((w.view s).port p) (after.port p)) })
 succeeded_kept x s after w y i = record {
   alike = i.alike;
   each = λ r. is_or_not (With (at_system w.view s after r) r) r s
@@ -448,6 +448,45 @@ succeeded_kept x s after w y i = record {
       last = λ t. subst (λ (party : ℕ → Option Party). Last x s party (w.count s) (w.taken t) (w.source t)) (λ j p. sym (y.parties p) j)
           ((i.each s).last t);
     }
+
+-- and its configuration is another
+
+pub members_alike : (u v : SystemSetup) (ports : ℕ → Option PortFacts) → IsAlikeSetup u v → Members u ports → Members v ports
+members_alike u v ports a m = record {
+  configured = λ p. m.configured p ∙ sym (a.ports p);
+  number = m.number;
+  own = λ p b h. m.own p b h ∙ sym a.system;
+  key = λ p g b h e. a.key g ∙ m.key p g b h e;
+  group = m.group;
+  member = m.member;
+}
+
+setup_changed : (x : NetworkSetup) (s : ℕ) (setup : SystemSetup) (after : View) → IsAlikeSetup (x.setup s) setup → (w : Network)
+    → AllFine x w → AllFine (recabled x (NetworkEvent.Succeed s setup after)) w
+setup_changed x s setup after a w i = record {
+  alike = i.alike;
+  each = λ r. let f = i.each r in record {
+    members = is_or_not (Members (setups r) (w.view r).port) r s
+        (λ e. subst (λ r. Members (setups r) (w.view r).port) (sym e) (subst (λ (u : SystemSetup). Members u (w.view s).port)
+        (sym (there x.setup s setup)) (members_alike (x.setup s) setup (w.view s).port a (i.each s).members)))
+        (λ ne. subst (λ (u : SystemSetup). Members u (w.view r).port) (sym (elsewhere x.setup s setup r ne)) f.members);
+    lanes = f.lanes;
+    heard = f.heard;
+    stamps = f.stamps;
+    apart = f.apart;
+    names = λ c. subst (λ m. Every (NamesSender m c) (out_of x w.towards r c)) (sym (same r)) (f.names c);
+    last = λ t p c l e h. let k = f.last t p c l e h in (k.0, subst (λ m. IsOwn m c l.pdu) (sym (same r)) k.1);
+  };
+}
+  where
+    setups : ℕ → SystemSetup
+    setups = at_system x.setup s setup
+
+    same : (r : ℕ) → (setups r).system ≡ (x.setup r).system
+    same r = is_or_not ((setups r).system ≡ (x.setup r).system) r s
+        (λ e. subst (λ r. (setups r).system ≡ (x.setup r).system) (sym e)
+        (ap (λ (u : SystemSetup). u.system) (there x.setup s setup) ∙ a.system))
+        (λ ne. ap (λ (u : SystemSetup). u.system) (elsewhere x.setup s setup r ne))
 
 -- a port without a cable hears anything
 hears_kept : (x : NetworkSetup) → IsNetworkSetup x → (s p : ℕ) (pdu : Option ControlMessage) (stamp : ℕ) (old new : Network) → AllFine x old
@@ -481,7 +520,11 @@ happens_kept x f (NetworkEvent.Force s g k) old new i z = force_kept x f s g k o
 happens_kept x f (NetworkEvent.Frees s test) old new i z = subst (AllFine x) (sym z) (freed_kept x s test old i)
 happens_kept x f (NetworkEvent.Overtake s p line) old new i z =
     subst (AllFine x) (sym z.1) (line_kept x old s p line (inr (inr (inr z.0))) i)
-happens_kept x f (NetworkEvent.Succeed s after) old new i z = subst (AllFine x) (sym z.1) (succeeded_kept x s after old z.0 i)
+happens_kept x f (NetworkEvent.Succeed s setup after) old new i z = subst (AllFine (recabled x (NetworkEvent.Succeed s setup after))) (sym z.2)
+    (setup_changed x s setup after z.0 (record old {
+      view = at_system old.view s after;
+      moved = at_system old.moved s (λ p. moved_again (old.moved s p) ((old.view s).port p) (after.port p));
+    }) (succeeded_kept x s after old z.1 i))
 happens_kept x f (NetworkEvent.Hear s p pdu stamp) old new i z = hears_kept x f s p pdu stamp old new i z.0 z.1
 happens_kept x f (NetworkEvent.Pull s p) old new i z =
     subst (AllFine (recabled x (NetworkEvent.Pull s p))) (sym z) (pulled_kept x f s p old i)
@@ -493,6 +536,12 @@ pub setup_kept : (x : NetworkSetup) → IsNetworkSetup x → (e : NetworkEvent) 
     → IsNetworkSetup (recabled x e)
 setup_kept x f (NetworkEvent.Pull s p) old new z = pull_setup x f s p
 setup_kept x f (NetworkEvent.Plug s p t q) old new z = plug_setup x f s p t q z.0 z.1
+setup_kept x f (NetworkEvent.Succeed s setup after) old new z = record {
+  setup = λ t. is_or_not (IsSystemSetup (at_system x.setup s setup t)) t s
+      (λ e. subst (λ t. IsSystemSetup (at_system x.setup s setup t)) (sym e) (subst IsSystemSetup (sym (there x.setup s setup)) z.0.setup))
+      (λ ne. subst IsSystemSetup (sym (elsewhere x.setup s setup t ne)) (f.setup t));
+  cables = f.cables;
+}
 setup_kept x f e old new z = f
 
 -- every run

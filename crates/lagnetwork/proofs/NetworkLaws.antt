@@ -1,11 +1,12 @@
 -- What follows in a network in which the facts hold.
-use Rattle.lagnetwork.proofs.Common.{Some, [], ap, arith, eq-eqb, inl, inr, option_map, refl, subst, sym, true, ℕ, ◌++◌, ◌∙◌, ◌≡◌, same_Some, Party}
-use Rattle.lagnetwork.proofs.Common.{IsSubsequence, Members, serials, Flushing, Marker, On, PortFacts, Response, SystemSetup, View, conversation_port}
-use Rattle.lagnetwork.proofs.Common.{Control, One, TakenLacpdu, party_at, same_value, Every, MarkerBelow, NoneBehind, ResponseBelow, answers}
-use Rattle.lagnetwork.proofs.Common.{behind_split, every_contains, handed_front, one_partner, AllHeard, FreshPdu, Moved, Moved_down, Moved_up}
-use Rattle.lagnetwork.proofs.Common.{Network, NetworkSetup, Place, Unmoved, recabled_all, AllBelowNext, CablesAgree, CollectedThenFlying}
-use Rattle.lagnetwork.proofs.Common.{EachOnePartner, EachTookInSync, FlushedBehindMarker, FlyOnItsCable, GoesByItsCable, IsUpToDate, MaySucceedItself}
-use Rattle.lagnetwork.proofs.Common.{NamesFarEnd, NetworkInOrder, NotWithItself, OneDevice, TookFromFarEnd, TookFromFixedEnd, scene_of}
+use Rattle.lagnetwork.proofs.Common.{Option, Some, [], ap, arith, eq-eqb, inl, inr, option_map, refl, subst, sym, true, ℕ, ◌++◌, ◌∙◌, ◌≡◌, same_Some}
+use Rattle.lagnetwork.proofs.Common.{Party, IsSubsequence, Members, serials, Flushing, Marker, On, PortFacts, Response, SystemSetup, View}
+use Rattle.lagnetwork.proofs.Common.{conversation_port, Control, One, TakenLacpdu, party_at, same_value, Every, MarkerBelow, NoneBehind}
+use Rattle.lagnetwork.proofs.Common.{ResponseBelow, answers, behind_split, every_contains, handed_front, one_partner, AllHeard, FreshPdu, Moved}
+use Rattle.lagnetwork.proofs.Common.{Moved_down, Moved_up, Network, NetworkSetup, Place, Unmoved, recabled_all, AllBelowNext, CablesAgree}
+use Rattle.lagnetwork.proofs.Common.{CollectedThenFlying, EachOnePartner, EachTookInSync, FlushedBehindMarker, FlyOnItsCable, GoesByItsCable}
+use Rattle.lagnetwork.proofs.Common.{IsUpToDate, MaySucceedItself, NamesFarEnd, NetworkInOrder, NotWithItself, OneDevice, TookFromFarEnd}
+use Rattle.lagnetwork.proofs.Common.{TookFromFixedEnd, scene_of}
 use Rattle.lagnetwork.proofs.NetworkSources.{sourced, unmoved, Sourced}
 use Rattle.lagnetwork.proofs.NetworkEvents.{all_fine}
 use Rattle.lagnetwork.proofs.NetworkLines.{at_far, ends-some, ends_of, out_of}
@@ -138,5 +139,5 @@ took_from_fixed_end x events w f stays r =
     let took = took_from_far_end (recabled_all x events) w (all_fine x events w f r).1 (sourced x f events w r) in (
       u.0,
       λ s p a h d. took s p a h d (subst (λ (m : Moved). GoesByItsCable m a) (sym (u.1 s p)) tt)
-          ∙ ap (λ (x : NetworkSetup). x.far s p) u.0,
+          ∙ ap (λ (far : ℕ → ℕ → Option Place). far s p) u.0,
     )

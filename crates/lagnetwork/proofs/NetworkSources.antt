@@ -3,14 +3,15 @@ use Rattle.lagnetwork.proofs.Common.{Bool, List, None, Option, Some, [], ap, con
 use Rattle.lagnetwork.proofs.Common.{◌∷◌, ◌≡◌, cases_Bool, eqb-false, false≢true, true≢false, none-some, Act, Default, Desynchronize, DistributorMove}
 use Rattle.lagnetwork.proofs.Common.{Flow, Move, MoveAllowed, Port, PortAllowed, PortMove, Reconfigure, Restart, Send, Take, act, act_of_port}
 use Rattle.lagnetwork.proofs.Common.{distributor_act, port_act, port_after, view_after, ModelCall, PortFacts, SystemSetup, View, at_port, first_port}
-use Rattle.lagnetwork.proofs.Common.{first_view, Control, Data, Message, TakenLacpdu, taken_after, cond_false, cond_true, mapped_some, value_of}
-use Rattle.lagnetwork.proofs.Common.{changed_port, AllNetworkMoves, DeliversFirstAt, IsNetworkSetup, Moved, Moved_down, Moved_up, Network}
-use Rattle.lagnetwork.proofs.Common.{NetworkCall, NetworkEvent, NetworkHappens, NetworkRun, NetworkSetup, Place, RepeatsFirstAt, Unmoved, at_system}
-use Rattle.lagnetwork.proofs.Common.{first_network, freed_view, handed_up_from, is_end, moved_again, moved_of, network_after, network_after_all}
-use Rattle.lagnetwork.proofs.Common.{recabled, recabled_all, source_after, with_cable_moved, without_first, CablesStay}
+use Rattle.lagnetwork.proofs.Common.{first_view, Message, TakenLacpdu, taken_after, cond_false, cond_true, mapped_some, value_of, changed_port}
+use Rattle.lagnetwork.proofs.Common.{AllNetworkMoves, IsNetworkSetup, Moved, Moved_down, Moved_up, Network, NetworkCall, NetworkEvent, NetworkHappens}
+use Rattle.lagnetwork.proofs.Common.{NetworkRun, NetworkSetup, Place, Unmoved, at_system, first_network, follows_down, freed_view, is_end}
+use Rattle.lagnetwork.proofs.Common.{moved_again, moved_of, network_after, network_after_all, recabled, recabled_all, source_after, with_cable_moved}
+use Rattle.lagnetwork.proofs.Common.{CablesStay}
 use Rattle.lagnetwork.proofs.NetworkCalls.{itself}
 use Rattle.lagnetwork.proofs.NetworkEvents.{setup_kept}
 use Rattle.lagnetwork.proofs.NetworkMoves.{plug_away, pull_away}
+use Rattle.lagnetwork.proofs.NetworkReceives.{again_kept, comes_kept}
 use Rattle.lagnetwork.proofs.Networks.{elsewhere, is_or_not, there}
 
 -- of one system
@@ -153,26 +154,6 @@ sourced_call : (x : NetworkSetup) (s : ℕ) (call : ModelCall) (stamp : ℕ) (ol
     → NetworkCall x s call stamp old mid new → Sourced x new
 sourced_call x s call stamp old mid new i z = subst (Sourced x) (sym z.2.2) (sourced_all x s call stamp z.0 mid z.1 i)
 
-sourced_up : (x : NetworkSetup) (t : ℕ) (o : Option Place) (up : Option ℕ) (g k n : ℕ) (w : Network) → Sourced x w
-    → Sourced x (handed_up_from t o up g k n w)
-sourced_up x t None up g k n w i = i
-sourced_up x t (Some a) None g k n w i = i
-sourced_up x t (Some a) (Some h) g k n w i = i
-
-sourced_comes : (x : NetworkSetup) (s p : ℕ) (line : List Message) (old new : Network) → Sourced x old
-    → DeliversFirstAt x s p line old new → Sourced x new
-sourced_comes x s p [] old new i z = subst (Sourced x) (sym z) i
-sourced_comes x s p (Control pdu stamp ∷ ms) old new i z = subst (Sourced x) (sym z.2)
-    (sourced_call x s (ModelCall.Receive p (Some pdu)) stamp old old z.0 i z.1)
-sourced_comes x s p (Data origin g k n ∷ ms) old new i z = subst (Sourced x) (sym z.3)
-    (sourced_up x s (x.far s p) z.0 g k n (without_first s p z.1) (sourced_call x s (ModelCall.Receive p None) 0 old old z.1 i z.2))
-
-sourced_again : (x : NetworkSetup) (s p : ℕ) (line : List Message) (old new : Network) → Sourced x old
-    → RepeatsFirstAt x s p line old new → Sourced x new
-sourced_again x s p [] old new i z = subst (Sourced x) (sym z) i
-sourced_again x s p (Data origin g k n ∷ ms) old new i z = subst (Sourced x) (sym z) i
-sourced_again x s p (Control pdu stamp ∷ ms) old new i z = sourced_call x s (ModelCall.Receive p (Some pdu)) stamp old old new i z
-
 -- one system has another view, of which this holds
 sourced_with : (x : NetworkSetup) (w : Network) (s : ℕ) (v : View) (moved : ℕ → Moved) → Sourced x w
     → SourcedAt (x.far s) moved v.port (w.taken s) (w.source s)
@@ -195,23 +176,46 @@ sourced_view x w s v i h = subst (λ (m : ℕ → ℕ → Moved). Sourced x (rec
     (λ j t. sym (itself w.moved s t) j) (sourced_with x w s v (w.moved s) i h)
 
 -- a system follows
+
+up_parts : (a : PortFacts) → moved_of (Some a) ≡ Moved_up → (a.synchronized ≡ true) × (a.defaulted ≡ false)
+up_parts a h = go a.defaulted a.synchronized h
+  where
+    go : (b c : Bool) → cond b Moved_down (cond c Moved_up Moved_down) ≡ Moved_up → (c ≡ true) × (b ≡ false)
+    go true c e = absurd (up-down (sym e))
+    go false true e = (refl, refl)
+    go false false e = absurd (up-down (sym e))
+
+follows_unmoved : (now next : Moved) → (next ≡ Unmoved → ⊥) → follows_down now next ≡ Unmoved → now ≡ Moved_up
+follows_unmoved Moved_up next h e = refl
+follows_unmoved Moved_down next h e = absurd (h e)
+follows_unmoved Unmoved next h e = absurd (h e)
+
+follows_moved : (now next : Moved) → (next ≡ Moved_down → ⊥) → follows_down now next ≡ Moved_down → ⊥
+follows_moved Moved_up next h e = unmoved-down e
+follows_moved Moved_down next h e = h e
+follows_moved Unmoved next h e = h e
+
 sourced_next : (x : NetworkSetup) (w : Network) (s : ℕ) (after : View) → Sourced x w
-    → SourcedAt (x.far s) (λ p. moved_again (w.moved s p) (after.port p)) after.port (w.taken s) (w.source s)
+    → SourcedAt (x.far s) (λ p. moved_again (w.moved s p) ((w.view s).port p) (after.port p)) after.port (w.taken s) (w.source s)
 sourced_next x w s after i = record {
-  start = λ p m e h. (i s).start p m (was (w.moved s p) (after.port p) e) h;
-  down = λ p a e h y d. absurd (is_down (w.moved s p) (after.port p) a h y d e);
+  start = λ p m e h. begins p m (w.moved s p) ((w.view s).port p) refl refl (after.port p) e h;
+  down = λ p a e h y d. absurd (is_down (w.moved s p) ((w.view s).port p) (after.port p) a h y d e);
 }
   where
-    was : (m : Moved) (o : Option PortFacts) → moved_again m o ≡ Unmoved → m ≡ Unmoved
-    was Unmoved o e = refl
-    was Moved_down o e = absurd (moved_unmoved o e)
-    was Moved_up o e = absurd (moved_unmoved o e)
+    begins : (p : ℕ) (m : TakenLacpdu) (k : Moved) (now : Option PortFacts) → w.moved s p ≡ k → (w.view s).port p ≡ now
+        → (next : Option PortFacts) → moved_again k now next ≡ Unmoved → w.taken s p ≡ Some m → w.source s p ≡ x.far s p
+    begins p m Unmoved now is there next e h = (i s).start p m is h
+    begins p m Moved_down None is there next e h = absurd (up-down (sym (follows_unmoved (moved_of None) (moved_of next) (moved_unmoved next) e)))
+    begins p m Moved_down (Some a) is there next e h =
+        let up = up_parts a (follows_unmoved (moved_of (Some a)) (moved_of next) (moved_unmoved next) e) in
+        (i s).down p a is there up.0 up.1
+    begins p m Moved_up now is there next e h = absurd (moved_unmoved next e)
 
-    is_down : (m : Moved) (o : Option PortFacts) (a : PortFacts) → o ≡ Some a → a.synchronized ≡ true → a.defaulted ≡ false
-        → moved_again m o ≡ Moved_down → ⊥
-    is_down Unmoved o a h y d e = unmoved-down e
-    is_down Moved_down o a h y d e = moved_is_down o a h y d e
-    is_down Moved_up o a h y d e = moved_is_down o a h y d e
+    is_down : (m : Moved) (now next : Option PortFacts) (a : PortFacts) → next ≡ Some a → a.synchronized ≡ true → a.defaulted ≡ false
+        → moved_again m now next ≡ Moved_down → ⊥
+    is_down Unmoved now next a h y d e = unmoved-down e
+    is_down Moved_down now next a h y d e = follows_moved (moved_of now) (moved_of next) (moved_is_down next a h y d) e
+    is_down Moved_up now next a h y d e = moved_is_down next a h y d e
 
 -- these cables are moved
 sourced_moved : (x : NetworkSetup) (far' : ℕ → ℕ → Option Place) (ends : ℕ → ℕ → Bool) (whole : ℕ → ℕ → Bool)
@@ -237,9 +241,9 @@ sourced_happens : (x : NetworkSetup) → IsNetworkSetup x → (e : NetworkEvent)
     → NetworkHappens x e old new → Sourced (recabled x e) new
 sourced_happens x f (NetworkEvent.Tick s n) old new i z = sourced_call x s ModelCall.Tick 0 old old new i z
 sourced_happens x f (NetworkEvent.Emit s p) old new i z = sourced_call x s ModelCall.Transmit 0 old old new i z
-sourced_happens x f (NetworkEvent.Deliver s p) old new i z = sourced_comes x s p (old.towards s p) old new i z
+sourced_happens x f (NetworkEvent.Deliver s p) old new i z = comes_kept (Sourced x) x (sourced_call x) (λ w towards h. h) (λ w collected arrived h. h) s p (old.towards s p) old new i z
 sourced_happens x f (NetworkEvent.Lose s p) old new i z = subst (Sourced x) (sym z) i
-sourced_happens x f (NetworkEvent.Repeat s p) old new i z = sourced_again x s p (old.towards s p) old new i z
+sourced_happens x f (NetworkEvent.Repeat s p) old new i z = again_kept (Sourced x) x (sourced_call x) (λ w towards h. h) (λ w collected arrived h. h) s p (old.towards s p) old new i z
 sourced_happens x f (NetworkEvent.Cut s p) old new i z = subst (Sourced x) (sym z) i
 sourced_happens x f (NetworkEvent.Join s p) old new i z = subst (Sourced x) (sym z) i
 sourced_happens x f (NetworkEvent.Sense s p) old new i z = sourced_call x s (ModelCall.Set_link p (old.whole s p)) 0 old old new i z
@@ -255,8 +259,8 @@ sourced_happens x f (NetworkEvent.Force s g k) old new i z = elim z [
 sourced_happens x f (NetworkEvent.Frees s test) old new i z = subst (Sourced x) (sym z)
     (sourced_view x old s (freed_view test (old.view s)) i (i s))
 sourced_happens x f (NetworkEvent.Overtake s p line) old new i z = subst (Sourced x) (sym z.1) i
-sourced_happens x f (NetworkEvent.Succeed s after) old new i z = subst (Sourced x) (sym z.1)
-    (sourced_with x old s after (λ p. moved_again (old.moved s p) (after.port p)) i (sourced_next x old s after i))
+sourced_happens x f (NetworkEvent.Succeed s setup after) old new i z = subst (Sourced x) (sym z.2)
+    (sourced_with x old s after (λ p. moved_again (old.moved s p) ((old.view s).port p) (after.port p)) i (sourced_next x old s after i))
 sourced_happens x f (NetworkEvent.Hear s p pdu stamp) old new i z = sourced_call x s (ModelCall.Receive p pdu) stamp old old new i z.1
 sourced_happens x f (NetworkEvent.Pull s p) old new i z = subst (Sourced (recabled x (NetworkEvent.Pull s p))) (sym z)
     (sourced_moved x (recabled x (NetworkEvent.Pull s p)).far (is_end x s p) (with_cable_moved x false s p old).whole
@@ -292,41 +296,21 @@ unmoved_call x s call stamp old mid new h z = subst AllUnmoved (sym z.2.2) (stil
     still [] w h = h
     still (m ∷ ms) w h = still ms (network_after x s stamp m w) h
 
-unmoved_up : (t : ℕ) (o : Option Place) (up : Option ℕ) (g k n : ℕ) (w : Network) → AllUnmoved w
-    → AllUnmoved (handed_up_from t o up g k n w)
-unmoved_up t None up g k n w h = h
-unmoved_up t (Some a) None g k n w h = h
-unmoved_up t (Some a) (Some y) g k n w h = h
-
-unmoved_comes : (x : NetworkSetup) (s p : ℕ) (line : List Message) (old new : Network) → AllUnmoved old
-    → DeliversFirstAt x s p line old new → AllUnmoved new
-unmoved_comes x s p [] old new h z = subst AllUnmoved (sym z) h
-unmoved_comes x s p (Control pdu stamp ∷ ms) old new h z = subst AllUnmoved (sym z.2)
-    (unmoved_call x s (ModelCall.Receive p (Some pdu)) stamp old old z.0 h z.1)
-unmoved_comes x s p (Data origin g k n ∷ ms) old new h z = subst AllUnmoved (sym z.3)
-    (unmoved_up s (x.far s p) z.0 g k n (without_first s p z.1) (unmoved_call x s (ModelCall.Receive p None) 0 old old z.1 h z.2))
-
-unmoved_again : (x : NetworkSetup) (s p : ℕ) (line : List Message) (old new : Network) → AllUnmoved old
-    → RepeatsFirstAt x s p line old new → AllUnmoved new
-unmoved_again x s p [] old new h z = subst AllUnmoved (sym z) h
-unmoved_again x s p (Data origin g k n ∷ ms) old new h z = subst AllUnmoved (sym z) h
-unmoved_again x s p (Control pdu stamp ∷ ms) old new h z = unmoved_call x s (ModelCall.Receive p (Some pdu)) stamp old old new h z
-
 unmoved_next : (w : Network) (s : ℕ) (after : View) → AllUnmoved w
-    → AllUnmoved (record w { view = at_system w.view s after; moved = at_system w.moved s (λ p. moved_again (w.moved s p) (after.port p)) })
-unmoved_next w s after h t p = is_or_not (at_system w.moved s (λ p. moved_again (w.moved s p) (after.port p)) t p ≡ Unmoved) t s
-    (λ e. ap (λ t. at_system w.moved s (λ p. moved_again (w.moved s p) (after.port p)) t p) e
-    ∙ ap (λ (m : ℕ → Moved). m p) (there w.moved s (λ p. moved_again (w.moved s p) (after.port p)))
-    ∙ ap (λ (m : Moved). moved_again m (after.port p)) (h s p))
-    (λ ne. ap (λ (m : ℕ → Moved). m p) (elsewhere w.moved s (λ p. moved_again (w.moved s p) (after.port p)) t ne) ∙ h t p)
+    → AllUnmoved (record w { view = at_system w.view s after; moved = at_system w.moved s (λ p. moved_again (w.moved s p) ((w.view s).port p) (after.port p)) })
+unmoved_next w s after h t p = is_or_not (at_system w.moved s (λ p. moved_again (w.moved s p) ((w.view s).port p) (after.port p)) t p ≡ Unmoved) t s
+    (λ e. ap (λ t. at_system w.moved s (λ p. moved_again (w.moved s p) ((w.view s).port p) (after.port p)) t p) e
+    ∙ ap (λ (m : ℕ → Moved). m p) (there w.moved s (λ p. moved_again (w.moved s p) ((w.view s).port p) (after.port p)))
+    ∙ ap (λ (m : Moved). moved_again m ((w.view s).port p) (after.port p)) (h s p))
+    (λ ne. ap (λ (m : ℕ → Moved). m p) (elsewhere w.moved s (λ p. moved_again (w.moved s p) ((w.view s).port p) (after.port p)) t ne) ∙ h t p)
 
 unmoved_happens : (x : NetworkSetup) (e : NetworkEvent) (old new : Network) → CablesStay (e ∷ []) → AllUnmoved old
-    → NetworkHappens x e old new → (recabled x e ≡ x) × AllUnmoved new
+    → NetworkHappens x e old new → ((recabled x e).far ≡ x.far) × AllUnmoved new
 unmoved_happens x (NetworkEvent.Tick s n) old new c h z = (refl, unmoved_call x s ModelCall.Tick 0 old old new h z)
 unmoved_happens x (NetworkEvent.Emit s p) old new c h z = (refl, unmoved_call x s ModelCall.Transmit 0 old old new h z)
-unmoved_happens x (NetworkEvent.Deliver s p) old new c h z = (refl, unmoved_comes x s p (old.towards s p) old new h z)
+unmoved_happens x (NetworkEvent.Deliver s p) old new c h z = (refl, comes_kept AllUnmoved x (unmoved_call x) (λ w towards h. h) (λ w collected arrived h. h) s p (old.towards s p) old new h z)
 unmoved_happens x (NetworkEvent.Lose s p) old new c h z = (refl, subst AllUnmoved (sym z) h)
-unmoved_happens x (NetworkEvent.Repeat s p) old new c h z = (refl, unmoved_again x s p (old.towards s p) old new h z)
+unmoved_happens x (NetworkEvent.Repeat s p) old new c h z = (refl, again_kept AllUnmoved x (unmoved_call x) (λ w towards h. h) (λ w collected arrived h. h) s p (old.towards s p) old new h z)
 unmoved_happens x (NetworkEvent.Cut s p) old new c h z = (refl, subst AllUnmoved (sym z) h)
 unmoved_happens x (NetworkEvent.Join s p) old new c h z = (refl, subst AllUnmoved (sym z) h)
 unmoved_happens x (NetworkEvent.Sense s p) old new c h z =
@@ -342,7 +326,7 @@ unmoved_happens x (NetworkEvent.Force s g k) old new c h z = elim z [
 ]
 unmoved_happens x (NetworkEvent.Frees s test) old new c h z = (refl, subst AllUnmoved (sym z) h)
 unmoved_happens x (NetworkEvent.Overtake s p line) old new c h z = (refl, subst AllUnmoved (sym z.1) h)
-unmoved_happens x (NetworkEvent.Succeed s after) old new c h z = (refl, subst AllUnmoved (sym z.1) (unmoved_next old s after h))
+unmoved_happens x (NetworkEvent.Succeed s setup after) old new c h z = (refl, subst AllUnmoved (sym z.2) (unmoved_next old s after h))
 unmoved_happens x (NetworkEvent.Hear s p pdu stamp) old new c h z =
     (refl, unmoved_call x s (ModelCall.Receive p pdu) stamp old old new h z.1)
 unmoved_happens x (NetworkEvent.Pull s p) old new c h z = absurd c
@@ -354,7 +338,7 @@ stay_parts (NetworkEvent.Plug s p t q) es c = absurd c
 stay_parts e es c = (tt, c)
 
 unmoved_run : (x : NetworkSetup) (es : List NetworkEvent) (old new : Network) → CablesStay es → AllUnmoved old → NetworkRun x es old new
-    → (recabled_all x es ≡ x) × AllUnmoved new
+    → ((recabled_all x es).far ≡ x.far) × AllUnmoved new
 unmoved_run x [] old new c h z = (refl, subst AllUnmoved (sym z) h)
 unmoved_run x (e ∷ es) old new c h z =
     let both = stay_parts e es c in
@@ -363,5 +347,5 @@ unmoved_run x (e ∷ es) old new c h z =
     (b.0 ∙ a.0, b.1)
 
 pub unmoved : (x : NetworkSetup) (es : List NetworkEvent) (w : Network) → CablesStay es → NetworkRun x es (first_network x) w
-    → (recabled_all x es ≡ x) × AllUnmoved w
+    → ((recabled_all x es).far ≡ x.far) × AllUnmoved w
 unmoved x es w c z = unmoved_run x es (first_network x) w c (λ s p. refl) z

@@ -1,6 +1,6 @@
 -- Any number of systems, cabled in any way, and what can happen to them (profile; links are point-to-point). Systems have
 -- numbers; a network of n systems is one in which the others have no cable and no event. Cables may be moved.
-use Rattle.std.specs.Prelude.{◌≡◌, ◌≢◌, ℕ, suc, Bool, true, false, ◌&&◌, cond, eqb, ◌⊎◌, Option, Some, None, IsSome, List, [], ◌∷◌, ◌++◌, length, drop}
+use Rattle.std.specs.Prelude.{◌≡◌, ◌≢◌, ℕ, suc, Bool, true, false, ◌&&◌, cond, eqb, ◌⊎◌, Option, Some, None, IsSome, is_some, List, [], ◌∷◌, ◌++◌, length, drop}
 use Rattle.lagmodel.specs.View.{PartyChange, PortFacts, View, SystemSetup, IsSystemSetup, first_view, ControlMessage, ModelCall}
 use Rattle.lagmodel.specs.View.{Free}
 use Rattle.lagmodel.specs.Overtaking.{Overtakes}
@@ -13,7 +13,7 @@ pub record Place : Type 0 where
   pub system : ℕ
   pub port : ℕ
 
--- each system's configuration, which never changes; and which port is at the other end of the cable of a port, if it has one
+-- each system's configuration; and which port is at the other end of the cable of a port, if it has one
 pub record NetworkSetup : Type 0 where
   pub setup : ℕ → SystemSetup
   pub far : ℕ → ℕ → Option Place
@@ -24,7 +24,8 @@ pub record IsNetworkSetup (x : NetworkSetup) : Type 0 where
   pub setup : (s : ℕ) → IsSystemSetup (x.setup s)
   pub cables : (s p t q : ℕ) → x.far s p ≡ Some (record { system = t; port = q }) → x.far t q ≡ Some (record { system = s; port = p })
 
--- Whether the cable of a port was ever moved, and how the port was when it last was: down, that is, out of sync or on defaults; or up.
+-- Whether the cable of a port was ever moved, and how the port was when it last was: down, that is, out of sync or on defaults; or up. If
+-- it was, one that takes the place of the port is noted anew (`moved_again`).
 pub data Moved : Type 0 where
   Unmoved : Moved
   Moved_down : Moved
@@ -153,7 +154,7 @@ NetworkCall x s call stamp old mid new =
 
 -- An event: those of two systems, with a port in the place of a cable and its end; Cut and Join name either end. Frees: each
 -- conversation of the system that passes the test is forced. Overtake: an LACPDU on its way to the port goes by what is before it.
--- Succeed: another system takes the place of the system, as after a warm start. Hear: a port without a cable of this network hears
+-- Succeed: another system, with this configuration, takes the place of the system, as after a warm start. Hear: a port without a cable of this network hears
 -- anything at all (None: what is no control PDU), as from a system that keeps no law. Pull: the cable of the port is taken out, at both
 -- ends. Plug: two ports that have none get a cable. Both may happen at any time, whether the ports see it or not.
 pub data NetworkEvent : Type 0 where
@@ -172,17 +173,18 @@ pub data NetworkEvent : Type 0 where
   Force : (s aggregator conversation : ℕ) → NetworkEvent
   Frees : (s : ℕ) (test : ℕ → ℕ → Bool) → NetworkEvent
   Overtake : (s port : ℕ) (line : List Message) → NetworkEvent
-  Succeed : (s : ℕ) (after : View) → NetworkEvent
+  Succeed : (s : ℕ) (setup : SystemSetup) (after : View) → NetworkEvent
   Hear : (s port : ℕ) (pdu : Option ControlMessage) (stamp : ℕ) → NetworkEvent
   Pull : (s port : ℕ) → NetworkEvent
   Plug : (s port t other : ℕ) → NetworkEvent
 
--- the cables after an event: Pull and Plug change them
+-- the cables and the configurations after an event: Pull and Plug change cables, Succeed the configuration of a system
 abbrev pub recabled : NetworkSetup → NetworkEvent → NetworkSetup
 recabled x (Pull s p) = record x { far = λ t q. cond (is_end x s p t q) None (x.far t q) }
 recabled x (Plug s p t q) = record x {
   far = at_place (at_place x.far s p (Some (record { system = t; port = q }))) t q (Some (record { system = s; port = p }));
 }
+recabled x (Succeed s setup after) = record x { setup = at_system x.setup s setup }
 recabled x e = x
 
 abbrev pub recabled_all : NetworkSetup → List NetworkEvent → NetworkSetup
@@ -194,11 +196,16 @@ abbrev pub moved_of : Option PortFacts → Moved
 moved_of None = Moved_down
 moved_of (Some a) = cond a.defaulted Moved_down (cond a.synchronized Moved_up Moved_down)
 
--- and how one is that takes the place of a port, of which this is known
-abbrev pub moved_again : Moved → Option PortFacts → Moved
-moved_again Unmoved o = Unmoved
-moved_again Moved_down o = moved_of o
-moved_again Moved_up o = moved_of o
+-- how a port is that follows one whose cable was moved while it was down, and which is so now: if it is up, it came up by that cable
+abbrev pub follows_down : Moved → Moved → Moved
+follows_down Moved_up next = Unmoved
+follows_down now next = next
+
+-- how one is that takes the place of a port, of which this is known, with what the port is now, and what it is then
+abbrev pub moved_again : Moved → Option PortFacts → Option PortFacts → Moved
+moved_again Unmoved now next = Unmoved
+moved_again Moved_down now next = follows_down (moved_of now) (moved_of next)
+moved_again Moved_up now next = moved_of next
 
 -- the cable of port p of system s is moved: nothing is on it, and it is whole or not
 abbrev pub with_cable_moved : NetworkSetup → Bool → ℕ → ℕ → Network → Network
@@ -245,6 +252,14 @@ freed_view test v = record v { flows = record (v.flows) { state = λ g k. cond (
 abbrev pub also_forced : (ℕ → ℕ → Bool) → (ℕ → ℕ → Bool) → ℕ → ℕ → Bool
 also_forced test forced g k = cond (test g k) true (forced g k)
 
+-- A system with the configuration v may go on where one with u was: it has the identifier, the aggregators and the ports of that. The own
+-- parameters of the ports that it starts with, and its first marker identifier, may be others.
+pub record IsAlikeSetup (u v : SystemSetup) : Type 0 where
+  pub setup : IsSystemSetup v
+  pub system : v.system ≡ u.system
+  pub key : (g : ℕ) → v.key g ≡ u.key g
+  pub ports : (p : ℕ) → is_some (v.party p) ≡ is_some (u.party p)
+
 -- The system with this view may take the place of system s, as in lagmodel; its ports have the own parameters that they had, and none that
 -- is in an aggregator has its own system as its partner.
 pub record IsNetworkSuccessor (x : NetworkSetup) (w : Network) (s : ℕ) (after : View) : Type 0 where
@@ -290,9 +305,9 @@ NetworkHappens x (Frees s test) old new = new ≡ record old {
 }
 NetworkHappens x (Overtake s p line) old new =
     Overtakes (old.towards s p) line × (new ≡ record old { towards = at_place old.towards s p line })
-NetworkHappens x (Succeed s after) old new = IsNetworkSuccessor x old s after × (new ≡ record old {
+NetworkHappens x (Succeed s setup after) old new = IsAlikeSetup (x.setup s) setup × IsNetworkSuccessor x old s after × (new ≡ record old {
   view = at_system old.view s after;
-  moved = at_system old.moved s (λ p. moved_again (old.moved s p) (after.port p));
+  moved = at_system old.moved s (λ p. moved_again (old.moved s p) ((old.view s).port p) (after.port p));
 })
 NetworkHappens x (Hear s p pdu stamp) old new = (x.far s p ≡ None) × NetworkCall x s (ModelCall.Receive p pdu) stamp old old new
 NetworkHappens x (Pull s p) old new = new ≡ with_cable_moved x false s p old

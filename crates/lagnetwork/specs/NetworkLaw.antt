@@ -154,7 +154,7 @@ CablesStay (e ∷ es) = CablesStay es
 abbrev pub TookFromFixedEnd : Type 0
 TookFromFixedEnd = (x : NetworkSetup) (events : List NetworkEvent) (w : Network) → IsNetworkSetup x → CablesStay events
     → NetworkRun x events (first_network x) w
-    → (recabled_all x events ≡ x)
+    → ((recabled_all x events).far ≡ x.far)
     × ((s p : ℕ) (a : PortFacts) → (w.view s).port p ≡ Some a → a.defaulted ≡ false → w.source s p ≡ x.far s p)
 
 -- What the contract of each call of a system promises, lawful moves with these visible acts, is a call of the network, whatever cables

@@ -14,8 +14,8 @@ ghost use Rattle.lagnetwork.specs.NetworkLaw.{EachTookInSync, MaySucceedItself, 
 // contract: `network` (`one_partner`, `agree`, `in_order`, `each_in_order`)
 // not said: progress
 // promise: a port that is not on defaults took its last LACPDU from the port at the other end of its cable, if this was never moved; or if
-//    the port was down (out of sync, or on defaults) when it was last moved, and distributes. The ends of a moved cable may come up with
-//    each other
+//    the port was down (out of sync, or on defaults) when it was last moved, and distributes; and from then on, if it was up when a warm
+//    start followed. The ends of a moved cable may come up with each other
 // contract: `network` (`took_from_far_end`, `took_from_fixed_end`), `ends_meet_after_move`
 // promise: a port that is not on defaults names the system and port that its last LACPDU came from
 // contract: `network` (`names_far_end`)
@@ -37,7 +37,8 @@ ghost use Rattle.lagnetwork.specs.NetworkLaw.{EachTookInSync, MaySucceedItself, 
 /// last LACPDU from each other, as the ends of a cable do, name the same group, unless one of them changed since it sent that, or runs on
 /// defaults; what all systems together collect of a conversation that was never forced is, in the order of time, a subsequence of what was
 /// sent; what a port that is not on defaults names is the system and port that its last LACPDU came from; this is the port at the other
-/// end of its cable, if that was never moved, or was moved while the port was down, and the port distributes; and ports that distribute in
+/// end of its cable, if that was never moved, or was moved while the port was down, and the port distributes, or was up when a warm start
+/// followed; and ports that distribute in
 /// one aggregator, not on defaults, took their last LACPDUs from one system, if no other claims its identifier (6.2.4, 6.3.6, 6.4.14, 6.5).
 /// The other clauses are the invariants on which the order rests.
 pub fn network()
@@ -74,8 +75,9 @@ pub fn ends_meet_after_move()
 
 ghost use Rattle.lagnetwork.specs.NetworkLaw.{LawfulCallsAreCalls};
 
-// promise: a takeover is possible: a system of which no conversation waits may take its own place
-// contract: `network` (`takeovers`)
+// promise: a takeover is possible: a system of which no conversation waits may take its own place. A system that takes over has the identifier,
+//    the keys of aggregators and the ports of the one before; its configuration may have other own parameters, and another first marker
+// contract: `network` (`takeovers`), `IsAlikeSetup`
 // promise: a call of one system, lawful moves with visible acts, is a call of the network, whatever cables accept, and leaves what it sends on
 //    them
 // contract: `lawful_calls`
