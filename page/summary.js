@@ -3,9 +3,11 @@
 import { addressOf, isKnown, isSilent, machinesOf, namesLast, roundedSeconds } from "./records.js";
 import { astrayIn, capitalized, counted, groupOf, isCrossed, joinedBy, keyGroups } from "./keys.js";
 import { CAUSELESS, EFFECT, FAULT, PAST, REMARK } from "./causes.js";
+import { flowSaid } from "./hashes.js";
 
 export const CARRIES = "carries";
 export const CARRIES_APART = "carries apart";
+export const ALONE = "is in use by itself";
 export const IDLE = "does not carry";
 export const UNKNOWN = "not seen";
 /* So many seconds apart two ends that hear nobody lost each other together. */
@@ -93,11 +95,10 @@ export function linesOf(records, bundles) {
 }
 
 /* A line as a text. */
-export const textOfLine = ({ name, how, why }) => `${name}: ${how}${how === CARRIES_APART || how === CARRIES ? ", " : ": "}${why}`;
+export const textOfLine = ({ name, how, why }) => `${name}: ${how}${[CARRIES_APART, CARRIES].includes(how) ? ", " : ": "}${why}`;
 
-/* What a headline says of links, and what a bundle that carries does with a flow. */
+/* What a headline says of links. */
 export const howManyCarry = (carry, all) => `${carry} of ${counted(all, "link")} ${carry === 1 || all === 1 ? "carries" : "carry"}`;
-export const FLOW = "One flow has the speed of one link: the hash chooses it.";
 const ONE = "It is one link: of a bundle capture all links, since keys and partners are compared between them.";
 
 /* That all links carry: since when, where it was not so before, and what was the cause; else of one link, or of a bundle. */
@@ -107,7 +108,7 @@ function ofHealthy(all, causes) {
     if (cause) return [`${links}, both ways${since}. Before, ${cause.title}.`, ""];
     const twins = causes.find(({ kind, rule }) => kind === REMARK && rule === null);
     if (twins) return [`${links}, both ways${since}. ${capitalized(twins.title)}: right if they are an MLAG pair.`, ""];
-    return [all === 1 ? `${links}, both ways${since}. ${ONE}` : `${links}, both ways${since}: LACP is not your trouble. ${FLOW}`, "good"];
+    return [all === 1 ? `${links}, both ways${since}. ${ONE}` : `${links}, both ways${since}: LACP is not your trouble. ${flowSaid([])}`, "good"];
 }
 
 /* The headline: how many links carry, and the first cause; with how it looks. */
