@@ -19,7 +19,7 @@ from .bench import Bench
 from .files import read_text, tell, undisturbed, written
 from .groups import GROUPS, TESTS
 from .listing import as_markdown, as_text
-from .memory import World, loaded
+from .memory import UNKNOWN, World, loaded
 from .model import FAIL, INCONCLUSIVE, PASS, NotHere, Result, Test
 from .options import MEMORY_LINKS, check_words, reader, selected
 from .page import as_html
@@ -132,6 +132,8 @@ def prepare_device(given: argparse.Namespace, b: Bench) -> None:
             raise Refused(f"--hook {given.hook}: the shell {NO_COMMAND[answer.status]}: {answer.said.strip()[-200:]}")
         if answer.status and words[0] == "set":
             raise Refused(answer.refusal(words))
+        if answer.status not in (0, UNKNOWN):
+            tell(f"lagconform: {answer.refusal(words)} (status {answer.status})", to=sys.stderr)
 
 
 def run_tests(given: argparse.Namespace, b: Bench, tests: Sequence[Test], claimed: dict[str, bool], reasons: dict[str, str]) -> int:
