@@ -36,7 +36,7 @@ const ofDeadLink = ({ ends }, { lacpdus }) => ({
 function ofSilence(finding, { records, link }) {
     if (link.ends.every((it) => isSilent(it, records.lacpdus.last))) return ofDeadLink(link, records);
     const { at } = finding, frame = frameOf(finding), { record } = at, before = at.frames[at.frames.indexOf(frame) - 1];
-    const isLast = frame && frame === at.last && record && record.last < records.lacpdus.last;
+    const isLast = frame && frame === at.last && record && isSilent(at, records.lacpdus.last);
     if (isLast) return {
         isFirst: true, isEffect: link.findings.some((it) => it.at === at && ofSingle(it, { link }).isFirst), title: "an end sends nothing more",
         lines: [`${at.short} sends nothing after ${roundedSeconds(record.last)}; the capture goes on to ${roundedSeconds(records.lacpdus.last)}`],

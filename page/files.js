@@ -1,106 +1,12 @@
-/* Captures as files have them, packet after packet: several as one, by their times; and what pcapng says beside packets, the names of
- * interfaces and comments. What the module says does not rest on this, where one file is given that has whole packets. */
+/* Captures as files have them: several as one, by their times; and what pcapng says beside packets, the names of interfaces and comments. the
+ * module says does not rest on this, where one file is given that has whole packets. */
 
-import { COOKED, COOKED_2, ETHERNET, INTERFACE, magicOf, OLD_PACKET, PACKET, PCAP, SECTION, SIMPLE, SLOW, TAGS } from "./packets.js";
+import { COOKED, COOKED_2, ETHERNET, IF_TSRESOL, INTERFACE, PACKET, PIECE, Reading, SECTION, SLOW, TAGS } from "./packets.js";
 
-const PIECE_READ = 1 << 20, NANOSECONDS = 1000000000n;
-const NANO = [0xa1b23c4d, 0x4d3cb2a1];
-/* Options of pcapng: a comment; the name, the unit and the offset of the times of an interface. */
-const COMMENT = 1, IF_NAME = 2, IF_TSRESOL = 9, IF_TSOFFSET = 14;
 /* Octets of an LACPDU: up to the end of the partner's; all of it. Behind the partner's: the collector's TLV, and the terminator. */
 const BOTH_ENDS = 42, WHOLE = 110, COLLECTOR = [3, 16];
 /* Of one file so much is looked at for names and comments. */
 const MOST_LOOKED = 1 << 24;
-
-/* The numbers of an interface of a section. */
-class Interface {
-    constructor(number, link) {
-        Object.assign(this, { number, link, name: "", units: 1000000n, offset: 0n });
-    }
-
-    /* Nanoseconds since the beginning of 1970. */
-    time(high, low) { return ((BigInt(high) << 32n) + BigInt(low)) * NANOSECONDS / this.units + this.offset * NANOSECONDS; }
-}
-
-/* The options of a block, from an offset to another. */
-function* optionsIn(view, from, to, little) {
-    for (let at = from; at + 4 <= to;) {
-        const code = view.getUint16(at, little), length = view.getUint16(at + 2, little);
-        if (!code || at + 4 + length > to) return;
-        yield { code, octets: new Uint8Array(view.buffer, view.byteOffset + at + 4, length) };
-        at += 4 + 4 * Math.ceil(length / 4);
-    }
-}
-
-const textIn = (octets) => new TextDecoder().decode(octets).replace(/\0+$/, "");
-
-/* An interface by its block. */
-function interfaceIn(view, at, length, little, number) {
-    const it = new Interface(number, view.getUint16(at + 8, little));
-    for (const { code, octets } of optionsIn(view, at + 16, at + length - 4, little)) {
-        if (code === IF_NAME) it.name = textIn(octets);
-        if (code === IF_TSRESOL) it.units = octets[0] & 128 ? 1n << BigInt(octets[0] & 127) : 10n ** BigInt(octets[0]);
-        if (code === IF_TSOFFSET) it.offset = new DataView(octets.buffer, octets.byteOffset, 8).getBigInt64(0, little);
-    }
-    return it;
-}
-
-/* How a capture is read: where a piece stands in it, the order of its octets, and the interfaces of its section. */
-class Reading {
-    constructor(head) {
-        const magic = magicOf(head);
-        this.isPcap = PCAP.has(magic);
-        this.isCapture = this.isPcap ? head.byteLength === 24 : magic === SECTION;
-        this.little = this.isPcap ? PCAP.get(magic) : true;
-        this.isNano = NANO.includes(magic);
-        this.number = 0;
-        this.interfaces = this.isPcap && head.byteLength >= 24 ? [new Interface(0, head.getUint32(20, this.little) & 0xffff)] : [];
-        this.start = this.isPcap ? 24 : 0;
-    }
-
-    /* A record or a block: its length, and its packet, if it has one; null where the piece ends before it does. */
-    step(view, at) { return this.isPcap ? this.record(view, at) : this.block(view, at); }
-
-    record(view, at) {
-        if (at + 16 > view.byteLength) return null;
-        const [seconds, part, count, original] = [0, 4, 8, 12].map((it) => view.getUint32(at + it, this.little));
-        if (at + 16 + count > view.byteLength) return null;
-        const time = BigInt(seconds) * NANOSECONDS + BigInt(part) * (this.isNano ? 1n : 1000n);
-        return { length: 16 + count, packet: this.packet(this.interfaces[0], time, original, view, at + 16, count) };
-    }
-
-    packet(from, time, original, view, at, count, comment = "") {
-        this.number += 1;
-        return { number: this.number, from, time, original, comment, octets: new Uint8Array(view.buffer, view.byteOffset + at, count) };
-    }
-
-    block(view, at) {
-        if (at + 12 > view.byteLength) return null;
-        const kind = view.getUint32(at, this.little);
-        if (kind === SECTION) {
-            this.little = view.getUint32(at + 8, true) === 0x1a2b3c4d;
-            this.interfaces = [];
-        }
-        const length = view.getUint32(at + 4, this.little);
-        if (length < 12 || at + length > view.byteLength) return null;
-        if (kind === INTERFACE) this.interfaces.push(interfaceIn(view, at, length, this.little, this.interfaces.length));
-        return { length, packet: this.packetIn(kind, view, at, length) };
-    }
-
-    packetIn(kind, view, at, length) {
-        if (kind === SIMPLE) {
-            const original = view.getUint32(at + 8, this.little);
-            return this.packet(this.interfaces[0], null, original, view, at + 12, Math.min(original, length - 16));
-        }
-        if (kind !== PACKET && kind !== OLD_PACKET) return null;
-        const number = kind === PACKET ? view.getUint32(at + 8, this.little) : view.getUint16(at + 8, this.little), it = this.interfaces[number];
-        const [high, low, count, original] = [12, 16, 20, 24].map((place) => view.getUint32(at + place, this.little));
-        if (!it || count > length - 32) return null;
-        const options = [...optionsIn(view, at + 28 + 4 * Math.ceil(count / 4), at + length - 4, this.little)];
-        const comment = options.filter(({ code }) => code === COMMENT).map(({ octets }) => textIn(octets)).join("; ");
-        return this.packet(it, it.time(high, low), original, view, at + 28, count, comment);
-    }
-}
 
 /* The packets of a capture, as far as it can be read; `told.end` is then the octet behind what was read. */
 export async function* packetsOf(blob, told = {}, most = blob.size) {
@@ -108,7 +14,7 @@ export async function* packetsOf(blob, told = {}, most = blob.size) {
     const reading = new Reading(await viewOf(0, 24));
     if (!reading.isCapture) return;
     told.end = Math.min(reading.start, blob.size);
-    for (let offset = reading.start, room = PIECE_READ; offset < Math.min(blob.size, most);) {
+    for (let offset = reading.start, room = PIECE; offset < Math.min(blob.size, most);) {
         told.end = offset;
         const view = await viewOf(offset, room);
         let at = 0;
@@ -116,8 +22,8 @@ export async function* packetsOf(blob, told = {}, most = blob.size) {
             if (step.packet) yield step.packet;
             at += step.length;
         }
-        if (!at && (room > view.byteLength || room > PIECE_READ)) return; // nothing whole is left
-        room = at ? PIECE_READ : 2 * PIECE_READ;
+        if (!at && (room > view.byteLength || room > PIECE)) return; // nothing whole is left
+        room = at ? PIECE : 2 * PIECE;
         told.end = offset += at;
     }
 }

@@ -45,7 +45,7 @@ export class Texts {
         byId("lines").replaceChildren(...lineItems(said.lines));
         byId("findings").replaceChildren(...said.causes.map((it) => causeItem(it)));
         byId("links").replaceChildren(table(HEADS, said.rows, "frames"));
-        byId("lasts").textContent = "A status is one moment: paste it again in 10 s. What is read out of the text is not proved.";
+        byId("lasts").textContent = "A status is one moment. What is read out of the text is not proved.";
         return put(said.headline, "");
     }
 }

@@ -4,44 +4,42 @@
 import { bitsOf, machinesOf } from "./records.js";
 import { capitalized, counted } from "./keys.js";
 import { EFFECT, FAULT, REMARK } from "./causes.js";
-import { CARRIES, FLOW, howManyCarry, IDLE, UNKNOWN } from "./summary.js";
+import { ALONE, CARRIES, howManyCarry, IDLE, UNKNOWN } from "./summary.js";
+import { flowSaid, hashesSaid } from "./hashes.js";
 import { ACTIVITY_BIT, DEFAULTED_BIT, DISTRIBUTING_BIT, EXPIRED_BIT } from "./status.js";
 import { linksOfTexts } from "./implied.js";
+import { dashed, isLinked, isSeveral, keysFollowSpeed, namesIn, RULES } from "./advice.js";
 
-const isSeveral = (list, valueOf) => new Set(list.map(valueOf).filter((it) => it !== null && it !== undefined)).size > 1;
-const namesIn = (list) => [...new Set(list.map((it) => it.name))].join(", ");
-const isLinked = (it) => it.link !== false;
+const isHalf = (it) => it.speed.endsWith("half");
+const hearsNobody = (it) => (it.state & (DEFAULTED_BIT | EXPIRED_BIT)) !== 0;
 const isPassive = (it) => !(it.state & ACTIVITY_BIT);
-const dashed = (address) => address.replaceAll(":", "-");
-
-/* Each value, and the ports that have it. */
-function eachOf(ports, valueOf) {
-    const values = new Map();
-    for (const it of ports.filter((port) => port.partner)) values.set(valueOf(it), [...values.get(valueOf(it)) ?? [], it.name]);
-    return [...values].map(([value, list]) => `${list.slice(0, 3).join(", ")}${list.length > 3 ? ` and ${list.length - 3} more` : ""}: ${value}`).join("; ");
-}
 
 /* ---- Facts: a name, ports, a title and what to do; one without ports is none ---- */
 
-function linkFacts({ name, ports }) {
+function linkFacts({ name, told, ports, hash }) {
     const down = ports.filter((it) => it.link === false), up = ports.filter((it) => isLinked(it) && it.aggregator !== null), linked = ports.filter(isLinked);
-    const parts = [...new Set(up.map((it) => it.aggregator))];
+    const parts = [...new Set(up.map((it) => it.aggregator))], standing = ports.filter((it) => it.standsBy);
     return [
         { name: "link-down", ports: down, title: `the link of ${namesIn(down)} is down`, advice: "Nothing of LACP is to be judged there: look at the cable and at the other end's port." },
-        { name: "aggregators", ports: parts.length > 1 ? up : [], title: `${name} is in ${parts.length} parts, of which one is used`,
+        { name: "aggregators", ports: parts.length > 1 ? up : [], title: `${told} is in ${parts.length} parts, of which one is used`,
             advice: `${up.map((it) => `${it.name} in ${it.aggregator}`).join(", ")}: each has another partner, key or speed, or no partner.` },
-        { name: "speeds", ports: isSeveral(linked, (it) => it.speed) ? linked : [], title: `speed or duplex of ${name} differ`,
-            advice: `${linked.map((it) => `${it.name} ${it.speed}`).join(", ")}: give them one speed and full duplex.` },
+        { name: "speeds", ports: isSeveral(linked, (it) => it.speed) ? linked : [], title: `the links of ${told} differ in speed or duplex`,
+            advice: `${linked.map((it) => `${it.name} ${it.speed}`).join(", ")}: give them one speed and full duplex.${linked.some(isHalf) ? " Linux bonding sends no LACPDUs at half duplex." : ""}` },
+        { name: "stands-by", ports: standing, title: `${told} uses one link at a time: its ${hash?.join(" is ")}`,
+            advice: `${namesIn(standing)} stands by. For all links: ovs-vsctl set port ${name} bond_mode=balance-tcp` },
     ];
 }
 
 function silentFacts({ ports }, form) {
     const silent = ports.filter((it) => it.actor && !it.partner && isLinked(it)), passive = silent.filter((it) => isPassive(it.actor));
+    const deaf = ports.filter((it) => it.actor && it.partner && isLinked(it) && it.actor.state & EXPIRED_BIT && hearsNobody(it.partner));
     const both = DEFAULTED_BIT | EXPIRED_BIT, loops = form === "bonding" || form === "ip" ? silent.filter((it) => (it.actor.state & both) === both) : [];
     return [
         { name: "passive-unheard", ports: passive, title: `passive, and hears nobody: ${namesIn(passive)}`, advice: "Set this end, or the other one, to active." },
         { name: "never-heard", ports: loops, title: `no LACPDU was ever accepted on ${namesIn(loops)}`,
             advice: "Linux drops LACPDUs of its own system (dmesg: \"An illegal loopback occurred\"): look for a loop, or for two machines with one system." },
+        { name: "deaf-there", ports: deaf, title: `the other end heard nobody first: ${namesIn(deaf)}`,
+            advice: "It said so while this end still heard it: what this end sends does not arrive there. Look at the path from here, and capture at the other end." },
     ];
 }
 
@@ -51,7 +49,7 @@ function partnerFacts({ name, ports }) {
     const twins = heard.filter((it) => heard.some((other) => other !== it && it.partner.port !== null && other.partner.system === it.partner.system && other.partner.port === it.partner.port));
     return [
         { name: "apart", ports: apart, title: `another aggregator than the one in use has ${namesIn(apart)}`,
-            advice: `Both ends speak there: it has another partner, or another key. As root, cat /proc/net/bonding/${name} names it.` },
+            advice: `Both ends speak there: it has another partner, or another key (another speed or duplex). As root, cat /proc/net/bonding/${name} names it.` },
         { name: "own-address", ports: alike, title: `the partner of ${namesIn(alike)} has this end's MAC address, with another priority`,
             advice: "Linux drops such LACPDUs: give each system its own address." },
         { name: "same-partner-port", ports: twins, title: `${namesIn(twins)} name one port of one system`, advice: "Right with switches that act as one (MLAG); else two machines have one system." },
@@ -76,74 +74,73 @@ export function factsIn(texts) {
     return [...facts.filter((it) => it.ports.length), ...systemFacts(texts)];
 }
 
-/* ---- Rules, by names and advice for a moment ---- */
-
-const LATER = "Look again in 10 s: after a start it ends by itself. If it is still so: ";
-const keysSaid = (ports) => {
-    const sides = [["actor", "this end"], ["partner", "the other end"]].filter(([side]) => isSeveral(ports.filter((it) => it.partner), (it) => it[side].key));
-    return sides.map(([side, who]) => `${who} has several keys: ${eachOf(ports, (it) => `key ${it[side].key}`)}`);
-};
-const RULES = new Map([
-    [5, { title: "both ends are passive" }],
-    [12, { title: "a port hears nobody",
-        advice: `${LATER}look whether LACP is on at the other end (switch: mode active, not on; bonding: mode=802.3ad). If it is, no status says who is deaf: compare counts of LACPDUs at both ends, or capture. `
-            + "ovs-appctl lacp/show does not say whether the link is up: ip link does." }],
-    [14, { title: "one end is individual" }],
-    [15, { title: "keys differ within one pair of systems", said: keysSaid,
-        advice: "Put these ports of the end with several keys into one group (switch: one channel-group; bonding: one speed and duplex; Open vSwitch: one bond; teamd: one lacp_key); or these are two bundles, and cables are crossed." }],
-    [17, { title: "it distributes, and the other end does not collect",
-        advice: `${LATER}the other end has it in no aggregator, in another one, or beyond its limit (switch: max links). Look at its status.` }],
-    [22, { title: "it is attached, and the other end has not attached it",
-        advice: `${LATER}the other end has chosen another aggregator, or has links enough (switch: max links). Look at its status.` }],
-    [29, { title: "links lead to two systems", said: (ports) => [eachOf(ports, (it) => it.partner.system ? dashed(it.partner.system) : "a system that is not named")] }],
-    [30, { title: "the partner is this system itself" }],
-]);
+/* ---- Causes ---- */
 
 /* What explains the rest comes first: facts by name, rules by number. */
-const RANKS = ["no-lacp", "no-root", "set-down", 30, "own-address", "never-heard", 29, 15, "apart", "link-down", "speeds", 5, "passive-unheard", 14, 12, 22, 17, 2, 3, 4, "too-few"];
+const RANKS = ["no-lacp", "no-state", "no-root", "set-down", 30, "own-address", "never-heard", 29, 15, "apart", "link-down", "speeds", "stands-by", 5, "passive-unheard", 14, "deaf-there", 12, 22, 17, 2, 3, 4, "too-few"];
+const isUnheard = ({ rank }) => rank === 12;
 /* What calls for nothing by itself. */
 const ASIDE = ["aggregators", "same-partner-port", "one-system", "note", "said"];
 
+const isCutIn = (text) => text.bundles.some((it) => it.isCut);
 const causeOf = (given) => ({ kind: FAULT, lines: [], effects: [], ports: [], ...given });
 
-function causesOfRules(found, ports) {
-    const rules = [...new Set(found.map((it) => it.rule))].map((rule) => found.filter((it) => it.rule === rule));
+function causesOfRules(found, { bundles, form }) {
+    const rules = [...new Set(found.map((it) => it.rule))].map((rule) => found.filter((it) => it.rule === rule)), ports = bundles.flatMap((it) => it.ports);
     return rules.map((list) => {
-        const [{ rule, clause, name, advice }] = list, { title = name, said, ...own } = RULES.get(rule) ?? {}, here = list.filter((it) => !it.isImplied);
-        const who = here.length ? namesIn(here.map((it) => it.port)) : `the other end of ${namesIn(list.map((it) => it.port))}`;
-        return causeOf({ rank: rule, rule, clause, title: `${title}: ${who}`, advice: own.advice ?? advice, lines: said?.(ports) ?? [], ports: list.map((it) => it.port) });
+        const [{ rule, clause, name, advice }] = list, own = RULES.get(rule) ?? {}, here = list.filter((it) => !it.isImplied), meant = list.map((it) => it.port);
+        const who = here.length ? namesIn(here.map((it) => it.port)) : `the other end of ${namesIn(meant)}`, seen = { ports, form, isLasting: meant.some((it) => it.isLasting) };
+        return causeOf({ rank: rule, rule, clause, title: `${own.title ?? name}: ${who}`, advice: own.advice?.(seen) ?? advice, lines: own.said?.(seen) ?? [], ports: meant });
     });
 }
 
-/* The causes of texts, the first one first; of a text that is cut none is named. */
+/* Causes by what explains others: the first one has what follows from it. Where keys differ as speeds do, the speeds explain them. */
+function inOrder(all, ports) {
+    const isOfSpeed = all.some((it) => it.rank === "speeds") && keysFollowSpeed(ports), rankOf = ({ rank }) => isOfSpeed && rank === "speeds" ? RANKS.indexOf(15) - 0.5 : RANKS.indexOf(rank);
+    const [first, ...others] = all.sort((one, other) => rankOf(one) - rankOf(other));
+    if (!first) return [];
+    const isOfFirst = { speeds: (it) => (it.rank === 15 && isOfSpeed) || (it.rank === 12 && it.ports.every(isHalf)), "never-heard": isUnheard, "passive-unheard": isUnheard, "deaf-there": isUnheard }[first.rank];
+    const isEffect = (it) => [17, 22].includes(it.rank) || isOfFirst?.(it);
+    first.effects = others.filter(isEffect).map((it) => ({ ...it, kind: EFFECT }));
+    return [first, ...others.filter((it) => !isEffect(it))];
+}
+
+/* The causes of texts, the first one first; of a text that is cut none is named. What the hashes mean is said where all links of a bundle carry. */
 export function causesOfTexts(texts, { found, left }) {
-    const bundles = texts.flatMap((it) => it.bundles), isCut = bundles.some((it) => it.isCut);
-    const notes = texts.flatMap((it) => it.notes).map((it) => causeOf({ rank: it.name, title: it.text, advice: "", kind: ASIDE.includes(it.name) ? REMARK : FAULT }));
+    const bundles = texts.flatMap((it) => it.bundles), aside = (rank) => ASIDE.includes(rank) ? REMARK : FAULT;
+    const notes = texts.flatMap((it) => it.notes).map((it) => causeOf({ rank: it.name, title: it.text, advice: it.advice ?? "", kind: aside(it.name) }));
     const said = bundles.flatMap((it) => it.ports).filter((it) => it.facts.length).map((it) => causeOf({ rank: "said", kind: REMARK, title: `${it.name}: ${it.facts.join("; ")}`, advice: "" }));
     const more = left ? [causeOf({ rank: "note", kind: REMARK, title: `${counted(left, "link")} beyond the first 32 are not looked at`, advice: "Give the others alone." })] : [];
-    if (isCut) return [...notes, ...said];
-    const facts = factsIn(texts).map((it) => causeOf({ rank: it.name, title: it.title, advice: it.advice, ports: it.ports, kind: ASIDE.includes(it.name) ? REMARK : FAULT }));
-    const all = [...notes, ...facts, ...causesOfRules(found, texts[0].bundles.flatMap((it) => it.ports))].filter((it) => it.kind === FAULT);
-    all.sort((one, other) => RANKS.indexOf(one.rank) - RANKS.indexOf(other.rank));
-    const [first, ...others] = all, isEffect = (it) => [17, 22].includes(it.rank) && first !== it;
-    if (first) first.effects = others.filter(isEffect).map((it) => ({ ...it, kind: EFFECT }));
-    const rest = [...notes, ...facts].filter((it) => it.kind === REMARK);
-    return [...first ? [first, ...others.filter((it) => !isEffect(it))] : [], ...rest, ...more, ...said];
+    if (texts.some(isCutIn)) return [...notes, ...said];
+    const facts = factsIn(texts).map((it) => causeOf({ rank: it.name, title: it.title, advice: it.advice, ports: it.ports, kind: aside(it.name) }));
+    const causes = inOrder([...notes, ...facts, ...causesOfRules(found, texts[0])].filter((it) => it.kind === FAULT), texts[0].bundles.flatMap((it) => it.ports));
+    const whole = causes.length ? [] : texts[0].bundles.filter(({ ports }) => ports.length > 1 && ports.every(saysCarry));
+    const hashes = hashesSaid(whole).map((it) => causeOf({ rank: "hash", kind: REMARK, ...it }));
+    return [...causes, ...[...notes, ...facts].filter((it) => it.kind === REMARK), ...hashes, ...more, ...said];
 }
 
 /* ---- Lines ---- */
 
+/* What keeps a port out of the aggregator that is in use; nothing where the text does not show it. */
+function howApart(port, used) {
+    if (port.partner.system && used.partner?.system !== port.partner.system) return `its partner is ${dashed(port.partner.system)}`;
+    if (port.speed !== used.speed) return `its speed and duplex are ${port.speed}, and those of ${used.name} ${used.speed}`;
+    const isOtherKey = used.partner && port.partner.key !== null && used.partner.key !== port.partner.key;
+    return isOtherKey ? `its partner has key ${port.partner.key}, and ${used.partner.key} on ${used.name}` : "";
+}
+
 /* Why a port of a text does not carry. */
 function whyIdle(port, bundle) {
     if (port.link === false) return "its link is down";
+    if (port.standsBy) return `it stands by: ${bundle.hash.join(" is ")}`;
     if (!port.actor) return "the text has nothing of its LACPDUs";
     if (!port.partner) return "it hears nobody";
     const used = bundle.ports.find((it) => it.isUsed), state = bitsOf(port.partner.state);
     if (used && used.aggregator !== null && port.aggregator !== null && used.aggregator !== port.aggregator) {
-        const differs = used.partner?.system !== port.partner.system && port.partner.system ? `its partner is ${dashed(port.partner.system)}` : used.partner && port.partner.key !== null
-            && used.partner.key !== port.partner.key ? `its partner has key ${port.partner.key}, and ${used.partner.key} on ${used.name}` : "";
+        const differs = howApart(port, used);
         return `it is in aggregator ${port.aggregator}, ${used.aggregator} is in use${differs ? `: ${differs}` : ""}`;
     }
+    if (hearsNobody(port.partner)) return "the other end said that it hears nobody";
     if (!state.includes("synchronized")) return "the other end has not attached it";
     return `this end is ${machinesOf(port.actor.state).mux}`;
 }
@@ -155,6 +152,7 @@ const saysCarry = (port) => port.isUsed ?? (port.actor ? (port.actor.state & DIS
 function stateOfPort(port, bundle, far) {
     const carries = saysCarry(port);
     if (port.actor && port.partner && port.link !== false && isPassive(port.actor) && isPassive(port.partner)) return [IDLE, "both ends are passive: it falls each few seconds"];
+    if (port.isAlone) return [ALONE, "it hears nobody, and this end uses it all the same; data arrives if the other end uses it, too"];
     if (carries && !port.partner) return [IDLE, "it hears nobody, and this end sends on it alone"];
     if (carries === null && port.link !== false) return [UNKNOWN, whyIdle(port, bundle)];
     if (!carries) return [IDLE, whyIdle(port, bundle)];
@@ -169,22 +167,36 @@ export function linesOfTexts(texts) {
         const who = partner?.system ? ` (partner ${dashed(partner.system)}${partner.port ? ` port ${partner.port}` : ""})` : "", [how, why] = stateOfPort(port, bundle, far);
         return { name: `${port.name}${who}`, how, why };
     }));
-    return [IDLE, UNKNOWN, CARRIES].flatMap((how) => lines.filter((it) => it.how === how));
+    return [IDLE, ALONE, UNKNOWN, CARRIES].flatMap((how) => lines.filter((it) => it.how === how));
+}
+
+/* How many links carry, and which are in use without a partner; nothing where that is not known. */
+function howManySaid(lines, ports) {
+    const [carry, alone] = [CARRIES, ALONE].map((how) => lines.filter((it) => it.how === how).length), all = lines.length;
+    if (!all || lines.some(({ how }) => how === UNKNOWN)) return "";
+    if (!alone) return `${howManyCarry(carry, all)}. `;
+    const who = `${namesIn(ports.filter((it) => it.isAlone))}, without a partner`;
+    const [is, itself] = alone === 1 ? ["is", "itself"] : ["are", "themselves"];
+    return carry ? `${howManyCarry(carry, all)}, and ${who}, ${is} in use. ` : `${alone} of ${counted(all, "link")} ${is} in use by ${itself}: ${who}. `;
 }
 
 /* The headline, and how it looks. */
 export function headlineOfTexts(texts, lines, causes) {
     const carry = lines.filter(({ how }) => how === CARRIES).length, all = lines.length, [cause] = causes.filter(({ kind }) => kind === FAULT);
-    const head = all && !lines.some(({ how }) => how === UNKNOWN) ? `${howManyCarry(carry, all)}. ` : "";
-    if (texts.some((it) => it.bundles.some((bundle) => bundle.isCut))) return ["The text is cut: nothing is named. Give all of it, with the line behind it.", "bad"];
+    const head = howManySaid(lines, texts[0].bundles.flatMap((it) => it.ports));
+    if (texts.some(isCutIn)) return ["The text is cut: nothing is named. Give all of it, with the line behind it.", "bad"];
     if (cause) return [`${head}${capitalized(cause.title)}.`, "bad"];
     if (!all) return ["No port of an LACP bundle is in this text.", "bad"];
     if (carry < all) return [`${head}The text does not show why: give the text of the other end, or capture.`, ""];
     const twins = causes.find(({ rank }) => rank === "same-partner-port");
     if (twins) return [`${head}${capitalized(twins.title)}: right if switches act as one (MLAG).`, ""];
     if (all === 1) return ["The one link of this bundle carries. If it is to have more, they are not in it: ip link set PORT master BOND.", ""];
-    return [`${head}LACP is not your trouble${texts.length > 1 ? "" : ", if the other end says so, too"}. ${FLOW}`, "good"];
+    return [`${head}LACP is not your trouble${texts.length > 1 ? "" : ", if the other end says so, too"}. ${flowSaid(texts[0].bundles)}`, "good"];
 }
+
+/* Whether texts have nothing of LACPDUs that could be judged. */
+export const areUnread = (texts, causes) => texts.some(isCutIn) || causes.some(({ rank }) => ["no-root", "no-state"].includes(rank))
+    || (!causes.some(({ kind }) => kind === FAULT) && !texts[0].bundles.some(({ ports }) => ports.length));
 
 /* What each port of texts says, in words: for a table. */
 export function rowsOfTexts(texts) {

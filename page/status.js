@@ -1,9 +1,10 @@
 /* Reads what systems print of LACP: /proc/net/bonding, ip -d link, teamdctl state dump, ovs-appctl lacp/show, lagd --status. Each form was
  * tried with texts of the programs; examples/status has some.
  *
- * A text gives `{ form, bundles, notes }`. A bundle has a name, ports, and whether the text is cut in it. A port has `name`, `link` (true, false
- * or null: not said), `source`, `actor` and `partner`, `aggregator`, `isUsed` (whether the text says that it carries data; null: not said),
- * `speed`, and `facts`, texts of what no LACPDU has. A party has `priority`, `system`, `key`, `portPriority`, `port` and `state`; what the text
+ * A text gives `{ form, bundles, notes }`. A bundle has a name, how it is told, ports, `hash` (what names it, and its words; null: not said), and
+ * whether the text is cut in it. A port has `name`, `link` (true, false or null: not said), `source`, `actor` and `partner`, `aggregator`,
+ * `isUsed` (whether the text says that it carries data; null: not said), `isAlone` (whether it does so without a partner), `isLasting` (whether
+ * an end has not been synchronized for 60 s), `speed`, and `facts`, texts of what no LACPDU has. A note has what is so, and what to do. A party has `priority`, `system`, `key`, `portPriority`, `port` and `state`; what the text
  * does not have is null; `partner` is null where none is heard. */
 
 export const NO_ADDRESS = "00:00:00:00:00:00";
@@ -40,12 +41,20 @@ function valuesIn(text) {
 const knownPartner = (actor, partner) => !partner || partner.system === NO_ADDRESS || (actor && actor.state & DEFAULTED_BIT) ? null : partner;
 
 /* That fewer links of a bundle carry than it wants: it passes no data. Each form has its own name of what it wants. */
-const tooFew = (name, carrying, least, option) => ({
-    name: "too-few", text: `${name} is down: ${carrying} of its links ${Number(carrying) === 1 ? "carries" : "carry"}, and it wants ${least} (${option})`,
+const tooFew = (told, carrying, least, option) => ({
+    name: "too-few", text: `${told} is down: ${carrying} of its links ${Number(carrying) === 1 ? "carries" : "carry"}, and it wants ${least} (${option})`,
+    advice: `Mend the other links, or set ${option} lower.`,
 });
 
+/* A bundle with what a form has of it. */
+const bundleOfText = (name, told, ports, given) => ({ name, told, ports, hash: null, isCut: false, ...given });
+
 /* A port with what a form has of it. */
-const portOfText = (given) => ({ link: null, source: "", actor: null, partner: null, aggregator: null, isUsed: null, speed: "", facts: [], ...given });
+const portOfText = (given) => ({
+    link: null, source: "", actor: null, partner: null, aggregator: null, isUsed: null, isAlone: false, isLasting: false, speed: "", facts: [], ...given,
+});
+
+const times = (number) => Number(number) === 1 ? "once" : `${number} times`;
 
 /* ---- /proc/net/bonding/NAME ---- */
 
@@ -60,46 +69,54 @@ function partyOfBonding(part, side, keyName) {
     };
 }
 
+const SIDES = ["Actor", "Partner"];
+const isChurned = (it, side) => it.get(`${side} Churn State`) === "churned";
+
 function factsOfBonding(it) {
     const facts = [];
-    for (const side of ["Actor", "Partner"]) {
-        if (it.get(`${side} Churn State`) === "churned") facts.push(`the ${side.toLowerCase()} has not been synchronized for 60 s`);
-        if (Number(it.get(`${side} Churned Count`)) > 0) facts.push(`the ${side.toLowerCase()} churned ${it.get(`${side} Churned Count`)} times`);
+    for (const side of SIDES) {
+        const who = side === "Actor" ? "this end" : "the other end", count = Number(it.get(`${side} Churned Count`));
+        if (isChurned(it, side)) facts.push(`${who} has not been synchronized for 60 s or more`);
+        if (count > (isChurned(it, side) ? 1 : 0)) facts.push(`${who} was not synchronized for 60 s, ${times(count)}`);
     }
-    if (Number(it.get("Link Failure Count")) > 0) facts.push(`its link failed ${it.get("Link Failure Count")} times since the bond has it`);
+    if (Number(it.get("Link Failure Count")) > 0) facts.push(`its link failed ${times(it.get("Link Failure Count"))} since the bond has it`);
     return facts;
 }
 
-/* One member, and whether the text has all of it. */
-function memberOfBonding(part, active) {
+/* One member, and whether the text has all of it. Of an active aggregator without a partner the driver uses the one port all the same. */
+function memberOfBonding(part, active, isHeard) {
     const it = valuesIn(part.replace(/^\s*details [\s\S]*/m, "")), aggregator = numberOf(it.get("Aggregator ID")), link = it.get("MII Status") === "up";
     const actor = partyOfBonding(part, "actor", "port key"), partner = partyOfBonding(part, "partner", "oper key");
-    const isUsed = active !== null && actor ? aggregator === active && link && isDistributing(actor) : null;
+    const isActive = aggregator === active && link, isAlone = active !== null && actor !== null && isActive && !isHeard && !knownPartner(actor, partner);
+    const isUsed = active !== null && actor ? isActive && (isAlone || isDistributing(actor)) : null;
     const port = portOfText({
-        name: it.get("Slave Interface"), link, source: macOf(it.get("Permanent HW addr")), actor, partner: knownPartner(actor, partner), aggregator, isUsed,
-        speed: `${it.get("Speed")} ${it.get("Duplex")}`, facts: factsOfBonding(it),
+        name: it.get("Slave Interface"), link, source: macOf(it.get("Permanent HW addr")), actor, partner: knownPartner(actor, partner), aggregator, isUsed, isAlone,
+        isLasting: SIDES.some((side) => isChurned(it, side)), speed: `${it.get("Speed")} ${it.get("Duplex")}`, facts: factsOfBonding(it),
     });
     return { port, isWhole: it.has("Partner Churned Count") && (active === null || (actor !== null && partner !== null)) };
 }
 
+const noLacp = (text, mode) => ({ name: "no-lacp", text: `${text}: its mode is "${mode}"`, advice: "LACP is mode=802.3ad (802.3ad in sysfs and ip, too)." });
+
 function bondOf(text) {
     const [head, ...parts] = text.split(/^(?=Slave Interface: )/m), said = valuesIn(head), notes = [], mode = said.get("Bonding Mode") ?? "";
-    if (!/^Bonding Mode: .*\n/m.test(head)) return { bundles: [{ name: "the bond", ports: [], isCut: true }], notes };
-    if (!mode.includes("802.3ad")) return { bundles: [], notes: [{ name: "no-lacp", text: `this bond does not speak LACP: its mode is "${mode}" (LACP is mode=802.3ad)` }] };
+    if (!/^Bonding Mode: .*\n/m.test(head)) return { bundles: [bundleOfText("the bond", "the bond", [], { isCut: true })], notes };
+    if (!mode.includes("802.3ad")) return { bundles: [], notes: [noLacp("this bond does not speak LACP", mode)] };
     const found = /Active Aggregator Info:\s*\n\s*Aggregator ID: (\d+)[\s\S]*?Number of ports: (\d+)/.exec(head), active = found ? Number(found[1]) : null;
-    if (!found) notes.push({ name: "no-root", text: "the text lacks the LACPDUs: read the file as root (sudo cat /proc/net/bonding/bond0), or take ip -d -j link" });
+    const hash = /^(\S+)/.exec(said.get("Transmit Hash Policy") ?? "")?.[1], isHeard = macOf(said.get("Partner Mac Address")) !== NO_ADDRESS;
+    if (!found) notes.push({ name: "no-root", text: "the text lacks the LACPDUs", advice: "Read the file as root (sudo cat /proc/net/bonding/bond0), or take ip -d -j link." });
     if (said.get("MII Polling Interval (ms)") === "0") notes.push({ name: "note", text: "miimon is 0: a link that goes down is not noticed" });
-    const members = parts.map((it) => memberOfBonding(it, active)), ports = members.map(({ port }) => port);
+    const members = parts.map((it) => memberOfBonding(it, active, isHeard)), ports = members.map(({ port }) => port);
     const carrying = ports.filter((it) => it.isUsed).length, least = Number(said.get("Min links") ?? 0);
     if (said.get("MII Status") === "down" && carrying && carrying < least) notes.push(tooFew("the bond", carrying, least, "min_links"));
     const isCut = !ports.length || members.some(({ isWhole }) => !isWhole) || (found && ports.filter((it) => it.aggregator === active).length < Number(found[2]));
-    return { bundles: [{ name: "the bond", ports, isCut: Boolean(isCut) }], notes };
+    return { bundles: [bundleOfText("the bond", "the bond", ports, { isCut: Boolean(isCut), hash: hash ? ["xmit_hash_policy", hash] : null })], notes };
 }
 
 /* One text, or several one behind the other (cat /proc/net/bonding/*); it does not have the names of the bonds. */
 function bonding(text) {
     const all = text.split(/^(?=Ethernet Channel Bonding Driver: )/m).filter((it) => it.startsWith("Ethernet")).map(bondOf), bundles = all.flatMap((it) => it.bundles);
-    if (bundles.length > 1) bundles.forEach((it, number) => { it.name = `bond ${number + 1} of the text`; });
+    if (bundles.length > 1) bundles.forEach((it, number) => { it.name = it.told = `bond ${number + 1} of the text`; });
     return { form: "bonding", bundles, notes: all.flatMap((it) => it.notes) };
 }
 
@@ -107,6 +124,7 @@ function bonding(text) {
 
 function memberOfIp(it, { linkinfo: { info_data: said }, address }) {
     const data = it.linkinfo.info_slave_data, active = said.ad_info ?? {}, isActive = data.ad_aggregator_id === active.aggregator && data.mii_status === "UP";
+    const isAlone = isActive && data.state === "ACTIVE" && macOf(active.partner_mac) === NO_ADDRESS;
     const own = said.ad_actor_system ?? NO_ADDRESS, state = data.ad_partner_oper_port_state;
     const actor = {
         priority: said.ad_actor_sys_prio ?? 65535, system: macOf(own === NO_ADDRESS ? address : own), key: isActive ? active.actor_key ?? null : null,
@@ -116,7 +134,7 @@ function memberOfIp(it, { linkinfo: { info_data: said }, address }) {
         : { priority: null, system: null, key: null, portPriority: 0, port: null, state };
     return portOfText({
         name: it.ifname, link: data.mii_status === "UP", source: macOf(it.address), actor, partner: knownPartner(actor, partner), aggregator: data.ad_aggregator_id,
-        isUsed: isActive && isDistributing(actor), facts: data.link_failure_count ? [`its link failed ${data.link_failure_count} times`] : [],
+        isUsed: isActive && (isAlone || isDistributing(actor)), isAlone, facts: data.link_failure_count ? [`its link failed ${times(data.link_failure_count)}`] : [],
     });
 }
 
@@ -125,16 +143,17 @@ const isMemberWhole = ({ linkinfo: { info_slave_data: data } }) => [data.ad_aggr
 function ipLink(links) {
     const bonds = links.filter((it) => it.linkinfo?.info_kind === "bond"), lacp = bonds.filter((it) => it.linkinfo.info_data?.mode === "802.3ad");
     const notes = lacp.length ? [{ name: "note", text: "ip has no port numbers, and one partner alone: /proc/net/bonding/NAME, read as root, has more" }]
-        : [{ name: "no-lacp", text: bonds.length ? `no bond of this text speaks LACP: its mode is "${bonds[0].linkinfo.info_data?.mode}" (LACP is mode=802.3ad)` : "no bond is in this text" }];
+        : [bonds.length ? noLacp("no bond of this text speaks LACP", bonds[0].linkinfo.info_data?.mode) : { name: "no-lacp", text: "no bond is in this text" }];
     const bundles = lacp.map((bond) => {
         const members = links.filter((it) => it.master === bond.ifname && it.linkinfo?.info_slave_kind === "bond"), whole = members.filter(isMemberWhole);
         const ports = whole.map((it) => memberOfIp(it, bond)), carrying = ports.filter((it) => it.isUsed).length, least = bond.linkinfo.info_data.min_links ?? 0;
-        if (bond.flags && !bond.flags.includes("UP")) notes.push({ name: "set-down", text: `${bond.ifname} is set down: ip link set ${bond.ifname} up` });
-        if (bond.flags?.includes("NO-CARRIER") && carrying && carrying < least) notes.push(tooFew(bond.ifname, carrying, least, "min_links"));
-        return { name: bond.ifname, ports, isCut: whole.length < members.length || Boolean(bond.isCut) };
+        const told = `the bond ${bond.ifname}`, hash = bond.linkinfo.info_data.xmit_hash_policy;
+        if (bond.flags && !bond.flags.includes("UP")) notes.push({ name: "set-down", text: `${told} is set down`, advice: `ip link set ${bond.ifname} up` });
+        if (bond.flags?.includes("NO-CARRIER") && carrying && carrying < least) notes.push(tooFew(told, carrying, least, "min_links"));
+        return bundleOfText(bond.ifname, told, ports, { isCut: whole.length < members.length || Boolean(bond.isCut), hash: hash ? ["xmit_hash_policy", hash] : null });
     });
     const lost = links.some((it) => it.linkinfo?.info_slave_kind === "bond" && !links.some((bond) => bond.ifname === it.master && bond.linkinfo?.info_kind === "bond"));
-    if (lost && !bonds.length) return { form: "ip", bundles: [{ name: "the bond", ports: [], isCut: true }], notes: [] };
+    if (lost && !bonds.length) return { form: "ip", bundles: [bundleOfText("the bond", "the bond", [], { isCut: true })], notes: [] };
     return { form: "ip", bundles, notes };
 }
 
@@ -146,10 +165,10 @@ function ipLinkOfText(text) {
         it.isCut = !part.includes(" tlb_dynamic_lb ");
         if (/^\s*bond mode /m.test(part)) it.linkinfo = { info_kind: "bond", info_data: {
             mode: word("bond mode"), ad_actor_sys_prio: number("ad_actor_sys_prio"), ad_actor_system: word("ad_actor_system"), min_links: number("min_links"),
-            ad_info: { aggregator: number("ad_aggregator"), actor_key: number("ad_actor_key"), partner_key: number("ad_partner_key"), partner_mac: word("ad_partner_mac") },
+            xmit_hash_policy: word("xmit_hash_policy"), ad_info: { aggregator: number("ad_aggregator"), actor_key: number("ad_actor_key"), partner_key: number("ad_partner_key"), partner_mac: word("ad_partner_mac") },
         } };
         if (/^\s*bond_slave /m.test(part)) Object.assign(it.linkinfo, { info_slave_kind: "bond", info_slave_data: {
-            mii_status: word("mii_status"), link_failure_count: number("link_failure_count"), ad_aggregator_id: number("ad_aggregator_id"),
+            state: word("bond_slave state"), mii_status: word("mii_status"), link_failure_count: number("link_failure_count"), ad_aggregator_id: number("ad_aggregator_id"),
             ad_actor_oper_port_state: number("ad_actor_oper_port_state"), ad_partner_oper_port_state: number("ad_partner_oper_port_state"),
         } });
         return it;
@@ -166,14 +185,24 @@ function memberOfTeam([name, it]) {
     return portOfText({
         name, link: link.up, source: macOf(it.ifinfo.dev_addr), actor, partner: knownPartner(actor, partyOf(runner.partner_lacpdu_info)), aggregator: runner.aggregator.id,
         isUsed: runner.aggregator.selected && runner.selected && runner.state === "current" && isDistributing(actor), speed: `${link.speed} ${link.duplex}`,
-        facts: [...downs ? [`its link went down ${downs} times`] : [], ...link.up && it.link_watches?.up === false ? ["a link watch says that it is down"] : []],
+        facts: [...downs ? [`its link went down ${times(downs)}`] : [], ...link.up && it.link_watches?.up === false ? ["a link watch says that it is down"] : []],
     });
 }
 
-function team(json) {
-    const runner = json.setup?.runner_name;
-    if (runner !== "lacp") return { form: "teamd", bundles: [], notes: [{ name: "no-lacp", text: `this team does not speak LACP: its runner is "${runner}"` }] };
-    return { form: "teamd", bundles: [{ name: json.team_device?.ifinfo?.ifname ?? "the team", ports: Object.entries(json.ports ?? {}).map(memberOfTeam), isCut: false }], notes: [] };
+/* `hash` is tx_hash of a configuration that stands beside the state, which does not have it. */
+function team(json, hash) {
+    const runner = json.setup?.runner_name, name = json.team_device?.ifinfo?.ifname ?? "", notes = [];
+    if (runner !== "lacp") notes.push({ name: "no-lacp", text: `this team does not speak LACP: its runner is "${runner}"`, advice: "LACP is the runner lacp." });
+    const bundle = bundleOfText(name, `the team ${name}`.trim(), Object.entries(json.ports ?? {}).map(memberOfTeam), { hash: hash ? ["tx_hash", hash.join(", ")] : null });
+    return { form: "teamd", bundles: notes.length ? [] : [bundle], notes };
+}
+
+/* A state, a configuration (config dump, or the file), or both. */
+function teamOf(values) {
+    const state = values.find((it) => it.setup || it.team_device), config = values.find((it) => it.runner?.name);
+    if (state) return team(state, config?.runner.tx_hash);
+    const note = { name: "no-state", text: "this is the configuration of a team, and its state is wanted", advice: "teamdctl team0 state dump has the state." };
+    return config ? { form: "teamd", bundles: [], notes: [note] } : null;
 }
 
 /* ---- ovs-appctl lacp/show, lagd --status: one grammar ---- */
@@ -204,42 +233,71 @@ function factsOfShow(part, said, receive, actor) {
     return [...facts, ...countsSaid(counts)];
 }
 
+const isChurning = (churns) => churns.includes("CHURN");
+
 function memberOfShow(part, active) {
     const [, name = "?", receive = ""] = /^(?:member|slave): (.*?): (.*)$/m.exec(part) ?? [], said = valuesIn(part), actor = partyOfShow(said, "actor"), partner = partyOfShow(said, "partner");
     const aggregator = numberOf(said.get("aggregator")), mayEnable = said.get("may_enable");
+    const isUsed = mayEnable === undefined ? null : mayEnable === "true" && (active === null || aggregator === active), known = knownPartner(actor, partner);
     return portOfText({
-        name, link: said.has("link") ? said.get("link") === "up" : null, source: macOf(said.get("address") ?? said.get("actor sys_id")), actor, partner: knownPartner(actor, partner),
-        aggregator, isUsed: mayEnable === undefined ? null : mayEnable === "true" && (active === null || aggregator === active), facts: factsOfShow(part, said, receive, actor),
-        isWhole: actor !== null && partner !== null,
+        name, link: said.has("link") ? said.get("link") === "up" : null, source: macOf(said.get("address") ?? said.get("actor sys_id")), actor, partner: known,
+        aggregator, isUsed, isAlone: isUsed === true && actor !== null && !known, isLasting: isChurning([said.get("actor_churn"), said.get("partner_churn")]),
+        facts: factsOfShow(part, said, receive, actor), isWhole: actor !== null && partner !== null,
     });
 }
 
+/* What `bond/show` of Open vSwitch says of a bond: how it chooses a link, and, where it uses one at a time, which that is. */
+function choiceOf(part) {
+    const said = valuesIn(part), [, member] = /^active (?:member|slave) mac: \S+?\((.*)\)/m.exec(part) ?? [];
+    return { name: /^---- (.*) ----/.exec(part)[1], mode: said.get("bond_mode"), member, isOff: said.get("lacp_status") === "off" };
+}
+
+/* Of a bond that uses one link at a time the others stand by. */
+function choosing(bundle, choice) {
+    if (!choice) return bundle;
+    const isOne = choice.mode === "active-backup" && bundle.ports.some((it) => it.name === choice.member);
+    const ports = bundle.ports.map((it) => isOne && it.isUsed && it.name !== choice.member ? { ...it, isUsed: false, isAlone: false, standsBy: true } : it);
+    return { ...bundle, ports, hash: choice.mode ? ["bond_mode", choice.mode] : null };
+}
+
+function bundleOfShow(part) {
+    const [head, ...parts] = part.split(/^(?=(?:member|slave): )/m), said = valuesIn(head), active = numberOf(said.get("aggregator")), isOfLagd = said.has("uptime");
+    const ports = parts.map((it) => memberOfShow(it, active)), hash = /^ *carry: .*, hash ([^, ]+),/m.exec(part)?.[1];
+    const name = /^---- (.*) ----/.exec(head)[1], carrying = /^down, ([1-9]\d*) of /.exec(said.get("status") ?? "")?.[1], told = `${isOfLagd ? "the bundle" : "the bond"} ${name}`;
+    const notes = [
+        ...said.get("status") === "off" ? [{ name: "no-lacp", text: `LACP of ${told} is off`, advice: `ovs-vsctl set port ${name} lacp=active` }] : [],
+        ...carrying ? [tooFew(told, carrying, said.get("min_links"), "min-links")] : [],
+    ];
+    return bundleOfText(name, told, ports, { isOfLagd, isCut: !ports.length || ports.some((it) => !it.isWhole), notes, hash: hash ? ["hash", hash] : null });
+}
+
 function showOf(text) {
-    const bundles = text.split(/^(?=---- .* ----\s*$)/m).filter((it) => it.startsWith("----") && !it.includes(" statistics ----")).map((part) => {
-        const [head, ...parts] = part.split(/^(?=(?:member|slave): )/m), said = valuesIn(head), active = numberOf(said.get("aggregator"));
-        const ports = parts.map((it) => memberOfShow(it, active));
-        const name = /^---- (.*) ----/.exec(head)[1], carrying = /^down, ([1-9]\d*) of /.exec(said.get("status") ?? "")?.[1], isOff = said.get("status") === "off";
-        const notes = [...isOff ? [{ name: "no-lacp", text: `${name}: LACP is off` }] : [], ...carrying ? [tooFew(name, carrying, said.get("min_links"), "min-links")] : []];
-        return { name, ports, isCut: !ports.length || ports.some((it) => !it.isWhole), notes };
-    });
-    return { form: "show", bundles, notes: bundles.flatMap((it) => it.notes) };
+    const parts = text.split(/^(?=---- .* ----\s*$)/m).filter((it) => it.startsWith("----") && !it.includes(" statistics ----")), isChoice = (it) => /^bond_mode: /m.test(it);
+    const choices = parts.filter(isChoice).map(choiceOf), states = parts.filter((it) => !isChoice(it)).map(bundleOfShow);
+    const bundles = states.map((it) => choosing(it, choices.find(({ name }) => name === it.name)));
+    const notes = choices.filter(({ name }) => !states.some((it) => it.name === name)).map(({ name, isOff }) => isOff
+        ? { name: "no-lacp", text: `LACP of the bond ${name} is off`, advice: `ovs-vsctl set port ${name} lacp=active` }
+        : { name: "no-state", text: `bond/show has nothing of the LACPDUs of the bond ${name}`, advice: "ovs-appctl lacp/show has them." });
+    return { form: bundles.some((it) => it.isOfLagd) ? "lagd" : "openvswitch", bundles, notes: [...bundles.flatMap((it) => it.notes), ...notes] };
 }
 
 /* ---- lagd --status --json: a line for each daemon ---- */
 
 function memberOfLagd(bundle, port) {
     const partyOf = (it, system, priority) => ({ priority, system: macOf(system), key: it.key, portPriority: it.port_priority, port: it.port, state: octetOf(it.state) ?? 0 });
-    const actor = partyOf(port.actor, bundle.system, bundle.system_priority), partner = partyOf(port.partner, port.partner.system, port.partner.system_priority);
+    const actor = partyOf(port.actor, bundle.system, bundle.system_priority), known = knownPartner(actor, partyOf(port.partner, port.partner.system, port.partner.system_priority));
+    const isUsed = port.carries && port.aggregator === bundle.aggregator;
     return portOfText({
-        name: port.interface, link: port.link === "up", source: macOf(port.address), actor, partner: knownPartner(actor, partner), aggregator: port.aggregator,
-        isUsed: port.carries && port.aggregator === bundle.aggregator,
+        name: port.interface, link: port.link === "up", source: macOf(port.address), actor, partner: known, aggregator: port.aggregator,
+        isUsed, isAlone: isUsed && !known, isLasting: isChurning([port.actor_churn, port.partner_churn]),
         facts: [...port.status !== "it distributes" ? [`lagd says: ${port.status}`] : [], ...port.other_system ? [`another system speaks: ${port.other_system.system}`] : [], ...countsSaid(port.counters ?? {})],
     });
 }
 
 const lagdJson = (lines) => ({
-    form: "lagd", bundles: lines.map((it) => ({ name: it.bundle, ports: it.ports.map((port) => memberOfLagd(it, port)), isCut: false })),
-    notes: lines.filter((it) => it.state === "down" && it.carrying > 0).map((it) => tooFew(it.bundle, it.carrying, it.min_links, "min-links")),
+    form: "lagd",
+    bundles: lines.map((it) => bundleOfText(it.bundle, `the bundle ${it.bundle}`, it.ports.map((port) => memberOfLagd(it, port)), { hash: it.carry?.hash ? ["hash", it.carry.hash] : null })),
+    notes: lines.filter((it) => it.state === "down" && it.carrying > 0).map((it) => tooFew(`the bundle ${it.bundle}`, it.carrying, it.min_links, "min-links")),
 });
 
 /* ---- Any of them ---- */
@@ -258,16 +316,20 @@ function plainText(text) {
     return lines.map((it) => it.slice(least)).join("\n");
 }
 
-function ofJson(text) {
-    let values;
+/* The values of a text: one, one a line, or several that each begin and end at the left. */
+function valuesOfJson(text) {
     try {
-        values = [JSON.parse(text)];
+        return [JSON.parse(text)];
     } catch {
-        values = text.split("\n").map((line) => JSON.parse(line));
+        const lines = text.split("\n");
+        return lines.some((it) => it === "}") ? text.match(/^\{[\s\S]*?^\}/gm).map((it) => JSON.parse(it)) : lines.map((it) => JSON.parse(it));
     }
+}
+
+function ofJson(text) {
+    const values = valuesOfJson(text);
     if (Array.isArray(values[0])) return ipLink(values[0]);
-    if (values[0].lagd) return lagdJson(values);
-    return values[0].team_device || values[0].setup ? team(values[0]) : null;
+    return values[0].lagd ? lagdJson(values) : teamOf(values);
 }
 
 /* What a text says; null where it has none of the forms, or is cut so that it has none. */

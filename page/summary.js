@@ -3,9 +3,11 @@
 import { addressOf, isKnown, isSilent, machinesOf, namesLast, roundedSeconds } from "./records.js";
 import { astrayIn, capitalized, counted, groupOf, isCrossed, joinedBy, keyGroups } from "./keys.js";
 import { CAUSELESS, EFFECT, FAULT, PAST, REMARK } from "./causes.js";
+import { flowSaid } from "./hashes.js";
 
 export const CARRIES = "carries";
 export const CARRIES_APART = "carries apart";
+export const ALONE = "is in use by itself";
 export const IDLE = "does not carry";
 export const UNKNOWN = "not seen";
 /* So many seconds apart two ends that hear nobody lost each other together. */
@@ -51,8 +53,8 @@ function ofOneEnd(end, until) {
     return isKnown(end.named) ? [UNKNOWN, `${end.short} alone is in this capture: it names ${addressOf(end.named)}`] : [IDLE, end.has("active") ? `nobody answers ${end.short}` : `${end.short} is passive, and nobody answers it`];
 }
 
-/* Whether a link with both ends carries, and why not; and whether that says no more than their states. */
-function ofBothEnds(link, groups, until) {
+/* Whether a link with both ends carries, and why not; and whether that says no more than their states. `beside` are the links of its systems. */
+function ofBothEnds(link, groups, until, beside) {
     const { ends } = link, silent = ends.filter((it) => isSilent(it, until)), deaf = deafEnds(ends), keys = keyDifference(link, groups);
     if (link.carries) return keys ? [CARRIES_APART, `both ways: ${keys}`] : [CARRIES, "both ways"];
     if (ends[0].system === ends[1].system) return [IDLE, "both ends have one system: a loop, or a copied identifier"];
@@ -63,7 +65,15 @@ function ofBothEnds(link, groups, until) {
     if (deaf.length) return [IDLE, `${deaf.map((it) => it.short).join(" and ")} ${deaf.length === 1 ? "hears" : "hear"} nobody`];
     const [stray] = ends.filter((it, way) => !namesLast(it, ends[1 - way]));
     if (stray) return [IDLE, `${stray.short} names ${addressOf(stray.named)} port ${stray.last.partner.port.split("/")[1]} as its partner`];
-    return ofStates(ends);
+    return ofOtherGroup(link, beside) ?? ofStates(ends);
+}
+
+/* That a link has other keys at both ends than each one beside it that carries, as links of several speeds have; null of others. */
+function ofOtherGroup(link, beside) {
+    const keysOf = ({ ends }) => ends.map((it) => it.last.actor.key), own = keysOf(link), up = beside.filter((it) => it !== link && it.carries && it.ends.every((end) => end?.last)).map(keysOf);
+    if (!up.length || !up.every((keys) => keys.every((key, way) => key !== own[way]))) return null;
+    const said = (keys) => keys[0] === keys[1] ? `key ${keys[0]} at both ends` : `keys ${keys.join(" and ")}`;
+    return [IDLE, `it has ${said(own)}, and the ${up.length === 1 ? "link that carries" : "links that carry"} ${said(up[0])}: another group, as a link of another speed or duplex is to Linux bonding`];
 }
 
 /* The same of two ends that hear each other, and have keys that agree. */
@@ -75,29 +85,28 @@ function ofStates(ends) {
 }
 
 /* Of a link: its name, its ends, how it is, and why. */
-function lineOf(link, groups, until) {
+function lineOf(link, groups, until, beside) {
     const heard = link.ends.filter((it) => it?.last), isWhole = heard.length === 2;
     if (!heard.length) return null;
-    const [how, why, isVague] = isWhole ? ofBothEnds(link, groups, until) : ofOneEnd(heard[0], until), [{ label }] = heard;
+    const [how, why, isVague] = isWhole ? ofBothEnds(link, groups, until, beside) : ofOneEnd(heard[0], until), [{ label }] = heard;
     const far = isWhole ? "" : isKnown(heard[0].named ?? "") ? ` - ${addressOf(heard[0].named)}` : " - nobody", ends = `${heard.map((it) => it.short).join(" - ")}${far}`;
     return { link, port: heard[0].port, name: label ? `${label} (${ends})` : ends, how, why, isVague };
 }
 
 /* The lines of all links, those that do not carry first; beside links, each file of them without an LACPDU is one, too. */
 export function linesOf(records, bundles) {
-    const groups = keyGroups(bundles), links = bundles.flatMap((it) => it.links).filter((it) => !it.isPast);
-    const lines = links.map((it) => lineOf(it, groups, records.lacpdus.last)).filter(Boolean);
+    const groups = keyGroups(bundles), ofBundle = ({ links }) => links.filter((it) => !it.isPast).map((it) => lineOf(it, groups, records.lacpdus.last, links));
+    const lines = bundles.flatMap(ofBundle).filter(Boolean);
     lines.sort((one, other) => one.port - other.port);
     if (lines.length) lines.push(...records.silent.map((name) => ({ link: null, name, how: IDLE, why: `no LACPDU is in the file ${name}: neither end sends on that link` })));
     return [IDLE, CARRIES_APART, UNKNOWN, CARRIES].flatMap((how) => lines.filter((it) => it.how === how));
 }
 
 /* A line as a text. */
-export const textOfLine = ({ name, how, why }) => `${name}: ${how}${how === CARRIES_APART || how === CARRIES ? ", " : ": "}${why}`;
+export const textOfLine = ({ name, how, why }) => `${name}: ${how}${[CARRIES_APART, CARRIES].includes(how) ? ", " : ": "}${why}`;
 
-/* What a headline says of links, and what a bundle that carries does with a flow. */
+/* What a headline says of links. */
 export const howManyCarry = (carry, all) => `${carry} of ${counted(all, "link")} ${carry === 1 || all === 1 ? "carries" : "carry"}`;
-export const FLOW = "One flow has the speed of one link: the hash chooses it.";
 const ONE = "It is one link: of a bundle capture all links, since keys and partners are compared between them.";
 
 /* That all links carry: since when, where it was not so before, and what was the cause; else of one link, or of a bundle. */
@@ -107,7 +116,7 @@ function ofHealthy(all, causes) {
     if (cause) return [`${links}, both ways${since}. Before, ${cause.title}.`, ""];
     const twins = causes.find(({ kind, rule }) => kind === REMARK && rule === null);
     if (twins) return [`${links}, both ways${since}. ${capitalized(twins.title)}: right if they are an MLAG pair.`, ""];
-    return [all === 1 ? `${links}, both ways${since}. ${ONE}` : `${links}, both ways${since}: LACP is not your trouble. ${FLOW}`, "good"];
+    return [all === 1 ? `${links}, both ways${since}. ${ONE}` : `${links}, both ways${since}: LACP is not your trouble. ${flowSaid([])}`, "good"];
 }
 
 /* The headline: how many links carry, and the first cause; with how it looks. */

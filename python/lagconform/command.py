@@ -19,7 +19,7 @@ from .bench import Bench
 from .files import read_text, tell, undisturbed, written
 from .groups import GROUPS, TESTS
 from .listing import as_markdown, as_text
-from .memory import World, loaded
+from .memory import UNKNOWN, World, loaded
 from .model import FAIL, INCONCLUSIVE, PASS, NotHere, Result, Test
 from .options import MEMORY_LINKS, check_words, reader, selected
 from .page import as_html
@@ -31,6 +31,8 @@ from .shadow import Shadow, compare
 from .sockets import Command, PacketWire
 from .wires import Gone
 
+# The statuses of a shell that cannot run a command.
+NO_COMMAND = {126: "may not run it", 127: "does not find it"}
 TITLES = {it.name: it.title for it in GROUPS}
 
 
@@ -86,6 +88,17 @@ def write_all(given: argparse.Namespace, run: Run) -> bool:
     return all([written(path, make) for path, make in files if path])
 
 
+def write_nothing(given: argparse.Namespace, why: str) -> None:
+    """Has JUnit and TAP say that no test ran: what stands there of a run before would pass for this one."""
+    files: list[tuple[Optional[str], Callable[[], bytes]]] = [
+        (given.junit, lambda: junit.junit_of_nothing(given.device, why).encode()),
+        (given.tap, lambda: junit.tap_of_nothing(why).encode("utf-8", "replace")),
+    ]
+    for path, make in files:
+        if path and os.path.isdir(os.path.dirname(os.path.realpath(path))) and not os.path.isdir(path):
+            written(path, make)
+
+
 def stand(given: argparse.Namespace) -> Bench:
     """The bench at its links, with a device that speaks."""
     if given.memory:
@@ -115,8 +128,12 @@ def prepare_device(given: argparse.Namespace, b: Bench) -> None:
             answer = b.ask(*words)
         except NotHere as why:
             raise Refused(str(why)) from why
+        if answer.status in NO_COMMAND:
+            raise Refused(f"--hook {given.hook}: the shell {NO_COMMAND[answer.status]}: {answer.said.strip()[-200:]}")
         if answer.status and words[0] == "set":
             raise Refused(answer.refusal(words))
+        if answer.status not in (0, UNKNOWN):
+            tell(f"lagconform: {answer.refusal(words)} (status {answer.status})", to=sys.stderr)
 
 
 def run_tests(given: argparse.Namespace, b: Bench, tests: Sequence[Test], claimed: dict[str, bool], reasons: dict[str, str]) -> int:
@@ -214,9 +231,12 @@ def main(words: Optional[Sequence[str]] = None) -> int:
         b = stand(given)
     except (Refused, NoDevice, pics.BadPics, known.BadKnown, Gone, ImportError, OSError) as why:
         file = given.pics if isinstance(why, pics.BadPics) else given.known if isinstance(why, known.BadKnown) else None
-        print(f"lagconform: {file}: {why}" if file else f"lagconform: {why}", file=sys.stderr)
+        told = f"{file}: {why}" if file else str(why)
+        print(f"lagconform: {told}", file=sys.stderr)
+        write_nothing(given, told)
         return 2
     except KeyboardInterrupt:
+        write_nothing(given, "interrupted before the first test")
         return 130
     try:
         return run_tests(given, b, tests, claimed, reasons)

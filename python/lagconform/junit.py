@@ -13,6 +13,9 @@ from .model import FAIL, INCONCLUSIVE, PASS, Result
 from .pdus import told
 from .report import Run
 
+# What a run is to JUnit that did not come to its end, and the counts of a suite of that alone.
+EARLY = "the run ended early"
+ONE = 'tests="1" failures="0" errors="1" skipped="0" time="0.000"'
 # What no document of XML 1.0 may have.
 UNWANTED = re.compile("[^\t\n\r\x20-\ud7ff\ue000-\ufffd\U00010000-\U0010ffff]")
 
@@ -52,14 +55,14 @@ def case(run: Run, it: Result) -> str:
     return f"{out}<system-out>{body}</system-out></testcase>"
 
 
-def suite(run: Run, kind: str, name: str, results: Sequence[Result]) -> str:
-    """The first tag of a suite."""
+def suite(run: Run, kind: str, name: str, results: Sequence[Result], more: int = 0) -> str:
+    """The first tag of a suite, with so many errors more than those of its tests."""
     tags = [tag(run, it) for it in results]
     failed, wrong, skipped = (tags.count(it) for it in ("failure", "error", "skipped"))
     begin = run.bench.wire.started + (results[0].begin if results else 0.0)
     when = time.strftime("%Y-%m-%dT%H:%M:%S", time.gmtime(begin))
     seconds = sum(it.end - it.begin for it in results)
-    counts = f'tests="{len(results)}" failures="{failed}" errors="{wrong}" skipped="{skipped}" time="{seconds:.3f}"'
+    counts = f'tests="{len(results) + more}" failures="{failed}" errors="{wrong + more}" skipped="{skipped}" time="{seconds:.3f}"'
     return f'<{kind} name={quoteattr(name)} {counts}{f" timestamp={quoteattr(when)}" if kind == "testsuite" else ""}>'
 
 
@@ -69,13 +72,28 @@ def properties(run: Run) -> str:
     return f"<properties>{told_of}</properties>"
 
 
+BEGINS = '<?xml version="1.0" encoding="utf-8"?>'
+
+
+def early(why: str) -> list[str]:
+    """A suite with an error: the run ended early, or never began."""
+    error = f"<error type={quoteattr(EARLY)} message={quoteattr(why)}/>"
+    return [f'<testsuite name="run" {ONE}>', f'<testcase classname="run" name={quoteattr(EARLY)} time="0.000">{error}</testcase>', "</testsuite>"]
+
+
 def as_junit(run: Run) -> str:
-    """The whole run as JUnit's XML."""
-    out = ['<?xml version="1.0" encoding="utf-8"?>', suite(run, "testsuites", run.about.get("device", "device"), run.results)]
+    """The whole run as JUnit's XML. One that ended early has an error beside what was run."""
+    why = run.about.get("incomplete", "")
+    out = [BEGINS, suite(run, "testsuites", run.about.get("device", "device"), run.results, 1 if why else 0)]
     for group in dict.fromkeys(it.test.group for it in run.results):
         own = [it for it in run.results if it.test.group == group]
         out += [suite(run, "testsuite", group, own), properties(run), *(case(run, it) for it in own), "</testsuite>"]
-    return UNWANTED.sub("\ufffd", "\n".join([*out, "</testsuites>"]) + "\n")
+    return UNWANTED.sub("\ufffd", "\n".join([*out, *(early(why) if why else []), "</testsuites>"]) + "\n")
+
+
+def junit_of_nothing(device: str, why: str) -> str:
+    """JUnit's XML of a run that never began."""
+    return UNWANTED.sub("\ufffd", "\n".join([BEGINS, f"<testsuites name={quoteattr(device)} {ONE}>", *early(why), "</testsuites>"]) + "\n")
 
 
 def plain(text: str) -> str:
@@ -99,7 +117,17 @@ def point(run: Run, number: int, it: Result) -> Iterable[str]:
         yield "  ..."
 
 
+def bail_out(why: str) -> str:
+    """That a run ended early, as TAP has it; a reader of TAP counts it as failed."""
+    return f"Bail out! {plain(why)}"
+
+
 def as_tap(run: Run) -> str:
     """The whole run as TAP, version 14."""
-    points = [line for number, it in enumerate(run.results, 1) for line in point(run, number, it)]
-    return "\n".join(["TAP version 14", f"1..{len(run.results)}", *points]) + "\n"
+    points, why = [line for number, it in enumerate(run.results, 1) for line in point(run, number, it)], run.about.get("incomplete", "")
+    return "\n".join(["TAP version 14", f"1..{len(run.results)}", *points, *([bail_out(why)] if why else [])]) + "\n"
+
+
+def tap_of_nothing(why: str) -> str:
+    """TAP of a run that never began."""
+    return f"TAP version 14\n{bail_out(why)}\n"

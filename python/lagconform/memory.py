@@ -10,12 +10,13 @@ from __future__ import annotations
 import runpy
 import traceback
 from collections import deque
-from contextlib import contextmanager, suppress
+from contextlib import contextmanager, nullcontext, suppress
 from typing import Any, Deque, Iterator, Optional, Sequence
 
 from niwhopera import Mac
 
 from .child import NEEDED, Child
+from .hanging import limited
 from .pdus import COUNT_AT, DATA, SENDERS
 from .refusals import Refused
 from .wires import Answer, Arrival, Gone
@@ -40,6 +41,8 @@ class Stack:
 
     # So often `tick` is called.
     tick_seconds = 0.1
+    # Whether it runs in the process of the bench, and whether a call of it did not return.
+    is_inside, is_over = True, False
 
     def __init__(self) -> None:
         self.world: World
@@ -117,11 +120,13 @@ class Stack:
 
 
 @contextmanager
-def calling() -> Iterator[None]:
-    """Tells what a stack raises: it is no fault of the bench, and no test goes on without the stack."""
+def calling(device: Stack, name: str) -> Iterator[None]:
+    """Tells what a stack raises, or that it hangs: it is no fault of the bench, and no test goes on without the stack."""
     try:
-        yield
+        with limited(f"in {name}") if device.is_inside else nullcontext():
+            yield
     except Gone:
+        device.is_over = True
         raise
     except Exception as why:
         raise Gone(f"the stack broke by {type(why).__name__}\n{traceback.format_exc(limit=-3)}") from why
@@ -139,7 +144,7 @@ class World:
         self.device = device
         device.world = self
         try:
-            with calling():
+            with calling(device, "start"):
                 device.start()
         except BaseException:
             device.leave()
@@ -160,7 +165,7 @@ class World:
 
     def send(self, link: int, octets: bytes) -> bool:
         """Hands a frame to the stack."""
-        with calling():
+        with calling(self.device, "take"):
             self.device.take(link, octets)
         return True
 
@@ -174,8 +179,9 @@ class World:
 
     def close(self) -> None:
         """Ends the stack, if it can."""
-        with suppress(Exception):
-            self.device.stop()
+        if not self.device.is_over:
+            with suppress(Exception), calling(self.device, "stop"):
+                self.device.stop()
         self.device.leave()
 
     def wait(self, seconds: float) -> list[Arrival]:
@@ -185,7 +191,7 @@ class World:
             due = max(self.clock, self.device.due)
             self.clock = min(limit, due)
             if due <= limit:
-                with calling():
+                with calling(self.device, "tick"):
                     self.device.pass_time()
         came = list(self.came)
         self.came.clear()
@@ -203,7 +209,7 @@ class World:
 
     def call(self, words: Sequence[str]) -> Done:
         """The hook."""
-        with calling():
+        with calling(self.device, words[0]):
             return Done(self.device.do(words))
 
 
@@ -223,6 +229,8 @@ class Done:
 
 class Library(Stack):
     """A stack in a shared library, with the functions of examples/conform/device.h, in a process of its own."""
+
+    is_inside = False
 
     def __init__(self, path: str) -> None:
         super().__init__()
@@ -280,9 +288,15 @@ def loaded(path: str) -> Stack:
     try:
         if not path.endswith(".py"):
             return Library(path)
-        kind: Optional[Any] = runpy.run_path(path).get("Device")
+        with limited("where it is loaded"):
+            kind: Optional[Any] = runpy.run_path(path).get("Device")
     except OSError as why:
         raise Refused(f"{path}: {why}") from why
+    except (Refused, Gone):
+        raise
+    except Exception as why:
+        raise Refused(f"{path} breaks where it is loaded, by {type(why).__name__}: {why}") from why
     if not isinstance(kind, type) or not issubclass(kind, Stack):
         raise Refused(f"{path} has no class Device below lagconform.memory.Stack")
-    return kind()
+    with limited("where it is made"):
+        return kind()

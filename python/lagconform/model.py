@@ -13,7 +13,7 @@ if TYPE_CHECKING:
 PASS, FAIL, INCONCLUSIVE, SKIPPED, NOT_APPLICABLE = "pass", "fail", "inconclusive", "skipped", "not applicable"
 VERDICTS = (PASS, FAIL, INCONCLUSIVE, SKIPPED, NOT_APPLICABLE)
 # What carries the rule of a test: docs/PROFILE.md; two devices that nobody of this project wrote, which do so; or memory of the standard.
-PROFILE, DEVICES, MEMORY = "profile", "two devices", "memory"
+PROFILE, DEVICES, MEMORY = "PROFILE", "two devices", "memory"
 # A test that takes more seconds is long, and runs with --long alone.
 LONG = 25
 

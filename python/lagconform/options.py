@@ -36,7 +36,8 @@ The hook is a command that gets words behind it, and ends with status 0 if it di
                            flows between them: UDP from 198.18.0.0/16, to other addresses
                            and ports in each flow
 
-The first two come before the first test. Tests that want words which the hook does not know are skipped."""
+The first two come before the first test, and a hook that the shell cannot run is refused there. Tests that want words which the hook does not
+know are skipped."""
 
 
 def seconds(text: str) -> float:

@@ -46,7 +46,7 @@ def summary(results: Sequence[Result]) -> str:
     """The counts as a line, without the verdicts that no test has but pass and fail; how many fails are known stands behind theirs, and how many
     PROFILE does not carry."""
     fails = [it for it in results if it.verdict == FAIL]
-    kinds = {"known": sum(bool(it.known) for it in fails), "not by profile": sum(it.test.basis != PROFILE for it in fails)}
+    kinds = {"known": sum(bool(it.known) for it in fails), f"not by {PROFILE}": sum(it.test.basis != PROFILE for it in fails)}
     listed = ", ".join(f"{count} {kind}" for kind, count in kinds.items() if count)
     told = {FAIL: f" ({listed})"} if listed else {}
     return ", ".join(f"{count} {name}{told.get(name, '')}" for name, count in counts(results).items() if count or name in VERDICTS[:2])

@@ -2,14 +2,17 @@
 
 from __future__ import annotations
 
+import argparse
 import json
 import os
+import re
 import signal
 import struct
 import sys
+import time
 import xml.etree.ElementTree as xml
 from pathlib import Path
-from typing import Iterator, Type
+from typing import Iterator, Sequence, Type
 
 import pytest
 from conform_device import Device, World
@@ -19,10 +22,12 @@ from conform_frames import NoMarkers
 from lagconform import causes, command, files, known, listing, options, pics, refusals, report
 from lagconform.bench import Bench, most_within
 from lagconform.groups import GROUPS, TESTS
+from lagconform.memory import Done
 from lagconform.model import DEVICES, FAIL, INCONCLUSIVE, LONG, MEMORY, NOT_APPLICABLE, PASS, PROFILE, SKIPPED, Claim, Result
 from lagconform.model import Test as Case
 from lagconform.runner import NoDevice, judge, meet, run_one
 from lagconform.shadow import compare
+from lagconform.sockets import Command
 
 BY_NAME = {it.id: it for it in TESTS}
 
@@ -82,7 +87,7 @@ def test_reports(run, tmp_path: Path, capsys: pytest.CaptureFixture[str]) -> Non
     tree = xml.parse(tmp_path / "r.xml").getroot()
     assert tree.get("name") == "a <device>" and tree.get("failures") == "2" and len(tree.findall(".//testcase")) == 3
     page = (tmp_path / "r.html").read_text()
-    assert "a &lt;device&gt;" in page and page.count("<svg") == 4 and "the rule is carried by profile" in page
+    assert "a &lt;device&gt;" in page and page.count("<svg") == 4 and "the rule is carried by PROFILE" in page
     found = blocks((tmp_path / "r.pcapng").read_bytes())
     assert [kind for kind, _ in found[:3]] == [0x0A0D0D0A, 1, 1] and {kind for kind, _ in found[3:]} == {6}
     failing = told["tests"][1]["claims"][0]["packets"][0]
@@ -144,8 +149,12 @@ def test_an_interrupted_run_reports_what_ran(run, tmp_path: Path, capsys: pytest
             if self.now > 8:
                 raise KeyboardInterrupt
 
-    assert run(Interrupts, "--only", "FM-*", "--json", "r.json") == 130
+    assert run(Interrupts, "--only", "FM-*", "--json", "r.json", "--junit", "r.xml", "--tap", "r.tap") == 130
     told = json.loads((tmp_path / "r.json").read_text())
+    root = xml.parse(tmp_path / "r.xml").getroot()
+    assert [root.get(it) for it in ("tests", "errors")] == [str(len(told["tests"]) + 1), "1"] and len([*root.iter("testcase")]) == len(told["tests"]) + 1
+    assert [it.get("message") for it in root.iter("error")] == [told["about"]["incomplete"]]
+    assert (tmp_path / "r.tap").read_text().endswith(f"\nBail out! {told['about']['incomplete']}\n")
     assert told["counts"]["pass"] >= 1 and told["about"]["incomplete"] == f"interrupted; {len(told['tests'])} of 9 tests ran"
 
 
@@ -259,6 +268,42 @@ def test_one_link_runs_tests_of_one_link(run, capsys: pytest.CaptureFixture[str]
 def test_refusals(words: list[str], why: str, capsys: pytest.CaptureFixture[str]) -> None:
     assert command.main(words) == 2
     assert why in capsys.readouterr().err
+
+
+NONE = "there is no interface none0: `ip link` lists them"
+
+
+def test_a_run_that_never_began_leaves_no_report_of_another(tmp_path: Path) -> None:
+    xml_path, tap = tmp_path / "r.xml", tmp_path / "r.tap"
+    for it in xml_path, tap:
+        it.write_text("of the run before")
+    assert command.main(["none0", "--junit", str(xml_path), "--tap", str(tap)]) == 2
+    root = xml.parse(xml_path).getroot()
+    assert root.get("errors") == "1" and [it.get("message") for it in root.iter("error")] == [NONE]
+    assert tap.read_text() == f"TAP version 14\nBail out! {NONE}\n"
+
+
+class Waits:
+    """A hook whose command has ended where it is asked."""
+
+    def __init__(self, line: str) -> None:
+        self.line = line
+
+    def call(self, words: Sequence[str]) -> Done:
+        doing, limit = Command(self.line).call(words), time.monotonic() + 20
+        while (answer := doing.answer()) is None:
+            assert time.monotonic() < limit
+            time.sleep(0.01)
+        return Done(answer)
+
+
+@pytest.mark.parametrize("line, why", [("/none/hook", "does not find it"), ("{}/data", "may not run it")])
+def test_a_hook_that_can_not_be_run_is_refused_by_name(line: str, why: str, tmp_path: Path) -> None:
+    (tmp_path / "data").write_text("no program")
+    line = line.format(tmp_path)
+    b = Bench(World(Device()), Waits(line))
+    with pytest.raises(refusals.Refused, match=f"^--hook {re.escape(line)}: the shell {why}: .*{re.escape(line)}"):
+        command.prepare_device(argparse.Namespace(hook=line, set=[]), b)
 
 
 def interface(folder: Path, name: str, **files: str) -> None:
@@ -419,11 +464,17 @@ def test_the_page_has_each_group_and_its_count() -> None:
 
 def test_the_page_has_what_carries_the_tests() -> None:
     text, kinds = page_of("CONFORM.md"), {kind: [it.id for it in TESTS if it.basis == kind] for kind in (PROFILE, DEVICES, MEMORY)}
-    assert not text or f"|`profile`|{len(kinds[PROFILE])} of {len(TESTS)}|" in text
+    assert not text or f"|`PROFILE`|{len(kinds[PROFILE])} of {len(TESTS)}|" in text
     vn, rb = ([it.id for it in TESTS if it.group == group] for group in ("VN", "RB"))
     assert kinds[DEVICES] == [*vn[: vn.index("VN-10") + 1], *rb]
     row = next((it for it in text.splitlines() if it.startswith("|`memory`|")), "")
     assert not text or set(row.split("|")[2].split(", ")) == set(kinds[MEMORY])
+
+
+def test_pages_have_the_number_of_tests() -> None:
+    """What the bench has now; the counts of runs stand with their dates."""
+    for name, wanted in ("../README.md", f": {len(TESTS)} tests of the LACP"), ("CONFORMANCE.md", f"The bench has {len(TESTS)} now"):
+        assert wanted in (page_of(name) or wanted)
 
 
 def test_pages_have_the_time_of_a_run_and_which_tests_are_long() -> None:

@@ -10,7 +10,7 @@ from conform_faults import set_bits
 
 from lagconform.bench import Bench
 from lagconform.groups import TESTS
-from lagconform.model import FAIL, INCONCLUSIVE, Result
+from lagconform.model import FAIL, INCONCLUSIVE, PASS, Result
 from lagconform.model import Test as Case
 from lagconform.runner import meet, ordered, run_all
 
@@ -187,14 +187,22 @@ class NeverJoins(Bridge):
         return port if super().aggregator(port) else None
 
 
+BY_NAME = {it.id: it for it in TESTS}
 SELECTION = ("SL-01", "SL-03", "SL-04", "SL-05", "SL-06", "SL-07", "SL-13")
 
 
-@pytest.mark.parametrize("kind, fails", [(Bridge, []), (JoinsKeys, ["SL-04", "SL-06", "SL-07", "SL-13"]), (NeverJoins, ["SL-01"])])
-def test_broadcasts_tell_aggregators_apart(kind: Type[Device], fails: list[str]) -> None:
+@pytest.mark.parametrize(
+    "kind, fails, open_ones", [(Bridge, [], ["SL-01"]), (JoinsKeys, ["SL-04", "SL-06", "SL-07", "SL-13"], ["SL-01"]), (NeverJoins, ["SL-01"], [])]
+)
+def test_broadcasts_tell_aggregators_apart(kind: Type[Device], fails: list[str], open_ones: list[str]) -> None:
     results = play(kind, [it for it in TESTS if it.id in SELECTION])
     assert [it.test.id for it in results if it.verdict == FAIL] == fails, [f"{it.test.id} {it.verdict} {it.why}" for it in results]
-    assert not [it.test.id for it in results if it.verdict == INCONCLUSIVE]
+    assert [it.test.id for it in results if it.verdict == INCONCLUSIVE] == open_ones
+
+
+def test_where_a_device_is_known_to_forward_broadcasts_two_links_are_seen_to_aggregate() -> None:
+    tests = [BY_NAME["SL-03"], BY_NAME["SL-01"]]
+    assert [it.verdict for it in play(Bridge, tests)] == [PASS, PASS]
 
 
 def test_what_forwards_nothing_has_no_answer() -> None:
@@ -203,4 +211,5 @@ def test_what_forwards_nothing_has_no_answer() -> None:
             raise NotImplementedError
 
     found = {it.test.id: it for it in play(Host, [it for it in TESTS if it.id in ("SL-01", "SL-03")])}
+    assert found["SL-01"].verdict == INCONCLUSIVE and "one aggregator, or two of a device that forwards none. Data of its client would show it" in found["SL-01"].why
     assert found["SL-03"].verdict == INCONCLUSIVE and "of 20 broadcasts into link 1, 0 come out of link 2: one aggregator, or a device that forwards none" in found["SL-03"].why

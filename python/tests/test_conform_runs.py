@@ -319,7 +319,7 @@ def test_the_example_in_c_passes_all(tmp_path: Path, capsys: pytest.CaptureFixtu
 def test_a_fail_that_the_profile_does_not_carry_has_a_mark(run, tmp_path: Path, capsys: pytest.CaptureFixture[str]) -> None:  # type: ignore[no-untyped-def]
     assert run(VersionChecked, "--only", "VN-02", "--junit", "r.xml", "--tap", "r.tap") == 1
     said = capsys.readouterr().out
-    assert said.endswith("0 pass, 1 fail (1 not by profile)\n") and "by two devices: " in said
+    assert said.endswith("0 pass, 1 fail (1 not by PROFILE)\n") and "by two devices: " in said
     assert [it.get("type") for it in xml.parse(tmp_path / "r.xml").getroot().iter("failure")] == ["fail by two devices"]
     assert "  basis: two devices\n" in (tmp_path / "r.tap").read_text()
 
@@ -344,6 +344,40 @@ def test_what_is_looked_past_is_that_one_parameter(bench) -> None:  # type: igno
     assert found.notes == ["the device tells our port_priority wrong (FM-06): tests go by the other parameters from here on"]
     partner, pdu = b.partner(), b.device()
     assert partner.is_named_by(pdu) and not partner.is_named_by(replace(pdu, partner=replace(pdu.partner, key=7)))
+
+
+HANGS = """from conform_device import Device as Right
+
+class Device(Right):
+    def {name}(self, *words):
+        while {when}:
+            try:
+                pass
+            except Exception:
+                pass
+        super().{name}(*words)
+"""
+
+
+@pytest.mark.parametrize("name, when, why", [("tick", "self.now > 40", "in tick"), ("take", "self.now > 40", "in take"), ("start", "True", "in start")])
+def test_a_stack_in_python_that_hangs_ends_its_run(name: str, when: str, why: str, tmp_path: Path, capsys: pytest.CaptureFixture[str], monkeypatch: pytest.MonkeyPatch) -> None:
+    monkeypatch.setattr(child, "CALL_SECONDS", 0.5)
+    monkeypatch.chdir(tmp_path)
+    (tmp_path / "device.py").write_text(HANGS.format(name=name, when=when))
+    assert command.main(["--memory", "device.py", "--only", "FM-*", "--only", "RX-*", "--junit", "r.xml", "--tap", "r.tap"]) == 2
+    said = capsys.readouterr()
+    assert f"the stack hangs {why}: no return in 0.5 s" in said.err
+    assert name == "start" or f"inconclusive   RX-" in said.out
+    assert [it.get("type") for it in xml.parse(tmp_path / "r.xml").getroot().iter("error")] == ["the run ended early"]
+    assert (tmp_path / "r.tap").read_text().splitlines()[-1].startswith(f"Bail out! the stack hangs {why}")
+
+
+def test_a_stack_that_breaks_where_it_is_loaded_is_refused(tmp_path: Path, capsys: pytest.CaptureFixture[str]) -> None:
+    path = tmp_path / "device.py"
+    for text, why in ("import nothing_of_this_name\n", "ModuleNotFoundError: No module named"), ("class Device(\n", "SyntaxError: "):
+        path.write_text(text)
+        assert command.main(["--memory", str(path)]) == 2
+        assert f"{path} breaks where it is loaded, by {why}" in capsys.readouterr().err
 
 
 @pytest.mark.skipif(not HEADER.exists() or not shutil.which("cc") or "NIWHOPERA_LIBRARY" not in os.environ, reason="no C compiler, or no library")

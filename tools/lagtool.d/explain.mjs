@@ -1,18 +1,18 @@
 /* lagtool explain FILE..: the first lines of docs/try.html as text, of captures (several links at once) or of what systems print: a headline, a line
  * a link, then the causes, each with what to do and what follows from it. It reads a capture into memory. The findings are those of the module of
- * docs/try.html; the order, the advice and what is read out of a status are not proved. The status is 0 where no cause holds still, 1 where one does,
- * 2 where a file cannot be read. */
+ * docs/try.html; the order, the advice and what is read out of a status are not proved. The status is 0 where each link carries and no cause holds still,
+ * 1 where something is found, 2 where a file cannot be read, or has no LACPDU. */
 import { accessSync, constants, openAsBlob, readFileSync } from "node:fs";
 import { basename } from "node:path";
 import { Lagtool } from "../../page/module.js";
 import { bundlesOf, Records } from "../../page/records.js";
 import { causesOf, FAULT, titleOf } from "../../page/causes.js";
-import { countsOf, headlineOf, linesOf, textOfLine } from "../../page/summary.js";
+import { CARRIES, countsOf, headlineOf, linesOf, textOfLine } from "../../page/summary.js";
 import { captureFrom } from "../../page/files.js";
 import { areJoined } from "../../page/cases.js";
 import { statusIn } from "../../page/status.js";
 import { foundIn } from "../../page/implied.js";
-import { causesOfTexts, headlineOfTexts, linesOfTexts } from "../../page/standing.js";
+import { areUnread, causesOfTexts, headlineOfTexts, linesOfTexts } from "../../page/standing.js";
 
 const PAGE = new URL("../../docs/try.html", import.meta.url), MODULE = /<script type="application\/x-base64" id="module">([^<]*)</;
 const ERRORS = { ENOENT: "no such file", EACCES: "permission denied", EISDIR: "is a folder" };
@@ -45,13 +45,13 @@ async function ofCaptures(lagtool, files) {
     const { records, said, faults, note } = await recordsOf(lagtool, files);
     const bundles = bundlesOf(records), causes = causesOf(records, bundles), lines = linesOf(records, bundles), [found] = headlineOf(lines, causes);
     const headline = found || "No LACPDU is in this capture: capture the members of the bond (eth0, eth1), not the bond; look whether LACP is on.";
-    return { headline, lines, note, causes, counts: countsOf(causes), said: [...faults, said].filter(Boolean).join("\n"), placeOf: (packet) => records.placeOf(packet) };
+    return { headline, lines, note, causes, counts: countsOf(causes), said: [...faults, said].filter(Boolean).join("\n"), isUnread: !lines.length, placeOf: (packet) => records.placeOf(packet) };
 }
 
 async function ofTexts(lagtool, texts) {
     const explain = async (capture) => lagtool.capture(new Uint8Array(await capture.arrayBuffer()), { json: true }).printed.split("\n").filter(Boolean).map((it) => JSON.parse(it));
     const causes = causesOfTexts(texts, await foundIn(texts, explain)), lines = linesOfTexts(texts), [headline] = headlineOfTexts(texts, lines, causes);
-    return { headline, lines, causes, said: texts.some((text) => text.bundles.some((it) => it.isCut)) ? headline : "" };
+    return { headline, lines, causes, said: texts.some((text) => text.bundles.some((it) => it.isCut)) ? headline : "", isUnread: areUnread(texts, causes) };
 }
 
 /* A file, or for - standard input: a status, or a capture by its name. */
@@ -73,7 +73,8 @@ async function main(paths) {
     const told = texts.length ? await ofTexts(lagtool, texts) : await ofCaptures(lagtool, files.map((it) => it.file));
     console.log(textOfAll(told));
     if (told.said) console.error(`lagtool: ${told.said.trim()}`);
-    return told.said ? 2 : Number(told.causes.some((it) => it.kind === FAULT));
+    if (told.said || told.isUnread) return 2;
+    return Number(told.causes.some((it) => it.kind === FAULT) || told.lines.some((it) => it.how !== CARRIES));
 }
 
 main(process.argv.slice(2)).catch((error) => {

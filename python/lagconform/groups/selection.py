@@ -92,9 +92,19 @@ def apart_by_broadcasts(b: Bench, frames: Sequence[Frame], why: str) -> None:
         raise Stop(f"both links carry, and {text}: one aggregator, or a device that forwards none. Data of its client would show it ({why})")
 
 
+def joined_by_broadcasts(b: Bench, why: str) -> None:
+    """Claims that two links that carry are one aggregator, as broadcasts show it where the device is known to be a bridge."""
+    floods, found = b.floods, broadcasts(b)
+    text = f"of {BROADCASTS} broadcasts into link 1, {found} come out of link 2"
+    if found or floods:
+        b.claim(not found, f"{text}; has to be none: they are one aggregator")
+    else:
+        raise Stop(f"both links carry, and {text}: one aggregator, or two of a device that forwards none. Data of its client would show it ({why})")
+
+
 @group.test("01", "6.4.14, 6.3.7", "Two links of one partner aggregate", "be one partner with one key on both links",
-            rule="both carry, and stay so for 4 s, and no broadcast comes back; on which links data comes is told alone: the distribution is the "
-            "device's own", links=2, takes=8.5, hooks=DATA, causes=("SL-02",))  # fmt: skip
+            rule="both carry, and stay so for 4 s, in one aggregator: no broadcast comes back; on which links data comes is told alone: the "
+            "distribution is the device's own", links=2, takes=8.5, hooks=DATA, causes=("SL-02",))  # fmt: skip
 def aggregates(b: Bench) -> None:
     """Links of one LAG ID share an aggregator."""
     b.up(1, 2)
@@ -106,9 +116,8 @@ def aggregates(b: Bench) -> None:
         found = flows(b)
         b.spreads = all(found.values())
         b.note(f"flows of one client: {found[1]} on link 1, {found[2]} on link 2")
-    except NotHere:
-        found = {2: broadcasts(b)}
-        b.claim(not found[2], f"of {BROADCASTS} broadcasts into link 1, {found[2]} come out of link 2; has to be none: they are one aggregator", *wrong[:1])
+    except NotHere as why:
+        joined_by_broadcasts(b, str(why))
 
 
 @group.test("02", "6.3.2, 6.3.4, 6.3.5", "Identifiers of two ports", "carry on both links", rule="one system, one key, two port numbers",

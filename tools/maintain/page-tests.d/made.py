@@ -72,6 +72,14 @@ def dead(path: str) -> None:
     pcap(path, sorted(packets))
 
 
+def late_at_the_end(path: str) -> None:
+    """The last LACPDU of system 1 comes behind a gap of 3.3 s, and the capture ends."""
+    one, other = Party(1, 7, 1, FAST), Party(2, 8, 1, FAST)
+    packets = exchange(one, other, range(11))
+    packets += [(13.3, frame(one.source(), lacpdu(one, other)))] + [(second, frame(other.source(), lacpdu(other, one))) for second in (11, 12, 13, 13.7)]
+    pcap(path, sorted(packets))
+
+
 def gone(path: str) -> None:
     """From 20 s on neither end sends on link 2."""
     packets = exchange(Party(1, 7, 1, FAST), Party(2, 8, 1, FAST), range(60))

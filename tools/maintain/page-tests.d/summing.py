@@ -47,6 +47,10 @@ def of_keys(tests: Tests, browser: Browser, folder: str) -> None:
     made.keyed(path, [(10, 10), (10, 10), (10, 30)], (10, 10))
     idle = link(3, f"does not carry: {SYSTEM}2 has key 30 there, and 10 on the links that carry")
     tests.same("two groups at one end", said_of(browser, path), ["2 of 3 links carry. Keys differ within one pair of systems.", ["Keys differ within one pair of systems"], [idle, link(1, up), link(2, up)]])
+    made.keyed(path, [(10, 10), (20, 20)], (10, 10))
+    apart = "has key 20 at both ends, and the link that carries key 10 at both ends: another group, as a link of another speed or duplex is to Linux bonding"
+    wanted = [f"1 of 2 links carries. It {apart}; this capture does not show why: ask both ends, and capture all links.", [], [link(2, f"does not carry: it {apart}"), link(1, up)]]
+    tests.same("a link of another speed", said_of(browser, path), wanted)
     made.keyed(path, [(10, 10), (10, 20), (20, 10), (20, 20), (10, 10), (20, 20)])
     crossed = "cables of two bundles are crossed, or a port is in the group of another link"
     astray = [link(port, f"carries apart, both ways: it joins key {keys}: a cable or a port's group is wrong") for port, keys in ((2, "10 to key 20"), (3, "20 to key 10"))]
@@ -85,6 +89,7 @@ def of_ends(tests: Tests, browser: Browser, folder: str) -> None:
     cases: dict[str, tuple[Callable[[str], None], str, list[str], list[str]]] = {
         "an end that sends no more": (made.dead, "1 of 2 links carries. An end sends nothing more.", ["An end sends nothing more"],
                                       [link(2, f"does not carry: {SYSTEM}1 port 2 sends nothing after 19.1 s"), link(1, up)]),
+        "an end whose last LACPDU is late": (made.late_at_the_end, "1 of 1 link carries. No LACPDU for longer than the partner's timeout.", ["No LACPDU for longer than the partner's timeout"], [link(1, up)]),
         "a link that goes down": (made.gone, "1 of 2 links carries. Both ends of a link send nothing more.", ["Both ends of a link send nothing more"],
                                   [link(2, "does not carry: nothing is sent on it after 19.1 s"), link(1, up)]),
         "a link that comes and goes": (made.flaps, "1 of 1 link carries. A link is silent at both ends for a while.", ["A link is silent at both ends for a while"], [link(1, up)]),

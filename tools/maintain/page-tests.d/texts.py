@@ -6,12 +6,15 @@ import csv
 import json
 import os
 import subprocess
+import tempfile
 
+import made
 from browser import Browser
 from repository import TOOLS
 from stored import CAPTURES, EXAMPLES, Tests, captures, read
 
 STATUS = os.path.join(EXAMPLES, "status")
+EXPLAIN = os.path.join(TOOLS, "lagtool.d", "explain.mjs")
 SAID = "[document.getElementById('verdict').textContent, document.querySelector('#findings strong')?.textContent ?? '', document.getElementById('said').textContent]"
 CUTS = 16
 
@@ -30,10 +33,15 @@ def truths() -> list[dict[str, str]]:
         return list(csv.DictReader(it, delimiter="\t"))
 
 
+def told_of(text: str) -> tuple[int, str]:
+    """The status of lagtool explain of a text, and all that it prints."""
+    ended = subprocess.run(["node", EXPLAIN, "-"], input=text, capture_output=True, text=True)
+    return ended.returncode, ended.stdout
+
+
 def explained(*paths: str) -> str:
     """The headline of lagtool explain."""
-    words = ["node", os.path.join(TOOLS, "lagtool.d", "explain.mjs"), *paths]
-    return subprocess.run(words, stdin=subprocess.DEVNULL, capture_output=True, text=True).stdout.partition("\n")[0]
+    return subprocess.run(["node", EXPLAIN, *paths], stdin=subprocess.DEVNULL, capture_output=True, text=True).stdout.partition("\n")[0]
 
 
 def of_explain(tests: Tests, browser: Browser) -> None:
@@ -49,13 +57,72 @@ def of_explain(tests: Tests, browser: Browser) -> None:
 
 def of_words(tests: Tests) -> None:
     """lagtool explain reads standard input, and says why a file cannot be read."""
-    words = ["node", os.path.join(TOOLS, "lagtool.d", "explain.mjs")]
+    words = ["node", EXPLAIN]
     with open(os.path.join(STATUS, "keys-bonding.txt"), encoding="utf-8") as it:
         piped = subprocess.run([*words, "-"], stdin=it, capture_output=True, text=True)
     tests.same("explain reads standard input", [piped.returncode, piped.stdout.partition("\n")[0]], [1, explained(os.path.join(STATUS, "keys-bonding.txt"))])
     for path, why in (os.path.join(STATUS, "none.txt"), "no such file"), (STATUS, "is a folder"):
         ended = subprocess.run([*words, path], stdin=subprocess.DEVNULL, capture_output=True, text=True)
         tests.same(f"explain: {why}", [ended.returncode, ended.stderr], [2, f"lagtool: cannot read {path}: {why}\n"])
+
+
+def of_endings(tests: Tests) -> None:
+    """The status of explain: each link carries, something is found, or there is no LACPDU."""
+    wanted = {"healthy-bonding.txt": 0, "healthy-lagd.txt": 0, "keys-bonding.txt": 1, "static-bonding.txt": 1, "setdown-ip.json": 1, "healthy-bonding-user.txt": 2}
+    tests.same("explain ends with the status of what is found", {name: told_of(read(os.path.join(STATUS, name)))[0] for name in wanted}, wanted)
+    whole = read(os.path.join(STATUS, "healthy-bonding.txt"))
+    tests.same("a bond without LACP is a finding", told_of(whole.replace("IEEE 802.3ad Dynamic link aggregation", "load balancing (xor)"))[0], 1)
+    tests.same("a text that is cut has no LACPDU to judge", told_of(whole[: len(whole) // 2])[0], 2)
+    with tempfile.NamedTemporaryFile(suffix=".pcap") as it:
+        made.pcap(it.name, [])
+        tests.same("a capture without an LACPDU ends with 2", subprocess.run(["node", EXPLAIN, it.name], stdin=subprocess.DEVNULL, capture_output=True).returncode, 2)
+    hears = os.path.join(CAPTURES, "bonding.pcap")
+    tests.same("a link that does not carry, without a cause, is a finding", subprocess.run(["node", EXPLAIN, hears], stdin=subprocess.DEVNULL, capture_output=True).returncode, 1)
+
+
+def of_programs(tests: Tests) -> None:
+    """Each text is told in the words of its program, once, and in whole sentences."""
+    said = {row["text"]: told_of(read(os.path.join(STATUS, row["text"])))[1] for row in truths()}
+    tests.same("commands of Open vSwitch stand at its texts alone", [name for name, text in said.items() if "ovs-" in text and "open-vswitch" not in name], [])
+    tests.same("a text without root says once how it is read", said["healthy-bonding-user.txt"].count("sudo cat"), 1)
+    tests.same("nothing came 1 times", [name for name, text in said.items() if " 1 times" in text], [])
+    failed = read(os.path.join(STATUS, "healthy-bonding.txt")).replace("Link Failure Count: 0", "Link Failure Count: 1", 1)
+    tests.same("a link failed once", "p1: its link failed once since the bond has it" in told_of(failed)[1], True)
+    churned = said["churned-bonding.txt"]
+    tests.same("who churns for 60 s does not start", ["Look again in 10 s" in churned, "It has been so for 60 s or more" in churned], [False, True])
+
+
+def of_speeds(tests: Tests) -> None:
+    """Where keys differ because speeds do, the speeds come first, and the keys below them; else the keys."""
+    text = read(os.path.join(STATUS, "speeds-bonding.txt"))
+    text = text.replace("oper key: 9", "oper key: 5").replace("oper key: 7", "oper key: 5")
+    one_there = told_of(text)[1]
+    first, keys = "1 of 2 links carries. The links of the bond differ in speed or duplex.", "keys differ within one pair of systems"
+    tests.same("speeds explain keys", [one_there.partition("\n")[0], f"likely effects: {keys}" in one_there], [first, True])
+    other = told_of(text.replace("Speed: 100 Mbps", "Speed: 1000 Mbps"))[1]
+    tests.same("keys that differ at one speed come first", other.partition("\n")[0], "1 of 2 links carries. Keys differ within one pair of systems: p1, p2.")
+
+
+def of_hashes(tests: Tests) -> None:
+    """The policy of the hash that a text names, and what it means."""
+    def head(name: str) -> str:
+        return "2 of 2 links carry. LACP is not your trouble, if the other end says so, too. One flow has the speed of one link: the hash " + f"({name}) chooses it."
+
+    bond, machine, connection = read(os.path.join(STATUS, "healthy-bonding.txt")), "By it all that it sends to one machine goes over one link", "By it each connection goes over one link"
+    config = json.dumps({"device": "team0", "runner": {"name": "lacp", "tx_hash": ["eth", "ipv4", "ipv6"]}}, indent=4)
+    backup = read(os.path.join(STATUS, "backup-open-vswitch.txt"))
+    cases = {
+        "xmit_hash_policy layer2": (bond, machine),
+        "xmit_hash_policy layer3+4": (bond.replace("layer2 (0)", "layer3+4 (1)"), connection),
+        "tx_hash eth, ipv4, ipv6": (f"{read(os.path.join(STATUS, 'healthy-teamd.json'))}\n{config}\n", machine),
+        "bond_mode balance-tcp": (backup.replace("bond_mode: active-backup", "bond_mode: balance-tcp"), connection),
+    }
+    for name, (text, meaning) in cases.items():
+        said = told_of(text)[1]
+        tests.same(f"the hash is named: {name}", [said.partition("\n")[0], meaning in said], [head(name), True])
+    tests.same("of a configuration alone the state is asked for", [told_of(config)[0], "state dump has the state" in told_of(config)[1]], [2, True])
+    shown = backup[backup.rindex("---- bond0 ----") :]
+    tests.same("so are the LACPDUs of bond/show alone", [told_of(shown)[0], "ovs-appctl lacp/show has them" in told_of(shown)[1]], [2, True])
 
 
 def of_texts(tests: Tests, browser: Browser) -> None:
@@ -68,7 +135,8 @@ def of_texts(tests: Tests, browser: Browser) -> None:
     of_ways(tests, browser)
     of_cuts(tests, browser)
     of_explain(tests, browser)
-    of_words(tests)
+    for it in of_words, of_endings, of_programs, of_speeds, of_hashes:
+        it(tests)
     passive = read(os.path.join(STATUS, "healthy-bonding.txt")).replace("port state: 63", "port state: 62")
     tests.same("two passive ends do not carry, as in a capture", pasted(browser, passive)[0], "0 of 2 links carry. Both ends are passive: p1, p2.")
     shown = browser.choose(os.path.join(STATUS, "keys-bonding.txt"))

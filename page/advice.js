@@ -1,0 +1,77 @@
+/* What a rule says of a text: its name for a moment, what is seen, and what to do, in the words of the program whose text it is. */
+
+/* For each form of a text how its program counts LACPDUs, and what gives its ports one key. */
+const BONDING = { counts: "it counts no LACPDUs, so capture at both ends (tcpdump -i PORT 'ether proto 0x8809')", key: "one speed, and full duplex" };
+const PROGRAMS = new Map([
+    ["bonding", BONDING],
+    ["ip", BONDING],
+    ["teamd", { ...BONDING, key: "one lacp_key, one speed, and full duplex" }],
+    ["openvswitch", {
+        counts: "compare the counts of ovs-appctl lacp/show-stats with those of the other end, or capture; ovs-appctl lacp/show does not say whether the link is up, ip link does",
+        key: "one bond (other_config:lacp-aggregation-key)",
+    }],
+    ["lagd", { counts: "compare its counts with those of the other end, or capture", key: "one key" }],
+]);
+export const isSeveral = (list, valueOf) => new Set(list.map(valueOf).filter((it) => it !== null && it !== undefined)).size > 1;
+export const namesIn = (list) => [...new Set(list.map((it) => it.name))].join(", ");
+export const isLinked = (it) => it.link !== false;
+export const dashed = (address) => address.replaceAll(":", "-");
+const heardIn = (ports) => ports.filter((it) => it.partner);
+
+/* Each value, and the ports that have it. */
+function eachOf(ports, valueOf) {
+    const values = new Map();
+    for (const it of heardIn(ports)) values.set(valueOf(it), [...values.get(valueOf(it)) ?? [], it.name]);
+    return [...values].map(([value, list]) => `${list.slice(0, 3).join(", ")}${list.length > 3 ? ` and ${list.length - 3} more` : ""}: ${value}`).join("; ");
+}
+
+/* Which ends have several keys. */
+const sidesWithKeys = (ports) => ["actor", "partner"].filter((side) => isSeveral(heardIn(ports), (it) => it[side].key));
+
+/* Whether the keys of ports differ only where their speed or duplex does, as those of Linux bonding do. */
+export function keysFollowSpeed(ports) {
+    const heard = heardIn(ports), sides = sidesWithKeys(ports);
+    return sides.length > 0 && sides.every((side) => heard.every((one) => heard.every((other) => one.speed !== other.speed || one[side].key === other[side].key)));
+}
+
+/* What is seen of ports that hear nobody, one of which is in use. */
+function aloneSaid(ports, form) {
+    const alone = ports.filter((it) => it.isAlone), idle = ports.filter((it) => isLinked(it) && !it.partner && !it.isAlone), isBonding = PROGRAMS.get(form) === BONDING;
+    if (!alone.length) return [];
+    const lost = isBonding && idle.length ? ` A static channel there (switch: mode on) sends on all links, and what comes on ${namesIn(idle)} is dropped here.` : "";
+    return [`without a partner this end uses ${namesIn(alone)} all the same, by itself.${lost}`];
+}
+
+/* A start lasts less than 10 s; who churns has been so for 60 s (6.4.17). */
+const asLong = ({ isLasting }) => isLasting ? "It has been so for 60 s or more, so it is no start: " : "Look again in 10 s: after a start it ends by itself. If it is still so: ";
+
+function adviceOnKeys({ ports, form }) {
+    const sides = sidesWithKeys(ports), there = "one group there (switch: one channel-group; bonding: one bond, one speed and duplex; Open vSwitch: one bond; teamd: one lacp_key)";
+    const ways = sides.map((side) => side === "actor" ? `give these ports of this end ${PROGRAMS.get(form).key}` : `put the other ends of these ports into ${there}`).join(", and ");
+    return ways ? `${ways[0].toUpperCase()}${ways.slice(1)}; or these are two bundles, and cables are crossed.` : null;
+}
+
+/* What rules say of texts; what stands not here is said as of a capture. `ports` are those of the text, `isLasting` is whether one of those that
+ * are meant churns. */
+export const RULES = new Map([
+    [5, { title: "both ends are passive" }],
+    [12, {
+        title: "a port hears nobody", said: ({ ports, form }) => aloneSaid(ports, form),
+        advice: (it) => `${asLong(it)}look whether LACP is on at the other end (switch: mode active, not on; Linux bonding: mode=802.3ad). If it is, no status says who is deaf: ${PROGRAMS.get(it.form).counts}.`,
+    }],
+    [14, { title: "one end is individual" }],
+    [15, {
+        title: "keys differ within one pair of systems", advice: adviceOnKeys,
+        said: ({ ports }) => sidesWithKeys(ports).map((side) => `${side === "actor" ? "this end" : "the other end"} has several keys: ${eachOf(ports, (it) => `key ${it[side].key}`)}`),
+    }],
+    [17, {
+        title: "it distributes, and the other end does not collect",
+        advice: (it) => `${asLong(it)}the other end has it in no aggregator, in another one, or beyond its limit (switch: max links). Look at its status.`,
+    }],
+    [22, {
+        title: "it is attached, and the other end has not attached it",
+        advice: (it) => `${asLong(it)}the other end has chosen another aggregator, or has links enough (switch: max links). Look at its status.`,
+    }],
+    [29, { title: "links lead to two systems", said: ({ ports }) => [eachOf(ports, (it) => it.partner.system ? dashed(it.partner.system) : "a system that is not named")] }],
+    [30, { title: "the partner is this system itself" }],
+]);
