@@ -127,7 +127,7 @@ ghost use Rattle.dataplane.specs.Resuming.{IsResumed};
 //    port adopted there, goes on where the one before it was: it is a takeover of `headline_through_succession` (`IsSuccessor`) and of
 //    lagnetwork (`IsNetworkSuccessor`), so order, agreement and one partner stay. Whatever `resume` and `adopt` accept follows some system
 // contract: `a_warm_start_may_follow` (`follows`: `IsWarmStart`; `parties`, `apart`, `possible`)
-// not said: that a host saved the last LACPDUs, and adopted each conversation that had a port. A takeover of lagfleet keeps the first marker
+// not said: that a host saved the last LACPDUs, and adopted each conversation that had a port
 /// A system may take the place of the one before it if `resume` was given LACPDUs that the ports took last, and as first marker the next
 /// one of that system or a higher one; and if each conversation that had a port was adopted there. It may do so whatever the first marker
 /// of the system before was (`follows`). Its ports have the own parameters that they had, if these are the configured ones (`parties`); and
