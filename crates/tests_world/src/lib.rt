@@ -1,5 +1,5 @@
-//! Tests of `lagworld` and `lagprogress`: they make public calls, and compare the results with values from IEEE 802.1AX-2014 and
-//! docs/PROFILE.md. They are a crate of their own, so that those two need not be proved again together with their tests.
+//! Tests of `lagworld`: they make public calls, and compare the results with values from IEEE 802.1AX-2014 and
+//! docs/PROFILE.md. They are a crate of their own, so that it need not be proved again together with its tests.
 #![tactic(auto)]
 
 #[cfg(test)]

@@ -1,23 +1,22 @@
 mod agreements;
 mod apart;
 mod both_systems;
-mod bundles;
 mod changes;
 mod conversations;
 mod given;
-mod hosts;
 mod joined;
 mod memory;
 mod planned;
+mod playing;
 mod refusals;
 mod restarts;
-mod rounds;
 mod scripted;
 mod standby;
 mod starts;
 
 use crate::comparing::{same, same_at};
-use crate::worlds::given::{Setting, lines, modulo, parts, read};
+use crate::worlds::given::{Setting, events, modulo, parts};
+use crate::worlds::playing::{run_of, step_of, world_of};
 use bitflags::Flags;
 use cables::AnyCable;
 use lagtypes::{AggId, NoMemory};
@@ -185,12 +184,11 @@ fn tells<F: Fn(u16, usize) -> usize + Drop>(
 /// Plays the events of a row by `step`, one by one, in a new world with cables of this limit.
 fn steps(rt: &impl Abort, alloc: Global, row: &Row, limit: Option<u16>) -> Result<(), WorldFault> {
     let text = lines_of(alloc, row)?;
-    let (config, events) = read(rt, alloc, row.setting, text.as_str())?;
-    let lines = lines(alloc, config.cables.len(), limit)?;
-    let mut world = World::new(alloc, config, modulo, modulo, lines)?;
+    let events = events(rt, alloc, row.setting, text.as_str())?;
+    let mut world = world_of(rt, alloc, row.setting, limit, modulo, modulo)?;
     let mut replies = Vec::new(alloc);
     for event in &events {
-        let reply = world.step(event)?;
+        let reply = step_of(&mut world, event)?;
         if replies.push(reply).is_err() {
             return Err(WorldFault::NoMemory);
         }
@@ -209,19 +207,15 @@ fn runs(
     cut: usize,
 ) -> Result<(), WorldFault> {
     let text = lines_of(alloc, row)?;
-    let (config, events) = read(rt, alloc, row.setting, text.as_str())?;
-    let lines = lines(alloc, config.cables.len(), limit)?;
-    let mut world = World::new(alloc, config, modulo, modulo, lines)?;
+    let text = text.as_str();
+    let events = events(rt, alloc, row.setting, text)?;
+    let mut world = world_of(rt, alloc, row.setting, limit, modulo, modulo)?;
     let cut = cut.min(events.len());
     let (now, later) = events.split_at(cut);
-    compare_run_of(rt, alloc, text.as_str(), (0, now.len()), world.run(now))?;
-    compare_run_of(
-        rt,
-        alloc,
-        text.as_str(),
-        (cut, later.len()),
-        world.run(later),
-    )?;
+    let came = run_of(&mut world, now);
+    compare_run_of(rt, alloc, text, (0, now.len()), came)?;
+    let came = run_of(&mut world, later);
+    compare_run_of(rt, alloc, text, (cut, later.len()), came)?;
     tells(rt, &world, row);
     Ok(())
 }

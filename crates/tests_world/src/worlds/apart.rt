@@ -1,9 +1,8 @@
 use crate::comparing::{same, same_at};
-use crate::worlds::given::{
-    ONE_SHORT, TWO_LONG, add_line, empty_direction, events, lines, modulo, read, world_config,
-};
+use crate::worlds::given::{ONE_SHORT, TWO_LONG, add_line, empty_direction, modulo, world_config};
+use crate::worlds::playing::{plays_lines, runs_lines, step_of, world_of};
 use crate::worlds::starts::{COMING_UP, ONE_CABLE};
-use crate::worlds::{Flow, Row, compare_run, plays};
+use crate::worlds::{Flow, Row, plays};
 use cables::AnyCable;
 use lagtypes::AggId;
 use lagworld::{Agreement, Event, Reply, World, WorldFault};
@@ -75,18 +74,11 @@ deliver 1 2 => Empty
 
 /// Plays `NOTHING`, 0 ticks, which no script has, and `FIRST_LOST`.
 fn nothing_happens(rt: &impl Abort, alloc: Global) -> Result<(), WorldFault> {
-    let (config, nothing) = read(rt, alloc, ONE_SHORT, NOTHING)?;
-    let lines = lines(alloc, 1, None)?;
-    let mut world = World::new(alloc, config, modulo, modulo, lines)?;
-    compare_run(rt, alloc, NOTHING, world.run(&nothing))?;
-    same(
-        rt,
-        "0 ticks",
-        &world.step(&Event::Tick(1, 0)),
-        &Ok(Reply::Ticked),
-    );
-    let lost = events(rt, alloc, ONE_SHORT, FIRST_LOST)?;
-    compare_run(rt, alloc, FIRST_LOST, world.run(&lost))?;
+    let mut world = world_of(rt, alloc, ONE_SHORT, None, modulo, modulo)?;
+    plays_lines(rt, alloc, &mut world, ONE_SHORT, NOTHING)?;
+    let ticked = step_of(&mut world, &Event::Tick(1, 0));
+    same(rt, "0 ticks", &ticked, &Ok(Reply::Ticked));
+    plays_lines(rt, alloc, &mut world, ONE_SHORT, FIRST_LOST)?;
     same(
         rt,
         "agreement",
@@ -169,19 +161,15 @@ deliver 1 1 => Took
 
 /// Plays the events of a cable between ports of unequal numbers.
 fn crosses(rt: &impl Abort, alloc: Global) -> Result<(), WorldFault> {
-    let config = world_config(rt, alloc, CROSSING)?;
-    let lines = lines(alloc, 1, None)?;
-    let mut world = World::new(alloc, config, modulo, modulo, lines)?;
-    let heard = events(rt, alloc, CROSSING, CROSSED)?;
-    compare_run(rt, alloc, CROSSED, world.run(&heard))?;
+    let mut world = world_of(rt, alloc, CROSSING, None, modulo, modulo)?;
+    plays_lines(rt, alloc, &mut world, CROSSING, CROSSED)?;
     same(
         rt,
         "agreement",
         &world.agreement(1),
         &Some(Agreement::NotBoth),
     );
-    let up = events(rt, alloc, CROSSING, CROSSED_UP)?;
-    compare_run(rt, alloc, CROSSED_UP, world.run(&up))?;
+    plays_lines(rt, alloc, &mut world, CROSSING, CROSSED_UP)?;
     same(rt, "agreement", &world.agreement(1), &Some(Agreement::Same));
     Ok(())
 }
@@ -213,11 +201,8 @@ fn unequal(alloc: Global) -> Result<Vec<(AnyCable, AnyCable)>, WorldFault> {
 fn fills(rt: &impl Abort, alloc: Global) -> Result<(), WorldFault> {
     let config = world_config(rt, alloc, TWO_LONG)?;
     let mut world = World::new(alloc, config, modulo, modulo, unequal(alloc)?)?;
-    let up = events(rt, alloc, TWO_LONG, COMING_UP)?;
-    compare_run(rt, alloc, COMING_UP, world.run(&up))?;
-    let filling = events(rt, alloc, TWO_LONG, FILLING)?;
-    compare_run(rt, alloc, FILLING, world.run(&filling))?;
-    Ok(())
+    plays_lines(rt, alloc, &mut world, TWO_LONG, COMING_UP)?;
+    plays_lines(rt, alloc, &mut world, TWO_LONG, FILLING)
 }
 
 #[test]
@@ -292,13 +277,9 @@ fn compare_told<F: Fn(u16, usize) -> usize + Drop>(rt: &impl Abort, world: &Worl
 }
 
 fn carries_apart(rt: &impl Abort, alloc: Global) -> Result<(), WorldFault> {
-    let config = world_config(rt, alloc, TWO_APART)?;
-    let lines = lines(alloc, 2, None)?;
-    let mut world = World::new(alloc, config, modulo, modulo, lines)?;
-    let up = events(rt, alloc, TWO_APART, COMING_UP)?;
-    compare_run(rt, alloc, COMING_UP, world.run(&up))?;
-    let carrying = events(rt, alloc, TWO_APART, TWO_AGGREGATORS)?;
-    compare_run(rt, alloc, TWO_AGGREGATORS, world.run(&carrying))?;
+    let mut world = world_of(rt, alloc, TWO_APART, None, modulo, modulo)?;
+    plays_lines(rt, alloc, &mut world, TWO_APART, COMING_UP)?;
+    plays_lines(rt, alloc, &mut world, TWO_APART, TWO_AGGREGATORS)?;
     compare_told(rt, &world);
     Ok(())
 }
@@ -330,19 +311,15 @@ const AS_IT_IS: &str = "configure 1 1 5 7 individual => Configured(false)
 
 /// Gives the port the values that it has. The replies before are not looked at.
 fn keeps_its_values(rt: &impl Abort, alloc: Global) -> Result<(), WorldFault> {
-    let config = world_config(rt, alloc, ODD)?;
-    let lines = lines(alloc, 1, None)?;
-    let mut world = World::new(alloc, config, modulo, modulo, lines)?;
-    let up = events(rt, alloc, ODD, ONE_CABLE)?;
-    same(rt, "run", &world.run(&up).is_ok(), &true);
+    let mut world = world_of(rt, alloc, ODD, None, modulo, modulo)?;
+    runs_lines(rt, alloc, &mut world, ODD, ONE_CABLE)?;
     same(
         rt,
         "agreement before configure",
         &world.agreement(1),
         &Some(Agreement::Same),
     );
-    let configured = events(rt, alloc, ODD, AS_IT_IS)?;
-    compare_run(rt, alloc, AS_IT_IS, world.run(&configured))?;
+    plays_lines(rt, alloc, &mut world, ODD, AS_IT_IS)?;
     same(
         rt,
         "agreement after configure",

@@ -1,8 +1,9 @@
 use crate::comparing::same_at;
-use crate::worlds::given::{ONE_SHORT, TWO_LONG, TWO_SHORT, events, lines, modulo, world_config};
+use crate::worlds::given::{ONE_SHORT, TWO_LONG, TWO_SHORT, modulo};
+use crate::worlds::playing::{runs_lines, world_of};
 use crate::worlds::starts::{COMING_UP, ONE_CABLE};
 use crate::worlds::{Flow, Row, plays, runs};
-use lagworld::{Agreement, World, WorldFault};
+use lagworld::{Agreement, WorldFault};
 use std::alloc::Global;
 use std::process::Abort;
 
@@ -293,24 +294,16 @@ fn each_value_of_each_system_counts_as_a_change(rt: HostRuntime) -> Result<(), W
 /// Port 1 of system 1 is changed and agrees again as soon as its LACPDUs were received; the same values once more are no
 /// change. The replies are not looked at.
 fn agrees_again(rt: &impl Abort, alloc: Global) -> Result<(), WorldFault> {
-    let up = events(rt, alloc, TWO_SHORT, UP)?;
-    let change = events(
-        rt,
-        alloc,
-        TWO_SHORT,
-        "configure 1 1 1 129 aggregatable => Configured(true)",
-    )?;
+    let change = "configure 1 1 1 129 aggregatable => Configured(true)";
     let steps = [
-        (&up, Agreement::Same),
-        (&change, Agreement::NotBoth),
-        (&up, Agreement::Same),
-        (&change, Agreement::Same),
+        (UP, Agreement::Same),
+        (change, Agreement::NotBoth),
+        (UP, Agreement::Same),
+        (change, Agreement::Same),
     ];
-    let config = world_config(rt, alloc, TWO_SHORT)?;
-    let lines = lines(alloc, 2, None)?;
-    let mut world = World::new(alloc, config, modulo, modulo, lines)?;
-    for (place, (events, wanted)) in steps.iter().enumerate() {
-        same_at(rt, "run of step", place, &world.run(*events).is_ok(), &true);
+    let mut world = world_of(rt, alloc, TWO_SHORT, None, modulo, modulo)?;
+    for (place, (lines, wanted)) in steps.iter().enumerate() {
+        runs_lines(rt, alloc, &mut world, TWO_SHORT, *lines)?;
         same_at(
             rt,
             "agreement after step",

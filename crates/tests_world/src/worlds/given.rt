@@ -27,22 +27,6 @@ port = [{ number = 1, key = 1, short = true }]
 ends = [1, 1]
 "#;
 
-/// One cable between ports with Long Timeout.
-pub(crate) const ONE_LONG: &str = r#"
-[[system]]
-mac = "02-00-00-00-00-01"
-aggregators = [1]
-port = [{ number = 1, key = 1, short = false }]
-
-[[system]]
-mac = "02-00-00-00-00-02"
-aggregators = [1]
-port = [{ number = 1, key = 1, short = false }]
-
-[[cable]]
-ends = [1, 1]
-"#;
-
 /// Two cables between ports with Long Timeout.
 pub(crate) const TWO_LONG: &str = r#"
 [[system]]

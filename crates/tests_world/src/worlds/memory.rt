@@ -1,11 +1,14 @@
+ghost use Rattle.distributor.specs.Calls.{PicksIndexes};
+
 use crate::comparing::same;
 use crate::worlds::conversations::MOVES_ROW;
-use crate::worlds::given::{lines, modulo, read, world_config};
+use crate::worlds::given::{events, modulo};
+use crate::worlds::playing::{run_of, world_of};
 use crate::worlds::{Row, compare_part, compare_run_of, lines_of, tells};
 use cables::AnyCable;
 use lagsystem::System;
 use lagtypes::AggId;
-use lagworld::{World, WorldFault};
+use lagworld::{Event, World, WorldFault};
 use std::alloc::Global;
 use std::process::Abort;
 
@@ -19,6 +22,18 @@ fn same_port<F: Fn(u16, usize) -> usize + Drop>(
     same(rt, "party", &one.party(port), &other.party(port));
     same(rt, "partner", &one.partner(port), &other.partner(port));
     same(rt, "group", &one.group(port), &other.group(port));
+    same_choice(rt, one, other, port);
+    same_machines(rt, one, other, port);
+    same_timers(rt, one, other, port);
+}
+
+/// Compares what the readers return for the choice of a port and what comes of it.
+fn same_choice<F: Fn(u16, usize) -> usize + Drop>(
+    rt: &impl Abort,
+    one: &System<F>,
+    other: &System<F>,
+    port: u16,
+) {
     same(
         rt,
         "defaulted",
@@ -39,7 +54,6 @@ fn same_port<F: Fn(u16, usize) -> usize + Drop>(
         &one.port_status(port),
         &other.port_status(port),
     );
-    same_machines(rt, one, other, port);
 }
 
 /// Compares what the readers return for the machines of a port.
@@ -63,6 +77,15 @@ fn same_machines<F: Fn(u16, usize) -> usize + Drop>(
     );
     same(rt, "is_up", &one.is_up(port), &other.is_up(port));
     same(rt, "is_due", &one.is_due(port), &other.is_due(port));
+}
+
+/// Compares what the readers return for the timers of a port.
+fn same_timers<F: Fn(u16, usize) -> usize + Drop>(
+    rt: &impl Abort,
+    one: &System<F>,
+    other: &System<F>,
+    port: u16,
+) {
     same(
         rt,
         "current_while",
@@ -125,26 +148,43 @@ fn same_world<F: Fn(u16, usize) -> usize + Drop>(
     }
 }
 
+/// A world where memory was refused must be as this new one after the same events, and the rest is run after them.
+fn goes_on<F: Fn(u16, usize) -> usize + Drop>(
+    rt: &impl Abort,
+    alloc: Global,
+    world: &mut World<AnyCable, F>,
+    mut twin: World<AnyCable, F>,
+    text: &str,
+    parts: (&[Event], &[Event]),
+) -> Result<(), WorldFault>
+    requires one { PicksIndexes (F.pre world.old.one) (F.post world.old.one) }
+    requires two { PicksIndexes (F.pre world.old.two) (F.post world.old.two) }
+    requires twin_one { PicksIndexes (F.pre twin.one) (F.post twin.one) }
+    requires twin_two { PicksIndexes (F.pre twin.two) (F.post twin.two) }
+{
+    let (now, later) = parts;
+    let came = run_of(&mut twin, now);
+    compare_run_of(rt, alloc, text, (0, now.len()), came)?;
+    same_world(rt, world, &twin);
+    let came = run_of(world, later);
+    compare_run_of(rt, alloc, text, (now.len(), later.len()), came)?;
+    Ok(())
+}
+
 /// Runs the events of a row. If memory is refused, the world must be one that ran the events before, and the rest is
 /// run after them.
 fn resumes(rt: &impl Abort, alloc: Global, row: &Row) -> Result<(), WorldFault> {
     let text = lines_of(alloc, row)?;
     let text = text.as_str();
-    let (config, events) = read(rt, alloc, row.setting, text)?;
-    let ends = lines(alloc, config.cables.len(), None)?;
-    let mut world = World::new(alloc, config, modulo, modulo, ends)?;
-    match world.run(&events) {
+    let events = events(rt, alloc, row.setting, text)?;
+    let mut world = world_of(rt, alloc, row.setting, None, modulo, modulo)?;
+    match run_of(&mut world, &events) {
         Ok(replies) => compare_part(rt, alloc, text, (0, events.len()), &replies)?,
         Err(stop) => {
             same(rt, "fault", &stop.fault, &WorldFault::NoMemory);
-            let done = stop.done.min(events.len());
-            let (now, later) = events.split_at(done);
-            let config = world_config(rt, alloc, row.setting)?;
-            let ends = lines(alloc, config.cables.len(), None)?;
-            let mut twin = World::new(alloc, config, modulo, modulo, ends)?;
-            compare_run_of(rt, alloc, text, (0, done), twin.run(now))?;
-            same_world(rt, &world, &twin);
-            compare_run_of(rt, alloc, text, (done, later.len()), world.run(later))?;
+            let parts = events.split_at(stop.done.min(events.len()));
+            let twin = world_of(rt, alloc, row.setting, None, modulo, modulo)?;
+            goes_on(rt, alloc, &mut world, twin, text, parts)?;
         }
     }
     tells(rt, &world, row);
@@ -155,12 +195,13 @@ fn resumes(rt: &impl Abort, alloc: Global, row: &Row) -> Result<(), WorldFault> 
 #[test]
 fn refused_memory_leaves_what_the_events_before_made(rt: HostRuntime) {
     if let Err(fault) = resumes(&rt, rt.alloc(), &MOVES_ROW) {
-        assert_eq!(rt; fault, WorldFault::NoMemory);
+        same(&rt, "fault", &fault, &WorldFault::NoMemory);
     }
 }
 
 /// Fails if an allocation is refused.
 #[test]
 fn memory_for_a_world_is_granted(rt: HostRuntime) {
-    assert_eq!(rt; resumes(&rt, rt.alloc(), &MOVES_ROW), Ok(()));
+    let came = resumes(&rt, rt.alloc(), &MOVES_ROW);
+    same(&rt, "a row", &came, &Ok(()));
 }

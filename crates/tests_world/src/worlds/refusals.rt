@@ -1,10 +1,11 @@
 use crate::comparing::{same, same_at};
 use crate::worlds::given::{
-    INDIVIDUAL, ONE_SHORT, TWO_LONG, add_line, empty_direction, lines, modulo, read, world_config,
+    INDIVIDUAL, ONE_SHORT, TWO_LONG, add_line, empty_direction, lines, modulo, world_config,
 };
 use crate::worlds::joined::joined;
+use crate::worlds::playing::{played, run_of, step_of, world_of};
 use crate::worlds::starts::COMING_UP;
-use crate::worlds::{Flow, Row, compare_run, lines_of, plays, tells};
+use crate::worlds::{Flow, Row, plays, tells};
 use cables::{AnyCable, Cable, Item, Stamp};
 use lagsystem::{BadConfig, PortChange};
 use lagtypes::{AggId, Key};
@@ -201,11 +202,10 @@ fn events_not_there(alloc: Global) -> [(Event, WorldFault); 17] {
 
 /// Plays each of these events by `step` in one world.
 fn not_there(rt: &impl Abort, alloc: Global) -> Result<(), WorldFault> {
-    let config = world_config(rt, alloc, ONE_SHORT)?;
-    let lines = lines(alloc, 1, None)?;
-    let mut world = World::new(alloc, config, modulo, modulo, lines)?;
+    let mut world = world_of(rt, alloc, ONE_SHORT, None, modulo, modulo)?;
     for (place, (event, fault)) in events_not_there(alloc).iter().enumerate() {
-        same_at(rt, "row", place, &world.step(event), &Err(*fault));
+        let came = step_of(&mut world, event);
+        same_at(rt, "row", place, &came, &Err(*fault));
     }
     Ok(())
 }
@@ -224,15 +224,14 @@ const STOPPING: [Event; 4] = [
 ];
 
 fn stops(rt: &impl Abort, alloc: Global) -> Result<(), WorldFault> {
-    let config = world_config(rt, alloc, ONE_SHORT)?;
-    let lines = lines(alloc, 1, None)?;
-    let mut world = World::new(alloc, config, modulo, modulo, lines)?;
+    let mut world = world_of(rt, alloc, ONE_SHORT, None, modulo, modulo)?;
     let stop = RunFault {
         done: 2,
         fault: WorldFault::NoCable,
     };
-    same(rt, "run", &world.run(&STOPPING).err(), &Some(stop));
-    let sensed = world.step(&Event::Sense(1, 1));
+    let stopped = run_of(&mut world, &STOPPING).err();
+    same(rt, "run", &stopped, &Some(stop));
+    let sensed = step_of(&mut world, &Event::Sense(1, 1));
     same(rt, "step", &sensed, &Ok(Reply::Sensed(false)));
     Ok(())
 }
@@ -349,11 +348,7 @@ fn tells_systems<F: Fn(u16, usize) -> usize + Drop>(rt: &impl Abort, world: &Wor
 
 /// Plays the row, and asks for what does not exist.
 fn nothing_told(rt: &impl Abort, alloc: Global) -> Result<(), WorldFault> {
-    let text = lines_of(alloc, &FORCED_ROW)?;
-    let (config, events) = read(rt, alloc, TWO_LONG, text.as_str())?;
-    let lines = lines(alloc, 2, None)?;
-    let mut world = World::new(alloc, config, modulo, modulo, lines)?;
-    compare_run(rt, alloc, text.as_str(), world.run(&events))?;
+    let world = played(rt, alloc, &FORCED_ROW, modulo, modulo)?;
     tells(rt, &world, &FORCED_ROW);
     same(rt, "cable 0", &world.agreement(0), &None);
     same(rt, "cable 3", &world.agreement(3), &None);

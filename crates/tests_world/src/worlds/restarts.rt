@@ -1,6 +1,7 @@
 use crate::comparing::same_at;
 use crate::worlds::conversations::MOVES;
-use crate::worlds::given::{TWO_LONG, lines, modulo, read};
+use crate::worlds::given::{TWO_LONG, events, modulo};
+use crate::worlds::playing::{step_of, world_of};
 use crate::worlds::starts::COMING_UP;
 use cables::AnyCable;
 use lagtypes::{AggId, NoMemory};
@@ -66,12 +67,11 @@ fn keeps<F: Fn(u16, usize) -> usize + Drop>(
 /// Restarts a system before the event of the move at this index. The replies are not compared.
 fn restarts(rt: &impl Abort, alloc: Global, restart: &str, place: usize) -> Result<(), WorldFault> {
     let text = with_restart(alloc, restart, place)?;
-    let (config, events) = read(rt, alloc, TWO_LONG, text.as_str())?;
-    let lines = lines(alloc, config.cables.len(), None)?;
-    let mut world = World::new(alloc, config, modulo, modulo, lines)?;
+    let events = events(rt, alloc, TWO_LONG, text.as_str())?;
+    let mut world = world_of(rt, alloc, TWO_LONG, None, modulo, modulo)?;
     let mut place = 0usize;
     for event in &events {
-        world.step(event)?;
+        step_of(&mut world, event)?;
         place = place.saturating_add(1);
         keeps(rt, &world, place);
     }

@@ -1,3 +1,4 @@
+use crate::comparing::same;
 use crate::worlds::given::{TWO_LONG, script};
 use crate::worlds::joined::joined;
 use lagscript::read_script;
@@ -39,8 +40,8 @@ fn readings(alloc: Global) -> Result<(String, String), AllocError> {
 #[test]
 fn memory_for_reading_is_granted(rt: HostRuntime) {
     match readings(rt.alloc()) {
-        Ok((came, wanted)) => assert_eq!(rt; came, wanted),
-        Err(_) => assert!(rt; false, "out of memory"),
+        Ok((came, wanted)) => same(&rt, "what is read", &came, &wanted),
+        Err(_) => same(&rt, "out of memory", &true, &false),
     }
 }
 

@@ -1,5 +1,7 @@
-use crate::worlds::given::{lines, modulo, read};
-use crate::worlds::{Flow, Row, compare_run, lines_of, tells};
+use crate::comparing::same;
+use crate::worlds::given::modulo;
+use crate::worlds::playing::played;
+use crate::worlds::{Flow, Row, tells};
 use cables::AnyCable;
 use lagsystem::Choice;
 use lagtypes::AggId;
@@ -216,17 +218,19 @@ fn chosen<F: Fn(u16, usize) -> usize + Drop>(
             Some(found) => found.choice(*port),
             None => None,
         };
-        assert_eq!(rt; choice, Some(*wanted), "port {port} of system {system}");
+        let came = (*system, *port, choice);
+        same(
+            rt,
+            "system, port and choice",
+            &came,
+            &(*system, *port, Some(*wanted)),
+        );
     }
 }
 
 /// Plays a row, and then compares Selected of each port.
 fn leads_to(rt: &impl Abort, alloc: Global, row: &Row, wanted: Choices) -> Result<(), WorldFault> {
-    let text = lines_of(alloc, row)?;
-    let (config, events) = read(rt, alloc, row.setting, text.as_str())?;
-    let lines = lines(alloc, 2, None)?;
-    let mut world = World::new(alloc, config, modulo, modulo, lines)?;
-    compare_run(rt, alloc, text.as_str(), world.run(&events))?;
+    let world = played(rt, alloc, row, modulo, modulo)?;
     tells(rt, &world, row);
     chosen(rt, &world, wanted);
     Ok(())

@@ -1,11 +1,41 @@
-use crate::worlds::given::{ONE_LONG, ONE_SHORT, lines, modulo, read};
-use crate::worlds::starts::ONE_CABLE;
-use crate::worlds::{Row, compare_run, lines_of, tells};
-use lagprogress::play_rounds;
-use lagworld::{Agreement, World, WorldFault};
+use crate::comparing::same_at;
+use crate::given::{EventLines, ONE_LONG, ONE_SHORT, Setting, modulo};
+use crate::playing::{agree, plays_lines, plays_rounds, world_of};
+use lagworld::WorldFault;
 use std::alloc::Global;
 use std::process::Abort;
 use std::test::Fail;
+
+/// Events of one cable, of which those of `first` are played before those of `rest`.
+#[derive(Clone, Copy)]
+struct Row {
+    setting: Setting,
+    first: EventLines,
+    rest: EventLines,
+}
+
+/// One cable comes up between ports with Short Timeout (6.4.13, 6.4.15).
+const ONE_CABLE: &str = "sense 1 1 => Sensed(true)
+sense 1 2 => Sensed(true)
+tick 1 10 => Ticked
+tick 2 10 => Ticked
+emit 1 1 => lacpdu c7
+deliver 1 2 => Took
+emit 2 1 => lacpdu 07
+deliver 1 1 => Took
+tick 1 10 => Ticked
+tick 2 10 => Ticked
+emit 1 1 => lacpdu 07
+deliver 1 2 => Took
+tick 1 10 => Ticked
+tick 2 10 => Ticked
+emit 1 1 => lacpdu 0f
+deliver 1 2 => Took
+emit 2 1 => lacpdu 3f
+deliver 1 1 => Took
+emit 1 1 => lacpdu 3f
+deliver 1 2 => Took
+";
 
 /// Both links are up, and nothing was sent.
 const STARTED_ROW: Row = Row {
@@ -14,8 +44,6 @@ const STARTED_ROW: Row = Row {
 sense 1 2 => Sensed(true)
 ",
     rest: "",
-    agreements: &[(1, Agreement::Same)],
-    flows: &[],
 };
 
 /// Both ends run on defaults, and an LACPDU is on the cable.
@@ -28,8 +56,6 @@ tick 2 60 => Ticked
 emit 1 1 => lacpdu 7f
 ",
     rest: "",
-    agreements: &[(1, Agreement::Same)],
-    flows: &[],
 };
 
 /// The cable is cut and joined again. System 1 alone learns both.
@@ -41,26 +67,23 @@ sense 1 1 => Sensed(false)
 join 1 => Joined
 sense 1 1 => Sensed(true)
 ",
-    agreements: &[(1, Agreement::Same)],
-    flows: &[],
 };
 
-/// Plays a row and this many healthy rounds. Then the readers return what the row expects, and both ends distribute. The number is
-/// no constant here: the prover would unfold each of these rounds.
+/// Plays a row and this many healthy rounds. Then the cable agrees, and both ends distribute. The number is no constant here: the
+/// prover would unfold each of these rounds.
 fn comes_up(rt: &impl Abort, alloc: Global, row: &Row, rounds: u16) -> Result<(), WorldFault> {
-    let text = lines_of(alloc, row)?;
-    let (config, events) = read(rt, alloc, row.setting, text.as_str())?;
-    let lines = lines(alloc, 1, None)?;
-    let mut world = World::new(alloc, config, modulo, modulo, lines)?;
-    compare_run(rt, alloc, text.as_str(), world.run(&events))?;
-    assert_eq!(rt; play_rounds(&mut world, rounds), Ok(()), "the rounds");
-    tells(rt, &world, row);
+    let mut world = world_of(rt, alloc, row.setting, modulo, modulo)?;
+    plays_lines(rt, alloc, &mut world, row.setting, row.first)?;
+    plays_lines(rt, alloc, &mut world, row.setting, row.rest)?;
+    plays_rounds(rt, &mut world, rounds);
+    agree(rt, &world, 1);
     for number in [1, 2] {
         let distributes = match world.system(number) {
             Some(system) => system.distributes(1),
             None => None,
         };
-        assert_eq!(rt; distributes, Some(true), "system {number}");
+        let place = usize::from(number);
+        same_at(rt, "system", place, &distributes, &Some(true));
     }
     Ok(())
 }

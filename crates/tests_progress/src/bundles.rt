@@ -1,10 +1,10 @@
 use crate::comparing::{same, same_at};
-use crate::worlds::compare_run;
-use crate::worlds::given::{Setting, lines, modulo, read, world_config};
+use crate::given::{Setting, modulo};
+use crate::playing::{agree, plays_lines, plays_rounds, world_of};
 use cables::AnyCable;
-use lagprogress::{play_round, play_rounds};
+use lagprogress::play_round;
 use lagtypes::AggId;
-use lagworld::{Agreement, World, WorldFault};
+use lagworld::{World, WorldFault};
 use std::alloc::Global;
 use std::process::Abort;
 use std::test::Fail;
@@ -86,30 +86,27 @@ fn compare_distributing<F: Fn(u16, usize) -> usize + Drop>(
         Some(system) => system.distributing(AggId(agg)),
         None => return same(rt, "a system", &false, &true),
     };
-    assert_eq!(rt;
-        came.as_slice(),
-        wanted,
-        "aggregator {agg} of system {number}"
+    let came = (number, agg, came.as_slice());
+    same(
+        rt,
+        "system, aggregator and ports",
+        &came,
+        &(number, agg, wanted),
     );
 }
 
 /// After so many healthy rounds each cable agrees. Cables 1 and 3 make one aggregation, and cable 2 another. The number is no
 /// constant here: the prover would unfold each of these rounds.
-fn agree(rt: &impl Abort, alloc: Global, setting: Setting, rounds: u16) -> Result<(), WorldFault> {
-    let (config, events) = read(rt, alloc, setting, LINKS_UP)?;
-    let mut world = World::new(alloc, config, modulo, modulo, lines(alloc, 3, None)?)?;
-    compare_run(rt, alloc, LINKS_UP, world.run(&events))?;
-    same(rt, "the rounds", &play_rounds(&mut world, rounds), &Ok(()));
-    for cable in 1..4u16 {
-        let agreement = world.agreement(cable);
-        same_at(
-            rt,
-            "cable",
-            usize::from(cable),
-            &agreement,
-            &Some(Agreement::Same),
-        );
-    }
+fn comes_up(
+    rt: &impl Abort,
+    alloc: Global,
+    setting: Setting,
+    rounds: u16,
+) -> Result<(), WorldFault> {
+    let mut world = world_of(rt, alloc, setting, modulo, modulo)?;
+    plays_lines(rt, alloc, &mut world, setting, LINKS_UP)?;
+    plays_rounds(rt, &mut world, rounds);
+    agree(rt, &world, 3);
     compare_distributing(rt, &world, 1, 1, &[11, 13]);
     compare_distributing(rt, &world, 1, 2, &[12]);
     compare_distributing(rt, &world, 1, 3, &[]);
@@ -121,28 +118,21 @@ fn agree(rt: &impl Abort, alloc: Global, setting: Setting, rounds: u16) -> Resul
 
 #[test]
 fn crossed_cables_agree_in_352_healthy_rounds(rt: HostRuntime) -> Result<(), Fail> {
-    agree(&rt, rt.alloc(), ACTIVE, 352)?;
+    comes_up(&rt, rt.alloc(), ACTIVE, 352)?;
     Ok(())
 }
 
 #[test]
 fn crossed_cables_with_a_passive_end_agree_in_652(rt: HostRuntime) -> Result<(), Fail> {
-    agree(&rt, rt.alloc(), HALF_PASSIVE, 652)?;
+    comes_up(&rt, rt.alloc(), HALF_PASSIVE, 652)?;
     Ok(())
 }
 
 /// After 12 rounds (1.2 s) each port has heard its peer: each end was asked, and what it sent arrived (6.4.12, 6.4.13).
 #[test]
 fn a_round_asks_each_end_of_each_cable(rt: HostRuntime) -> Result<(), Fail> {
-    let (config, events) = read(&rt, rt.alloc(), ACTIVE, LINKS_UP)?;
-    let mut world = World::new(
-        rt.alloc(),
-        config,
-        modulo,
-        modulo,
-        lines(rt.alloc(), 3, None)?,
-    )?;
-    compare_run(&rt, rt.alloc(), LINKS_UP, world.run(&events))?;
+    let mut world = world_of(&rt, rt.alloc(), ACTIVE, modulo, modulo)?;
+    plays_lines(&rt, rt.alloc(), &mut world, ACTIVE, LINKS_UP)?;
     for _ in 0..12 {
         same(&rt, "the round", &play_round(&mut world), &Ok(()));
     }
@@ -160,14 +150,7 @@ fn a_round_asks_each_end_of_each_cable(rt: HostRuntime) -> Result<(), Fail> {
 
 #[test]
 fn a_world_tells_its_cables(rt: HostRuntime) -> Result<(), Fail> {
-    let config = world_config(&rt, rt.alloc(), ACTIVE)?;
-    let world = World::new(
-        rt.alloc(),
-        config,
-        modulo,
-        modulo,
-        lines(rt.alloc(), 3, None)?,
-    )?;
+    let world = world_of(&rt, rt.alloc(), ACTIVE, modulo, modulo)?;
     same(&rt, "how many", &world.cables(), &3);
     let told = [
         (0, None),

@@ -1,9 +1,8 @@
-use crate::comparing::{same, same_at};
-use crate::worlds::compare_run;
-use crate::worlds::given::{TWO_LONG, lines, modulo, read};
-use cables::AnyCable;
+use crate::comparing::same;
+use crate::given::{TWO_LONG, modulo, read};
+use crate::playing::{agree, plays_lines, run_of, world_of};
 use lagprogress::play_host_rounds;
-use lagworld::{Agreement, Reply, World, WorldFault};
+use lagworld::{Reply, WorldFault};
 use std::alloc::Global;
 use std::process::Abort;
 use std::test::Fail;
@@ -53,29 +52,14 @@ deliver 2 1 => Empty
 deliver 2 2 => Empty
 ";
 
-/// Both cables agree.
-fn agree<F: Fn(u16, usize) -> usize + Drop>(rt: &impl Abort, world: &World<AnyCable, F>) {
-    for cable in [1, 2] {
-        let agreement = world.agreement(cable);
-        same_at(
-            rt,
-            "cable",
-            usize::from(cable),
-            &agreement,
-            &Some(Agreement::Same),
-        );
-    }
-}
-
 /// Plays so many of these rounds between two systems with two ports and one aggregator each: nothing is left on a cable after any
 /// of them, the frames of the last one arrive, and then both cables agree.
 fn share(rt: &impl Abort, alloc: Global, rounds: u16) -> Result<(), WorldFault> {
-    let (config, events) = read(rt, alloc, TWO_LONG, LINKS_UP)?;
     let (_, round) = read(rt, alloc, TWO_LONG, ROUND)?;
-    let mut world = World::new(alloc, config, modulo, modulo, lines(alloc, 2, None)?)?;
-    compare_run(rt, alloc, LINKS_UP, world.run(&events))?;
+    let mut world = world_of(rt, alloc, TWO_LONG, modulo, modulo)?;
+    plays_lines(rt, alloc, &mut world, TWO_LONG, LINKS_UP)?;
     for _ in 1..rounds {
-        match world.run(&round) {
+        match run_of(&mut world, &round) {
             Ok(replies) => {
                 for reply in replies.iter().skip(30) {
                     same(rt, "the end of a round", reply, &Reply::Empty);
@@ -84,23 +68,18 @@ fn share(rt: &impl Abort, alloc: Global, rounds: u16) -> Result<(), WorldFault> 
             Err(stop) => same(rt, "a round", &Some(stop), &None),
         }
     }
-    compare_run(rt, alloc, ROUND, world.run(&round))?;
-    agree(rt, &world);
+    plays_lines(rt, alloc, &mut world, TWO_LONG, ROUND)?;
+    agree(rt, &world, 2);
     Ok(())
 }
 
 /// Plays so many rounds of hosts between the same systems; then both cables agree.
 fn play(rt: &impl Abort, alloc: Global, rounds: u16) -> Result<(), WorldFault> {
-    let (config, events) = read(rt, alloc, TWO_LONG, LINKS_UP)?;
-    let mut world = World::new(alloc, config, modulo, modulo, lines(alloc, 2, None)?)?;
-    compare_run(rt, alloc, LINKS_UP, world.run(&events))?;
-    same(
-        rt,
-        "the rounds",
-        &play_host_rounds(&mut world, rounds),
-        &Ok(()),
-    );
-    agree(rt, &world);
+    let mut world = world_of(rt, alloc, TWO_LONG, modulo, modulo)?;
+    plays_lines(rt, alloc, &mut world, TWO_LONG, LINKS_UP)?;
+    let came = play_host_rounds(&mut world, rounds);
+    same(rt, "the rounds", &came, &Ok(()));
+    agree(rt, &world, 2);
     Ok(())
 }
 
