@@ -241,6 +241,16 @@ struct protocol {
 };
 EACH_FILE_OF_PROTOCOL(MAKES)
 
+/* What each part above the protocol knows: data, its planes, and who asks. */
+struct parts {
+    struct process *process;
+    const struct settings *settings;
+    struct ports *ports;
+    struct protocol *protocol;
+    struct device *device;
+    struct plane *plane;
+};
+
 /* Room for what a file keeps, of zeros. There is no daemon without it. */
 static inline void *make_room(size_t octets) {
     void *made = calloc(1, octets);

@@ -71,14 +71,13 @@ static void set_other_links(struct protocol *protocol, const bool *back) {
 
 /* What were members, and are no more, get what they had. */
 void release_former_members(struct plane *plane) {
-    struct carry *carry = plane->carry;
-    for (unsigned i = 0; i < carry->process->inherited->link_count; i++) {
+    const struct inherited *inherited = plane->carry->parts.process->inherited;
+    for (const struct inherited_link *was = inherited->links; was < inherited->links + inherited->link_count; was++) {
         bool stays = false;
-        for (uint16_t port = 0; port < carry->ports->count; port++)
-            stays = stays || (carry->ports->links[port].socket >= 0 && carry->ports->links[port].index == carry->process->inherited->links[i].index);
+        EACH_LINK(link, plane->carry->parts.ports) stays = stays || (link->socket >= 0 && link->index == was->index);
         if (stays) continue;
-        leave_team_port(plane->team, carry->process->inherited->links[i].index);
-        put_back(plane->tap, carry->process->inherited->links[i].index, carry->process->inherited->links[i].mac);
+        leave_team_port(plane->team, was->index);
+        put_back(plane->tap, was->index, was->mac);
     }
 }
 
@@ -125,7 +124,7 @@ unsigned resume(struct protocol *protocol) {
 
 /* A conversation stays on the interface that it was on. */
 static void stay(struct carry *carry, uint16_t number, uint16_t port) {
-    if (niw_adopt(&carry->protocol->own_system, carry->active, number, port) != NIW_OK) return;
+    if (niw_adopt(&carry->parts.protocol->own_system, carry->active, number, port) != NIW_OK) return;
     carry->conversations[number].home = carry->active;
     carry->conversations[number].port = port;
     carry->conversations[number].last = carry->time;
@@ -133,10 +132,10 @@ static void stay(struct carry *carry, uint16_t number, uint16_t port) {
 
 /* The port of an interface that carries in the active aggregator, or 0. */
 static uint16_t port_on(struct carry *carry, int index) {
-    EACH_LINK(link, carry->ports)
+    EACH_LINK(link, carry->parts.ports)
         if (index != 0 && link->socket >= 0 && link->index == index
             && link->view.aggregator == carry->active
-            && is_distributing(carry->protocol, link->settings.number))
+            && is_distributing(carry->parts.protocol, link->settings.number))
             return link->settings.number;
     return 0;
 }
@@ -145,12 +144,12 @@ static uint16_t port_on(struct carry *carry, int index) {
 void resume_conversations(struct plane *plane, bool goes_on) {
     struct carry *carry = plane->carry;
     if (goes_on) {
-        go_on_in(carry, carry->process->inherited->bundle.aggregator);
-        go_on_answering(carry, (enum answering)carry->process->inherited->answering);
+        go_on_in(carry, carry->parts.process->inherited->bundle.aggregator);
+        go_on_answering(carry, (enum answering)carry->parts.process->inherited->answering);
     }
     for (uint16_t number = 0; goes_on && number < CONVERSATIONS; number++) {
         int member = plane->carrying->member_of(plane, number);
-        uint16_t port = port_on(carry, member != 0 ? member : carry->process->inherited->members[number]);
+        uint16_t port = port_on(carry, member != 0 ? member : carry->parts.process->inherited->members[number]);
         if (port != 0) stay(carry, number, port);
     }
     CALL(plane->passing->resume, plane->tap);

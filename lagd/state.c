@@ -89,26 +89,27 @@ static void write_conversations(struct state *own, FILE *file) {
     for (uint16_t number = 0; number < CONVERSATIONS; number++) {
         struct niw_assignment assigned;
         uint16_t home = own->carry->conversations[number].home;
-        if (home == 0 || !ask_state(own->carry->protocol, home, number, &assigned) || assigned.what == NIW_CONVERSATION_FREE) continue;
-        if (assigned.port == 0 || assigned.port > own->carry->ports->count) continue;
-        own->members[number] = own->carry->ports->links[assigned.port - 1].index;
+        if (home == 0 || !ask_state(own->carry->parts.protocol, home, number, &assigned) || assigned.what == NIW_CONVERSATION_FREE) continue;
+        if (assigned.port == 0 || assigned.port > own->carry->parts.ports->count) continue;
+        own->members[number] = own->carry->parts.ports->links[assigned.port - 1].index;
         fprintf(file, "on %u %d\n", number, own->members[number]);
     }
 }
 
 static void write_state(struct state *own, FILE *file) {
-    struct niw_marker marker = niw_next_marker(&own->carry->protocol->own_system);
+    struct plane *plane = own->carry->parts.plane;
+    struct niw_marker marker = niw_next_marker(&own->carry->parts.protocol->own_system);
     char boot[BOOT_ROOM], room[WAY_ROOM];
-    fprintf(file, "lagd %u\nboot %s\nway %s\n", FORM_VERSION, boot_id(boot), way(own->carry->settings, room));
+    fprintf(file, "lagd %u\nboot %s\nway %s\n", FORM_VERSION, boot_id(boot), way(own->carry->parts.settings, room));
     fprintf(file, "space %" PRIu64 "\nwritten %" PRIu64 "\n", namespace_cookie(), boottime());
-    fprintf(file, "marker %" PRIu32 "\n", is_done(own->carry->process, marker.status, "niw_next_marker") && marker.left ? marker.id : 0);
-    fprintf(file, "bundle %u %u %lld\n", own->carry->protocol->bundle.state, own->carry->protocol->bundle.aggregator,
-        (long long)own->carry->protocol->bundle.changed_at);
-    if (tap_index(own->carry->device) != 0)
-        fprintf(file, "tap %d %d %" PRIu32 " %u\n", tap_index(own->carry->device), own->carry->plane->carrying->has_made_device(own->carry->plane),
-            mtu_of_administrator(own->carry->device), peer_answering(own->carry->probe));
-    write_ports(own->carry->ports, file);
-    EACH_LINK(link, own->carry->ports)
+    fprintf(file, "marker %" PRIu32 "\n", is_done(own->carry->parts.process, marker.status, "niw_next_marker") && marker.left ? marker.id : 0);
+    fprintf(file, "bundle %u %u %lld\n", own->carry->parts.protocol->bundle.state, own->carry->parts.protocol->bundle.aggregator,
+        (long long)own->carry->parts.protocol->bundle.changed_at);
+    if (tap_index(own->carry->parts.device) != 0)
+        fprintf(file, "tap %d %d %" PRIu32 " %u\n", tap_index(own->carry->parts.device), plane->carrying->has_made_device(plane),
+            mtu_of_administrator(own->carry->parts.device), peer_answering(own->carry->probe));
+    write_ports(own->carry->parts.ports, file);
+    EACH_LINK(link, own->carry->parts.ports)
         if (link->socket >= 0) write_link(file, link);
     memset(own->members, 0, sizeof own->members);
     write_conversations(own, file);
@@ -123,7 +124,7 @@ static void keep_file(struct state *own, int file) {
 
 /* Puts a whole file in the place of the last one; answers whether it did. */
 static bool replace_file(struct state *own) {
-    int fd = openat(own->carry->process->folder, own->new_name, O_WRONLY | O_CREAT | O_TRUNC | O_APPEND | O_NOFOLLOW | O_CLOEXEC, 0600);
+    int fd = openat(own->carry->parts.process->folder, own->new_name, O_WRONLY | O_CREAT | O_TRUNC | O_APPEND | O_NOFOLLOW | O_CLOEXEC, 0600);
     FILE *file = fd < 0 ? NULL : fdopen(fd, "a");
     bool written;
     if (!file) {
@@ -131,25 +132,26 @@ static bool replace_file(struct state *own) {
         return false;
     }
     write_state(own, file);
-    written = fflush(file) == 0 && !ferror(file) && !own->carry->process->broken;
+    written = fflush(file) == 0 && !ferror(file) && !own->carry->parts.process->broken;
     keep_file(own, written ? fcntl(fd, F_DUPFD_CLOEXEC, 0) : -1);
     written = fclose(file) == 0 && own->file >= 0;
-    return written && renameat(own->carry->process->folder, own->new_name, own->carry->process->folder, own->name) == 0;
+    return written && renameat(own->carry->parts.process->folder, own->new_name, own->carry->parts.process->folder, own->name) == 0;
 }
 
 /* It could not be written: there is none. */
 static void lose_file(struct state *own) {
     if (!own->failed)
-        (void)say(own->carry->process, LOG_WARNING | ABOUT_HANDOVER, "its state cannot be kept, so the next daemon starts anew: %s", strerror(errno));
+        (void)say(own->carry->parts.process, LOG_WARNING | ABOUT_HANDOVER, "its state cannot be kept, so the next daemon starts anew: %s",
+            strerror(errno));
     own->failed = true;
     keep_file(own, -1);
-    (void)unlinkat(own->carry->process->folder, own->new_name, 0);
-    (void)unlinkat(own->carry->process->folder, own->name, 0);
+    (void)unlinkat(own->carry->parts.process->folder, own->new_name, 0);
+    (void)unlinkat(own->carry->parts.process->folder, own->name, 0);
 }
 
 /* Writes the state; answers whether it did. Where that fails there is none. */
 bool save_state(struct state *own) {
-    if (own->over || own->carry->process->broken || !own->carry->process->has_started) return false;
+    if (own->over || own->carry->parts.process->broken || !own->carry->parts.process->has_started) return false;
     if (replace_file(own)) {
         own->failed = false;
         return true;
@@ -160,7 +162,7 @@ bool save_state(struct state *own) {
 
 /* The next frame of a conversation goes on this port: a daemon that goes on from here has to know. */
 void keep_port(struct state *own, uint16_t number, uint16_t port) {
-    int index = own->carry->ports->links[port - 1].index;
+    int index = own->carry->parts.ports->links[port - 1].index;
     char line[32];
     int length;
     if (own->file < 0 || own->members[number] == index) return;
@@ -174,12 +176,12 @@ void end_state(struct state *own) {
     int emptied;
     own->over = true;
     keep_file(own, -1);
-    if (unlinkat(own->carry->process->folder, own->name, 0) == 0 || errno == ENOENT) return;
-    emptied = openat(own->carry->process->folder, own->name, O_WRONLY | O_TRUNC | O_NOFOLLOW | O_CLOEXEC);
+    if (unlinkat(own->carry->parts.process->folder, own->name, 0) == 0 || errno == ENOENT) return;
+    emptied = openat(own->carry->parts.process->folder, own->name, O_WRONLY | O_TRUNC | O_NOFOLLOW | O_CLOEXEC);
     if (emptied >= 0)
         close(emptied);
     else
-        (void)say(own->carry->process, LOG_ERR | ABOUT_HANDOVER,
+        (void)say(own->carry->parts.process, LOG_ERR | ABOUT_HANDOVER,
             "its state cannot be removed: %s: remove %s, or start no daemon for as long as a partner is waited for", strerror(errno), own->name);
 }
 
@@ -272,7 +274,7 @@ static bool read_rest(struct inherited *inherited, FILE *file) {
 /* By other settings nothing goes on: what stays to be done is to put back what the last daemon changed. It has a line once these interfaces
  * are found. */
 static void keep_interfaces(struct state *own, bool team) {
-    struct inherited *inherited = own->carry->process->inherited;
+    struct inherited *inherited = own->carry->parts.process->inherited;
     inherited->others = true;
     if (team)
         leave_team(own->team, inherited->tap, inherited->persists);
@@ -289,7 +291,7 @@ static void keep_interfaces(struct state *own, bool team) {
 
 /* Reads a state; answers NULL, or why it counts for nothing. In another network namespace its numbers of interfaces are those of others. */
 static const char *read_state(struct state *own, FILE *file) {
-    struct inherited *inherited = own->carry->process->inherited;
+    struct inherited *inherited = own->carry->parts.process->inherited;
     unsigned version;
     char boot[BOOT_ROOM], now[BOOT_ROOM], given[WAY_ROOM], room[WAY_ROOM];
     if (fscanf(file, "lagd %u", &version) != 1) return "it is no state of lagd";
@@ -299,14 +301,14 @@ static const char *read_state(struct state *own, FILE *file) {
     if (!read_rest(inherited, file)) return "it is cut off, or wrong";
     if (inherited->space != 0 && inherited->space != namespace_cookie()) return "it is of another network namespace";
     read_changes(inherited, file);
-    if (strcmp(given, way(own->carry->settings, room)) != 0) keep_interfaces(own, is_way_of_team(given));
+    if (strcmp(given, way(own->carry->parts.settings, room)) != 0) keep_interfaces(own, is_way_of_team(given));
     return NULL;
 }
 
 /* Opens the file, if it is one of root or of this user, who alone may write it. */
 static FILE *open_state(struct state *own) {
     struct stat found;
-    int fd = openat(own->carry->process->folder, own->name, O_RDONLY | O_NOFOLLOW | O_NONBLOCK | O_CLOEXEC);
+    int fd = openat(own->carry->parts.process->folder, own->name, O_RDONLY | O_NOFOLLOW | O_NONBLOCK | O_CLOEXEC);
     FILE *file = NULL;
     if (fd >= 0 && fstat(fd, &found) == 0 && S_ISREG(found.st_mode) && (found.st_uid == 0 || found.st_uid == geteuid())
         && !(found.st_mode & (S_IWGRP | S_IWOTH)))
@@ -319,15 +321,15 @@ static FILE *open_state(struct state *own) {
 void recall_state(struct state *own) {
     const char *fault;
     FILE *file;
-    snprintf(own->name, sizeof own->name, "%lu.%s.state", network_namespace(), own->carry->settings->name);
+    snprintf(own->name, sizeof own->name, "%lu.%s.state", network_namespace(), own->carry->parts.settings->name);
     snprintf(own->new_name, sizeof own->new_name, "%s.new", own->name);
     file = open_state(own);
     if (!file) return;
     fault = read_state(own, file);
     fclose(file);
     if (!fault) return;
-    *own->carry->process->inherited = (struct inherited){0};
-    (void)say(own->carry->process, LOG_WARNING | ABOUT_HANDOVER, "the state that the last daemon left is not used: %s", fault);
+    *own->carry->parts.process->inherited = (struct inherited){0};
+    (void)say(own->carry->parts.process, LOG_WARNING | ABOUT_HANDOVER, "the state that the last daemon left is not used: %s", fault);
 }
 
 /* Whether there was no daemon for a moment only: what waits in sockets and in the TAP device is still of use. */

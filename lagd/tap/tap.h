@@ -15,12 +15,7 @@
     DO(answers, answers) DO(fast, fast) DO(flight, flight) DO(gro, gro) DO(held, held) DO(host, host) \
     DO(members, members) DO(queues, queues) DO(spread, spread)
 struct tap_plane {
-    struct process *process;
-    const struct settings *settings;
-    struct ports *ports;
-    struct protocol *protocol;
-    struct device *device;
-    struct plane *plane;
+    struct parts parts;
     struct carry *carry;
     int dropper; /* the program that keeps data from the stack of a member, or -1 */
     EACH_FILE_OF_TAP(KEEPS)
