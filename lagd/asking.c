@@ -282,6 +282,7 @@ int ask_daemons(struct control *control, const struct options *options) {
     unsigned answers = 0;
     find_sockets(control->asking, options->folder, true);
     if (options->action == ORDER) return order_daemon(control, options);
+    if (options->action == SHOW_CONFIG) (void)find_daemon(own, options->folder); /* a file has one bundle */
     for (unsigned i = 0; i < own->count; i++) answers += ask_one(control, i, options);
     if (answers == 0 && (options->action != METRICS || own->count == 0 || own->denied)) refuse_all(control->asking, options->folder);
     if (options->action == WATCH) return print_changes_of_all(control);

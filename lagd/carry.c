@@ -16,6 +16,7 @@ struct carry_private {
     uint64_t heard_at; /* the time at which frames came in the active aggregator last, or 0 */
     uint64_t heard_before; /* how many had come in an active one then */
     uint64_t looked_at; /* of suspect_aggregator */
+    uint64_t elsewhere; /* for how many milliseconds frames came in another aggregator, and none in the active one */
     unsigned on_defaults[NIW_MOST_PORTS]; /* ticks for which a port ran on defaults */
     unsigned wakes_after[NIW_MOST_PORTS]; /* how many of them it may */
 };
@@ -51,6 +52,7 @@ bool is_busy(const struct carry *carry, const struct conversation *conversation)
 /* Another aggregator is active: nothing has come in it yet. */
 void forget_heard(struct carry *carry) {
     struct carry_private *own = carry->carry_private;
+    own->elsewhere = 0;
     own->heard_before = carry->parts.plane->carrying->frames_heard(carry->parts.plane, true);
     own->heard_at = 0;
 }
@@ -59,10 +61,13 @@ void forget_heard(struct carry *carry) {
  * at once a tick, however many frames come. */
 void suspect_aggregator(struct carry *carry, uint32_t aggregator) {
     struct carry_private *own = carry->carry_private;
-    if (own->looked_at == carry->time) return;
+    uint64_t patience;
+    if (own->looked_at == carry->time || carry->active == 0 || aggregator == carry->active) return;
     own->looked_at = carry->time;
-    if (own->heard_at == 0 || carry->active == 0 || aggregator == carry->active || !is_as_good_as_any(carry->parts.protocol, (uint16_t)aggregator))
-        return;
+    patience = patience_with(carry->parts.protocol, carry->active, (uint16_t)aggregator);
+    own->elsewhere += NIW_TICK_MILLISECONDS;
+    if (patience != 0 && own->elsewhere > patience) follow_peer(carry->parts.protocol, (uint16_t)aggregator);
+    else if (own->heard_at == 0 || !is_as_good_as_any(carry->parts.protocol, (uint16_t)aggregator)) return;
     own->heard_at = 0;
     carry->parts.plane->changed = true;
 }
@@ -138,6 +143,7 @@ void note_heard(struct carry *carry) {
     struct carry_private *own = carry->carry_private;
     uint64_t heard = carry->parts.plane->carrying->frames_heard(carry->parts.plane, false);
     if (heard != own->heard_before && carry->active != 0) own->heard_at = carry->time;
+    if (heard != own->heard_before) own->elsewhere = 0;
     own->heard_before = heard;
 }
 

@@ -109,9 +109,9 @@ void write_json(struct control *control) {
     add(control->report, ",\"system_priority\":%u,", control->parts.settings->config.priority);
     add_mac(control->report, "system", control->parts.settings->config.mac);
     add(control->report, ",\"key\":%u,\"collector_max_delay\":%u", control->parts.settings->key, control->parts.settings->config.max_delay);
-    add(control->report, ",\"min_links\":%u,\"max_links\":%u,\"seconds\":%" PRIu64 ",", control->parts.settings->min_links,
-        control->parts.settings->config.max_links,
-        seconds_passed(control->parts.protocol->system));
+    add(control->report, ",\"min_links\":%u,\"max_links\":%u,\"select\":\"%s\",\"follows_peer\":%s,\"seconds\":%" PRIu64 ",",
+        control->parts.settings->min_links, control->parts.settings->config.max_links, selection_text(control->parts.settings->select),
+        is_following(control->parts.protocol->bundle_private) ? "true" : "false", seconds_passed(control->parts.protocol->system));
     CALL(control->parts.plane->carrying->show, control, AS_JSON);
     add(control->report, "\"ports\":[");
     for (uint16_t i = 0, count = 0; i < control->parts.ports->count; i++) {

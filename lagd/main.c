@@ -74,7 +74,7 @@ static void pass_second(struct lagd *lagd) {
     allow_bundle_line(lagd->protocol.bundle_private);
     pass_revert_second(&lagd->protocol);
     watch_changes(&lagd->protocol);
-    (void)save_state(lagd->state);
+    (void)save_state(lagd->state, false);
     notify_alive();
 }
 
@@ -149,7 +149,7 @@ static void serve_all_callers(struct control *control, const struct epoll_event 
 /* The next daemon is to go on: answers whether it can. */
 static bool leave_state(struct lagd *lagd) {
     CALL(lagd->plane.carrying->keep_device, &lagd->plane, true);
-    lagd->process.has_left = save_state(lagd->state);
+    lagd->process.has_left = save_state(lagd->state, true);
     if (!lagd->process.has_left) CALL(lagd->plane.carrying->keep_device, &lagd->plane, false);
     if (!lagd->process.has_left) return false;
     leave_store(lagd->process.store);
@@ -252,7 +252,7 @@ static int run_daemon(struct lagd *lagd, const struct options *options) {
     halt_if_down(&lagd->protocol);
     leave_left_ports(&lagd->protocol);
     end_resuming(&lagd->protocol);
-    (void)save_state(lagd->state);
+    (void)save_state(lagd->state, false);
     tell_changes(&lagd->protocol);
     settle_carry(&lagd->plane);
     notify_ready(&lagd->protocol.bundle);

@@ -18,7 +18,8 @@ struct settings;
 struct tap_plane;
 struct team_plane;
 
-/* Calls a function of a table. One that gives nothing back may be missing where there is nothing to do. */
+/* Calls a function of a table that may be missing, where there is nothing to do. In each table are those that give something back, and
+ * run_programs, set_again and accept_response, which are called as they are. */
 #define CALL(function, ...) do { if (function) (function)(__VA_ARGS__); } while (0)
 
 /* How something is told to whoever asks. */

@@ -10,6 +10,7 @@ static const char *restart_for(struct protocol *protocol, const struct settings 
         return "another system";
     if (wanted->key_by_speed != protocol->settings->key_by_speed) return "another key-by-speed";
     if (strcmp(wanted->carry, protocol->settings->carry) != 0) return "another carry";
+    if (strcmp(wanted->state_dir, protocol->settings->state_dir) != 0) return "another state-dir";
     if (wanted->plane != protocol->settings->plane) return "another plane";
     if (wanted->hash != protocol->settings->hash || wanted->hash_seed != protocol->settings->hash_seed) return "another hash or hash-seed";
     if (wanted->offload != protocol->settings->offload || wanted->fast != protocol->settings->fast) return "another offload or fast";
@@ -122,8 +123,11 @@ static unsigned apply_settings(struct protocol *protocol, const struct settings 
         protocol->settings->answer_after = wanted->answer_after;
     }
     protocol->settings->min_links = wanted->min_links;
+    if (wanted->select != protocol->settings->select) ask_links(protocol); /* for their speeds */
+    protocol->settings->select = wanted->select;
     protocol->settings->marker_responses = wanted->marker_responses;
     protocol->settings->wait_to_restore = wanted->wait_to_restore;
+    protocol->settings->delay_down = wanted->delay_down;
     protocol->settings->revert = wanted->revert;
     memcpy(protocol->settings->hook, wanted->hook, sizeof protocol->settings->hook);
     EACH_LINK(link, protocol->ports) link->changed = true;

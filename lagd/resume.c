@@ -32,7 +32,7 @@ static bool is_within(uint64_t began, uint64_t then, uint64_t most) {
 static bool goes_on(struct protocol *protocol, const struct link *link) {
     const struct inherited_link *was = link->up && !link->held ? inherited_of(protocol->process->inherited, link) : NULL;
     struct system_id actor;
-    return was && was->carried && was->losses == link->kernel_losses
+    return was && was->carried && (was->losses == link->kernel_losses || protocol->process->inherited->ahead != 0)
         && is_within(protocol->resumed_at, was->heard, timeout_of(link->settings.short_timeout))
         && is_within(protocol->resumed_at, was->spoken, timeout_of((was->lacpdu[ACTOR_STATE] & NIW_STATE_TIMEOUT) != 0))
         && may_be_partner(link, was->lacpdu, &actor);
@@ -52,8 +52,8 @@ static void recall_partner(struct process *process, struct link *link) {
     const struct inherited_link *was = inherited_of(process->inherited, link);
     struct system_id actor;
     if (may_be_partner(link, was->lacpdu, &actor)) note_actor(process->settings, link, &actor, was->lacpdu);
-    link->lacpdu_at = was->heard;
-    link->lacpdus_at[MOST_LACPDUS - 1] = was->spoken;
+    link->lacpdu_at = was->heard - process->inherited->ahead;
+    link->lacpdus_at[MOST_LACPDUS - 1] = was->spoken - process->inherited->ahead;
 }
 
 static bool is_distributing(struct protocol *protocol, uint16_t port) {
@@ -84,7 +84,7 @@ void release_former_members(struct plane *plane) {
 /* Before the interfaces are taken up: whether there is something to go on with. Where no data is carried any more, or by the team driver, what
  * was set of members is set back. */
 void begin_resuming(struct protocol *protocol) {
-    protocol->resumed_at = boottime();
+    protocol->resumed_at = boottime() + protocol->process->inherited->ahead;
     for (unsigned i = 0; i < protocol->process->inherited->link_count; i++) protocol->process->resuming = protocol->process->resuming
         || protocol->process->inherited->links[i].carried;
     if (protocol->process->inherited->others && !protocol->plane->carrying->keeps_members) release_former_members(protocol->plane);
@@ -107,7 +107,7 @@ unsigned resume(struct protocol *protocol) {
     struct niw_saved saved[NIW_MOST_PORTS];
     bool back[NIW_MOST_PORTS] = {false};
     size_t count = 0;
-    protocol->resumed_at = boottime();
+    protocol->resumed_at = boottime() + protocol->process->inherited->ahead;
     for (uint16_t i = 0; protocol->process->resuming && i < protocol->ports->count; i++)
         if (goes_on(protocol, &protocol->ports->links[i])) saved[count++] = saved_of(protocol, &protocol->ports->links[i]);
     count = resume_system(protocol, saved, count);

@@ -17,16 +17,34 @@ static void add_policy(struct report *report, const struct settings *settings) {
     add(report, "  partner: %s%s\n", whom, settings->partner_required ? ", required" : "");
 }
 
+/* Which aggregator carries, and what each one has of what decides that. */
+static void add_selection(struct report *report, struct protocol *protocol) {
+    enum selection by = protocol->settings->select;
+    add(report, "  select: %s%s", selection_text(by), is_following(protocol->bundle_private) ? ", but the peer sends in the active one alone" : "");
+    for (uint16_t aggregator = 1; aggregator <= protocol->aggregator_count; aggregator++) {
+        struct worth worth = worth_of(protocol, aggregator);
+        if (worth.links == 0) continue;
+        add(report, "; aggregator %u has %u links", aggregator, worth.links);
+        if (by == SELECT_BANDWIDTH) add(report, " of %" PRIu64 " Mb/s", worth.megabits);
+        if (by >= SELECT_PRIORITY) add(report, ", the best port %u,%u", worth.port >> 16, worth.port & UINT16_MAX);
+    }
+    add(report, "\n");
+}
+
 static void add_bundle(struct control *control) {
     const struct settings *settings = control->parts.settings;
     const struct bundle *bundle = &control->parts.protocol->bundle;
     char mac[32];
     add(control->report, "---- %s ----\n", settings->name);
-    add(control->report, "  status: %s, %u of %u links carry\n", bundle_state_text(bundle->state), bundle->carrying, bundle->links);
+    add(control->report, "  status: %s, %u of %u links carry", bundle_state_text(bundle->state), bundle->carrying, bundle->links);
+    EACH_LINK(link, control->parts.ports)
+        if (link->away) add(control->report, ", but the carrier of %s is away", link->name);
+    add(control->report, "\n");
     add(control->report, "  sys_id: %s\n  sys_priority: %u\n", mac_text(settings->config.mac, mac), settings->config.priority);
     add(control->report, "  aggregation key: %u\n  lacp_time: %s\n", settings->key, settings->short_timeout ? "fast" : "slow");
     add(control->report, "  aggregator: %u\n  min_links: %u\n  max_links: %u\n", bundle->aggregator, settings->min_links,
         settings->config.max_links);
+    add_selection(control->report, control->parts.protocol);
     add_policy(control->report, settings);
     add_time(control->report, "last change", bundle->changed_at);
     add(control->report, "  uptime: %" PRIu64 " s, lagd %s\n", seconds_passed(control->parts.protocol->system), VERSION);
@@ -70,7 +88,10 @@ static void add_member(struct control *control, const struct link *link) {
     add(control->report, "  status: %s\n  may_enable: %s\n", status_text(view.facts.status),
         carries(control->parts.protocol, link) ? "true" : "false");
     if (link->trouble) add(control->report, "  trouble: %s\n", strerror(link->trouble));
-    add(control->report, "  link: %s\n  address: %s\n", link_name(link), mac_text(link->mac, mac));
+    add(control->report, "  link: %s", link_name(link));
+    if (link->away)
+        add(control->report, " for %" PRIu64 " of %u ms, while it counts as up", milliseconds() - link->carried_at, control->parts.settings->delay_down);
+    add(control->report, "\n  address: %s\n", mac_text(link->mac, mac));
     add(control->report, "  port_id: %u\n  port_priority: %u\n", own->port, own->port_priority);
     add(control->report, "  aggregator: %u\n", view.facts.aggregator);
     add(control->report, "  current_while: %" PRIu64 "\n  wait_while: %" PRIu64 "\n", view.current_while, view.wait_while);

@@ -147,7 +147,8 @@ void set_link(struct protocol *protocol, uint16_t port, bool up) {
     link->unsent = false;
     link->changed = true;
     if (!up) {
-        if (!is_silent(protocol->halt)) link->counts[LOSSES]++;
+        if (!is_silent(protocol->halt) && !link->away) link->counts[LOSSES]++;
+        link->away = false;
         forget_partner(protocol->settings, link);
     }
     if (!up) CALL(protocol->plane->carrying->lose, protocol->plane, port);
