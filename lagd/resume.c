@@ -23,9 +23,10 @@ static uint64_t timeout_of(bool is_short) {
     return is_short ? SHORT_TIMEOUT : LONG_TIMEOUT;
 }
 
-/* Whether so much time passed since then, and not more than that. What is of later than now is of another clock. */
+/* Whether so much time passed since then, and not more than that. What is of later than now is of another clock; what is of before this boot has
+ * run over. */
 static bool is_within(uint64_t began, uint64_t then, uint64_t most) {
-    return then <= began && began - then < most;
+    return began - then < most;
 }
 
 /* Whether a port goes on: its carrier did not go, neither end has given the other one up, and its partner may be that. */

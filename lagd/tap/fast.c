@@ -50,9 +50,8 @@ static int needed(int program) {
 
 /* Has a program run at the TAP device; answers what keeps it there. */
 static int keep_program(struct tap_plane *tap, const char *kind, int program, bool egress) {
-    int opened;
-    opened = attach_stored(tap->parts.process->store, kind, program, tap->fast->tap_at, egress);
-    need(opened >= 0, "fast: no program of an interface, which Linux has from 6.6 on");
+    int opened = attach_stored(tap->parts.process->store, kind, program, tap->fast->tap_at, egress);
+    if (opened < 0) stop(REFUSED, "fast: no program of an interface, which Linux has from 6.6 on", strerror(-opened));
     close(program);
     return opened;
 }
@@ -135,14 +134,11 @@ static bool is_place_taken(struct tap_plane *tap, const struct link *link) {
     return false;
 }
 
-/* Has what comes at a member go up by the kernel, as long as the answer is open; or -1, and errno. */
+/* Has what comes at a member go up by the kernel, as long as the answer is open; or -errno. */
 int open_fast_receiver(struct tap_plane *tap, const struct link *link) {
-    int attached = -1;
-    errno = EBUSY;
-    if (is_place_taken(tap, link)) return -1;
+    if (is_place_taken(tap, link)) return -EBUSY;
     __atomic_store_n(place_at(tap->fast, link), place_word(link), __ATOMIC_SEQ_CST);
-    attached = attach_stored(tap->parts.process->store, "guard", tap->fast->receiver, link->index, false);
-    return attached;
+    return attach_stored(tap->parts.process->store, "guard", tap->fast->receiver, link->index, false);
 }
 
 /* The interface is no member any more. */

@@ -159,7 +159,7 @@ static void open_fast(struct tap_plane *tap, const struct link *link, struct gua
     fault = fault_of_fast(link, guard);
     if (!fault) guard->opened = open_fast_receiver(tap, link);
     guard->fast = guard->opened >= 0;
-    if (!fault && !guard->fast) fault = strerror(errno);
+    if (!fault && !guard->fast) fault = strerror(-guard->opened);
     if (fault && !is_unqueued(link)) /* it is looked at again then */
         (void)say(tap->parts.process, LOG_WARNING | ABOUT_DATA, "port %u %s: its data stays with the daemon: %s", link->settings.number, link->name,
             fault);

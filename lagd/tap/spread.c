@@ -35,7 +35,7 @@ struct spread_private *make_spread_private(void) {
 void start_all_queues(struct tap_plane *tap) {
     struct spread_private *own = tap->spread;
     int fault = fault_of_programs(tap->parts.settings);
-    if (fault != 0) stop(REFUSED, "queues=all: no program of an interface, which Linux has from 6.6 on", strerror(fault));
+    if (fault != 0) stop(REFUSED, "queues=all: no program of an interface, which Linux has from 6.6 on", strerror(-fault));
     own->program = load_program(tap->parts.settings, "chooser", NULL);
     if (own->program < 0) stop(REFUSED, "queues=all: the kernel takes no program", program_fault());
     start_answers(tap);
@@ -170,19 +170,14 @@ bool may_spread(int folder, const struct link *link) {
     return !link->stacked && may_have_order(link->index) && (!changes || may_set(link->index));
 }
 
-/* Has a program choose the queue of each frame that the daemon sends at a member; answers whether it does. */
-static bool choose_queues(struct tap_plane *tap, const struct link *link, struct guard *guard) {
-    if (guard->queues > 1 && guard->chooser < 0)
-        guard->chooser = attach_stored(tap->parts.process->store, "queues", tap->spread->program, link->index, true);
-    return guard->queues == 1 || guard->chooser >= 0;
-}
-
 /* Lets a member keep all its queues, where it can. */
 void spread(struct tap_plane *tap, const struct link *link, struct guard *guard) {
     unsigned count = count_entries(link->index, "tx-");
     const char *fault = fault_of_spreading(tap->parts.process->folder, link, guard, count);
     guard->queues = fault ? 1 : count < MOST_QUEUES ? count : MOST_QUEUES;
-    if (!fault && !choose_queues(tap, link, guard)) fault = strerror(errno);
+    if (guard->queues > 1 && guard->chooser < 0) /* a program chooses the queue of each frame that the daemon sends there */
+        guard->chooser = attach_stored(tap->parts.process->store, "queues", tap->spread->program, link->index, true);
+    if (guard->queues > 1 && guard->chooser < 0) fault = strerror(-guard->chooser);
     guard->spread = !fault;
     if (!fault) return;
     guard->queues = 1;

@@ -97,7 +97,7 @@ void drop_classifier(int index);
 
 /* guard.c */
 struct guard {
-    int opened;                 /* what keeps data from the stack of the interface, or -1 */
+    int opened;                 /* what keeps data from the stack of the interface, or below 0 */
     enum classifier classifier; /* what does so where the kernel has no TCX */
     bool in_order;      /* whether the queueing discipline of the interface keeps the order */
     bool fast;          /* whether the kernel may pass on what goes and comes there */
