@@ -90,7 +90,7 @@ static uint16_t aggregator_after(struct protocol *protocol, uint16_t before) {
  * the one with the least group, so that the other end chooses it, too. One in which the peer alone sends is chosen as long as it carries. */
 void choose_aggregator(struct protocol *protocol, struct bundle *now) {
     struct bundle_private *own = protocol->bundle_private;
-    bool stays = protocol->settings->select == SELECT_PRIORITY_STABLE || protocol->plane->carrying->keeps_aggregator(protocol->plane);
+    bool stays = protocol->settings->select == SELECT_PRIORITY_STABLE || ASK(protocol->plane->carrying->keeps_aggregator, true, protocol->plane);
     if (protocol->settings->select == SELECT_COUNT || !worth_of(protocol, own->followed).has_partner) own->followed = 0;
     own->chosen_last = now->aggregator = own->followed != 0 ? own->followed : aggregator_after(protocol, stays ? own->chosen_last : 0);
     now->carrying = worth_of(protocol, now->aggregator).links;

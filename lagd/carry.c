@@ -53,7 +53,7 @@ bool is_busy(const struct carry *carry, const struct conversation *conversation)
 void forget_heard(struct carry *carry) {
     struct carry_private *own = carry->carry_private;
     own->elsewhere = 0;
-    own->heard_before = carry->parts.plane->carrying->frames_heard(carry->parts.plane, true);
+    own->heard_before = ASK(carry->parts.plane->carrying->frames_heard, 0, carry->parts.plane, true);
     own->heard_at = 0;
 }
 
@@ -141,7 +141,7 @@ void leave_previous(struct carry *carry) {
 /* Notes whether frames of the peer come in the active aggregator. */
 void note_heard(struct carry *carry) {
     struct carry_private *own = carry->carry_private;
-    uint64_t heard = carry->parts.plane->carrying->frames_heard(carry->parts.plane, false);
+    uint64_t heard = ASK(carry->parts.plane->carrying->frames_heard, 0, carry->parts.plane, false);
     if (heard != own->heard_before && carry->active != 0) own->heard_at = carry->time;
     if (heard != own->heard_before) own->elsewhere = 0;
     own->heard_before = heard;

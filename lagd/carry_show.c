@@ -106,9 +106,8 @@ static void write_metrics_of_carry(struct control *control) {
     for (unsigned i = 0; i < carrying->member_counts; i++) {
         snprintf(name, sizeof name, "port_%s_total", MEMBER_COUNTERS[i].name);
         add_head(control->report, name, "counter", MEMBER_COUNTERS[i].help);
-        for (uint16_t link = 0; link < control->parts.ports->count; link++)
-            if (control->parts.ports->links[link].used)
-                add_port_value(control, name, &control->parts.ports->links[link], member_count(control->tap->members, (uint16_t)(link + 1), i));
+        EACH_LINK(link, control->parts.ports)
+            if (link->used) add_port_value(control, name, link, member_count(control->tap->members, link->settings.number, i));
     }
 }
 

@@ -165,7 +165,7 @@ static void follow_present(struct protocol *protocol, const struct interface *in
         bool named = is_named(interface, link->name), same = link->socket >= 0 && link->index == interface->index;
         named = named || (same && accept_name(protocol, link, interface));
         if (link->socket >= 0 && (same != named || (same && !is_bound(link)))) lose_interface(protocol, link);
-        if (same && link->socket >= 0 && !protocol->plane->carrying->still_has(protocol->plane, link, interface->master)) {
+        if (same && link->socket >= 0 && !ASK(protocol->plane->carrying->still_has, true, protocol->plane, link, interface->master)) {
             tell_taken_out(protocol, link);
             lose_link(protocol, link);
         }
@@ -240,7 +240,7 @@ static void follow_all_queues(struct protocol *protocol) {
     EACH_LINK(link, protocol->ports) {
         bool changed = link->has_new_queues;
         link->has_new_queues = false;
-        if (changed && !protocol->plane->queueing->follow(protocol->plane->tap, link)) lose_member(protocol, link);
+        if (changed && !ASK(protocol->plane->queueing->follow, true, protocol->plane->tap, link)) lose_member(protocol, link);
     }
 }
 

@@ -104,6 +104,7 @@ static void add_member(struct control *control, const struct link *link) {
 
 /* The whole status, in a line. */
 void write_json(struct control *control) {
+    const char *between = "";
     add(control->report, "{\"lagd\":\"%s\",", VERSION);
     add_bundle(control);
     add(control->report, ",\"system_priority\":%u,", control->parts.settings->config.priority);
@@ -114,10 +115,11 @@ void write_json(struct control *control) {
         is_following(control->parts.protocol->bundle_private) ? "true" : "false", seconds_passed(control->parts.protocol->system));
     CALL(control->parts.plane->carrying->show, control, AS_JSON);
     add(control->report, "\"ports\":[");
-    for (uint16_t i = 0, count = 0; i < control->parts.ports->count; i++) {
-        if (!control->parts.ports->links[i].used) continue;
-        if (count++ > 0) add(control->report, ",");
-        add_member(control, &control->parts.ports->links[i]);
+    EACH_LINK(link, control->parts.ports) {
+        if (!link->used) continue;
+        add(control->report, "%s", between);
+        add_member(control, link);
+        between = ",";
     }
     add(control->report, "]}\n");
 }

@@ -154,7 +154,7 @@ static bool leave_state(struct lagd *lagd) {
     if (!lagd->process.has_left) return false;
     leave_store(lagd->process.store);
     (void)say(&lagd->process, LOG_NOTICE | ABOUT_HANDOVER, "the next daemon may go on from here; %u frames that waited are lost",
-        lagd->plane.carrying->frames_waiting(&lagd->plane));
+        ASK(lagd->plane.carrying->frames_waiting, 0, &lagd->plane));
     return true;
 }
 

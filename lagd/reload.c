@@ -67,12 +67,13 @@ static void change_policy(struct protocol *protocol, const struct settings *want
     bool same = wanted->policy == protocol->settings->policy && memcmp(&wanted->partner, &protocol->settings->partner, sizeof wanted->partner) == 0;
     protocol->settings->policy = wanted->policy;
     protocol->settings->partner = wanted->partner;
-    for (uint16_t i = 0; !same && i < protocol->ports->count; i++) {
-        forget_partner(protocol->settings, &protocol->ports->links[i]);
-        if (protocol->settings->policy != PARTNER_FIRST || !protocol->ports->links[i].up || protocol->ports->links[i].view.defaulted) continue;
-        protocol->ports->links[i].pinned = true;
-        protocol->ports->links[i].partner.priority = protocol->ports->links[i].view.partner_priority;
-        memcpy(protocol->ports->links[i].partner.mac, protocol->ports->links[i].view.partner_mac, sizeof protocol->ports->links[i].partner.mac);
+    if (same) return;
+    EACH_LINK(link, protocol->ports) {
+        forget_partner(protocol->settings, link);
+        if (protocol->settings->policy != PARTNER_FIRST || !link->up || link->view.defaulted) continue;
+        link->pinned = true;
+        link->partner.priority = link->view.partner_priority;
+        memcpy(link->partner.mac, link->view.partner_mac, sizeof link->partner.mac);
     }
 }
 

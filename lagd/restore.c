@@ -6,9 +6,8 @@ static bool is_short_of_links(struct protocol *protocol) {
     struct bundle now = {0};
     unsigned sure = 0;
     choose_aggregator(protocol, &now);
-    for (uint16_t i = 0; now.aggregator != 0 && i < protocol->ports->count; i++)
-        sure += protocol->ports->links[i].view.aggregator == now.aggregator && carries(protocol, &protocol->ports->links[i])
-            && !protocol->ports->links[i].view.defaulted;
+    EACH_LINK(link, protocol->ports)
+        sure += now.aggregator != 0 && link->view.aggregator == now.aggregator && carries(protocol, link) && !link->view.defaulted;
     return sure < protocol->settings->min_links;
 }
 

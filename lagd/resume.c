@@ -64,9 +64,9 @@ static bool is_distributing(struct protocol *protocol, uint16_t port) {
 
 /* The links that are up, and do not go on, come up for the library, too. */
 static void set_other_links(struct protocol *protocol, const bool *back) {
-    for (uint16_t i = 0; i < protocol->ports->count; i++)
-        if (protocol->ports->links[i].up && !back[i] && !is_done(protocol->process, niw_set_link(&protocol->own_system, (uint16_t)(i + 1), true),
-            "niw_set_link"))
+    EACH_LINK(link, protocol->ports)
+        if (link->up && !back[link - protocol->ports->links]
+            && !is_done(protocol->process, niw_set_link(&protocol->own_system, link->settings.number, true), "niw_set_link"))
             return;
 }
 
@@ -85,10 +85,10 @@ void release_former_members(struct plane *plane) {
 /* Before the interfaces are taken up: whether there is something to go on with. Where no data is carried any more, or by the team driver, what
  * was set of members is set back. */
 void begin_resuming(struct protocol *protocol) {
-    protocol->resumed_at = boottime() + protocol->process->inherited->ahead;
-    for (unsigned i = 0; i < protocol->process->inherited->link_count; i++) protocol->process->resuming = protocol->process->resuming
-        || protocol->process->inherited->links[i].carried;
-    if (protocol->process->inherited->others && !protocol->plane->carrying->keeps_members) release_former_members(protocol->plane);
+    struct process *process = protocol->process;
+    protocol->resumed_at = boottime() + process->inherited->ahead;
+    for (unsigned i = 0; i < process->inherited->link_count; i++) process->resuming = process->resuming || process->inherited->links[i].carried;
+    if (process->inherited->others && !protocol->plane->carrying->keeps_members) release_former_members(protocol->plane);
 }
 
 /* Tells what became of the links of the last daemon, if some are there. */
@@ -109,8 +109,8 @@ unsigned resume(struct protocol *protocol) {
     bool back[NIW_MOST_PORTS] = {false};
     size_t count = 0;
     protocol->resumed_at = boottime() + protocol->process->inherited->ahead;
-    for (uint16_t i = 0; protocol->process->resuming && i < protocol->ports->count; i++)
-        if (goes_on(protocol, &protocol->ports->links[i])) saved[count++] = saved_of(protocol, &protocol->ports->links[i]);
+    EACH_LINK(link, protocol->ports)
+        if (protocol->process->resuming && goes_on(protocol, link)) saved[count++] = saved_of(protocol, link);
     count = resume_system(protocol, saved, count);
     for (size_t i = 0; i < count; i++) {
         back[saved[i].port - 1] = true;
@@ -149,7 +149,7 @@ void resume_conversations(struct plane *plane, bool goes_on) {
         go_on_answering(carry, (enum answering)carry->parts.process->inherited->answering);
     }
     for (uint16_t number = 0; goes_on && number < CONVERSATIONS; number++) {
-        int member = plane->carrying->member_of(plane, number);
+        int member = ASK(plane->carrying->member_of, 0, plane, number);
         uint16_t port = port_on(carry, member != 0 ? member : carry->parts.process->inherited->members[number]);
         if (port != 0) stay(carry, number, port);
     }

@@ -90,7 +90,8 @@ static void add_member(struct control *control, const struct link *link) {
     if (link->trouble) add(control->report, "  trouble: %s\n", strerror(link->trouble));
     add(control->report, "  link: %s", link_name(link));
     if (link->away)
-        add(control->report, " for %" PRIu64 " of %u ms, while it counts as up", milliseconds() - link->carried_at, control->parts.settings->delay_down);
+        add(control->report, " for %" PRIu64 " of %u ms, while it counts as up", milliseconds() - link->carried_at,
+            control->parts.settings->delay_down);
     add(control->report, "\n  address: %s\n", mac_text(link->mac, mac));
     add(control->report, "  port_id: %u\n  port_priority: %u\n", own->port, own->port_priority);
     add(control->report, "  aggregator: %u\n", view.facts.aggregator);

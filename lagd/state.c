@@ -121,7 +121,8 @@ static void write_state(struct state *own, FILE *file) {
     fprintf(file, "bundle %u %u %lld\n", own->carry->parts.protocol->bundle.state, own->carry->parts.protocol->bundle.aggregator,
         (long long)own->carry->parts.protocol->bundle.changed_at);
     if (tap_index(own->carry->parts.device) != 0)
-        fprintf(file, "tap %d %d %" PRIu32 " %u\n", tap_index(own->carry->parts.device), plane->carrying->has_made_device(plane),
+        fprintf(file, "tap %d %d %" PRIu32 " %u\n", tap_index(own->carry->parts.device),
+            ASK(plane->carrying->has_made_device, false, plane),
             mtu_of_administrator(own->carry->parts.device), peer_answering(own->carry->probe));
     write_ports(own->carry->parts.ports, file);
     EACH_LINK(link, own->carry->parts.ports)

@@ -122,7 +122,7 @@ void look_at_discipline(struct tap_plane *tap, struct link *link, struct guard *
     bool given = false;
     (void)read_discipline(link->index, link->discipline);
     if (tap->parts.plane->wants_fifo && !is_unqueued(link) && strcmp(link->discipline, "noqueue") != 0)
-        given = give_each_fifo(link->index, tap->parts.plane->queueing->fifos_of(link->index), read_speed(link->socket, link->name).megabits);
+        given = give_each_fifo(link->index, ASK(tap->parts.plane->queueing->fifos_of, 1, link->index), read_speed(link->socket, link->name).megabits);
     if (given) (void)read_discipline(link->index, link->discipline);
     link->has_fifos = given && strcmp(link->discipline, "mq") == 0;
     guard->in_order = keeps_order(link->discipline) || link->has_fifos;
@@ -136,7 +136,7 @@ void look_at_discipline(struct tap_plane *tap, struct link *link, struct guard *
 void fit_queue(const struct plane *plane, const struct link *link, const char *interface) {
     if (!plane->wants_fifo) return;
     if (link->has_fifos)
-        fit_each_fifo(link->index, plane->queueing->fifos_of(link->index), read_speed(link->socket, interface).megabits);
+        fit_each_fifo(link->index, ASK(plane->queueing->fifos_of, 1, link->index), read_speed(link->socket, interface).megabits);
     else
         fit_root_fifo(link->index, read_speed(link->socket, interface).megabits);
 }

@@ -202,7 +202,7 @@ void lose_data(struct plane *plane, uint16_t port) {
 
 /* The interface by which the kernel passes a conversation on, or 0. */
 int passing_member_of(struct plane *plane, uint16_t number) {
-    return plane->passing->member_of(plane->tap, number);
+    return ASK(plane->passing->member_of, 0, plane->tap, number);
 }
 
 /* Makes the TAP device, and what members are given and have taken away. */

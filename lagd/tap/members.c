@@ -224,7 +224,7 @@ bool reopen_member(struct plane *plane, struct link *link) {
     char before[DISCIPLINE_ROOM];
     memcpy(before, link->discipline, sizeof before);
     if (!read_discipline(link->index, link->discipline) || strcmp(before, link->discipline) == 0) return true;
-    return plane->carrying->renew(plane, link);
+    return ASK(plane->carrying->renew, true, plane, link);
 }
 
 /* The same of a member. */
