@@ -220,6 +220,10 @@ bool say(struct process *process, int level, const char *format, ...) {
     (void)format;
     return true;
 }
+const char *selection_text(enum selection selection) {
+    (void)selection;
+    return "";
+}
 static bool any_distributes(struct lagd *lagd) {
     for (uint16_t port = 1; port <= PORTS; port++)
         if (niw_distributes(&lagd->protocol.own_system, port).is) return true;
@@ -398,10 +402,11 @@ static void make_end(struct end *end, uint8_t which) {
     lagd->ports.count = lagd->settings.port_count = PORTS;
     lagd->settings.flight = FLIGHT;
     lagd->settings.min_links = 1;
+    lagd->settings.select = (enum selection)below(SELECT_PRIORITY_STABLE + 1);
     lagd->settings.marker_responses = 50;
     lagd->settings.config = (struct niw_config){.priority = 1, .mac = {2, which}, .first_marker = 1, .conversations = CONVERSATIONS};
     for (uint16_t i = 0; i < PORTS; i++) {
-        ports[i] = (struct niw_port){.number = (uint16_t)(i + 1), .priority = 1, .mac = {2, which, (uint8_t)i},
+        ports[i] = (struct niw_port){.number = (uint16_t)(i + 1), .priority = (uint16_t)(1 + below(3)), .mac = {2, which, (uint8_t)i},
             .key = keys[i * KEYS / PORTS], .aggregatable = true, .active = true, .short_timeout = true};
         lagd->ports.links[i].settings = ports[i];
         memcpy(lagd->ports.links[i].mac, ports[i].mac, sizeof ports[i].mac);
@@ -603,6 +608,17 @@ static void change_weather(void) {
     weather = (struct weather){below(2) == 0, below(2) == 0, bursts[below(3)], changes[below(3)], busy[below(3)]};
 }
 
+/* Ends that prefer another aggregator, or that each keep one, are in the same one once both have sent for a while. */
+static void come_together(void) {
+    if (ends[0].lagd.settings.select == SELECT_COUNT && ends[1].lagd.settings.select == SELECT_COUNT) return;
+    for (uint64_t until = now + 15000, next = now; now < until; step(true)) {
+        if (now < next) continue;
+        next = now + TICK / 2;
+        for (unsigned which = 0; which < 2; which++) send_burst(&ends[which], 1);
+    }
+    for (uint64_t until = now + 2000; now < until;) step(true);
+}
+
 /* Nothing is in the way of data any more: what is sent comes, and nothing waits. */
 static void calm_down(void) {
     uint64_t until, arrived[2];
@@ -616,6 +632,7 @@ static void calm_down(void) {
         for (uint16_t port = 1; port <= PORTS; port++) hold(&ends[which], port, false);
     weather.mute = false;
     for (until = now + 12000; now < until;) step(true);
+    come_together();
     for (unsigned which = 0; which < 2; which++) {
         arrived[which] = ends[which].arrived;
         CHECK(ends[which].carrier && ends[which].lagd.protocol.bundle.state != BUNDLE_DOWN && !ends[which].lagd.carry.waiting);
