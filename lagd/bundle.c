@@ -112,6 +112,7 @@ uint64_t patience_with(struct protocol *protocol, uint16_t active, uint16_t othe
 
 /* The peer sends in an aggregator that this end does not prefer, and in no other one: both ends go by it, or no data would arrive. */
 void follow_peer(struct protocol *protocol, uint16_t aggregator) {
+    protocol->bundle_private->chosen_last = aggregator;
     protocol->bundle_private->followed = aggregator_after(protocol, 0) == aggregator ? 0 : aggregator;
     (void)say(protocol->process, LOG_WARNING | ABOUT_BUNDLE, "bundle %s: the peer sends in aggregator %u: it carries, whatever select=%s prefers",
         protocol->settings->name, aggregator, selection_text(protocol->settings->select));

@@ -402,7 +402,6 @@ static void make_end(struct end *end, uint8_t which) {
     lagd->ports.count = lagd->settings.port_count = PORTS;
     lagd->settings.flight = FLIGHT;
     lagd->settings.min_links = 1;
-    lagd->settings.select = (enum selection)below(SELECT_PRIORITY_STABLE + 1);
     lagd->settings.marker_responses = 50;
     lagd->settings.config = (struct niw_config){.priority = 1, .mac = {2, which}, .first_marker = 1, .conversations = CONVERSATIONS};
     for (uint16_t i = 0; i < PORTS; i++) {
@@ -606,6 +605,7 @@ static void step(bool calm) {
 static void change_weather(void) {
     const unsigned bursts[] = {700, 200, 20}, changes[] = {2, 10, 1}, busy[] = {BUSY_ONES, 8, 2};
     weather = (struct weather){below(2) == 0, below(2) == 0, bursts[below(3)], changes[below(3)], busy[below(3)]};
+    for (unsigned which = 0; which < 2; which++) ends[which].lagd.settings.select = (enum selection)below(SELECT_PRIORITY_STABLE + 1);
 }
 
 /* Ends that prefer another aggregator, or that each keep one, are in the same one once both have sent for a while. */
@@ -640,7 +640,7 @@ static void calm_down(void) {
     }
     for (until = now + 2000; now < until;) step(true);
     CHECK(ends[0].arrived == arrived[0] + 1 && ends[1].arrived == arrived[1] + 1);
-    change_weather();
+    change_weather(); /* and another select, as by a reload */
 }
 
 int main(int argc, char **argv) {
