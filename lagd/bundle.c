@@ -1,6 +1,7 @@
 /* The bundle as a whole: up where all its links carry, degraded where some do, down where fewer than min-links do. */
 #include "lagd.h"
 
+/* For how long the peer may send in another aggregator alone, in milliseconds. */
 #define PATIENCE 3000
 
 struct bundle_private {
@@ -16,10 +17,10 @@ struct bundle_private *make_bundle_private(void) {
     return made;
 }
 
-/* A system, or a port of it, as a number: the lower one is the better one (IEEE 802.1AX-2014, 6.3.2, 6.3.4). */
-static uint64_t number_of(uint16_t priority, const uint8_t *octets, size_t count) {
+/* A system as a number: the lower one is the better one (IEEE 802.1AX-2014, 6.3.2). */
+static uint64_t number_of(uint16_t priority, const uint8_t *mac) {
     uint64_t number = priority;
-    for (size_t i = 0; i < count; i++) number = number << 8 | octets[i];
+    for (unsigned i = 0; i < 6; i++) number = number << 8 | mac[i];
     return number;
 }
 
@@ -27,8 +28,8 @@ static uint64_t number_of(uint16_t priority, const uint8_t *octets, size_t count
  * ends put ports into the same order. */
 static void add_port_worth(struct protocol *protocol, const struct link *link, struct worth *worth) {
     const struct niw_view *view = &link->view;
-    uint64_t own = number_of(protocol->settings->config.priority, protocol->settings->config.mac, 6);
-    uint64_t other = number_of(view->partner_priority, view->partner_mac, 6);
+    uint64_t own = number_of(protocol->settings->config.priority, protocol->settings->config.mac);
+    uint64_t other = number_of(view->partner_priority, view->partner_mac);
     bool is_own = view->defaulted || own < other;
     uint64_t system = is_own ? own : other;
     uint32_t port = is_own ? (uint32_t)link->settings.priority << 16 | link->settings.number
@@ -90,8 +91,9 @@ static uint16_t aggregator_after(struct protocol *protocol, uint16_t before) {
  * the one with the least group, so that the other end chooses it, too. One in which the peer alone sends is chosen as long as it carries. */
 void choose_aggregator(struct protocol *protocol, struct bundle *now) {
     struct bundle_private *own = protocol->bundle_private;
+    struct worth followed = worth_of(protocol, own->followed);
     bool stays = protocol->settings->select == SELECT_PRIORITY_STABLE || ASK(protocol->plane->carrying->keeps_aggregator, true, protocol->plane);
-    if (protocol->settings->select == SELECT_COUNT || !worth_of(protocol, own->followed).has_partner) own->followed = 0;
+    if (protocol->settings->select == SELECT_COUNT || !followed.has_partner || followed.links < protocol->settings->min_links) own->followed = 0;
     own->chosen_last = now->aggregator = own->followed != 0 ? own->followed : aggregator_after(protocol, stays ? own->chosen_last : 0);
     now->carrying = worth_of(protocol, now->aggregator).links;
 }
@@ -105,7 +107,7 @@ bool is_as_good_as_any(struct protocol *protocol, uint16_t aggregator) {
  * The end with the better system waits for longer, so that not both go. */
 uint64_t patience_with(struct protocol *protocol, uint16_t active, uint16_t other) {
     struct worth now = worth_of(protocol, active), next = worth_of(protocol, other);
-    uint64_t own = number_of(protocol->settings->config.priority, protocol->settings->config.mac, 6);
+    uint64_t own = number_of(protocol->settings->config.priority, protocol->settings->config.mac);
     if (protocol->settings->select == SELECT_COUNT || !next.has_partner || now.partner != next.partner) return 0;
     return own < now.partner ? 2 * PATIENCE : PATIENCE;
 }

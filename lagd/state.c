@@ -181,7 +181,7 @@ bool save_state(struct state *own, bool leaves) {
     file = replace_file(own, process->folder, own->name);
     keep_file(own, file);
     if (file < 0) lose_file(own, process->folder, own->name, file);
-    own->failed = file < 0 || copy < 0;
+    if (file >= 0 && (copy > 0 || own->kept_folder < 0)) own->failed = false;
     return file >= 0;
 }
 
@@ -198,19 +198,23 @@ void keep_port(struct state *own, uint16_t number, uint16_t port) {
     keep_file(own, -1);
 }
 
-/* The peers are told of the end: no daemon goes on from here. */
-void end_state(struct state *own) {
+static void remove_state(struct state *own, int folder, const char *name) {
     int emptied;
-    own->over = true;
-    keep_file(own, -1);
-    if (own->kept_folder >= 0) (void)unlinkat(own->kept_folder, own->kept_name, 0);
-    if (unlinkat(own->carry->parts.process->folder, own->name, 0) == 0 || errno == ENOENT) return;
-    emptied = openat(own->carry->parts.process->folder, own->name, O_WRONLY | O_TRUNC | O_NOFOLLOW | O_CLOEXEC);
+    if (unlinkat(folder, name, 0) == 0 || errno == ENOENT) return;
+    emptied = openat(folder, name, O_WRONLY | O_TRUNC | O_NOFOLLOW | O_CLOEXEC);
     if (emptied >= 0)
         close(emptied);
     else
         (void)say(own->carry->parts.process, LOG_ERR | ABOUT_HANDOVER,
-            "its state cannot be removed: %s: remove %s, or start no daemon for as long as a partner is waited for", strerror(errno), own->name);
+            "its state cannot be removed: %s: remove %s, or start no daemon for as long as a partner is waited for", strerror(errno), name);
+}
+
+/* The peers are told of the end: no daemon goes on from here. */
+void end_state(struct state *own) {
+    own->over = true;
+    keep_file(own, -1);
+    remove_state(own, own->carry->parts.process->folder, own->name);
+    if (own->kept_folder >= 0) remove_state(own, own->kept_folder, own->kept_name);
 }
 
 static bool read_hex(const char *text, uint8_t *octets) {
