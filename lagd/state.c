@@ -389,7 +389,7 @@ void recall_state(struct state *own) {
     snprintf(own->name, sizeof own->name, "%lu.%s.state", network_namespace(), settings->name);
     snprintf(own->kept_name, sizeof own->kept_name, "%s.state", settings->name);
     own->space = namespace_cookie();
-    if (settings->state_dir[0]) own->kept_folder = open_folder(settings->state_dir);
+    if (settings->state_dir[0] && own->kept_folder < 0) own->kept_folder = open_folder(settings->state_dir);
     file = open_state(own->carry->parts.process->folder, own->name);
     is_kept = !file && own->kept_folder >= 0;
     if (is_kept) file = open_state(own->kept_folder, own->kept_name);
