@@ -46,11 +46,16 @@ def two_peers(programs: Programs, *options: str) -> Iterator[tuple[Cables, End]]
 def active(end: End) -> str:
     """The interfaces that carry in the active aggregator."""
     told = end.told()
-    return " ".join(port["interface"] for port in told["ports"] if port["aggregator"] == told["carry"]["aggregator"])  # type: ignore[typeddict-item]
+    return " ".join(port["interface"] for port in told["ports"] if port["aggregator"] == told["carry"]["aggregator"])
 
 
 def both(laid: Cables, what: str) -> Callable[[], None]:
-    return lambda: [laid.tell(what, number) for number in (0, 1)] and None
+    """Both links to the first peer are cut, or joined."""
+    def tell() -> None:
+        for number in (0, 1):
+            laid.tell(what, number)
+
+    return tell
 
 
 def selected(programs: Programs) -> None:
