@@ -153,7 +153,7 @@ def two_limits(programs: Programs) -> None:
 
 AWAY = "its carrier is away, for less than delay-down so far"
 # For how many milliseconds a carrier may be away.
-DELAY = 1000
+DELAY = 2500
 
 
 def spared(programs: Programs) -> None:
@@ -170,7 +170,7 @@ def spared(programs: Programs) -> None:
             check(now == came and ours.links() == theirs.links() == 2, f"a link that is back in time never went {way}", ours.printed())
             check_order(outcome, "through that", ours.text())
             check_end(ours, "the sending end")
-            outcome = run_flows(programs, 5, [(1, lambda: laid.tell("cut", 1))])
+            outcome = run_flows(programs, 6, [(1, lambda: laid.tell("cut", 1))])
             check(statuses(ours)[1] == "the link is down" and ours.links() == 1, "one that is away for longer goes", ours.printed())
             check(outcome.gap_ms < DELAY + 1500, f"its flows go on after {outcome.gap_ms} ms", ours.printed())
             check_order(outcome, "through that, too", ours.text())
