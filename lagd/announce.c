@@ -194,8 +194,8 @@ static void find_places(struct carry *carry) {
     struct announce_private *own = carry->announce;
     unsigned before = 0;
     memset(own->places, 0, sizeof own->places);
-    own->places[0].index = tap_index(carry->device);
-    own->place_count = read_tap_mac(carry->device, own->places[0].mac) ? 1 : 0;
+    own->places[0].index = tap_index(carry->parts.device);
+    own->place_count = read_tap_mac(carry->parts.device, own->places[0].mac) ? 1 : 0;
     for (unsigned level = 0; level < MOST_LEVELS && before != own->place_count; level++) {
         before = level == 0 ? 0 : own->place_count; /* the first one tells the bridge of the device alone, where that has a lower number */
         (void)ask_all(own, RTM_GETLINK, AF_UNSPEC);
@@ -215,7 +215,7 @@ static void announce(struct carry *carry) {
         done = ask_all(own, RTM_GETADDR, AF_UNSPEC);
     }
     if (!done)
-        (void)say(carry->process, LOG_WARNING | ABOUT_CARRIER, "carry %s: its addresses were not announced: %s", carry->settings->carry,
+        (void)say(carry->parts.process, LOG_WARNING | ABOUT_CARRIER, "carry %s: its addresses were not announced: %s", carry->parts.settings->carry,
             strerror(errno));
     if (own->sender >= 0) close(own->sender);
     own->sender = -1;
@@ -230,7 +230,7 @@ void announce_soon(struct announce_private *own) {
 /* 100 ms passed. While the device has no carrier, nothing that is sent there goes. */
 void pass_announcing_tick(struct carry *carry) {
     struct announce_private *own = carry->announce;
-    if (own->times == 0 || !has_carrier(carry->device)) return;
+    if (own->times == 0 || !has_carrier(carry->parts.device)) return;
     if (own->wait_ticks > 0 && --own->wait_ticks > 0) return;
     announce(carry);
     own->times--;

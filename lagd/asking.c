@@ -68,7 +68,7 @@ static void find_sockets(struct asking_private *own, const char *folder, bool de
     free(entries);
 }
 
-/* The address of a socket, whose whole path may be longer than an address: by its folder, which is opened; answers that, or -1. */
+/* The address of a socket, whose whole path may be longer than an address: by its folder, which is opened; answers that, or -errno. */
 static int address_of(struct asking_private *own, const char *path, struct sockaddr_un *to) {
     char folder[sizeof own->daemons->path];
     const char *name = strrchr(path, '/') + 1;
@@ -76,32 +76,27 @@ static int address_of(struct asking_private *own, const char *path, struct socka
     snprintf(folder, sizeof folder, "%.*s", (int)(name - path), path);
     opened = open(folder, O_PATH | O_DIRECTORY | O_CLOEXEC);
     *to = (struct sockaddr_un){.sun_family = AF_UNIX};
-    if (opened < 0 || snprintf(to->sun_path, sizeof to->sun_path, "/proc/self/fd/%d/%s", opened, name) < (int)sizeof to->sun_path)
-        return opened;
+    if (opened < 0) return -errno;
+    if (snprintf(to->sun_path, sizeof to->sun_path, "/proc/self/fd/%d/%s", opened, name) < (int)sizeof to->sun_path) return opened;
     close(opened);
-    errno = ENAMETOOLONG;
-    return -1;
+    return -ENAMETOOLONG;
 }
 
-static void close_keeping_errno(int fd) {
-    int fault = errno;
-    close(fd);
-    errno = fault;
-}
-
-/* Connects with a daemon and asks it; or -1, and errno. It waits no longer than PATIENCE: one that is stopped may answer nobody. */
+/* Connects with a daemon and asks it; or -errno. It waits no longer than PATIENCE: one that is stopped may answer nobody. */
 static int ask(struct asking_private *own, const char *path, const char *question) {
     struct sockaddr_un to;
     struct timeval patience = {PATIENCE / 1000, 0};
-    int folder = address_of(own, path, &to), opened = folder < 0 ? -1 : socket(AF_UNIX, SOCK_STREAM | SOCK_CLOEXEC, 0);
-    bool asked = opened >= 0 && setsockopt(opened, SOL_SOCKET, SO_SNDTIMEO, &patience, sizeof patience) == 0
-        && connect(opened, (struct sockaddr *)&to, sizeof to) == 0;
+    int folder = address_of(own, path, &to), opened, fault = 0;
+    if (folder < 0) return folder;
+    opened = socket(AF_UNIX, SOCK_STREAM | SOCK_CLOEXEC, 0);
+    if (opened < 0 || setsockopt(opened, SOL_SOCKET, SO_SNDTIMEO, &patience, sizeof patience) < 0
+        || connect(opened, (struct sockaddr *)&to, sizeof to) < 0)
+        fault = last_fault();
     /* One that refuses may have closed the connection already, and said why. */
-    if (asked) (void)send(opened, question, strlen(question), MSG_NOSIGNAL);
-    if (folder >= 0) close_keeping_errno(folder);
-    if (asked || opened < 0) return opened;
-    close_keeping_errno(opened);
-    return -1;
+    if (fault == 0) (void)send(opened, question, strlen(question), MSG_NOSIGNAL);
+    close(folder);
+    if (fault != 0 && opened >= 0) close(opened);
+    return fault != 0 ? fault : opened;
 }
 
 /* Whether text of a daemon is a refusal. Then it is told. */
@@ -182,7 +177,7 @@ static _Noreturn void refuse_all(const struct asking_private *own, const char *f
 /* Prints what came of a daemon that is watched. */
 static void print_lines_of(struct control *control, unsigned daemon, char *text, size_t length) {
     text[length] = 0;
-    if (!is_refusal(control->process, control->asking->daemons[daemon].path, text)) print(control->asking, text, length);
+    if (!is_refusal(control->parts.process, control->asking->daemons[daemon].path, text)) print(control->asking, text, length);
 }
 
 /* Prints what the daemons say, one after the other as each has a line, until they end. */
@@ -221,10 +216,10 @@ static bool ask_one(struct control *control, unsigned daemon, const struct optio
     const char *path = own->daemons[daemon].path;
     bool watched = options->action == WATCH;
     int fd = ask(control->asking, path, question_of(options));
-    own->daemons[daemon].may_ask = fd >= 0 || (errno != EACCES && errno != EPERM);
+    own->daemons[daemon].may_ask = fd != -EACCES && fd != -EPERM;
     if (!own->daemons[daemon].may_ask) own->denied = path;
-    if (fd < 0) complain(control->process, "%s: its daemon does not answer: %s", path, strerror(errno));
-    if (fd >= 0) own->daemons[daemon].answer = read_answer(control->process, fd, path);
+    if (fd < 0) complain(control->parts.process, "%s: its daemon does not answer: %s", path, strerror(-fd));
+    if (fd >= 0) own->daemons[daemon].answer = read_answer(control->parts.process, fd, path);
     if (fd >= 0) close(fd);
     own->daemons[daemon].fd = watched && fd >= 0 ? ask(control->asking, path, options->json ? "watch-json\n" : "watch\n") : -1;
     return watched ? own->daemons[daemon].fd >= 0 : own->daemons[daemon].answer != NULL;
@@ -237,8 +232,8 @@ static char *tell_order(struct control *control, const char *path, const char *w
     if (snprintf(order, sizeof order, "%s %s\n", what, interface) >= (int)sizeof order || strchr(interface, '\n'))
         stop(WRONG_WORD, "expected the name of an interface", interface);
     fd = ask(control->asking, path, order);
-    if (fd < 0) stop(REFUSED, path, strerror(errno));
-    answer = read_answer(control->process, fd, path);
+    if (fd < 0) stop(REFUSED, path, strerror(-fd));
+    answer = read_answer(control->parts.process, fd, path);
     close(fd);
     if (answer) answer[strcspn(answer, "\n")] = 0;
     return answer;
@@ -249,7 +244,7 @@ static const char *find_daemon(struct asking_private *own, const char *folder) {
     const char *found = NULL;
     for (unsigned i = 0; i < own->count; i++) {
         int fd = ask(own, own->daemons[i].path, "");
-        if (fd < 0 && errno == EACCES) own->denied = own->daemons[i].path;
+        if (fd == -EACCES) own->denied = own->daemons[i].path;
         if (fd < 0) continue;
         close(fd);
         if (found) stop(WRONG_WORD, "more than one lagd is here: give the folder of one by --folder", folder);
@@ -282,6 +277,7 @@ int ask_daemons(struct control *control, const struct options *options) {
     unsigned answers = 0;
     find_sockets(control->asking, options->folder, true);
     if (options->action == ORDER) return order_daemon(control, options);
+    if (options->action == SHOW_CONFIG) (void)find_daemon(own, options->folder); /* a file has one bundle */
     for (unsigned i = 0; i < own->count; i++) answers += ask_one(control, i, options);
     if (answers == 0 && (options->action != METRICS || own->count == 0 || own->denied)) refuse_all(control->asking, options->folder);
     if (options->action == WATCH) return print_changes_of_all(control);

@@ -34,10 +34,9 @@ void *map_again(uint32_t size, uint32_t count, int map) {
     return show_map(size, count, map);
 }
 
-/* Has a program run for what an interface sends, or for what it receives, as long as what it answers is open; or -1, and errno. */
+/* Has a program run for what an interface sends, or for what it receives, as long as what it answers is open; or -errno. */
 int attach_program(int program, int index, bool egress) {
-    int attached = bpf_link_create(program, index, (enum bpf_attach_type)(egress ? TCX_EGRESS : TCX_INGRESS), NULL);
-    return attached < 0 ? -1 : attached;
+    return bpf_link_create(program, index, (enum bpf_attach_type)(egress ? TCX_EGRESS : TCX_INGRESS), NULL);
 }
 
 /* The number of what keeps a program at an interface, as the kernel has it; 0 for any other file. */

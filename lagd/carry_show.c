@@ -66,27 +66,27 @@ void show_queues(struct control *control, const struct link *link, enum form for
 }
 
 static void write_text_of_carry(struct control *control) {
-    const struct carrying *carrying = control->plane->carrying;
+    const struct carrying *carrying = control->parts.plane->carrying;
     unsigned told = 0;
-    add(control->report, "  carry: %s, carrier %s, hash %s, flight %u ms, ", control->settings->carry,
-        has_carrier(control->device) ? "on" : is_halted(control->protocol->halt) ? "off, the device is down" : "off",
-            hash_text(control->settings->hash),
-        control->settings->flight);
+    add(control->report, "  carry: %s, carrier %s, hash %s, flight %u ms, ", control->parts.settings->carry,
+        has_carrier(control->parts.device) ? "on" : is_halted(control->parts.protocol->halt) ? "off, the device is down" : "off",
+            hash_text(control->parts.settings->hash),
+        control->parts.settings->flight);
     CALL(carrying->show_markers, control);
-    add(control->report, "%s%s", way_text(control->settings), control->plane->queueing->text);
+    add(control->report, "%s%s", way_text(control->parts.settings), control->parts.plane->queueing->text);
     for (unsigned i = carrying->first_count; i < carrying->end_count; i++)
         add(control->report, "%s %s %" PRIu64, told++ % 5 == 0 ? "\n  data:" : "", CARRY_COUNTERS[i].name, control->carry->counts[i]);
     CALL(carrying->show_waiting, control, AS_TEXT);
 }
 
 static void write_json_of_carry(struct control *control) {
-    const struct carrying *carrying = control->plane->carrying;
+    const struct carrying *carrying = control->parts.plane->carrying;
     add(control->report, "\"carry\":{\"device\":");
-    add_string(control->report, control->settings->carry);
-    add(control->report, ",\"up\":%s,\"carrier\":%s,\"aggregator\":%u,\"hash\":\"%s\",", is_halted(control->protocol->halt) ? "false" : "true",
-        has_carrier(control->device) ? "true" : "false", control->carry->active,
-        hash_text(control->settings->hash));
-    add(control->report, "\"flight\":%u,\"way\":\"%s\",", control->settings->flight, way_text(control->settings));
+    add_string(control->report, control->parts.settings->carry);
+    add(control->report, ",\"up\":%s,\"carrier\":%s,\"aggregator\":%u,\"hash\":\"%s\",", is_halted(control->parts.protocol->halt) ? "false" : "true",
+        has_carrier(control->parts.device) ? "true" : "false", control->carry->active,
+        hash_text(control->parts.settings->hash));
+    add(control->report, "\"flight\":%u,\"way\":\"%s\",", control->parts.settings->flight, way_text(control->parts.settings));
     CALL(carrying->show_waiting, control, AS_JSON);
     for (unsigned i = carrying->first_count; i < carrying->end_count; i++)
         add(control->report, ",\"%s\":%" PRIu64, CARRY_COUNTERS[i].name, control->carry->counts[i]);
@@ -94,9 +94,9 @@ static void write_json_of_carry(struct control *control) {
 }
 
 static void write_metrics_of_carry(struct control *control) {
-    const struct carrying *carrying = control->plane->carrying;
+    const struct carrying *carrying = control->parts.plane->carrying;
     char name[64];
-    add_bundle_value(control, "carry_carrier", "gauge", "whether the device has a carrier", has_carrier(control->device));
+    add_bundle_value(control, "carry_carrier", "gauge", "whether the device has a carrier", has_carrier(control->parts.device));
     CALL(carrying->show_waiting, control, AS_METRICS);
     for (unsigned i = carrying->first_count; i < carrying->end_count; i++) {
         bool most = i == LONGEST_QUEUE;
@@ -106,15 +106,14 @@ static void write_metrics_of_carry(struct control *control) {
     for (unsigned i = 0; i < carrying->member_counts; i++) {
         snprintf(name, sizeof name, "port_%s_total", MEMBER_COUNTERS[i].name);
         add_head(control->report, name, "counter", MEMBER_COUNTERS[i].help);
-        for (uint16_t link = 0; link < control->ports->count; link++)
-            if (control->ports->links[link].used)
-                add_port_value(control, name, &control->ports->links[link], member_count(control->tap->members, (uint16_t)(link + 1), i));
+        EACH_LINK(link, control->parts.ports)
+            if (link->used) add_port_value(control, name, link, member_count(control->tap->members, link->settings.number, i));
     }
 }
 
 /* What there is to tell of the device, and of all conversations. */
 void show_carry(struct control *control, enum form form) {
-    CALL(control->plane->passing->count, control->tap);
+    CALL(control->parts.plane->passing->count, control->tap);
     switch (form) {
     case AS_TEXT: write_text_of_carry(control); break;
     case AS_JSON: write_json_of_carry(control); break;
@@ -126,9 +125,9 @@ void show_carry(struct control *control, enum form form) {
 void show_member(struct control *control, const struct link *link, enum form form) {
     add(control->report, form == AS_JSON ? ",\"data\":{\"busy_conversations\":%u" : "  data: busy_conversations %u",
         count_busy(control->carry, link->settings.number));
-    for (unsigned i = 0; i < control->plane->carrying->member_counts; i++)
+    for (unsigned i = 0; i < control->parts.plane->carrying->member_counts; i++)
         add(control->report, form == AS_JSON ? ",\"%s\":%" PRIu64 : " %s %" PRIu64, MEMBER_COUNTERS[i].name,
             member_count(control->tap->members, link->settings.number, i));
-    CALL(control->plane->queueing->show, control, link, form);
+    CALL(control->parts.plane->queueing->show, control, link, form);
     add(control->report, form == AS_JSON ? "}" : "\n");
 }

@@ -122,7 +122,7 @@ static bool follow_discipline(struct protocol *protocol, struct link *link, cons
  * it went. IFF_RUNNING may be a second old, and IFF_LOWER_UP is the carrier itself. */
 static void follow_link(struct protocol *protocol, struct link *link, const struct interface *interface) {
     uint16_t port = link->settings.number;
-    bool up, carrier = (interface->flags & IFF_UP) && (interface->flags & IFF_RUNNING) && (interface->flags & IFF_LOWER_UP), lost = false;
+    bool up, carrier = (interface->flags & IFF_UP) && (interface->flags & IFF_RUNNING) && (interface->flags & IFF_LOWER_UP), lost = false, spared;
     if (interface->has_mac) follow_address(protocol->plane, link, interface->mac);
     if (!follow_discipline(protocol, link, interface)) return;
     if (interface->mtu != 0) CALL(protocol->plane->carrying->follow_mtu, protocol->plane, link, interface->mtu);
@@ -130,10 +130,15 @@ static void follow_link(struct protocol *protocol, struct link *link, const stru
         uint32_t losses = losses_since(link->kernel_losses, interface->losses);
         link->kernel_losses = interface->losses;
         lost = losses > 0;
-        if (lost) link->counts[LOSSES] += losses - (link->up ? 1 : 0);
-        if (lost) set_link(protocol, port, false);
+        link->counts[LOSSES] += losses;
     }
-    if (lost || !carrier) forget_carrier(link);
+    spared = (interface->flags & IFF_UP) && is_spared(protocol->settings, link, carrier, lost);
+    if (spared && !carrier) return;
+    if (lost && !spared && link->up) {
+        if (!link->away) link->counts[LOSSES]--; /* which set_link counts */
+        set_link(protocol, port, false);
+    }
+    if ((lost && !spared) || !carrier) forget_carrier(link);
     up = carrier && !is_silent(protocol->halt) && is_restored(protocol, link);
     if (up && !link->up) fit_queue(protocol->plane, link, interface->name);
     if (up) apply_speed(protocol, link, interface->name);
@@ -160,7 +165,7 @@ static void follow_present(struct protocol *protocol, const struct interface *in
         bool named = is_named(interface, link->name), same = link->socket >= 0 && link->index == interface->index;
         named = named || (same && accept_name(protocol, link, interface));
         if (link->socket >= 0 && (same != named || (same && !is_bound(link)))) lose_interface(protocol, link);
-        if (same && link->socket >= 0 && !protocol->plane->carrying->still_has(protocol->plane, link, interface->master)) {
+        if (same && link->socket >= 0 && !ASK(protocol->plane->carrying->still_has, true, protocol->plane, link, interface->master)) {
             tell_taken_out(protocol, link);
             lose_link(protocol, link);
         }
@@ -235,7 +240,7 @@ static void follow_all_queues(struct protocol *protocol) {
     EACH_LINK(link, protocol->ports) {
         bool changed = link->has_new_queues;
         link->has_new_queues = false;
-        if (changed && !protocol->plane->queueing->follow(protocol->plane->tap, link)) lose_member(protocol, link);
+        if (changed && !ASK(protocol->plane->queueing->follow, true, protocol->plane->tap, link)) lose_member(protocol, link);
     }
 }
 
@@ -304,9 +309,11 @@ void watch_carriers(struct protocol *protocol, bool all) {
     bool any = false;
     if (!all && !own->suspected) return;
     own->suspected = false;
-    EACH_LINK(link, protocol->ports)
-        if (link->socket >= 0 && (has_new_carrier(link) || has_waited(protocol, link)))
-            any = ask_for(protocol->changes, link->index, 0) || any;
+    EACH_LINK(link, protocol->ports) {
+        bool changed = link->socket >= 0 && has_new_carrier(link);
+        if (!changed && link->up && !link->away) link->carried_at = milliseconds();
+        if (changed || (link->socket >= 0 && has_waited(protocol, link))) any = ask_for(protocol->changes, link->index, 0) || any;
+    }
     if (any) receive_changes(protocol);
 }
 

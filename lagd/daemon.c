@@ -1,12 +1,10 @@
 /* A daemon is made, and goes. */
 #define _GNU_SOURCE
-#include <assert.h>
-
 #include "daemon.h"
 
-/* Has a function called as the program ends, as atexit does; that hands it nothing. */
+/* Has a function called as the program ends, as atexit does; that hands it nothing. Where there is no room, the program does not start. */
 void call_at_exit(struct process *process, void (*act)(void *what), void *what) {
-    assert(process->ending_count < MOST_ENDINGS);
+    if (process->ending_count == MOST_ENDINGS) stop(REFUSED, "too many endings", "call_at_exit");
     process->endings[process->ending_count++] = (struct ending){act, what};
 }
 

@@ -80,7 +80,7 @@ bool give_tap_carrier(struct plane *plane, bool on) {
 void set_carrier(struct device *own, bool on) {
     if (own->carrier == on || own->number == 0) return;
     if (!on) CALL(own->plane->passing->open_host, own->plane->tap, false);
-    if (own->plane->carrying->give_carrier(own->plane, on)) {
+    if (ASK(own->plane->carrying->give_carrier, true, own->plane, on)) {
         own->carrier = on;
         own->carrier_ticks = 0;
         own->refused = false;

@@ -15,6 +15,8 @@
 #define LONGEST_FILE 65536
 #define LONGEST_FILE_LINE 190
 
+_Static_assert(sizeof "state-dir=" - 1 + PATH_ROOM - 1 <= LONGEST_FILE_LINE, "a line of --show-config is one of a file");
+
 enum section { NO_SECTION, WRONG_SECTION, BUNDLE_SECTION, PORT_SECTION };
 
 /* A file that is being read. */

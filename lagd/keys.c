@@ -162,15 +162,16 @@ static void give_key(struct protocol *protocol, struct link *link) {
     link->settings.key = change.key;
 }
 
-/* The link of a port comes up: it has the key of its speed from now on. */
+/* The link of a port comes up, or is up: with key-by-speed it has the key of the speed that it had as it came. */
 void apply_speed(struct protocol *protocol, struct link *link, const char *interface) {
+    bool by_speed = protocol->settings->key_by_speed;
     struct speed now;
-    if (!protocol->settings->key_by_speed || link->up) return;
+    if (by_speed ? link->up : protocol->settings->select != SELECT_BANDWIDTH) return;
     now = read_speed(link->socket, interface);
     if (link->has_speed && is_same_speed(&now, &link->speed)) return;
-    link->has_speed = true;
+    link->has_speed = protocol->plane->changed = true;
     link->speed = now;
-    give_key(protocol, link);
+    if (by_speed) give_key(protocol, link);
 }
 
 /* The speed as text, as '1000 Mb/s, full duplex'. */

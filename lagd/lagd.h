@@ -27,6 +27,7 @@ enum {
     DEVICE_DOWN,     /* the device is down, so that LACP ended */
     LEAVES,          /* it leaves the bundle */
     OUTSIDE,         /* others took it out of the device, or did not put it in */
+    AWAY,            /* it distributes, as delay-down has it, but its carrier is away */
 };
 
 /* How the program ends. */
@@ -112,7 +113,7 @@ struct link {
     uint64_t left_at;         /* those at which nothing was on its way any more, or 0 */
     struct niw_port settings; /* with the key that it has now */
     uint16_t key;             /* that is given to it */
-    bool has_speed;           /* whether `speed` was read: with key-by-speed, as the link came up last */
+    bool has_speed;           /* whether `speed` was read: with key-by-speed, as the link came up last, or by select=bandwidth */
     struct speed speed;
     int lock;   /* by which no other lagd has the interface; -1 while it is missing */
     int socket; /* -1 while the interface is missing */
@@ -130,6 +131,8 @@ struct link {
     bool held;             /* whether the file takes it out of use */
     bool waits;            /* whether its carrier is there, and has to be steady for longer before it is up */
     uint64_t steady_since; /* the milliseconds since which that is there, while it waits */
+    uint64_t carried_at;    /* the milliseconds at which its carrier was seen last, and had not gone */
+    bool away;              /* whether that is away, and the link is up by delay-down */
     uint32_t kernel_losses; /* how often the carrier went, as the kernel last told */
     bool unsent;            /* whether `frame` waits for room in its second, or for the kernel to take it */
     bool tried;             /* whether it was tried since the last tick */
@@ -236,10 +239,20 @@ struct protocol {
     struct niw_system own_system;
     uint16_t aggregator_count;
     struct bundle bundle;
-    uint64_t resumed_at; /* when it went on from the last daemon, in milliseconds of CLOCK_BOOTTIME */
+    uint64_t resumed_at; /* when it went on from the last daemon, in milliseconds of CLOCK_BOOTTIME as that one had it */
     EACH_FILE_OF_PROTOCOL(KEEPS)
 };
 EACH_FILE_OF_PROTOCOL(MAKES)
+
+/* What each part above the protocol knows: data, its planes, and who asks. */
+struct parts {
+    struct process *process;
+    const struct settings *settings;
+    struct ports *ports;
+    struct protocol *protocol;
+    struct device *device;
+    struct plane *plane;
+};
 
 /* Room for what a file keeps, of zeros. There is no daemon without it. */
 static inline void *make_room(size_t octets) {
@@ -361,6 +374,7 @@ void look_for_twins(struct protocol *protocol);
 bool is_restored(struct protocol *protocol, struct link *link);
 void forget_carrier(struct link *link);
 bool has_waited(struct protocol *protocol, const struct link *link);
+bool is_spared(const struct settings *settings, struct link *link, bool carrier, bool lost);
 
 /* revert.c */
 void pass_revert_second(struct protocol *protocol);
@@ -442,6 +456,18 @@ struct facts facts_of(struct protocol *protocol, const struct link *link);
 bool carries(struct protocol *protocol, const struct link *link);
 
 /* bundle.c */
+struct worth { /* of an aggregator, by the ports that carry there */
+    uint16_t links;
+    bool has_partner;
+    uint64_t partner;  /* its system */
+    uint64_t megabits; /* with select=bandwidth */
+    uint64_t system;   /* the better one of both ends, */
+    uint32_t port;     /* and its best port: priority and number */
+};
+struct worth worth_of(struct protocol *protocol, uint16_t aggregator);
+uint64_t patience_with(struct protocol *protocol, uint16_t active, uint16_t other);
+void follow_peer(struct protocol *protocol, uint16_t aggregator);
+bool is_following(const struct bundle_private *own);
 void go_on_as(struct protocol *protocol, const struct bundle *last);
 void choose_aggregator(struct protocol *protocol, struct bundle *now);
 bool is_as_good_as_any(struct protocol *protocol, uint16_t aggregator);
@@ -546,9 +572,13 @@ void end_resuming(struct protocol *protocol);
 /* carry.c */
 void settle_carry(struct plane *plane);
 void pass_carry_tick(struct protocol *protocol);
+
+/* tap/host.c */
 void open_carry(struct protocol *protocol);
 void end_carry(struct plane *plane);
 void remove_all_members(struct protocol *protocol);
+
+/* tap/guard.c, tap/members.c */
 void fit_queue(const struct plane *plane, const struct link *link, const char *interface);
 bool reopen_member(struct plane *plane, struct link *link);
 void follow_address(struct plane *plane, struct link *link, const uint8_t *mac);

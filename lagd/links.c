@@ -117,7 +117,7 @@ static int open_files(struct protocol *protocol, struct link *link, int index) {
     link->socket = open_socket(protocol->process, index);
     if (link->socket < 0) return link->socket;
     if (!await_input(protocol->process->epoll_file, link->socket, link->settings.number)) return last_fault();
-    return protocol->plane->carrying->add(protocol->plane, link);
+    return ASK(protocol->plane->carrying->add, 0, protocol->plane, link);
 }
 
 /* Takes up the interface of this number; answers whether it did, and else `trouble` has why not. */

@@ -74,7 +74,7 @@ static void pass_second(struct lagd *lagd) {
     allow_bundle_line(lagd->protocol.bundle_private);
     pass_revert_second(&lagd->protocol);
     watch_changes(&lagd->protocol);
-    (void)save_state(lagd->state);
+    (void)save_state(lagd->state, false);
     notify_alive();
 }
 
@@ -136,7 +136,7 @@ static void serve_all_data(struct tap_plane *tap, const struct epoll_event *even
         host |= events[i].data.u32 == HOST;
         if (events[i].data.u32 >= MEMBERS) serve_data(tap, events[i].data.u32);
     }
-    settle_carry(tap->plane);
+    settle_carry(tap->parts.plane);
     if (host) serve_data(tap, HOST);
 }
 
@@ -149,12 +149,12 @@ static void serve_all_callers(struct control *control, const struct epoll_event 
 /* The next daemon is to go on: answers whether it can. */
 static bool leave_state(struct lagd *lagd) {
     CALL(lagd->plane.carrying->keep_device, &lagd->plane, true);
-    lagd->process.has_left = save_state(lagd->state);
+    lagd->process.has_left = save_state(lagd->state, true);
     if (!lagd->process.has_left) CALL(lagd->plane.carrying->keep_device, &lagd->plane, false);
     if (!lagd->process.has_left) return false;
     leave_store(lagd->process.store);
     (void)say(&lagd->process, LOG_NOTICE | ABOUT_HANDOVER, "the next daemon may go on from here; %u frames that waited are lost",
-        lagd->plane.carrying->frames_waiting(&lagd->plane));
+        ASK(lagd->plane.carrying->frames_waiting, 0, &lagd->plane));
     return true;
 }
 
@@ -190,7 +190,7 @@ static int wait_for(struct tap_plane *tap, struct epoll_event *events) {
     if (tap->carry->taken >= MANY && !tap->carry->more_waits) (void)nanosleep(&(struct timespec){0, GATHERS}, NULL);
     tap->carry->taken = 0;
     tap->carry->more_waits = false;
-    return epoll_wait(tap->process->epoll_file, events, MOST_EVENTS, is_cutting(tap) ? 0 : -1);
+    return epoll_wait(tap->parts.process->epoll_file, events, MOST_EVENTS, is_cutting(tap) ? 0 : -1);
 }
 
 /* Waits, and serves what comes. The first signal that ends it, or a refusal of the library, makes it tell the peers; it ends when they
@@ -252,7 +252,7 @@ static int run_daemon(struct lagd *lagd, const struct options *options) {
     halt_if_down(&lagd->protocol);
     leave_left_ports(&lagd->protocol);
     end_resuming(&lagd->protocol);
-    (void)save_state(lagd->state);
+    (void)save_state(lagd->state, false);
     tell_changes(&lagd->protocol);
     settle_carry(&lagd->plane);
     notify_ready(&lagd->protocol.bundle);

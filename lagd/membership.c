@@ -165,7 +165,7 @@ bool begin_hold(struct protocol *protocol, uint16_t port) {
     struct link *link = &protocol->ports->links[port - 1];
     link->leaves_since = milliseconds();
     link->left_at = 0;
-    link->emptying = (link->held || link->leaving) && protocol->plane->carrying->can_empty(protocol->plane, port);
+    link->emptying = (link->held || link->leaving) && ASK(protocol->plane->carrying->can_empty, false, protocol->plane, port);
     if (link->emptying) {
         protocol->plane->changed = true;
         return true;
@@ -177,7 +177,7 @@ bool begin_hold(struct protocol *protocol, uint16_t port) {
 /* A port that is emptied is held, once it is empty, or after a while. */
 static void end_emptying(struct protocol *protocol, uint16_t port) {
     struct link *link = &protocol->ports->links[port - 1];
-    if (link->up && milliseconds() - link->leaves_since < MOST_WAIT && !protocol->plane->carrying->empty(protocol->plane, port)) return;
+    if (link->up && milliseconds() - link->leaves_since < MOST_WAIT && !ASK(protocol->plane->carrying->empty, true, protocol->plane, port)) return;
     link->emptying = false;
     link->leaves_since = milliseconds();
     CALL(protocol->plane->carrying->drain, protocol->plane, port);
@@ -263,7 +263,8 @@ void leave_left_ports(struct protocol *protocol) {
 /* Whether the daemon puts an interface into the device: where others choose its ports, only what the administrator asked for, and what a file has as
  * the device is made. */
 bool may_put_in(struct protocol *protocol, const struct link *link) {
-    return !protocol->settings->follow || link->puts_in || (!protocol->process->has_started && protocol->plane->carrying->is_new(protocol->plane));
+    return !protocol->settings->follow || link->puts_in
+        || (!protocol->process->has_started && ASK(protocol->plane->carrying->is_new, false, protocol->plane));
 }
 
 /* Whether an interface is no port, as others choose the ports of the device and it is not in there. */

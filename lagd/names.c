@@ -17,7 +17,7 @@ static const char *const BIT_NAMES[8] = {"activity", "timeout", "aggregation", "
 
 static const char *const OWN_STATUSES[] = {"the interface is missing", "it distributes without a partner",
     "a partner is required, and it has none", "the link is back, and waits for wait-to-restore",
-    "the device is down", "it leaves the bundle", "it is not in the device"};
+    "the device is down", "it leaves the bundle", "it is not in the device", "its carrier is away, for less than delay-down so far"};
 
 const char *status_text(unsigned status) {
     return status >= MISSING ? OWN_STATUSES[status - MISSING] : niw_port_status_text(status);
@@ -44,7 +44,7 @@ const char *bit_name(unsigned bit) {
 }
 
 const char *link_name(const struct link *link) {
-    return link->socket < 0 ? "missing" : link->up ? "up" : link->waits ? "waiting" : "down";
+    return link->socket < 0 ? "missing" : link->away ? "away" : link->up ? "up" : link->waits ? "waiting" : "down";
 }
 
 const char *bundle_state_text(enum bundle_state state) {

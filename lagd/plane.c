@@ -2,101 +2,14 @@
 #define _GNU_SOURCE
 #include "control.h"
 
-/* What is not done. */
-static bool is_never(struct plane *plane) {
-    (void)plane;
-    return false;
-}
-
-static bool is_always(struct plane *plane) {
-    (void)plane;
-    return true;
-}
-
-static bool give_no_carrier(struct plane *plane, bool on) {
-    (void)plane;
-    (void)on;
-    return true;
-}
-
-static int add_nothing(struct plane *plane, struct link *link) {
-    (void)plane;
-    (void)link;
-    return 0;
-}
-
-static bool ignore_link(struct plane *plane, struct link *link) {
-    (void)plane;
-    (void)link;
-    return true;
-}
-
-static bool cannot_empty(struct plane *plane, uint16_t port) {
-    (void)plane;
-    (void)port;
-    return false;
-}
-
-static bool has_nothing(struct plane *plane, uint16_t port) {
-    (void)plane;
-    (void)port;
-    return true;
-}
-
-static bool keeps_ports(struct plane *plane, const struct link *link, int master) {
-    (void)plane;
-    (void)link;
-    (void)master;
-    return true;
-}
-
-static uint64_t hear_nothing(struct plane *plane, bool counts_now) {
-    (void)plane;
-    (void)counts_now;
-    return 0;
-}
-
-static int has_no_member(struct plane *plane, uint16_t number) {
-    (void)plane;
-    (void)number;
-    return 0;
-}
-
-static unsigned has_none_waiting(struct plane *plane) {
-    (void)plane;
-    return 0;
-}
-
-static unsigned has_one_queue(int index) {
-    (void)index;
-    return 1;
-}
-
-/* The same where a TAP device carries the data. */
-static int passes_nothing(struct tap_plane *tap, uint16_t number) {
-    (void)tap;
-    (void)number;
-    return 0;
-}
-
-static bool keeps_queues(struct tap_plane *tap, struct link *link) {
-    (void)tap;
-    (void)link;
-    return true;
-}
-
-static const struct carrying NO_DEVICE = {
-    .has_made_device = is_never, .give_carrier = give_no_carrier, .add = add_nothing, .renew = ignore_link, .can_empty = cannot_empty,
-    .empty = has_nothing, .is_new = is_never, .still_has = keeps_ports, .keeps_aggregator = is_always, .frames_heard = hear_nothing,
-    .member_of = has_no_member, .frames_waiting = has_none_waiting,
-};
+static const struct carrying NO_DEVICE = {0};
 
 static const struct carrying TAP_DEVICE = {
     .open = open_tap_plane, .end = end_tap_plane, .lose_device = lose_device, .keep_device = keep_tap, .has_made_device = tap_persists,
     .give_carrier = give_tap_carrier, .settle_mtu = settle_tap_mtu, .add = open_member, .remove = close_member, .renew = renew_for_discipline,
     .move = move_member, .follow_mtu = follow_member_mtu, .follow_speed = follow_speed, .can_empty = can_empty, .empty = empty_port,
     .drain = drain_member, .lose = lose_data, .forget = forget_member, .send_marker = send_new_marker, .note_response = note_response,
-    .is_new = is_never, .still_has = keeps_ports, .settle = settle_frames, .tick = pass_tick_of_frames, .keeps_aggregator = hears_peer,
+    .settle = settle_frames, .tick = pass_tick_of_frames, .keeps_aggregator = hears_peer,
     .frames_heard = frames_handed_up, .tell_host = tell_speed_and_carrier, .resume = resume_conversations, .go_on = settle_carry,
     .member_of = passing_member_of, .end_resuming = release_former_members, .frames_waiting = count_frames_waiting, .show = show_carry,
     .show_member = show_member, .show_markers = show_markers, .show_waiting = show_frames_waiting, .end_count = CARRY_COUNTS,
@@ -105,14 +18,13 @@ static const struct carrying TAP_DEVICE = {
 
 static const struct carrying TEAM_DEVICE = {
     .open = open_team, .end = end_team_plane, .lose_device = lose_device, .has_made_device = has_made_team, .give_carrier = give_team_carrier,
-    .add = open_team_port, .remove = close_team_port, .renew = ignore_link, .can_empty = cannot_empty, .empty = has_nothing,
-    .is_new = is_team_new, .still_has = is_still_team_port, .settle = settle_team, .tick = pass_tick_of_team, .keeps_aggregator = hears_peer,
+    .add = open_team_port, .remove = close_team_port, .is_new = is_team_new, .still_has = is_still_team_port, .settle = settle_team, .tick = pass_tick_of_team, .keeps_aggregator = hears_peer,
     .frames_heard = team_frames_received, .resume = resume_conversations, .go_on = choose_ports, .member_of = bucket_member_of,
-    .end_resuming = release_former_members, .frames_waiting = has_none_waiting, .show = show_carry, .show_member = show_member,
+    .end_resuming = release_former_members, .show = show_carry, .show_member = show_member,
     .show_waiting = show_waiting_buckets, .first_count = MOVES, .end_count = WOKEN + 1,
 };
 
-static const struct passing BY_DAEMON = {.run_programs = keep_from_stack, .member_of = passes_nothing};
+static const struct passing BY_DAEMON = {.run_programs = keep_from_stack};
 
 static const struct passing BY_KERNEL = {
     .start = start_fast, .end = end_fast, .set_up_device = give_no_queue, .run_programs = run_fast_programs, .count = count_fast_frames,
@@ -122,8 +34,8 @@ static const struct passing BY_KERNEL = {
 };
 
 static const struct queueing ONE_QUEUE = {
-    .fifos_of = has_one_queue, .set = join_queues, .set_again = look_at_discipline, .follow = keeps_queues,
-    .send_marker = send_by_one_queue, .accept_response = accept_only_response, .answer = answer_at_once, .text = "", .markers_at_once = 1,
+    .set = join_queues, .set_again = look_at_discipline, .send_marker = send_by_one_queue, .accept_response = accept_only_response,
+    .answer = answer_at_once, .text = "", .markers_at_once = 1,
 };
 
 static const struct queueing ALL_QUEUES = {

@@ -18,8 +18,10 @@ struct settings;
 struct tap_plane;
 struct team_plane;
 
-/* Calls a function of a table. One that gives nothing back may be missing where there is nothing to do. */
+/* Calls a function of a table, which may be missing where there is nothing to do; or asks it, where what is usual is the answer of a missing
+ * one. Those that are called without either are in each table. */
 #define CALL(function, ...) do { if (function) (function)(__VA_ARGS__); } while (0)
+#define ASK(function, usual, ...) ((function) ? (function)(__VA_ARGS__) : (usual))
 
 /* How something is told to whoever asks. */
 enum form { AS_TEXT, AS_JSON, AS_METRICS };

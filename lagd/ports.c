@@ -13,14 +13,16 @@ static uint8_t status_of(struct protocol *protocol, const struct link *link) {
     if (is_halted(protocol->halt)) return DEVICE_DOWN;
     if (link->leaving) return LEAVES;
     if (link->waits) return RESTORING;
-    if (status != NIW_PORT_STATUS_DISTRIBUTING || !link->view.defaulted) return status;
-    return protocol->settings->partner_required ? PARTNER_WANTED : WITHOUT_PARTNER;
+    if (status != NIW_PORT_STATUS_DISTRIBUTING) return status;
+    if (link->view.defaulted && protocol->settings->partner_required) return PARTNER_WANTED;
+    if (link->away) return AWAY;
+    return link->view.defaulted ? WITHOUT_PARTNER : status;
 }
 
 /* Whether a port carries, as far as LACP is concerned. */
 bool carries(struct protocol *protocol, const struct link *link) {
     uint8_t status = status_of(protocol, link);
-    return status == NIW_PORT_STATUS_DISTRIBUTING || status == WITHOUT_PARTNER;
+    return status == NIW_PORT_STATUS_DISTRIBUTING || status == WITHOUT_PARTNER || status == AWAY;
 }
 
 /* What there is to print of a port. */

@@ -19,19 +19,19 @@ static void tell(struct process *process, const struct options *options, const c
     complain(process, "%s:%u: %s: %s", options->file, line_of(&options->settings, key), key, what);
 }
 
-/* Whether the kernel has a program run at an interface, as Linux does from 6.6 on: then it misses the interface alone. 0, or errno. */
+/* Whether the kernel has a program run at an interface, as Linux does from 6.6 on: then it misses the interface alone. 0, or -errno. */
 int fault_of_programs(const struct settings *settings) {
-    int program = load_program(settings, "dropper", NULL), fault = errno;
-    if (program < 0) return fault;
-    fault = attach_program(program, NO_INDEX, false) < 0 && errno != ENODEV ? errno : 0;
+    int program = load_program(settings, "dropper", NULL), attached;
+    if (program < 0) return program;
+    attached = attach_program(program, NO_INDEX, false);
     close(program);
-    return fault;
+    return attached == -ENODEV ? 0 : attached;
 }
 
 /* Whether the kernel can pass data on by itself: answers how the program ends. */
 static int check_fast(struct process *process, const struct options *options) {
     int fault = fault_of_programs(process->settings);
-    if (fault == EPERM) {
+    if (fault == -EPERM) {
         tell(process, options, "fast", "not known without CAP_BPF and CAP_NET_ADMIN");
         return DONE;
     }
@@ -48,8 +48,8 @@ static int check_fast(struct process *process, const struct options *options) {
 static int check_queues(struct process *process, const struct options *options) {
     int fault = fault_of_programs(process->settings);
     if (fault == 0) return DONE;
-    tell(process, options, "queues", fault == EPERM ? "not known without CAP_BPF and CAP_NET_ADMIN" : NO_PROGRAMS);
-    return fault == EPERM ? DONE : REFUSED;
+    tell(process, options, "queues", fault == -EPERM ? "not known without CAP_BPF and CAP_NET_ADMIN" : NO_PROGRAMS);
+    return fault == -EPERM ? DONE : REFUSED;
 }
 
 /* Whether the kernel has the team driver, and its mode, which is another module: answers how the program ends. The mode is tried in a network
@@ -57,11 +57,12 @@ static int check_queues(struct process *process, const struct options *options) 
 static int check_team(struct team_plane *team, const struct options *options) {
     bool is_apart = unshare(CLONE_NEWNET) == 0, has_driver = find_team_driver(team->team_netlink);
     if (!has_driver && errno == EPERM) {
-        tell(team->process, options, "plane", "not known without CAP_NET_ADMIN");
+        tell(team->parts.process, options, "plane", "not known without CAP_NET_ADMIN");
         return DONE;
     }
     if (has_driver && (!is_apart || has_team_mode(team->team_netlink))) return DONE;
-    tell(team->process, options, "plane", has_driver ? "the team driver of this kernel has no mode loadbalance" : "this kernel has no team driver");
+    tell(team->parts.process, options, "plane",
+        has_driver ? "the team driver of this kernel has no mode loadbalance" : "this kernel has no team driver");
     return REFUSED;
 }
 
@@ -69,9 +70,9 @@ static int check_team(struct team_plane *team, const struct options *options) {
 int check_machine(struct control *control, const struct options *options) {
     if (options->settings.plane == PLANE_TEAM) return check_team(control->team, options);
     if (options->settings.carry[0] && access("/dev/net/tun", F_OK) < 0) {
-        tell(control->process, options, "carry", "there is no /dev/net/tun");
+        tell(control->parts.process, options, "carry", "there is no /dev/net/tun");
         return REFUSED;
     }
-    if (options->settings.fast && check_fast(control->process, options) != DONE) return REFUSED;
-    return options->settings.all_queues ? check_queues(control->process, options) : DONE;
+    if (options->settings.fast && check_fast(control->parts.process, options) != DONE) return REFUSED;
+    return options->settings.all_queues ? check_queues(control->parts.process, options) : DONE;
 }

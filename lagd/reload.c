@@ -10,6 +10,7 @@ static const char *restart_for(struct protocol *protocol, const struct settings 
         return "another system";
     if (wanted->key_by_speed != protocol->settings->key_by_speed) return "another key-by-speed";
     if (strcmp(wanted->carry, protocol->settings->carry) != 0) return "another carry";
+    if (strcmp(wanted->state_dir, protocol->settings->state_dir) != 0) return "another state-dir";
     if (wanted->plane != protocol->settings->plane) return "another plane";
     if (wanted->hash != protocol->settings->hash || wanted->hash_seed != protocol->settings->hash_seed) return "another hash or hash-seed";
     if (wanted->offload != protocol->settings->offload || wanted->fast != protocol->settings->fast) return "another offload or fast";
@@ -66,12 +67,13 @@ static void change_policy(struct protocol *protocol, const struct settings *want
     bool same = wanted->policy == protocol->settings->policy && memcmp(&wanted->partner, &protocol->settings->partner, sizeof wanted->partner) == 0;
     protocol->settings->policy = wanted->policy;
     protocol->settings->partner = wanted->partner;
-    for (uint16_t i = 0; !same && i < protocol->ports->count; i++) {
-        forget_partner(protocol->settings, &protocol->ports->links[i]);
-        if (protocol->settings->policy != PARTNER_FIRST || !protocol->ports->links[i].up || protocol->ports->links[i].view.defaulted) continue;
-        protocol->ports->links[i].pinned = true;
-        protocol->ports->links[i].partner.priority = protocol->ports->links[i].view.partner_priority;
-        memcpy(protocol->ports->links[i].partner.mac, protocol->ports->links[i].view.partner_mac, sizeof protocol->ports->links[i].partner.mac);
+    if (same) return;
+    EACH_LINK(link, protocol->ports) {
+        forget_partner(protocol->settings, link);
+        if (protocol->settings->policy != PARTNER_FIRST || !link->up || link->view.defaulted) continue;
+        link->pinned = true;
+        link->partner.priority = link->view.partner_priority;
+        memcpy(link->partner.mac, link->view.partner_mac, sizeof link->partner.mac);
     }
 }
 
@@ -122,8 +124,11 @@ static unsigned apply_settings(struct protocol *protocol, const struct settings 
         protocol->settings->answer_after = wanted->answer_after;
     }
     protocol->settings->min_links = wanted->min_links;
+    if (wanted->select != protocol->settings->select) ask_links(protocol); /* for their speeds */
+    protocol->settings->select = wanted->select;
     protocol->settings->marker_responses = wanted->marker_responses;
     protocol->settings->wait_to_restore = wanted->wait_to_restore;
+    protocol->settings->delay_down = wanted->delay_down;
     protocol->settings->revert = wanted->revert;
     memcpy(protocol->settings->hook, wanted->hook, sizeof protocol->settings->hook);
     EACH_LINK(link, protocol->ports) link->changed = true;

@@ -1,4 +1,4 @@
-/* A link that comes back while others carry: it is up once its carrier was steady for a while. */
+/* A link that comes back while others carry: it is up once its carrier was steady for a while. And one that goes for a moment: it stays up. */
 #include "lagd.h"
 
 /* Whether so few links carry that none may be kept waiting. One on defaults may lead nowhere. */
@@ -6,9 +6,8 @@ static bool is_short_of_links(struct protocol *protocol) {
     struct bundle now = {0};
     unsigned sure = 0;
     choose_aggregator(protocol, &now);
-    for (uint16_t i = 0; now.aggregator != 0 && i < protocol->ports->count; i++)
-        sure += protocol->ports->links[i].view.aggregator == now.aggregator && carries(protocol, &protocol->ports->links[i])
-            && !protocol->ports->links[i].view.defaulted;
+    EACH_LINK(link, protocol->ports)
+        sure += now.aggregator != 0 && link->view.aggregator == now.aggregator && carries(protocol, link) && !link->view.defaulted;
     return sure < protocol->settings->min_links;
 }
 
@@ -36,7 +35,24 @@ void forget_carrier(struct link *link) {
     set_waiting(link, false);
 }
 
-/* Whether a link waits no longer: the kernel is asked then whether its carrier is still there. */
+/* Whether a link whose carrier is away has been so for as long as delay-down has it. */
+static bool is_lost(const struct settings *settings, const struct link *link) {
+    return milliseconds() - link->carried_at >= settings->delay_down;
+}
+
+/* Whether a link waits no longer: the kernel is asked then whether its carrier is still there, or away. */
 bool has_waited(struct protocol *protocol, const struct link *link) {
-    return link->waits && is_over(protocol, link);
+    return (link->waits && is_over(protocol, link)) || (link->away && is_lost(protocol->settings, link));
+}
+
+/* The kernel told of a link whether its carrier is there, and whether it was lost since: answers whether the link stays up all the same. For the
+ * library its port is operable for so long (port_enabled of IEEE 802.1AX-2014, 6.4.12, leaves to the hardware when it is not). */
+bool is_spared(const struct settings *settings, struct link *link, bool carrier, bool lost) {
+    bool spared = link->up && (lost || !carrier) && !is_lost(settings, link);
+    if (spared && !carrier && !link->away && !lost) link->counts[LOSSES]++; /* of a kernel that does not count them */
+    if (carrier && (spared || !lost)) link->carried_at = milliseconds();
+    if (!spared && !carrier) return false;
+    link->changed = link->changed || link->away != !carrier;
+    link->away = !carrier;
+    return spared;
 }

@@ -23,16 +23,17 @@ static uint64_t timeout_of(bool is_short) {
     return is_short ? SHORT_TIMEOUT : LONG_TIMEOUT;
 }
 
-/* Whether so much time passed since then, and not more than that. What is of later than now is of another clock. */
+/* Whether so much time passed since then, and not more than that. What is of later than now is of another clock; what is of before this boot has
+ * run over. */
 static bool is_within(uint64_t began, uint64_t then, uint64_t most) {
-    return then <= began && began - then < most;
+    return began - then < most;
 }
 
 /* Whether a port goes on: its carrier did not go, neither end has given the other one up, and its partner may be that. */
 static bool goes_on(struct protocol *protocol, const struct link *link) {
     const struct inherited_link *was = link->up && !link->held ? inherited_of(protocol->process->inherited, link) : NULL;
     struct system_id actor;
-    return was && was->carried && was->losses == link->kernel_losses
+    return was && was->carried && (was->losses == link->kernel_losses || protocol->process->inherited->ahead != 0)
         && is_within(protocol->resumed_at, was->heard, timeout_of(link->settings.short_timeout))
         && is_within(protocol->resumed_at, was->spoken, timeout_of((was->lacpdu[ACTOR_STATE] & NIW_STATE_TIMEOUT) != 0))
         && may_be_partner(link, was->lacpdu, &actor);
@@ -52,8 +53,8 @@ static void recall_partner(struct process *process, struct link *link) {
     const struct inherited_link *was = inherited_of(process->inherited, link);
     struct system_id actor;
     if (may_be_partner(link, was->lacpdu, &actor)) note_actor(process->settings, link, &actor, was->lacpdu);
-    link->lacpdu_at = was->heard;
-    link->lacpdus_at[MOST_LACPDUS - 1] = was->spoken;
+    link->lacpdu_at = was->heard - process->inherited->ahead;
+    link->lacpdus_at[MOST_LACPDUS - 1] = was->spoken - process->inherited->ahead;
 }
 
 static bool is_distributing(struct protocol *protocol, uint16_t port) {
@@ -63,32 +64,31 @@ static bool is_distributing(struct protocol *protocol, uint16_t port) {
 
 /* The links that are up, and do not go on, come up for the library, too. */
 static void set_other_links(struct protocol *protocol, const bool *back) {
-    for (uint16_t i = 0; i < protocol->ports->count; i++)
-        if (protocol->ports->links[i].up && !back[i] && !is_done(protocol->process, niw_set_link(&protocol->own_system, (uint16_t)(i + 1), true),
-            "niw_set_link"))
+    EACH_LINK(link, protocol->ports)
+        if (link->up && !back[link - protocol->ports->links]
+            && !is_done(protocol->process, niw_set_link(&protocol->own_system, link->settings.number, true), "niw_set_link"))
             return;
 }
 
 /* What were members, and are no more, get what they had. */
 void release_former_members(struct plane *plane) {
-    struct carry *carry = plane->carry;
-    for (unsigned i = 0; i < carry->process->inherited->link_count; i++) {
+    const struct inherited *inherited = plane->carry->parts.process->inherited;
+    for (const struct inherited_link *was = inherited->links; was < inherited->links + inherited->link_count; was++) {
         bool stays = false;
-        for (uint16_t port = 0; port < carry->ports->count; port++)
-            stays = stays || (carry->ports->links[port].socket >= 0 && carry->ports->links[port].index == carry->process->inherited->links[i].index);
+        EACH_LINK(link, plane->carry->parts.ports) stays = stays || (link->socket >= 0 && link->index == was->index);
         if (stays) continue;
-        leave_team_port(plane->team, carry->process->inherited->links[i].index);
-        put_back(plane->tap, carry->process->inherited->links[i].index, carry->process->inherited->links[i].mac);
+        leave_team_port(plane->team, was->index);
+        put_back(plane->tap, was->index, was->mac);
     }
 }
 
 /* Before the interfaces are taken up: whether there is something to go on with. Where no data is carried any more, or by the team driver, what
  * was set of members is set back. */
 void begin_resuming(struct protocol *protocol) {
-    protocol->resumed_at = boottime();
-    for (unsigned i = 0; i < protocol->process->inherited->link_count; i++) protocol->process->resuming = protocol->process->resuming
-        || protocol->process->inherited->links[i].carried;
-    if (protocol->process->inherited->others && !protocol->plane->carrying->keeps_members) release_former_members(protocol->plane);
+    struct process *process = protocol->process;
+    protocol->resumed_at = boottime() + process->inherited->ahead;
+    for (unsigned i = 0; i < process->inherited->link_count; i++) process->resuming = process->resuming || process->inherited->links[i].carried;
+    if (process->inherited->others && !protocol->plane->carrying->keeps_members) release_former_members(protocol->plane);
 }
 
 /* Tells what became of the links of the last daemon, if some are there. */
@@ -108,9 +108,9 @@ unsigned resume(struct protocol *protocol) {
     struct niw_saved saved[NIW_MOST_PORTS];
     bool back[NIW_MOST_PORTS] = {false};
     size_t count = 0;
-    protocol->resumed_at = boottime();
-    for (uint16_t i = 0; protocol->process->resuming && i < protocol->ports->count; i++)
-        if (goes_on(protocol, &protocol->ports->links[i])) saved[count++] = saved_of(protocol, &protocol->ports->links[i]);
+    protocol->resumed_at = boottime() + protocol->process->inherited->ahead;
+    EACH_LINK(link, protocol->ports)
+        if (protocol->process->resuming && goes_on(protocol, link)) saved[count++] = saved_of(protocol, link);
     count = resume_system(protocol, saved, count);
     for (size_t i = 0; i < count; i++) {
         back[saved[i].port - 1] = true;
@@ -125,7 +125,7 @@ unsigned resume(struct protocol *protocol) {
 
 /* A conversation stays on the interface that it was on. */
 static void stay(struct carry *carry, uint16_t number, uint16_t port) {
-    if (niw_adopt(&carry->protocol->own_system, carry->active, number, port) != NIW_OK) return;
+    if (niw_adopt(&carry->parts.protocol->own_system, carry->active, number, port) != NIW_OK) return;
     carry->conversations[number].home = carry->active;
     carry->conversations[number].port = port;
     carry->conversations[number].last = carry->time;
@@ -133,10 +133,10 @@ static void stay(struct carry *carry, uint16_t number, uint16_t port) {
 
 /* The port of an interface that carries in the active aggregator, or 0. */
 static uint16_t port_on(struct carry *carry, int index) {
-    EACH_LINK(link, carry->ports)
+    EACH_LINK(link, carry->parts.ports)
         if (index != 0 && link->socket >= 0 && link->index == index
             && link->view.aggregator == carry->active
-            && is_distributing(carry->protocol, link->settings.number))
+            && is_distributing(carry->parts.protocol, link->settings.number))
             return link->settings.number;
     return 0;
 }
@@ -145,12 +145,12 @@ static uint16_t port_on(struct carry *carry, int index) {
 void resume_conversations(struct plane *plane, bool goes_on) {
     struct carry *carry = plane->carry;
     if (goes_on) {
-        go_on_in(carry, carry->process->inherited->bundle.aggregator);
-        go_on_answering(carry, (enum answering)carry->process->inherited->answering);
+        go_on_in(carry, carry->parts.process->inherited->bundle.aggregator);
+        go_on_answering(carry, (enum answering)carry->parts.process->inherited->answering);
     }
     for (uint16_t number = 0; goes_on && number < CONVERSATIONS; number++) {
-        int member = plane->carrying->member_of(plane, number);
-        uint16_t port = port_on(carry, member != 0 ? member : carry->process->inherited->members[number]);
+        int member = ASK(plane->carrying->member_of, 0, plane, number);
+        uint16_t port = port_on(carry, member != 0 ? member : carry->parts.process->inherited->members[number]);
         if (port != 0) stay(carry, number, port);
     }
     CALL(plane->passing->resume, plane->tap);

@@ -87,13 +87,22 @@ static bool parse_partner(const struct bundle_key *key, const char *text, struct
     return !named || read_system(text, &settings->partner);
 }
 
+static bool is_path(const char *text) {
+    return text[0] == '/' && strlen(text) < PATH_ROOM;
+}
+
 static bool parse_hook(const struct bundle_key *key, const char *text, struct settings *settings) {
     struct stat found;
     (void)key;
-    if (text[0] != '/' || strlen(text) >= sizeof settings->hook) return false;
-    if (stat(text, &found) < 0 || !S_ISREG(found.st_mode) || access(text, X_OK) < 0) return false;
+    if (!is_path(text) || stat(text, &found) < 0 || !S_ISREG(found.st_mode) || access(text, X_OK) < 0) return false;
     strcpy(settings->hook, text);
     return true;
+}
+
+static bool parse_state_dir(const struct bundle_key *key, const char *text, struct settings *settings) {
+    (void)key;
+    if (is_path(text)) strcpy(settings->state_dir, text);
+    return is_path(text);
 }
 
 /* Whether the kernel would take a name of an interface. */
@@ -112,41 +121,42 @@ static bool parse_carry(const struct bundle_key *key, const char *text, struct s
     return true;
 }
 
-static bool parse_plane(const struct bundle_key *key, const char *text, struct settings *settings) {
-    bool tap, known = read_choice(text, "tap", "team", &tap);
-    (void)key;
-    settings->plane = tap ? PLANE_TAP : PLANE_TEAM;
-    return known;
-}
-
 /* By what data goes. */
 const char *way_text(const struct settings *settings) {
     if (settings->plane == PLANE_TEAM) return "team";
     return settings->fast ? "fast" : settings->offload ? "offload" : "plain";
 }
 
+static const char *const PLANES[] = {[PLANE_TAP] = "tap", [PLANE_TEAM] = "team", NULL};
 static const char *const HASHES[] = {[HASH_LAYER2] = "layer2", [HASH_LAYER2_3] = "layer2+3", [HASH_LAYER3_4] = "layer3+4",
-    [HASH_ENCAP3_4] = "encap3+4", [HASH_VLAN_SRCMAC] = "vlan+srcmac"};
+    [HASH_ENCAP3_4] = "encap3+4", [HASH_VLAN_SRCMAC] = "vlan+srcmac", NULL};
+static const char *const SELECTIONS[] = {[SELECT_COUNT] = "count", [SELECT_BANDWIDTH] = "bandwidth", [SELECT_PRIORITY] = "priority",
+    [SELECT_PRIORITY_STABLE] = "priority-stable", NULL};
 
 /* The word of a hash. */
 const char *hash_text(enum hash hash) {
     return HASHES[hash];
 }
 
-static bool parse_hash(const struct bundle_key *key, const char *text, struct settings *settings) {
-    (void)key;
-    for (size_t i = 0; i < sizeof HASHES / sizeof *HASHES; i++) {
-        if (strcmp(text, HASHES[i]) != 0) continue;
-        settings->hash = (enum hash)i;
+const char *selection_text(enum selection selection) {
+    return SELECTIONS[selection];
+}
+
+/* One of the words of an enum. */
+static bool parse_word(const struct bundle_key *key, const char *text, struct settings *settings) {
+    for (unsigned i = 0; key->words[i]; i++) {
+        if (strcmp(text, key->words[i]) != 0) continue;
+        *(unsigned *)value_in(key, settings) = i;
         return true;
     }
     return false;
 }
 
 /* The keys of a bundle, in the order of the help. */
-#define NUMBER(field, least, most) offsetof(struct settings, field), least, most, NULL, NULL
-#define CHOICE(field, first, second) offsetof(struct settings, field), 0, 0, first, second
-#define OF_ITS_OWN 0, 0, 0, NULL, NULL
+#define NUMBER(field, least, most) offsetof(struct settings, field), least, most, NULL, NULL, NULL
+#define CHOICE(field, first, second) offsetof(struct settings, field), 0, 0, first, second, NULL
+#define WORD(field, words) offsetof(struct settings, field), 0, 0, NULL, NULL, words
+#define OF_ITS_OWN 0, 0, 0, NULL, NULL, NULL
 static const struct bundle_key BUNDLE_KEYS[] = {
     {"key", A_NUMBER, parse_number, 0, NULL, NULL, NUMBER(key, 0, UINT16_MAX)},
     {"system", "auto or " A_SYSTEM, parse_system, 0, NULL, NULL, OF_ITS_OWN},
@@ -159,10 +169,15 @@ static const struct bundle_key BUNDLE_KEYS[] = {
         "the most links of an aggregator, 1 to 64; 0, as if not given: no limit", NUMBER(config.max_links, 0, NIW_MOST_PORTS)},
     {"min-links", "a number from 1 to 64", parse_number, 'n', "N",
         "with fewer links that carry the bundle is down: 1 to 64; 1, if not given", NUMBER(min_links, 1, NIW_MOST_PORTS)},
+    {"select", "count, bandwidth, priority or priority-stable", parse_word, 'e', "count|bandwidth|priority|priority-stable",
+        "which of several aggregators carries: of most links, as if not given, the fastest, or that of\n"
+        "the port with the lowest priority; stable: one that carries stays", WORD(select, SELECTIONS)},
     {"revert", YES_OR_NO, parse_choice, 'R', NULL,
         "with max-links the ports with the lowest priorities are used, not those that come first", CHOICE(revert, "yes", "no")},
     {"wait-to-restore", "a number of seconds from 0 to 3600", parse_number, 'W', "SECONDS",
         "how long the carrier of a link that comes back has to be steady; 0 if not given", NUMBER(wait_to_restore, 0, LONGEST_WAIT)},
+    {"delay-down", "a number of milliseconds from 0 to 3000", parse_number, 'd', "MILLISECONDS",
+        "how long the carrier of a link may be away while the link counts as up; 0 if not given", NUMBER(delay_down, 0, 3000)},
     {"partner", "any, first or " A_SYSTEM, parse_partner, 'r', "any|first|PRIORITY,MAC",
         "whose LACPDUs are taken: any, if not given; first: of whom is learnt first, until the\nlink goes down", OF_ITS_OWN},
     {"partner-required", YES_OR_NO, parse_choice, 'q', NULL, "a port without a partner does not carry", CHOICE(partner_required, "yes", "no")},
@@ -170,17 +185,19 @@ static const struct bundle_key BUNDLE_KEYS[] = {
         "links of another speed or duplex have another key, so that they share no group", CHOICE(key_by_speed, "yes", "no")},
     {"marker-responses", "a number from 0 to 10000", parse_number, 'o', "N",
         "the most that a port sends in a second; 10 if not given", NUMBER(marker_responses, 0, 10000)},
-    {"hook", "a path that begins with /, of at most 191 characters, of a program that may be run", parse_hook, 'x', "PROGRAM",
+    {"hook", "a path that begins with /, of at most 175 characters, of a program that may be run", parse_hook, 'x', "PROGRAM",
         "is run when the bundle becomes up, degraded or down", OF_ITS_OWN},
+    {"state-dir", "a path that begins with /, of at most 175 characters", parse_state_dir, 'T', "FOLDER",
+        "keeps there what a start after a reboot goes on from", OF_ITS_OWN},
     {"carry", "a name of an interface of at most 15 characters", parse_carry, 'C', "NAME",
         "carries the data of a device of this name, which it makes, with the MAC address of the system", OF_ITS_OWN},
-    {"plane", "tap or team", parse_plane, 'P', "tap|team",
-        "what that device is: a TAP device, as if not given, or one of the kernel's team driver,\nby which the kernel carries", OF_ITS_OWN},
+    {"plane", "tap or team", parse_word, 'P', "tap|team",
+        "what that device is: a TAP device, as if not given, or one of the kernel's team driver,\nby which the kernel carries", WORD(plane, PLANES)},
     {"members", "given or follow", parse_choice, 'B', "given|follow",
         "with --plane team, who says which interfaces are ports: given here, or follow: whoever puts\n"
         "them into the device or takes them out, as the network manager does", CHOICE(follow, "follow", "given")},
-    {"hash", "layer2, layer2+3, layer3+4, encap3+4 or vlan+srcmac", parse_hash, 'H', "layer2|layer2+3|layer3+4|encap3+4|vlan+srcmac",
-        "what frames of one conversation have in common; layer2, if not given", OF_ITS_OWN},
+    {"hash", "layer2, layer2+3, layer3+4, encap3+4 or vlan+srcmac", parse_word, 'H', "layer2|layer2+3|layer3+4|encap3+4|vlan+srcmac",
+        "what frames of one conversation have in common; layer2, if not given", WORD(hash, HASHES)},
     {"hash-seed", A_NUMBER, parse_number, 'S', "N", "another number spreads conversations in another way, but by layer2; 0 if not given",
         NUMBER(hash_seed, 0, UINT16_MAX)},
     {"flight", "a number of milliseconds from 1 to 60000", parse_number, 'F', "MILLISECONDS",
@@ -217,9 +234,9 @@ static void write_value(const struct bundle_key *key, const struct settings *set
     if (key->parse == parse_partner && settings->policy == PARTNER_GIVEN)
         snprintf(text, PATH_ROOM, "%s", system_text(&settings->partner, room));
     if (key->parse == parse_hook) snprintf(text, PATH_ROOM, "%s", settings->hook);
+    if (key->parse == parse_state_dir) snprintf(text, PATH_ROOM, "%s", settings->state_dir);
     if (key->parse == parse_carry) snprintf(text, PATH_ROOM, "%s", settings->carry);
-    if (key->parse == parse_plane) snprintf(text, PATH_ROOM, "%s", settings->plane == PLANE_TEAM ? "team" : "tap");
-    if (key->parse == parse_hash) snprintf(text, PATH_ROOM, "%s", hash_text(settings->hash));
+    if (key->parse == parse_word) snprintf(text, PATH_ROOM, "%s", key->words[*(const unsigned *)value_in(key, settings)]);
 }
 
 /* Writes what is not as it is if nothing is given, and what has to be given: `KEY=VALUE` of this key, from 0 on, or nothing. Answers whether there

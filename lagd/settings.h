@@ -13,8 +13,8 @@ struct process;
 
 /* The room of a name of an interface, of its alternative names too: ALTIFNAMSIZ of linux/if.h. */
 #define NAME_ROOM 128
-/* The room of the path of a hook. */
-#define PATH_ROOM 192
+/* The room of the path of a hook or a folder: with its key it fits into a line of a file. */
+#define PATH_ROOM 176
 /* How many marker responses a port sends in a second, if nothing else is given: as often as IEEE 802.3, annex 57A, lets one of the
  * slow protocols send. */
 #define USUAL_RESPONSES 10
@@ -26,7 +26,7 @@ struct process;
  * what its card gave it within a few of them; this is more than ten programs on it have in turn, of 4 ms each. */
 #define USUAL_ANSWER_AFTER 50
 /* The most keys of a bundle. */
-#define MOST_BUNDLE_KEYS 25
+#define MOST_BUNDLE_KEYS 28
 /* The room of the name of a device that is made, with a zero: IFNAMSIZ of linux/if.h. */
 #define DEVICE_ROOM 16
 
@@ -58,6 +58,14 @@ enum plane_kind {
     PLANE_TEAM, /* the team driver of the kernel */
 };
 
+/* Which aggregator carries, of several that have ports which may. */
+enum selection {
+    SELECT_COUNT,     /* that of most ports, as the library has it */
+    SELECT_BANDWIDTH, /* the fastest one */
+    SELECT_PRIORITY,  /* that of the port with the lowest identifier, at the end with the lower system */
+    SELECT_PRIORITY_STABLE, /* the same, but one that carries stays */
+};
+
 struct settings {
     char name[NAME_ROOM]; /* of the bundle */
     unsigned lines[MOST_BUNDLE_KEYS]; /* those that give the keys, from 1; 0: none does */
@@ -70,8 +78,10 @@ struct settings {
     bool partner_required;    /* whether a port without a partner does not carry */
     bool key_by_speed;        /* whether links of another speed or duplex have another key */
     uint16_t min_links;       /* a bundle of fewer is down */
+    enum selection select;
     uint16_t marker_responses;
     char hook[PATH_ROOM]; /* the program that is run where the bundle changes, or empty */
+    char state_dir[PATH_ROOM]; /* a folder of a state that outlives a reboot, or empty */
     char carry[DEVICE_ROOM]; /* the device whose data is carried, or empty */
     enum plane_kind plane;        /* what that is */
     bool follow;             /* whether its ports are those that the device has, whoever put them there */
@@ -84,6 +94,7 @@ struct settings {
     uint16_t answer_after;   /* how long a response to a marker waits then, in milliseconds */
     bool revert;              /* whether a port that stands by takes the place of one with a higher identifier */
     uint16_t wait_to_restore; /* for how many seconds the carrier of a link that comes back has to be steady */
+    uint16_t delay_down;      /* for how many milliseconds it may be away while the link stays up */
     uint16_t port_count;
     struct port_settings ports[NIW_MOST_PORTS];
 };
@@ -96,7 +107,8 @@ struct bundle_key {
     const char *value, *help;    /* in the help: the word for its value, NULL where the option alone says yes; and its lines */
     size_t at;            /* of its value in struct settings, if that is a number or one of two words, */
     uint16_t least, most; /* of the number, */
-    const char *first, *second; /* or the words for true and false */
+    const char *first, *second; /* or the words for true and false, */
+    const char *const *words;   /* or those of an enum */
 };
 
 /* What is wrong with all of it: what was expected, and the key that says otherwise; NULL where nothing is, or no key does. */
@@ -114,6 +126,7 @@ struct words {
 
 struct settings usual_settings(void);
 const char *hash_text(enum hash hash);
+const char *selection_text(enum selection selection);
 const char *way_text(const struct settings *settings);
 const struct bundle_key *bundle_key(size_t index);
 const char *list_words(struct words *words, const char *(*word)(size_t index), size_t count, const char *before_last, const char *end);

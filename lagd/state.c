@@ -1,9 +1,11 @@
 /* The state that a daemon leaves to the next one: a file beside the status socket, written each second and at the end. A line is added to it
- * before the first frame of a conversation goes on another link. It goes with each stop of which the peers are told. */
+ * before the first frame of a conversation goes on another link. It goes with each stop of which the peers are told. With state-dir there is a
+ * second one, for the first daemon after a reboot: that knows interfaces by their names, and times by the clock on the wall. */
 #define _GNU_SOURCE
 #include <errno.h>
 #include <fcntl.h>
 #include <inttypes.h>
+#include <net/if.h>
 #include <stdio.h>
 #include <string.h>
 #include <sys/stat.h>
@@ -24,28 +26,40 @@
 #define UNWRITTEN_MARKERS 65536
 /* For how long frames may have waited, in milliseconds: with the second in which a state is written. */
 #define MOST_AWAY 3000
+/* How often what is to outlive a reboot is written, in states. */
+#define KEPT_EACH 10
 
 struct state {
     struct carry *carry; /* what is saved, as far as it concerns data */
     struct team_plane *team;
     int file; /* the state that was written last, or -1 */
+    int kept_folder; /* state-dir, or -1 */
+    unsigned written; /* how many states were */
+    uint64_t space; /* the namespace_cookie of this network namespace */
     int members[CONVERSATIONS]; /* the interface of each conversation that it has, or 0 */
     bool over; /* whether the peers are told of the end */
     bool failed; /* whether the last writing did, which has a line */
-    char name[NAME_ROOM + 32], new_name[NAME_ROOM + 40];
+    char name[NAME_ROOM + 32], kept_name[NAME_ROOM + 32];
 };
 
 struct state *make_state(struct carry *carry, struct team_plane *team) {
     struct state *made = make_room(sizeof *made);
     made->carry = carry;
     made->team = team;
-    made->file = -1;
+    made->file = made->kept_folder = -1;
     return made;
 }
 
 uint64_t boottime(void) {
     struct timespec now;
     clock_gettime(CLOCK_BOOTTIME, &now);
+    return (uint64_t)now.tv_sec * 1000 + (uint64_t)now.tv_nsec / 1000000;
+}
+
+/* Milliseconds since 1970, as far as this machine knows. */
+static uint64_t wall_time(void) {
+    struct timespec now;
+    clock_gettime(CLOCK_REALTIME, &now);
     return (uint64_t)now.tv_sec * 1000 + (uint64_t)now.tv_nsec / 1000000;
 }
 
@@ -89,26 +103,29 @@ static void write_conversations(struct state *own, FILE *file) {
     for (uint16_t number = 0; number < CONVERSATIONS; number++) {
         struct niw_assignment assigned;
         uint16_t home = own->carry->conversations[number].home;
-        if (home == 0 || !ask_state(own->carry->protocol, home, number, &assigned) || assigned.what == NIW_CONVERSATION_FREE) continue;
-        if (assigned.port == 0 || assigned.port > own->carry->ports->count) continue;
-        own->members[number] = own->carry->ports->links[assigned.port - 1].index;
+        if (home == 0 || !ask_state(own->carry->parts.protocol, home, number, &assigned) || assigned.what == NIW_CONVERSATION_FREE) continue;
+        if (assigned.port == 0 || assigned.port > own->carry->parts.ports->count) continue;
+        own->members[number] = own->carry->parts.ports->links[assigned.port - 1].index;
         fprintf(file, "on %u %d\n", number, own->members[number]);
     }
 }
 
 static void write_state(struct state *own, FILE *file) {
-    struct niw_marker marker = niw_next_marker(&own->carry->protocol->own_system);
+    struct plane *plane = own->carry->parts.plane;
+    struct niw_marker marker = niw_next_marker(&own->carry->parts.protocol->own_system);
     char boot[BOOT_ROOM], room[WAY_ROOM];
-    fprintf(file, "lagd %u\nboot %s\nway %s\n", FORM_VERSION, boot_id(boot), way(own->carry->settings, room));
-    fprintf(file, "space %" PRIu64 "\nwritten %" PRIu64 "\n", namespace_cookie(), boottime());
-    fprintf(file, "marker %" PRIu32 "\n", is_done(own->carry->process, marker.status, "niw_next_marker") && marker.left ? marker.id : 0);
-    fprintf(file, "bundle %u %u %lld\n", own->carry->protocol->bundle.state, own->carry->protocol->bundle.aggregator,
-        (long long)own->carry->protocol->bundle.changed_at);
-    if (tap_index(own->carry->device) != 0)
-        fprintf(file, "tap %d %d %" PRIu32 " %u\n", tap_index(own->carry->device), own->carry->plane->carrying->has_made_device(own->carry->plane),
-            mtu_of_administrator(own->carry->device), peer_answering(own->carry->probe));
-    write_ports(own->carry->ports, file);
-    EACH_LINK(link, own->carry->ports)
+    fprintf(file, "lagd %u\nboot %s\nway %s\n", FORM_VERSION, boot_id(boot), way(own->carry->parts.settings, room));
+    fprintf(file, "space %" PRIu64 "\nwritten %" PRIu64 "\n", own->space, boottime());
+    if (own->kept_folder >= 0) fprintf(file, "wall %" PRIu64 "\n", wall_time());
+    fprintf(file, "marker %" PRIu32 "\n", is_done(own->carry->parts.process, marker.status, "niw_next_marker") && marker.left ? marker.id : 0);
+    fprintf(file, "bundle %u %u %lld\n", own->carry->parts.protocol->bundle.state, own->carry->parts.protocol->bundle.aggregator,
+        (long long)own->carry->parts.protocol->bundle.changed_at);
+    if (tap_index(own->carry->parts.device) != 0)
+        fprintf(file, "tap %d %d %" PRIu32 " %u\n", tap_index(own->carry->parts.device),
+            ASK(plane->carrying->has_made_device, false, plane),
+            mtu_of_administrator(own->carry->parts.device), peer_answering(own->carry->probe));
+    write_ports(own->carry->parts.ports, file);
+    EACH_LINK(link, own->carry->parts.ports)
         if (link->socket >= 0) write_link(file, link);
     memset(own->members, 0, sizeof own->members);
     write_conversations(own, file);
@@ -121,66 +138,83 @@ static void keep_file(struct state *own, int file) {
     own->file = file;
 }
 
-/* Puts a whole file in the place of the last one; answers whether it did. */
-static bool replace_file(struct state *own) {
-    int fd = openat(own->carry->process->folder, own->new_name, O_WRONLY | O_CREAT | O_TRUNC | O_APPEND | O_NOFOLLOW | O_CLOEXEC, 0600);
-    FILE *file = fd < 0 ? NULL : fdopen(fd, "a");
-    bool written;
+/* Puts a whole file in the place of the last one; answers it, or -errno. */
+static int replace_file(struct state *own, int folder, const char *name) {
+    char new_name[NAME_ROOM + 40];
+    int fd, kept;
+    FILE *file;
+    snprintf(new_name, sizeof new_name, "%s.new", name);
+    fd = openat(folder, new_name, O_WRONLY | O_CREAT | O_TRUNC | O_APPEND | O_NOFOLLOW | O_CLOEXEC, 0600);
+    file = fd < 0 ? NULL : fdopen(fd, "a");
     if (!file) {
+        kept = last_fault();
         if (fd >= 0) close(fd);
-        return false;
+        return kept;
     }
     write_state(own, file);
-    written = fflush(file) == 0 && !ferror(file) && !own->carry->process->broken;
-    keep_file(own, written ? fcntl(fd, F_DUPFD_CLOEXEC, 0) : -1);
-    written = fclose(file) == 0 && own->file >= 0;
-    return written && renameat(own->carry->process->folder, own->new_name, own->carry->process->folder, own->name) == 0;
+    kept = fflush(file) == 0 && !ferror(file) ? fcntl(fd, F_DUPFD_CLOEXEC, 0) : -1;
+    if (fclose(file) == 0 && kept >= 0 && !own->carry->parts.process->broken && renameat(folder, new_name, folder, name) == 0) return kept;
+    fd = last_fault();
+    if (kept >= 0) close(kept);
+    (void)unlinkat(folder, new_name, 0);
+    return fd;
 }
 
 /* It could not be written: there is none. */
-static void lose_file(struct state *own) {
+static void lose_file(struct state *own, int folder, const char *name, int fault) {
     if (!own->failed)
-        (void)say(own->carry->process, LOG_WARNING | ABOUT_HANDOVER, "its state cannot be kept, so the next daemon starts anew: %s", strerror(errno));
+        (void)say(own->carry->parts.process, LOG_WARNING | ABOUT_HANDOVER, "its state cannot be kept, so the next daemon starts anew: %s",
+            strerror(-fault));
     own->failed = true;
-    keep_file(own, -1);
-    (void)unlinkat(own->carry->process->folder, own->new_name, 0);
-    (void)unlinkat(own->carry->process->folder, own->name, 0);
+    (void)unlinkat(folder, name, 0);
 }
 
-/* Writes the state; answers whether it did. Where that fails there is none. */
-bool save_state(struct state *own) {
-    if (own->over || own->carry->process->broken || !own->carry->process->has_started) return false;
-    if (replace_file(own)) {
-        own->failed = false;
-        return true;
-    }
-    lose_file(own);
-    return false;
+/* Writes the state; answers whether it did. Where that fails there is none. What is to outlive a reboot is written less often: not each second
+ * to a disk. */
+bool save_state(struct state *own, bool leaves) {
+    struct process *process = own->carry->parts.process;
+    int file, copy = 0;
+    if (own->over || process->broken || !process->has_started) return false;
+    if (own->kept_folder >= 0 && (own->written++ % KEPT_EACH == 0 || leaves)) copy = replace_file(own, own->kept_folder, own->kept_name);
+    if (copy < 0) lose_file(own, own->kept_folder, own->kept_name, copy);
+    if (copy > 0) close(copy);
+    file = replace_file(own, process->folder, own->name);
+    keep_file(own, file);
+    if (file < 0) lose_file(own, process->folder, own->name, file);
+    if (file >= 0 && (copy > 0 || own->kept_folder < 0)) own->failed = false;
+    return file >= 0;
 }
 
 /* The next frame of a conversation goes on this port: a daemon that goes on from here has to know. */
 void keep_port(struct state *own, uint16_t number, uint16_t port) {
-    int index = own->carry->ports->links[port - 1].index;
+    int index = own->carry->parts.ports->links[port - 1].index;
     char line[32];
     int length;
     if (own->file < 0 || own->members[number] == index) return;
     own->members[number] = index;
     length = snprintf(line, sizeof line, "on %u %d\n", number, index);
-    if (write(own->file, line, (size_t)length) != length) lose_file(own);
+    if (write(own->file, line, (size_t)length) == length) return;
+    lose_file(own, own->carry->parts.process->folder, own->name, last_fault());
+    keep_file(own, -1);
+}
+
+static void remove_state(struct state *own, int folder, const char *name) {
+    int emptied;
+    if (unlinkat(folder, name, 0) == 0 || errno == ENOENT) return;
+    emptied = openat(folder, name, O_WRONLY | O_TRUNC | O_NOFOLLOW | O_CLOEXEC);
+    if (emptied >= 0)
+        close(emptied);
+    else
+        (void)say(own->carry->parts.process, LOG_ERR | ABOUT_HANDOVER,
+            "its state cannot be removed: %s: remove %s, or start no daemon for as long as a partner is waited for", strerror(errno), name);
 }
 
 /* The peers are told of the end: no daemon goes on from here. */
 void end_state(struct state *own) {
-    int emptied;
     own->over = true;
     keep_file(own, -1);
-    if (unlinkat(own->carry->process->folder, own->name, 0) == 0 || errno == ENOENT) return;
-    emptied = openat(own->carry->process->folder, own->name, O_WRONLY | O_TRUNC | O_NOFOLLOW | O_CLOEXEC);
-    if (emptied >= 0)
-        close(emptied);
-    else
-        (void)say(own->carry->process, LOG_ERR | ABOUT_HANDOVER,
-            "its state cannot be removed: %s: remove %s, or start no daemon for as long as a partner is waited for", strerror(errno), own->name);
+    remove_state(own, own->carry->parts.process->folder, own->name);
+    if (own->kept_folder >= 0) remove_state(own, own->kept_folder, own->kept_name);
 }
 
 static bool read_hex(const char *text, uint8_t *octets) {
@@ -255,6 +289,7 @@ static bool read_rest(struct inherited *inherited, FILE *file) {
         if (strcmp(word, "end") == 0) return true;
         if (strcmp(word, "space") == 0) read = fscanf(file, "%" SCNu64, &inherited->space) == 1;
         if (strcmp(word, "written") == 0) read = fscanf(file, "%" SCNu64, &inherited->written) == 1;
+        if (strcmp(word, "wall") == 0) read = fscanf(file, "%" SCNu64, &inherited->wall) == 1;
         if (strcmp(word, "marker") == 0) read = fscanf(file, "%" SCNu32, &inherited->marker) == 1;
         if (strcmp(word, "bundle") == 0) read = read_bundle(inherited, file);
         if (strcmp(word, "tap") == 0)
@@ -272,7 +307,7 @@ static bool read_rest(struct inherited *inherited, FILE *file) {
 /* By other settings nothing goes on: what stays to be done is to put back what the last daemon changed. It has a line once these interfaces
  * are found. */
 static void keep_interfaces(struct state *own, bool team) {
-    struct inherited *inherited = own->carry->process->inherited;
+    struct inherited *inherited = own->carry->parts.process->inherited;
     inherited->others = true;
     if (team)
         leave_team(own->team, inherited->tap, inherited->persists);
@@ -287,26 +322,56 @@ static void keep_interfaces(struct state *own, bool team) {
     inherited->mtu = 0;
 }
 
+/* Of another boot ports have the interfaces of their names, as far as these are there, and times are as old as the clock on the wall has them,
+ * and older than this boot. Nothing of the device and of conversations is left. Answers NULL, or why it counts for nothing. */
+static const char *bring_over(struct inherited *inherited) {
+    uint64_t now = wall_time(), up = boottime(), age = now - inherited->wall;
+    unsigned links = 0;
+    if (inherited->wall == 0 || now < inherited->wall) return "it is of another boot, and of later than now";
+    inherited->ahead = inherited->written + (age > up ? age : up) - up;
+    for (unsigned i = 0; i < inherited->port_count; i++) {
+        struct inherited_port *port = &inherited->ports[i];
+        int index = (int)if_nametoindex(port->name);
+        for (unsigned link = links; port->index != 0 && index != 0 && link < inherited->link_count; link++) {
+            struct inherited_link found = inherited->links[link];
+            if (found.index != port->index) continue;
+            inherited->links[link] = inherited->links[links];
+            inherited->links[links] = found;
+            inherited->links[links++].index = index;
+            break;
+        }
+        port->index = index;
+    }
+    inherited->link_count = links;
+    memset(inherited->members, 0, sizeof inherited->members);
+    inherited->tap = inherited->persists = 0;
+    inherited->written = inherited->mtu = inherited->answering = 0;
+    return NULL;
+}
+
 /* Reads a state; answers NULL, or why it counts for nothing. In another network namespace its numbers of interfaces are those of others. */
-static const char *read_state(struct state *own, FILE *file) {
-    struct inherited *inherited = own->carry->process->inherited;
+static const char *read_state(struct state *own, FILE *file, bool is_kept) {
+    struct inherited *inherited = own->carry->parts.process->inherited;
     unsigned version;
     char boot[BOOT_ROOM], now[BOOT_ROOM], given[WAY_ROOM], room[WAY_ROOM];
+    bool is_same_way;
     if (fscanf(file, "lagd %u", &version) != 1) return "it is no state of lagd";
     if (version != FORM_VERSION && version != FORM_WITHOUT_SPACE) return "it is of another version";
     if (fscanf(file, " boot %63s way %95s", boot, given) != 2) return "it is cut off";
-    if (strcmp(boot, boot_id(now)) != 0) return "it is of another boot";
+    if (!is_kept && strcmp(boot, boot_id(now)) != 0) return "it is of another boot";
     if (!read_rest(inherited, file)) return "it is cut off, or wrong";
-    if (inherited->space != 0 && inherited->space != namespace_cookie()) return "it is of another network namespace";
+    is_same_way = strcmp(given, way(own->carry->parts.settings, room)) == 0;
+    if (is_kept) return is_same_way ? bring_over(inherited) : "it belongs to other settings";
+    if (inherited->space != 0 && inherited->space != own->space) return "it is of another network namespace";
     read_changes(inherited, file);
-    if (strcmp(given, way(own->carry->settings, room)) != 0) keep_interfaces(own, is_way_of_team(given));
+    if (!is_same_way) keep_interfaces(own, is_way_of_team(given));
     return NULL;
 }
 
 /* Opens the file, if it is one of root or of this user, who alone may write it. */
-static FILE *open_state(struct state *own) {
+static FILE *open_state(int folder, const char *name) {
     struct stat found;
-    int fd = openat(own->carry->process->folder, own->name, O_RDONLY | O_NOFOLLOW | O_NONBLOCK | O_CLOEXEC);
+    int fd = openat(folder, name, O_RDONLY | O_NOFOLLOW | O_NONBLOCK | O_CLOEXEC);
     FILE *file = NULL;
     if (fd >= 0 && fstat(fd, &found) == 0 && S_ISREG(found.st_mode) && (found.st_uid == 0 || found.st_uid == geteuid())
         && !(found.st_mode & (S_IWGRP | S_IWOTH)))
@@ -317,17 +382,23 @@ static FILE *open_state(struct state *own) {
 
 /* Reads what the last daemon left. What counts for nothing has a line, and the daemon starts anew. */
 void recall_state(struct state *own) {
+    const struct settings *settings = own->carry->parts.settings;
     const char *fault;
     FILE *file;
-    snprintf(own->name, sizeof own->name, "%lu.%s.state", network_namespace(), own->carry->settings->name);
-    snprintf(own->new_name, sizeof own->new_name, "%s.new", own->name);
-    file = open_state(own);
+    bool is_kept;
+    snprintf(own->name, sizeof own->name, "%lu.%s.state", network_namespace(), settings->name);
+    snprintf(own->kept_name, sizeof own->kept_name, "%s.state", settings->name);
+    own->space = namespace_cookie();
+    if (settings->state_dir[0] && own->kept_folder < 0) own->kept_folder = open_folder(settings->state_dir);
+    file = open_state(own->carry->parts.process->folder, own->name);
+    is_kept = !file && own->kept_folder >= 0;
+    if (is_kept) file = open_state(own->kept_folder, own->kept_name);
     if (!file) return;
-    fault = read_state(own, file);
+    fault = read_state(own, file, is_kept);
     fclose(file);
     if (!fault) return;
-    *own->carry->process->inherited = (struct inherited){0};
-    (void)say(own->carry->process, LOG_WARNING | ABOUT_HANDOVER, "the state that the last daemon left is not used: %s", fault);
+    *own->carry->parts.process->inherited = (struct inherited){0};
+    (void)say(own->carry->parts.process, LOG_WARNING | ABOUT_HANDOVER, "the state that the last daemon left is not used: %s", fault);
 }
 
 /* Whether there was no daemon for a moment only: what waits in sockets and in the TAP device is still of use. */

@@ -30,7 +30,9 @@ struct inherited {
     unsigned port_count;
     struct inherited_port ports[NIW_MOST_PORTS];
     uint64_t space;               /* the namespace_cookie of its network namespace, or 0 */
-    uint64_t written;             /* when it was written, in milliseconds of CLOCK_BOOTTIME */
+    uint64_t written;             /* when it was written, in milliseconds of CLOCK_BOOTTIME, */
+    uint64_t wall;                /* and since 1970 */
+    uint64_t ahead;               /* so much is CLOCK_BOOTTIME of its boot ahead of that of this one; 0: it is of this one */
     uint32_t marker;              /* the identifier of the next one */
     struct bundle bundle;         /* its state, aggregator and time of the last change */
     unsigned answering;           /* enum answering */
@@ -47,7 +49,7 @@ struct team_plane;
 /* state.c */
 struct state *make_state(struct carry *carry, struct team_plane *team);
 void recall_state(struct state *own);
-bool save_state(struct state *own);
+bool save_state(struct state *own, bool leaves);
 void keep_port(struct state *own, uint16_t number, uint16_t port);
 void end_state(struct state *own);
 

@@ -142,7 +142,7 @@ static void obey(struct control *control, struct caller *caller) {
     if (caller->user != 0) {
         refuse(caller->fd, "root alone may change a bundle");
     } else {
-        answer_order(control->protocol, caller->question, answer);
+        answer_order(control->parts.protocol, caller->question, answer);
         (void)send(caller->fd, answer, strlen(answer), MSG_NOSIGNAL | MSG_DONTWAIT);
     }
     close_caller(caller);
@@ -151,7 +151,7 @@ static void obey(struct control *control, struct caller *caller) {
 /* Answers a question, a word of one line, or an order. */
 static void answer_caller(struct control *control, struct caller *caller) {
     const char *asked = caller->question;
-    unsigned watching = count_of(control->process->status, caller->user, true);
+    unsigned watching = count_of(control->parts.process->status, caller->user, true);
     if (is_order(asked)) {
         obey(control, caller);
         return;
@@ -169,24 +169,24 @@ static void answer_caller(struct control *control, struct caller *caller) {
     if (strcmp(asked, "config") == 0) write_config(control);
     if (strcmp(asked, "json") == 0) write_json(control);
     if (strcmp(asked, "metrics") == 0) write_metrics(control);
-    if (control->process->broken) control->report->length = 0; /* what the library refuses to tell is not told half */
+    if (control->parts.process->broken) control->report->length = 0; /* what the library refuses to tell is not told half */
     caller->rest = control->report->length > 0 ? malloc(control->report->length) : NULL;
     caller->answer_length = control->report->length;
     if (caller->rest) memcpy(caller->rest, control->report->text, control->report->length);
     if (caller->rest)
-        send_rest(control->process, caller);
+        send_rest(control->parts.process, caller);
     else
         close_caller(caller);
 }
 
 /* Takes what somebody sends, or goes on with an answer. Who watches sends nothing more, but for the end. */
 void serve_caller(struct control *control, uint32_t number) {
-    struct caller *caller = &control->process->status->callers[number];
+    struct caller *caller = &control->parts.process->status->callers[number];
     char *end, scrap[64];
     ssize_t got;
     if (caller->fd < 0) return;
     if (caller->rest) {
-        send_rest(control->process, caller);
+        send_rest(control->parts.process, caller);
         return;
     }
     if (caller->watches) {
@@ -230,13 +230,13 @@ void tell_watchers(struct status_private *own, const char *line, size_t length) 
 
 /* Tells those who watch in JSON how a port is now, or the bundle, where `link` is null. */
 void tell_watchers_of(struct control *control, const struct link *link) {
-    struct status_private *own = control->process->status;
+    struct status_private *own = control->parts.process->status;
     bool any = false;
     for (unsigned i = 0; i < MOST_CALLERS; i++) any = any || (own->callers[i].fd >= 0 && own->callers[i].watches && own->callers[i].json);
     if (!any) return;
     control->report->length = 0;
     write_json_event(control, link);
-    if (!control->process->broken) tell(control->process->status, control->report->text, control->report->length, true);
+    if (!control->parts.process->broken) tell(control->parts.process->status, control->report->text, control->report->length, true);
 }
 
 static void remove_socket(void *given) {

@@ -147,7 +147,8 @@ void set_link(struct protocol *protocol, uint16_t port, bool up) {
     link->unsent = false;
     link->changed = true;
     if (!up) {
-        if (!is_silent(protocol->halt)) link->counts[LOSSES]++;
+        if (!is_silent(protocol->halt) && !link->away) link->counts[LOSSES]++;
+        link->away = false;
         forget_partner(protocol->settings, link);
     }
     if (!up) CALL(protocol->plane->carrying->lose, protocol->plane, port);
@@ -222,9 +223,8 @@ bool end_is_told(const struct ports *ports) {
 
 /* Says of each port that the daemon has ended, and frees the system; answers whether the library never refused a call. */
 bool end_system(struct protocol *protocol) {
-    for (uint16_t i = 0; i < protocol->ports->count; i++)
-        if (protocol->ports->links[i].used)
-            (void)say(protocol->process, LOG_NOTICE | ABOUT_END, "port %u %s: ended", i + 1, protocol->ports->links[i].name);
+    EACH_LINK(link, protocol->ports)
+        if (link->used) (void)say(protocol->process, LOG_NOTICE | ABOUT_END, "port %u %s: ended", link->settings.number, link->name);
     end_bundle(protocol);
     return is_done(protocol->process, niw_free(&protocol->own_system), "niw_free") && !protocol->process->broken;
 }

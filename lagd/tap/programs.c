@@ -67,26 +67,23 @@ static bool prepare(const struct settings *settings, const struct programs *made
 static int load_with_log(const struct settings *settings, const char *name, const struct fast_maps *maps, char *log) {
     const struct bpf_object_open_opts options = {.sz = sizeof options, .kernel_log_buf = log, .kernel_log_size = LOG_ROOM};
     struct programs *made = programs__open_opts(&options);
-    int loaded = -1, fault;
+    int loaded = -1;
     if (made && prepare(settings, made, name, maps) && programs__load(made) == 0)
         loaded = fcntl(bpf_program__fd(bpf_object__find_program_by_name(made->obj, name)), F_DUPFD_CLOEXEC, 0);
-    fault = errno;
+    if (loaded < 0) loaded = last_fault();
     programs__destroy(made);
-    errno = fault;
     return loaded;
 }
 
-/* Loads one program, with the tables that it has, if it has some; answers its file, or -1, and errno, and a reason. */
+/* Loads one program, with the tables that it has, if it has some; answers its file, or -errno, and a reason. */
 int load_program(const struct settings *settings, const char *name, const struct fast_maps *maps) {
-    char *log = calloc(1, LOG_ROOM); /* the kernel fills what it needs of it */
-    int loaded = -1, fault = ENOMEM;
+    char *log = make_room(LOG_ROOM); /* the kernel fills what it needs of it */
+    int loaded;
     reason[0] = 0;
     (void)libbpf_set_print(keep_first);
-    if (log) loaded = load_with_log(settings, name, maps, log);
-    if (log) fault = errno;
-    if (log && loaded < 0) keep_last(log);
-    if (loaded < 0 && !reason[0]) keep_line(strerror(fault));
+    loaded = load_with_log(settings, name, maps, log);
+    if (loaded < 0) keep_last(log);
+    if (loaded < 0 && !reason[0]) keep_line(strerror(-loaded));
     free(log);
-    errno = fault;
     return loaded;
 }

@@ -34,9 +34,9 @@ struct spread_private *make_spread_private(void) {
 /* Loads the program that chooses queues, while the daemon may, and opens what wakes it for responses. */
 void start_all_queues(struct tap_plane *tap) {
     struct spread_private *own = tap->spread;
-    int fault = fault_of_programs(tap->settings);
-    if (fault != 0) stop(REFUSED, "queues=all: no program of an interface, which Linux has from 6.6 on", strerror(fault));
-    own->program = load_program(tap->settings, "chooser", NULL);
+    int fault = fault_of_programs(tap->parts.settings);
+    if (fault != 0) stop(REFUSED, "queues=all: no program of an interface, which Linux has from 6.6 on", strerror(-fault));
+    own->program = load_program(tap->parts.settings, "chooser", NULL);
     if (own->program < 0) stop(REFUSED, "queues=all: the kernel takes no program", program_fault());
     start_answers(tap);
 }
@@ -170,24 +170,19 @@ bool may_spread(int folder, const struct link *link) {
     return !link->stacked && may_have_order(link->index) && (!changes || may_set(link->index));
 }
 
-/* Has a program choose the queue of each frame that the daemon sends at a member; answers whether it does. */
-static bool choose_queues(struct tap_plane *tap, const struct link *link, struct guard *guard) {
-    if (guard->queues > 1 && guard->chooser < 0)
-        guard->chooser = attach_stored(tap->process->store, "queues", tap->spread->program, link->index, true);
-    return guard->queues == 1 || guard->chooser >= 0;
-}
-
 /* Lets a member keep all its queues, where it can. */
 void spread(struct tap_plane *tap, const struct link *link, struct guard *guard) {
     unsigned count = count_entries(link->index, "tx-");
-    const char *fault = fault_of_spreading(tap->process->folder, link, guard, count);
+    const char *fault = fault_of_spreading(tap->parts.process->folder, link, guard, count);
     guard->queues = fault ? 1 : count < MOST_QUEUES ? count : MOST_QUEUES;
-    if (!fault && !choose_queues(tap, link, guard)) fault = strerror(errno);
+    if (guard->queues > 1 && guard->chooser < 0) /* a program chooses the queue of each frame that the daemon sends there */
+        guard->chooser = attach_stored(tap->parts.process->store, "queues", tap->spread->program, link->index, true);
+    if (guard->queues > 1 && guard->chooser < 0) fault = strerror(-guard->chooser);
     guard->spread = !fault;
     if (!fault) return;
     guard->queues = 1;
-    stop_spreading(tap->process->store, link, guard);
-    (void)say(tap->process, LOG_WARNING | ABOUT_DATA, "port %u %s: it gets one queue: %s", link->settings.number, link->name, fault);
+    stop_spreading(tap->parts.process->store, link, guard);
+    (void)say(tap->parts.process, LOG_WARNING | ABOUT_DATA, "port %u %s: it gets one queue: %s", link->settings.number, link->name, fault);
 }
 
 /* Frames of the daemon go by any queue again. */
@@ -220,7 +215,7 @@ bool is_spread_anew(const struct system_private *own, const struct link *link, c
 }
 
 static bool has_any_fast(struct tap_plane *tap) {
-    for (uint16_t port = 1; port <= tap->ports->count; port++)
+    for (uint16_t port = 1; port <= tap->parts.ports->count; port++)
         if (has_fast_member(tap->members, port)) return true;
     return false;
 }

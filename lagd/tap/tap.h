@@ -15,12 +15,7 @@
     DO(answers, answers) DO(fast, fast) DO(flight, flight) DO(gro, gro) DO(held, held) DO(host, host) \
     DO(members, members) DO(queues, queues) DO(spread, spread)
 struct tap_plane {
-    struct process *process;
-    const struct settings *settings;
-    struct ports *ports;
-    struct protocol *protocol;
-    struct device *device;
-    struct plane *plane;
+    struct parts parts;
     struct carry *carry;
     int dropper; /* the program that keeps data from the stack of a member, or -1 */
     EACH_FILE_OF_TAP(KEEPS)
@@ -102,7 +97,7 @@ void drop_classifier(int index);
 
 /* guard.c */
 struct guard {
-    int opened;                 /* what keeps data from the stack of the interface, or -1 */
+    int opened;                 /* what keeps data from the stack of the interface, or below 0 */
     enum classifier classifier; /* what does so where the kernel has no TCX */
     bool in_order;      /* whether the queueing discipline of the interface keeps the order */
     bool fast;          /* whether the kernel may pass on what goes and comes there */

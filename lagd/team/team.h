@@ -23,12 +23,7 @@ struct team_now {
 
 #define EACH_FILE_OF_TEAM(DO) DO(buckets, buckets) DO(team_netlink, team_netlink)
 struct team_plane {
-    struct process *process;
-    const struct settings *settings;
-    struct ports *ports;
-    struct protocol *protocol;
-    struct device *device;
-    struct plane *plane;
+    struct parts parts;
     struct carry *carry;
     bool opened;
     bool made; /* whether a daemon made the device, so that it goes at the end */

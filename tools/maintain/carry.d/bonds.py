@@ -117,6 +117,7 @@ class Member(TypedDict):
 
     interface: str
     port: int
+    aggregator: int
     status: str
     partner: dict[str, object]
     data: dict[str, int]

@@ -31,6 +31,5 @@ int __wrap_attach_program(int program, int index, bool egress) {
     (void)program;
     (void)index;
     (void)egress;
-    errno = EINVAL;
-    return -1;
+    return -EINVAL;
 }

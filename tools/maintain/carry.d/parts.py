@@ -24,6 +24,7 @@ from models import model
 from restarting import PARTS as RESTARTS
 from restoring import PARTS as RESTORING
 from rows import rows
+from selecting import PARTS as SELECTING
 from stream_parts import PARTS as STREAMS
 from checking import Skipped, check, within
 from fetching import Packages
@@ -326,6 +327,7 @@ PARTS.update(GUESTS)
 PARTS.update(HALTED)
 PARTS.update(MEMBERS)
 PARTS.update(RESTORING)
+PARTS.update(SELECTING)
 PARTS.update(ABOVE)
 PARTS.update(RESTARTS)
 PARTS.update(ALL_QUEUES)

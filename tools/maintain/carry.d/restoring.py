@@ -151,4 +151,50 @@ def two_limits(programs: Programs) -> None:
                 end.stop()
 
 
-PARTS: dict[str, Callable[[Programs], None]] = {it.__name__: it for it in (restores, reverts, reverts_there, two_limits)}
+AWAY = "its carrier is away, for less than delay-down so far"
+# For how many milliseconds a carrier may be away.
+DELAY = 2500
+
+
+def spared(programs: Programs) -> None:
+    """A link whose carrier is away for less than delay-down stays up: what it is given meanwhile is lost, and the status says so. One that is away
+    for longer, that an administrator takes down, or whose daemon could not look at it, goes."""
+    for way in WAYS:
+        with pair(programs, options=["--delay-down", str(DELAY), *way]) as (laid, ours, theirs):
+            seen: list[str] = []
+            came = [port["counters"]["distributed"] for port in ours.ports().values()]
+            events: list[Event] = [(1, lambda: laid.tell("cut", 1)), (1.4, lambda: seen.append(ours.text())), (1.7, lambda: laid.tell("join", 1))]
+            outcome = run_flows(programs, 4, events)
+            check(AWAY in seen[0] and "but the carrier of a1 is away" in seen[0], "the status says that a carrier is away", seen[0])
+            now = [port["counters"]["distributed"] for port in ours.ports().values()]
+            check(now == came and ours.links() == theirs.links() == 2, f"a link that is back in time never went {way}", ours.printed())
+            check_order(outcome, "through that", ours.text())
+            check_end(ours, "the sending end")
+            outcome = run_flows(programs, 6, [(1, lambda: laid.tell("cut", 1))])
+            check(statuses(ours)[1] == "the link is down" and ours.links() == 1, "one that is away for longer goes", ours.printed())
+            check(outcome.gap_ms < DELAY + 1500, f"its flows go on after {outcome.gap_ms} ms", ours.printed())
+            check_order(outcome, "through that, too", ours.text())
+            laid.tell("join", 1)
+            check(within(COMES_UP, lambda: ours.links() == theirs.links() == 2), "it comes back", ours.text())
+            losses = ours.count("a1", "link_losses")
+            ip(OURS, "link", "set", "a1", "down")
+            check(within(0.5, lambda: statuses(ours)[1] == "the link is down"), "one that is set down goes at once", ours.printed())
+            check(ours.count("a1", "link_losses") == losses + 1, "and that is counted once", ours.text())
+            ip(OURS, "link", "set", "a1", "up")
+            check(within(COMES_UP, lambda: ours.links() == theirs.links() == 2), "it comes back", ours.text())
+            lines = len(ours.lines("a1"))
+            ours.process.send_signal(signal.SIGSTOP)
+            laid.tell("cut", 1)
+            time.sleep(DELAY / 1000 + 0.7)
+            laid.tell("join", 1)
+            ours.process.send_signal(signal.SIGCONT)
+            gone = lambda: any(line.startswith("the link is down") or "in time" in line for line in ours.lines("a1")[lines:])
+            check(within(3, gone), "one whose daemon stood still for so long goes", ours.printed())
+            check(within(COMES_UP, lambda: ours.links() == theirs.links() == 2), "it comes back", ours.text())
+            laid.tell("cut", 1)
+            check(within(1, lambda: statuses(ours)[1] == AWAY), "the carrier is away", ours.text())
+            ip(OURS, "link", "del", "a1")
+            check(within(0.6, lambda: statuses(ours)[1] == "the interface is missing"), "it may vanish meanwhile", ours.text())
+
+
+PARTS: dict[str, Callable[[Programs], None]] = {it.__name__: it for it in (restores, spared, reverts, reverts_there, two_limits)}

@@ -146,12 +146,14 @@ static void fuzz_caller(const uint8_t *octets, size_t length) {
     pass_tick_of_callers(&lagd->process);
 }
 
-/* What the last daemon left, behind the number of this boot; and a daemon that goes on from it. */
+/* What the last daemon left, behind the number of this boot, or that of another boot; and a daemon that goes on from it. */
 static void fuzz_state(const uint8_t *octets, size_t length) {
-    char name[64];
+    char name[64 + NAME_ROOM];
     char boot[BOOT_ROOM];
     FILE *file;
     snprintf(name, sizeof name, "%s/%lu.%s.state", folder, network_namespace(), lagd->settings.name);
+    if (length % 2 == 1) snprintf(name, sizeof name, "%s/%s.state", folder, lagd->settings.name);
+    snprintf(lagd->settings.state_dir, sizeof lagd->settings.state_dir, "%s", folder);
     file = fopen(name, "we");
     if (!file) abort();
     fprintf(file, "lagd 2\nboot %s\n", boot_id(boot));

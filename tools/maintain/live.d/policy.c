@@ -220,6 +220,10 @@ bool say(struct process *process, int level, const char *format, ...) {
     (void)format;
     return true;
 }
+const char *selection_text(enum selection selection) {
+    (void)selection;
+    return "";
+}
 static bool any_distributes(struct lagd *lagd) {
     for (uint16_t port = 1; port <= PORTS; port++)
         if (niw_distributes(&lagd->protocol.own_system, port).is) return true;
@@ -306,12 +310,12 @@ struct niw_number conversation_of(struct protocol *protocol, const uint8_t *fram
 
 /* and what is of members with several queues, of which there are none here; */
 static bool answer(struct tap_plane *tap, struct link *link, const uint8_t *response) {
-    send_frame(tap->protocol, link, response);
+    send_frame(tap->parts.protocol, link, response);
     return true;
 }
 static void accept(struct tap_plane *tap, struct link *link, const struct arrival *arrival, uint32_t id) {
     (void)id;
-    accept_response(tap->protocol, link, arrival);
+    accept_response(tap->parts.protocol, link, arrival);
 }
 
 /* and what is not here: the settings of the device. */
@@ -401,7 +405,7 @@ static void make_end(struct end *end, uint8_t which) {
     lagd->settings.marker_responses = 50;
     lagd->settings.config = (struct niw_config){.priority = 1, .mac = {2, which}, .first_marker = 1, .conversations = CONVERSATIONS};
     for (uint16_t i = 0; i < PORTS; i++) {
-        ports[i] = (struct niw_port){.number = (uint16_t)(i + 1), .priority = 1, .mac = {2, which, (uint8_t)i},
+        ports[i] = (struct niw_port){.number = (uint16_t)(i + 1), .priority = (uint16_t)(1 + below(3)), .mac = {2, which, (uint8_t)i},
             .key = keys[i * KEYS / PORTS], .aggregatable = true, .active = true, .short_timeout = true};
         lagd->ports.links[i].settings = ports[i];
         memcpy(lagd->ports.links[i].mac, ports[i].mac, sizeof ports[i].mac);
@@ -601,6 +605,18 @@ static void step(bool calm) {
 static void change_weather(void) {
     const unsigned bursts[] = {700, 200, 20}, changes[] = {2, 10, 1}, busy[] = {BUSY_ONES, 8, 2};
     weather = (struct weather){below(2) == 0, below(2) == 0, bursts[below(3)], changes[below(3)], busy[below(3)]};
+    for (unsigned which = 0; which < 2; which++) ends[which].lagd.settings.select = (enum selection)below(SELECT_PRIORITY_STABLE + 1);
+}
+
+/* Ends that prefer another aggregator, or that each keep one, are in the same one once both have sent for a while. */
+static void come_together(void) {
+    if (ends[0].lagd.settings.select == SELECT_COUNT && ends[1].lagd.settings.select == SELECT_COUNT) return;
+    for (uint64_t until = now + 15000, next = now; now < until; step(true)) {
+        if (now < next) continue;
+        next = now + TICK / 2;
+        for (unsigned which = 0; which < 2; which++) send_burst(&ends[which], 1);
+    }
+    for (uint64_t until = now + 2000; now < until;) step(true);
 }
 
 /* Nothing is in the way of data any more: what is sent comes, and nothing waits. */
@@ -616,6 +632,7 @@ static void calm_down(void) {
         for (uint16_t port = 1; port <= PORTS; port++) hold(&ends[which], port, false);
     weather.mute = false;
     for (until = now + 12000; now < until;) step(true);
+    come_together();
     for (unsigned which = 0; which < 2; which++) {
         arrived[which] = ends[which].arrived;
         CHECK(ends[which].carrier && ends[which].lagd.protocol.bundle.state != BUNDLE_DOWN && !ends[which].lagd.carry.waiting);
@@ -623,7 +640,7 @@ static void calm_down(void) {
     }
     for (until = now + 2000; now < until;) step(true);
     CHECK(ends[0].arrived == arrived[0] + 1 && ends[1].arrived == arrived[1] + 1);
-    change_weather();
+    change_weather(); /* and another select, as by a reload */
 }
 
 int main(int argc, char **argv) {

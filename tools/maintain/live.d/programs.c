@@ -280,7 +280,7 @@ static void check_refusals(void) {
     CHECK(map_again(sizeof *rows, CONVERSATIONS, maps.rows) != NULL && map_again(sizeof *rows, CONVERSATIONS, maps.members) == NULL);
     CHECK(map_again(sizeof *rows + 8, CONVERSATIONS, maps.rows) == NULL && map_again(sizeof *rows, CONVERSATIONS, 0) == NULL);
     CHECK(make_map(8, CONVERSATIONS, &wrong.rows) != NULL);
-    CHECK(load_program(&lagd->settings, "sender", &wrong) < 0 && errno == EACCES);
+    CHECK(load_program(&lagd->settings, "sender", &wrong) == -EACCES);
     CHECK(strstr(program_fault(), "outside of the allowed memory range") || strstr(program_fault(), "invalid access to map value"));
 }
 

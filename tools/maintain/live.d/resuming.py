@@ -10,7 +10,7 @@ import signal
 import time
 from typing import Callable, Iterator, Sequence
 
-from checking import Failed, check, within
+from checking import Failed, Skipped, check, command, within
 from daemon import ENDS, Daemon, Part
 from daemons import COMES_UP, GOES_DOWN, both_up
 from spaces import OURS, THEIRS, ip, make_pair
@@ -179,5 +179,64 @@ def things_change(part: Part) -> None:
         check(within(GOES_DOWN, lambda: not (theirs.distributes("b0") or theirs.distributes("b1"))), "as at a stop, which the peer is told of", theirs.text())
 
 
-PARTS = {"the next daemon goes on": goes_on, "restarts in a row": in_a_row, "a limit of links through a restart": keeps_limit,
+# How long the machine of the next daemon has been up, in seconds.
+UP = 3
+
+
+def boots(part: Part, ours: Daemon, kept: str, change: Callable[[str], str] = lambda text: text) -> Daemon:
+    """Our daemon leaves its state, which is changed. The next one has another boot: its clock of that begins anew, and what was in /run is gone."""
+    children = open(f"/proc/{ours.process.pid}/task/{ours.process.pid}/children", encoding="utf-8").read().split()
+    if ours.process.poll() is None:
+        os.kill(int(children[0]) if children else ours.process.pid, signal.SIGUSR1)
+        ours.process.wait(ENDS)
+    for path in glob.glob(f"{ours.folder}/*.state"):
+        os.unlink(path)
+    if os.path.exists(f"{kept}/a0.state"):
+        changed(f"{kept}/a0.state", change)
+    time.sleep(UP - 1)
+    offset = UP - int(float(open("/proc/uptime", encoding="utf-8").read().split()[0]))
+    again = part.ours(options=["--timeout", "long", "--state-dir", kept], before=["unshare", "--time", "--boottime", str(offset), "--fork", "--kill-child"])
+    if not within(ENDS, lambda: "bundle" in again.printed()):
+        raise Failed("the next daemon begins", again.printed())
+    return again
+
+
+def outlives_boot(part: Part) -> None:
+    """With state-dir the first daemon after a reboot goes on, by names of interfaces and the clock on the wall; with a state of no use it does not."""
+    if command("unshare", "--time", "true").returncode:
+        raise Skipped("no namespaces of times")
+    kept = os.path.join(part.folder, "kept")
+    os.makedirs(kept, exist_ok=True)
+    theirs = part.theirs(options=["--timeout", "long"])
+    ours = part.ours(options=["--timeout", "long", "--state-dir", kept])
+    rows: list[tuple[str, str, Callable[[str], str]]] = [
+        ("that was just left", WENT_ON, lambda text: text),
+        ("of a boot before the last one", WENT_ON, lambda text: text),
+        ("of later than now, as the clock was set back", "of later than now", lambda text: re.sub(r"wall (\d+)", lambda it: f"wall {int(it[1]) + 60000}", text)),
+        ("older than a timeout, or of a clock that was set on", "0 of 2 links go on", lambda text: re.sub(r"wall (\d+)", lambda it: f"wall {int(it[1]) - 95000}", text)),
+        ("without a time", "of later than now", lambda text: re.sub(r"wall \d+\n", "", text)),
+        ("that is cut off", "cut off", lambda text: text[:-9]),
+        ("with another name", "1 of 2 links go on", lambda text: text.replace(" a1\n", " a7\n")),
+        ("of another machine", "no LACPDU", lambda text: re.sub(r"(link \d+) ..:", r"\1 06:", text)),
+        ("whose names are exchanged", "no LACPDU", lambda text: text.replace(" a1\n", " a7\n").replace(" a0\n", " a1\n").replace(" a7\n", " a0\n")),
+        ("of other settings", "other settings", lambda text: re.sub(r"way \d+", "way 1", text)),
+    ]
+    for what, text, change in rows:
+        both_up(ours, theirs, "both links come to distribute")
+        lines = theirs.printed()
+        ours = boots(part, ours, kept, change)
+        check(text in ours.printed(), f"a state {what}: a line says so", ours.printed())
+        if text != WENT_ON:
+            check(WENT_ON not in ours.printed(), "it negotiates anew", ours.printed())
+        else:
+            time.sleep(TIMEOUT)
+            check(theirs.printed() == lines and ours.distributes("a0", "a1"), "its peer has seen nothing", theirs.printed(), ours.printed())
+    both_up(ours, theirs, "both links come to distribute")
+    child = open(f"/proc/{ours.process.pid}/task/{ours.process.pid}/children", encoding="utf-8").read().split()[0]
+    os.kill(int(child), signal.SIGTERM)
+    ours.process.wait(ENDS)
+    check(not os.path.exists(f"{kept}/a0.state"), "a stop leaves none")
+
+
+PARTS = {"the next daemon goes on": goes_on, "a state beyond a reboot": outlives_boot, "restarts in a row": in_a_row, "a limit of links through a restart": keeps_limit,
          "a state of no use": begins_anew, "what changes between two daemons": things_change}

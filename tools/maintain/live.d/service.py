@@ -55,6 +55,9 @@ WRONG = {
     "[Bundle]\ncarry=a/0\n": "2: expected a name of an interface of at most 15 characters: carry=a/0",
     "[Bundle]\nhash=layer4\n": "2: expected layer2, layer2+3, layer3+4, encap3+4 or vlan+srcmac: hash=layer4",
     "[Bundle]\nwait-to-restore=3601\n": "2: expected a number of seconds from 0 to 3600: wait-to-restore=3601",
+    "[Bundle]\nselect=stable\n": "2: expected count, bandwidth, priority or priority-stable: select=stable",
+    "[Bundle]\ndelay-down=3001\n": "2: expected a number of milliseconds from 0 to 3000: delay-down=3001",
+    "[Bundle]\nstate-dir=states\n": "2: expected a path that begins with /, of at most 175 characters: state-dir=states",
     "[Bundle]\nflight=0\n": "2: expected a number of milliseconds from 1 to 60000: flight=0",
     "[Bundle]\nplane=bond\n": "2: expected tap or team: plane=bond",
     "[Bundle]\noffload=on\n": "2: expected yes or no: offload=on",
@@ -69,7 +72,7 @@ WRONG = {
     "[Bundle]\nmembers=all\n": "2: expected given or follow: members=all",
     "".join(f"[Port a{port}]\n" for port in range(65)): "65: expected at most 64 interfaces: [Port a64]",
 }
-A_HOOK = "expected a path that begins with /, of at most 191 characters, of a program that may be run: hook="
+A_HOOK = "expected a path that begins with /, of at most 175 characters, of a program that may be run: hook="
 # What contradicts itself, in a file that is right but for it, and where that is told.
 CONTRADICTIONS = {
     FILE.replace("min-links=1", "min-links=2\nmax-links=1"): "6: expected min-links that is at most max-links: min-links",
@@ -334,12 +337,15 @@ activity=passive
 max-links=4
 min-links=2
 revert=yes
+select=bandwidth
 wait-to-restore=3
+delay-down=300
 partner=32768,02:00:00:00:00:02
 partner-required=yes
 key-by-speed=yes
 marker-responses=20
-hook=/bin/true
+hook=HOOK
+state-dir=STATES
 hash=layer3+4
 hash-seed=9
 flight=700
@@ -366,12 +372,15 @@ def sections(text: str) -> list[set[str]]:
 
 def shows_settings(part: Part) -> None:
     """--show-config prints the settings that hold as a file has them, and a daemon of that file has the same."""
-    path = os.path.join(part.folder, "uplink.conf")
-    write(path, EVERY_KEY)
+    path, long = os.path.join(part.folder, "uplink.conf"), os.path.join(part.folder, "long")
+    long += "g" * (175 - len(long))  # the longest path that is taken
+    os.symlink("/bin/true", long)
+    every = EVERY_KEY.replace("HOOK", long).replace("STATES", long[:-1])
+    write(path, every)
     ours = Filed(part, path)
     shown = lambda: inside(OURS, ours.program, "--folder", ours.folder, "--show-config").stdout
     check(within(ENDS, lambda: "[Port a1]" in shown()), "a daemon shows its settings", ours.printed())
-    check(sections(shown()) == sections(EVERY_KEY), "they are those of the file", shown())
+    check(sections(shown()) == sections(every), "they are those of the file", shown())
     held = inside(OURS, ours.program, "--folder", ours.folder, "--hold", "a0")
     check(held.returncode == 0 and "hold=yes" in sections(shown())[1], "an order changes what is shown", held.stderr, shown())
     told = shown()

@@ -6,13 +6,14 @@ import ctypes
 import fcntl
 import os
 import select
+import signal
 import socket
 import struct
 import threading
 import time
 
 from checking import Skipped, check, within
-from daemon import KEY, Daemon, Part
+from daemon import KEY, SYSTEM, Daemon, Part
 from daemons import COMES_UP
 from spaces import OURS, THEIRS, ip, within_space
 
@@ -166,7 +167,44 @@ def many_speeds(part: Part) -> None:
             cable.cut()
 
 
+def fastest(part: Part) -> None:
+    """Of two groups the faster one carries with select=bandwidth, whichever has more links; also after a reload, and when it goes."""
+    names = ["t0", "t1", "t2"]
+    cables = join(names)
+    try:
+        renew(2, 10000, FULL)
+        file = os.path.join(part.folder, "fastest.conf")
+
+        def write(more: str) -> None:
+            with open(file, "w", encoding="utf-8") as it:
+                it.write(f"[Bundle]\nkey={KEY}\nsystem=32768,{SYSTEM}\nkey-by-speed=yes\n{more}" + "".join(f"[Port {name}]\n" for name in names))
+
+        theirs = part.theirs("u0", "u1", "u2:key=6")
+        write("")
+        ours = part.ours(*names, file=file)
+        apart = lambda: groups_of(ours, names) == [["t0", "t1"], ["t2"]]
+        check(within(COMES_UP, apart) and "degraded, 2 of 3 links carry" in ours.text(), "by count the group of most links carries", ours.text())
+        write("select=bandwidth\n")
+        ours.process.send_signal(signal.SIGHUP)
+        fast = lambda: "degraded, 1 of 3 links carry" in ours.text()
+        check(within(COMES_UP, fast), "by bandwidth the faster one does", ours.text())
+        check("1 links of 10000 Mb/s" in ours.text() and "2 links of 2000 Mb/s" in ours.text(), "the status says why", ours.text())
+        ip(OURS, "link", "set", "t2", "down")
+        check(within(COMES_UP, lambda: "degraded, 2 of 3 links carry" in ours.text()), "the other one carries where that one goes", ours.text())
+        ip(OURS, "link", "set", "t2", "up")
+        check(within(COMES_UP, fast), "and not when it is back", ours.text())
+        write("select=bandwidth\nmin-links=2\n")
+        ours.process.send_signal(signal.SIGHUP)
+        check(within(COMES_UP, lambda: "degraded, 2 of 3 links carry" in ours.text()), "a group of fewer than min-links comes last", ours.text())
+        ours.ends("the daemon")
+        theirs.ends("the other daemon")
+    finally:
+        for cable in cables:
+            cable.cut()
+
+
 PARTS = {
+    "the fastest group": fastest,
     "links of two speeds": unequal,
     "links of five speeds": many_speeds,
 }
