@@ -57,7 +57,7 @@ export const RULES = new Map([
     [5, { title: "both ends are passive" }],
     [12, {
         title: "a port hears nobody", said: ({ ports, form }) => aloneSaid(ports, form),
-        advice: (it) => `${asLong(it)}look whether LACP is on at the other end (switch: mode active, not on; Linux bonding: mode=802.3ad). If it is, no status says who is deaf: ${PROGRAMS.get(it.form).counts}.`,
+        advice: (it) => `${asLong(it)}look whether the port at the other end is in a bundle with LACP (switch: channel-group, mode active, not on; Linux bonding: mode=802.3ad). If it is, no status says who is deaf: ${PROGRAMS.get(it.form).counts}.`,
     }],
     [14, { title: "one end is individual" }],
     [15, {

@@ -37,6 +37,12 @@ function ofSilence(finding, { records, link }) {
     if (link.ends.every((it) => isSilent(it, records.lacpdus.last))) return ofDeadLink(link, records);
     const { at } = finding, frame = frameOf(finding), { record } = at, before = at.frames[at.frames.indexOf(frame) - 1];
     const isLast = frame && frame === at.last && record && isSilent(at, records.lacpdus.last);
+    const other = link.ends.find((it) => it && it !== at);
+    if (isLast && other?.record && other.record.last <= record.last) return {
+        isFirst: true, title: "both ends of a link are silent",
+        lines: [`${at.short} sends nothing after ${roundedSeconds(record.last)}, ${other.short} nothing after ${roundedSeconds(other.record.last)}; the capture goes on to ${roundedSeconds(records.lacpdus.last)}`],
+        advice: `The link went down, or this capture lost it: look at carrier and cable (ip link, show interfaces). Else ${at.short} sends no more: ${other.short} may send each 30 s alone.`,
+    };
     if (isLast) return {
         isFirst: true, isEffect: link.findings.some((it) => it.at === at && ofSingle(it, { link }).isFirst), title: "an end sends nothing more",
         lines: [`${at.short} sends nothing after ${roundedSeconds(record.last)}; the capture goes on to ${roundedSeconds(records.lacpdus.last)}`],
@@ -51,7 +57,6 @@ function ofSilence(finding, { records, link }) {
         lines: [`${at.short} sends nothing from ${roundedSeconds(before.seconds)} to ${roundedSeconds(frame.seconds)}, and knows no partner then`],
         advice: "If it was restarted, or its port was down, this is right, and no frame is lost. Else look why it starts anew.",
     };
-    const other = link.ends.find((it) => it && it !== at);
     if (record && record.median !== null && sendsSeldom(at, Boolean(other?.has("short")))) return {
         title: "an end sends less often than its partner asks",
         lines: [`${at.short} sends each ${roundedSeconds(record.median)}`],

@@ -72,6 +72,14 @@ def dead(path: str) -> None:
     pcap(path, sorted(packets))
 
 
+def silent_beside_slow(path: str) -> None:
+    """Link 2 goes down at 9 s, where system 1 sends each second, and system 2 each 30 s."""
+    packets = exchange(Party(1, 7, 1, FAST), Party(2, 8, 1, FAST), range(20))
+    one, other = Party(1, 7, 2, UP), Party(2, 8, 2, FAST)
+    packets += exchange(one, other, [0.1]) + [(second + 0.1, frame(one.source(), lacpdu(one, other))) for second in range(1, 9)]
+    pcap(path, sorted(packets))
+
+
 def late_at_the_end(path: str) -> None:
     """The last LACPDU of system 1 comes behind a gap of 3.3 s, and the capture ends."""
     one, other = Party(1, 7, 1, FAST), Party(2, 8, 1, FAST)

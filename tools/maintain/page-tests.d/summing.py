@@ -89,6 +89,8 @@ def of_ends(tests: Tests, browser: Browser, folder: str) -> None:
     cases: dict[str, tuple[Callable[[str], None], str, list[str], list[str]]] = {
         "an end that sends no more": (made.dead, "1 of 2 links carries. An end sends nothing more.", ["An end sends nothing more"],
                                       [link(2, f"does not carry: {SYSTEM}1 port 2 sends nothing after 19.1 s"), link(1, up)]),
+        "a link that goes down, one end of which sends each 30 s": (made.silent_beside_slow, "1 of 2 links carries. Both ends of a link are silent.", ["Both ends of a link are silent"],
+                                                                    [link(2, f"does not carry: {SYSTEM}1 port 2 sends nothing after 8.1 s"), link(1, up)]),
         "an end whose last LACPDU is late": (made.late_at_the_end, "1 of 1 link carries. No LACPDU for longer than the partner's timeout.", ["No LACPDU for longer than the partner's timeout"], [link(1, up)]),
         "a link that goes down": (made.gone, "1 of 2 links carries. Both ends of a link send nothing more.", ["Both ends of a link send nothing more"],
                                   [link(2, "does not carry: nothing is sent on it after 19.1 s"), link(1, up)]),

@@ -115,6 +115,7 @@ def of_hashes(tests: Tests) -> None:
         "xmit_hash_policy layer2": (bond, machine),
         "xmit_hash_policy layer3+4": (bond.replace("layer2 (0)", "layer3+4 (1)"), connection),
         "tx_hash eth, ipv4, ipv6": (f"{read(os.path.join(STATUS, 'healthy-teamd.json'))}\n{config}\n", machine),
+        "hash layer2+3": (read(os.path.join(STATUS, "healthy-lagd.txt")).replace("\n\n", "\n  carry: lag0, carrier on, hash layer2+3, flight 10 ms, the kernel\n\n", 1), machine),
         "bond_mode balance-tcp": (backup.replace("bond_mode: active-backup", "bond_mode: balance-tcp"), connection),
     }
     for name, (text, meaning) in cases.items():
