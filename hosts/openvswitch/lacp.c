@@ -736,6 +736,7 @@ show(struct unixctl_conn *conn, int argc, const char *argv[], void *put_)
 void
 lacp_init(void)
 {
+    VLOG_INFO("LACP by liblag (%s).", lag_library());
     unixctl_command_register("lacp/show", "[port]", 0, 1, show, put_lacp);
     unixctl_command_register("lacp/show-stats", "[port]", 0, 1, show, put_lacp_stats);
 }

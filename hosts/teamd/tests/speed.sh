@@ -1,6 +1,6 @@
 # Three daemons over the team driver in turns, $ROUNDS times, beside a bond of the kernel at the far end: teamd as it is, teamd with the library,
 # and lagd with plane=team. Each cell is a line "cell: WAY | ROW | VALUE".
-OURS=$T N=1 AFTER=8
+OURS=$T N=1
 export LD_LIBRARY_PATH=/mnt/lib
 bond
 cat >/run/lagd.conf <<'C'
