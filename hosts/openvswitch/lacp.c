@@ -336,6 +336,7 @@ lacp_create(void)
 {
     struct lacp *lacp = xzalloc(sizeof *lacp);
 
+    VLOG_INFO_ONCE("LACP by liblag (%s).", lag_library());
     hmap_init(&lacp->members);
     ovs_refcount_init(&lacp->ref_cnt);
     lock();
@@ -736,7 +737,6 @@ show(struct unixctl_conn *conn, int argc, const char *argv[], void *put_)
 void
 lacp_init(void)
 {
-    VLOG_INFO("LACP by liblag (%s).", lag_library());
     unixctl_command_register("lacp/show", "[port]", 0, 1, show, put_lacp);
     unixctl_command_register("lacp/show-stats", "[port]", 0, 1, show, put_lacp_stats);
 }

@@ -109,7 +109,7 @@ def stamp(name: str, source: Source, linked: list[str], version: str = "") -> st
     """What a build is made of, in a word: the sources, the archives, our files, the tool, and the words of the environment; of packages, which have the page of
     the host, with their version."""
     of = hashlib.sha256(repr([source.version, version, *(os.environ.get(it) for it in ("CFLAGS", "CC"))]).encode())
-    places = *(f"{HOSTS}/{name}/*.{it}" for it in ("c", "h", "patch", *(["md"] if version else []))), f"{HOSTS}/{name}/tests/*.at", f"{HOSTS}/{name}/tests/*.sed", f"{SHARED}/*.h", f"{os.path.dirname(__file__)}/*.py", HEADER, *linked
+    places = *(f"{HOSTS}/{name}/*.{it}" for it in ("c", "h", "patch", *(["md"] if version else []))), f"{HOSTS}/{name}/tests/*.at", f"{HOSTS}/{name}/tests/*.sed", f"{SHARED}/*.h", *(f"{os.path.dirname(__file__)}/{it}.py" for it in ("building", "fetched", name)), HEADER, *linked
     for path in sorted(it for place in places for it in glob.glob(place) if os.path.isfile(it)):
         with open(path, "rb") as it:
             of.update(path.encode() + it.read())

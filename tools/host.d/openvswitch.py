@@ -80,7 +80,7 @@ def pack(_: Sources, order: Order) -> list[str]:
         now = time.strftime("%a, %d %b %Y %H:%M:%S +0000", time.gmtime())
         it.seek(0)
         it.write(f"openvswitch ({order.version}) unstable; urgency=medium\n\n  * LACP of Niwhopera, over {library_of(order.archives[0])}.\n\n -- Niwhopera maintainers <niwhopera@localhost>  {now}\n\n{earlier}")
-    environment = {"EXTRA_CONFIGURE_OPTS": f"{OPTIONS} LIBS={order.archives[0]}", "DEB_BUILD_OPTIONS": f"nocheck nodoc parallel={order.jobs}", "DH_OPTIONS": " ".join(f"-p{it}" for it in PACKAGES)}
+    environment = {"EXTRA_CONFIGURE_OPTS": f"{OPTIONS} LIBS={order.archives[0]}", "DEB_BUILD_OPTIONS": f"nocheck nodoc noautodbgsym parallel={order.jobs}", "DH_OPTIONS": " ".join(f"-p{it}" for it in PACKAGES)}
     done(["dpkg-buildpackage", "-b", "-d", "-us", "-uc"], tree, log, **environment)
     found = [it for name in PACKAGES for it in glob.glob(f"{folder}/{name}_*.deb")]
     if len(found) != len(PACKAGES):

@@ -18,8 +18,8 @@ from switches import words_of
 
 TESTS = os.path.join(HOSTS, "teamd", "tests")
 # How long a guest may take, in seconds.
-LONGEST = {"conform": 2400, "speed": 3600}
-USUAL = 1200
+LONGEST = {"conform": 2400, "speed": 5400, "many": 3600}
+USUAL, UNDER_VALGRIND = 1200, 3600
 NAMES = "restarts", "changes", "files"
 # Those that --beside runs with teamd as it is, too.
 BESIDE = "restarts", "network-manager"
@@ -33,6 +33,8 @@ MANAGER = ("network-manager", "libnm0", "libndp0", "libteamdctl0", "libmm-glib0"
 VALGRIND = """#!/bin/sh
 exec env LD_PRELOAD=/mnt/kept.so valgrind --log-file=/run/valgrind.%p --leak-check=full --show-leak-kinds=definite /mnt/teamd-for-valgrind "$@"
 """
+# How many times as slow it is, for the scripts.
+SLOW = "SLOW=6"
 # The files and functions of this project, in a stack.
 OURS = re.compile(r"teamd_runner_lacp\.c|lacp_(team|groups|file|config|values)\.h|lag_(end|state)\.h|lagffi_|niw_")
 
@@ -74,7 +76,7 @@ def guest(built: Built, script: str, program: str, name: str, *more: str) -> str
     said += [f"SCRIPT={script}", f"TEAMD={name}", f"PLACE={folder}", f"TESTS={TESTS}", f"PROJECT={TOP}", *more]
     run = subprocess.Popen([linux, *said], stdin=subprocess.DEVNULL, stdout=subprocess.PIPE, stderr=subprocess.DEVNULL, start_new_session=True)
     try:
-        told, _ = run.communicate(timeout=LONGEST.get(script, USUAL))
+        told, _ = run.communicate(timeout=UNDER_VALGRIND if SLOW in more else LONGEST.get(script, USUAL))
     except subprocess.TimeoutExpired as why:
         raise Failed(f"{script}: the guest ends in time", (why.stdout or b"").decode(errors="replace")[-1500:]) from why
     finally:
@@ -148,7 +150,7 @@ def valgrind(built: Built) -> None:
         it.write(VALGRIND)
     os.chmod(wrapper, 0o755)
     for script in NAMES:
-        told = guest(built, script, wrapper, "valgrind-teamd", "SLOW=6")
+        told = guest(built, script, wrapper, "valgrind-teamd", SLOW)
         print(f"{script} under valgrind: {len(re.findall('^passed: ', told, re.M))} checks passed; not passed, and not counted:", *re.findall("^FAILED: (.*)$", told, re.M), sep="\n  ")
         found = findings(told)
         print(f"valgrind finds, by {len(set(re.findall(r'^valgrind: ==([0-9]+)==', told, re.M)))} processes:", *(f"{found.count(it)} times {it}" for it in sorted(set(found))), sep="\n  ")
