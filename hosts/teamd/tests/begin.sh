@@ -57,10 +57,10 @@ trip() { # NAME SECONDS COMMAND..
     ip netns exec far /mnt/flows receive bond0 16 $((seconds + ${AFTER:-10})) >/run/to.received 2>&1 & a=$!
     /mnt/flows receive team0 16 $((seconds + ${AFTER:-10})) >/run/from.received 2>&1 & b=$!
     for _ in $(seq 50); do [ "$(packet_sockets)" -gt "$here" ] && [ "$(packet_sockets far)" -gt "$there" ] && break; sleep 0.1; done
-    ip netns exec far /mnt/flows send bond0 ${RATE:-250} 16 $seconds ports >/run/from.sent 2>&1 & c=$!
-    /mnt/flows send team0 ${RATE:-250} 16 $seconds ports >/run/to.sent 2>&1 & d=$!
+    { ip netns exec far /mnt/flows send bond0 ${RATE:-250} 16 $seconds ports >/run/from.sent 2>&1; date +%s%N >/run/from.ended; } & c=$!
+    { /mnt/flows send team0 ${RATE:-250} 16 $seconds ports >/run/to.sent 2>&1; date +%s%N >/run/to.ended; } & d=$!
     sleep 2; AWAY=$(date +%s%N); eval "$*" >/run/trip.out 2>&1; AWAY=$((($(date +%s%N) - AWAY) / 1000000))
-    wait $c $d; SPARE=$(((SPARE - $(date +%s%N)) / 1000000 + 1000 * (seconds + ${AFTER:-10})))
+    wait $c $d; SPARE=$(((SPARE - $(cat /run/from.ended /run/to.ended | sort -n | tail -1)) / 1000000 + 1000 * (seconds + ${AFTER:-10})))
     kill $e; wait $a $b $e; LATE=$(cat /run/late)
     LOST=$(for w in to from; do
         sent=$(sed 's/.*"sent":\([0-9]*\).*/\1/' /run/$w.sent) got=$(sed 's/.*"received":\([0-9]*\).*/\1/' /run/$w.received)
