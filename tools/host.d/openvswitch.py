@@ -42,7 +42,7 @@ def build(source: Source, archives: list[str], folder: str, jobs: int) -> str:
         add_tests(tree)
     flags = os.environ.get("CFLAGS", "-O2 -g")
     done(["autoreconf", "-f", "-i"], tree, log)
-    done(["./configure", "--prefix=/usr", "--sysconfdir=/etc", "--localstatedir=/var", *OPTIONS.split(), f"CFLAGS={flags}", f"LIBS={' '.join(archives)}"], tree, log)
+    done(["./configure", "--prefix=/usr", "--sysconfdir=/etc", "--localstatedir=/var", *OPTIONS.split(), "SPHINXBUILD=none", f"CFLAGS={flags}", f"LIBS={' '.join(archives)}"], tree, log)
     done(["make", f"-j{jobs}"], tree, log)
     return tree
 
