@@ -336,6 +336,7 @@ lacp_create(void)
 {
     struct lacp *lacp = xzalloc(sizeof *lacp);
 
+    VLOG_INFO_ONCE("LACP by liblag (%s).", lag_library());
     hmap_init(&lacp->members);
     ovs_refcount_init(&lacp->ref_cnt);
     lock();

@@ -18,6 +18,16 @@
 /* The most responses to markers that a port sends in a second. */
 #define LAG_RESPONSES 10
 
+/* The library of c/lag.c has this text, the native one has not. */
+extern const char niw_lag_c[] __attribute__((weak));
+
+/* Which of the two this program runs. */
+static inline const char *
+lag_library(void)
+{
+    return niw_lag_c ? niw_lag_c : "native " NIW_VERSION_TEXT;
+}
+
 struct lag_end {
     struct niw_system system;
     int64_t ticked;       /* When the last tick was due, in ms of the caller's clock, which is not set back. */

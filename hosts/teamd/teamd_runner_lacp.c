@@ -623,6 +623,7 @@ static int lacp_init(struct teamd_context *ctx, void *priv)
 		teamd_log_err("Unsupported device type.");
 		return -EINVAL;
 	}
+	teamd_log_info("LACP by liblag (%s).", lag_library());
 	lacp->ctx = ctx;
 	if ((err = teamd_hash_func_set(ctx)) || (err = load_config(ctx, lacp)) || (err = take_over(lacp)) ||
 	    (err = teamd_event_watch_register(ctx, &watch, lacp)))

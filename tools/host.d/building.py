@@ -11,7 +11,7 @@ import subprocess
 from typing import Callable, NamedTuple
 
 from fetched import Source, Sources
-from library import HEADER, PORTABLE, archive, one_object, portable, proved
+from library import HEADER, PORTABLE, PORTABLE_SHOWS, archive, one_object, portable, proved
 from repository import TOP, Missing, say, want
 
 HOSTS = os.path.join(TOP, "hosts")
@@ -55,8 +55,14 @@ def archives(folder: str) -> list[str]:
     if of_c and os.path.exists(made) and os.path.getmtime(made) > max(os.path.getmtime(it) for it in (PORTABLE, HEADER)):
         return [made]
     os.makedirs(folder, exist_ok=True)
-    say(f"with the {os.path.basename(folder)} library")
     return [archive(folder, portable(folder) if of_c else one_object(folder, proved(folder)))]
+
+
+def library_of(archive: str) -> str:
+    """Which of the two libraries an archive has: that of c/lag.c shows a name that says so."""
+    with open(archive, "rb") as it:
+        translated = PORTABLE_SHOWS.encode() in it.read()
+    return "liblag of c/lag.c (C, translated from the proved sources; the translation is tested)" if translated else "the native liblag (compiled by rattle from the proved sources)"
 
 
 def need(packages: str) -> None:
@@ -83,6 +89,13 @@ def done(words: list[str], cwd: str, log: str, **environment: str) -> None:
         raise Missing("\n  ".join([f"{' '.join(words)[:120]} failed; all of it: {log}", *last]))
 
 
+def begins(log: str) -> None:
+    """Says where the words of a build stand, which takes minutes; those of an earlier one go."""
+    if os.path.exists(log):
+        os.remove(log)
+    say(f"builds for some minutes; what that prints is in {log}")
+
+
 def exchange(ours: str, theirs: str) -> None:
     """Puts a file of ours in the place of one of the host, with the headers that it includes beside it."""
     if not os.path.exists(theirs):
@@ -92,10 +105,11 @@ def exchange(ours: str, theirs: str) -> None:
         shutil.copy(header, os.path.dirname(theirs))
 
 
-def stamp(name: str, source: Source, linked: list[str]) -> str:
-    """What a build is made of, in a word: the sources, the archives, our files, the tool, and the words of the environment."""
-    of = hashlib.sha256(repr([source.version, *(os.environ.get(it) for it in ("CFLAGS", "CC"))]).encode())
-    places = f"{HOSTS}/{name}/*", f"{HOSTS}/{name}/tests/*.at", f"{HOSTS}/{name}/tests/*.sed", f"{SHARED}/*.h", f"{os.path.dirname(__file__)}/*.py", HEADER, *linked
+def stamp(name: str, source: Source, linked: list[str], version: str = "") -> str:
+    """What a build is made of, in a word: the sources, the archives, our files, the tool, and the words of the environment; of packages, which have the page of
+    the host, with their version."""
+    of = hashlib.sha256(repr([source.version, version, *(os.environ.get(it) for it in ("CFLAGS", "CC"))]).encode())
+    places = *(f"{HOSTS}/{name}/*.{it}" for it in ("c", "h", "patch", *(["md"] if version else []))), f"{HOSTS}/{name}/tests/*.at", f"{HOSTS}/{name}/tests/*.sed", f"{SHARED}/*.h", *(f"{os.path.dirname(__file__)}/{it}.py" for it in ("building", "fetched", name)), HEADER, *linked
     for path in sorted(it for place in places for it in glob.glob(place) if os.path.isfile(it)):
         with open(path, "rb") as it:
             of.update(path.encode() + it.read())

@@ -8,7 +8,7 @@ import re
 import shutil
 import time
 
-from building import HOSTS, Host, Order, before, done, exchange
+from building import HOSTS, Host, Order, before, begins, done, exchange, library_of
 from fetched import Source, Sources, unpacked
 from repository import Missing
 
@@ -28,8 +28,7 @@ def wanted(source: Source) -> str:
 def tree_of(source: Source, archives: list[str], folder: str, log: str) -> str:
     """The sources, with our file in them where there are archives to link."""
     tree = unpacked(source, folder, True)
-    if os.path.exists(log):
-        os.remove(log)
+    begins(log)
     if archives:
         exchange(os.path.join(HOSTS, "openvswitch", "lacp.c"), f"{tree}/lib/lacp.c")
     return tree
@@ -43,7 +42,7 @@ def build(source: Source, archives: list[str], folder: str, jobs: int) -> str:
         add_tests(tree)
     flags = os.environ.get("CFLAGS", "-O2 -g")
     done(["autoreconf", "-f", "-i"], tree, log)
-    done(["./configure", "--prefix=/usr", "--sysconfdir=/etc", "--localstatedir=/var", *OPTIONS.split(), f"CFLAGS={flags}", f"LIBS={' '.join(archives)}"], tree, log)
+    done(["./configure", "--prefix=/usr", "--sysconfdir=/etc", "--localstatedir=/var", *OPTIONS.split(), "SPHINXBUILD=none", f"CFLAGS={flags}", f"LIBS={' '.join(archives)}"], tree, log)
     done(["make", f"-j{jobs}"], tree, log)
     return tree
 
@@ -80,8 +79,8 @@ def pack(_: Sources, order: Order) -> list[str]:
         earlier = it.read()
         now = time.strftime("%a, %d %b %Y %H:%M:%S +0000", time.gmtime())
         it.seek(0)
-        it.write(f"openvswitch ({order.version}) unstable; urgency=medium\n\n  * LACP over liblag, the library of Niwhopera.\n\n -- Niwhopera maintainers <niwhopera@localhost>  {now}\n\n{earlier}")
-    environment = {"EXTRA_CONFIGURE_OPTS": f"{OPTIONS} LIBS={order.archives[0]}", "DEB_BUILD_OPTIONS": f"nocheck nodoc parallel={order.jobs}", "DH_OPTIONS": " ".join(f"-p{it}" for it in PACKAGES)}
+        it.write(f"openvswitch ({order.version}) unstable; urgency=medium\n\n  * LACP of Niwhopera, over {library_of(order.archives[0])}.\n\n -- Niwhopera maintainers <niwhopera@localhost>  {now}\n\n{earlier}")
+    environment = {"EXTRA_CONFIGURE_OPTS": f"{OPTIONS} LIBS={order.archives[0]}", "DEB_BUILD_OPTIONS": f"nocheck nodoc noautodbgsym parallel={order.jobs}", "DH_OPTIONS": " ".join(f"-p{it}" for it in PACKAGES)}
     done(["dpkg-buildpackage", "-b", "-d", "-us", "-uc"], tree, log, **environment)
     found = [it for name in PACKAGES for it in glob.glob(f"{folder}/{name}_*.deb")]
     if len(found) != len(PACKAGES):

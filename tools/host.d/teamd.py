@@ -7,7 +7,7 @@ import re
 import shutil
 import subprocess
 
-from building import HOSTS, Host, Order, before, done, exchange
+from building import HOSTS, Host, Order, before, begins, done, exchange, library_of
 from fetched import Source, Sources, unpacked
 from repository import Missing
 
@@ -18,8 +18,7 @@ FLAGS = "-O2 -g -fstack-protector-strong -D_FORTIFY_SOURCE=2 -fPIE"
 
 def build(source: Source, archives: list[str], folder: str, jobs: int) -> str:
     tree, log = unpacked(source, folder, False), f"{folder}.log"
-    if os.path.exists(log):
-        os.remove(log)
+    begins(log)
     if archives:
         exchange(os.path.join(HOSTS, "teamd", "teamd_runner_lacp.c"), f"{tree}/teamd/teamd_runner_lacp.c")
         done(["patch", "-p1", "-i", os.path.join(HOSTS, "teamd", "leave-ports.patch")], tree, log)
@@ -30,17 +29,17 @@ def build(source: Source, archives: list[str], folder: str, jobs: int) -> str:
     return tree
 
 
-def control_of(tree: str, source: Source, version: str) -> None:
+def control_of(tree: str, order: Order) -> None:
     """Gives the package its version, and says what it has; stops the tool where it is of other sources."""
     path = f"{tree}/DEBIAN/control"
     with open(path, encoding="utf-8") as it:
         control = it.read()
     packed = re.search(r"^Version: (.*)$", control, re.M)
-    if not packed or packed.group(1).split("+niw")[0] != source.version:
-        raise Missing(f"the {PACKAGE} that apt has is not of the sources {source.version}: --version names others")
-    control = re.sub(r"^Version: .*$", f"Version: {version}", control, flags=re.M)
+    if not packed or packed.group(1).split("+niw")[0] != order.source.version:
+        raise Missing(f"the {PACKAGE} that apt has is not of the sources {order.source.version}: --version names others")
+    control = re.sub(r"^Version: .*$", f"Version: {order.version}", control, flags=re.M)
     with open(path, "w", encoding="utf-8") as out:
-        out.write(control.rstrip("\n") + "\n .\n The lacp runner of this build is that of Niwhopera.\n")
+        out.write(control.rstrip("\n") + f"\n .\n The lacp runner of this build is that of Niwhopera, over {library_of(order.archives[0])}.\n")
 
 
 def pack(sources: Sources, order: Order) -> list[str]:
@@ -48,11 +47,11 @@ def pack(sources: Sources, order: Order) -> list[str]:
     given = sources.package(PACKAGE)
     if not given:
         raise Missing(f"apt has no package {PACKAGE}, of which all but teamd is taken")
-    built = build(order.source, order.archives, order.folder, order.jobs)
+    built = build(order.source, order.archives, f"{order.folder}.packages", order.jobs)
     tree, log = f"{built}.package", f"{built}.log"
     shutil.rmtree(tree, ignore_errors=True)
     done(["dpkg-deb", "-R", given, tree], "/", log)
-    control_of(tree, order.source, order.version)
+    control_of(tree, order)
     done(["strip", "-o", f"{tree}/{PROGRAM}", f"{built}/teamd/.libs/teamd"], "/", log)
     shutil.copy(os.path.join(HOSTS, "teamd", "README.md"), f"{tree}/usr/share/doc/{PACKAGE}/README.Niwhopera.md")
     files = sorted(os.path.relpath(os.path.join(at, name), tree) for at, _, names in os.walk(tree) for name in names if not os.path.islink(os.path.join(at, name)))

@@ -21,7 +21,7 @@ FAST=false; begin '"sys_prio":7'; FAST=true; until_state "$BOTH" 10; is "sys_pri
 for p in lacp_prio lacp_prio_stable bandwidth count port_config; do begin "\"agg_select_policy\":\"$p\"" '"eth1":{"prio":1,"sticky":true},"eth2":{"prio":2}'; until_state "$BOTH" 10; is "agg_select_policy $p" "$BOTH $p" "$(state) $(item runner.select_policy)"; end; done
 $T -d -r -t team0 -c "$(config '"agg_select_policy":"nosuch"')" 2>/dev/null; is "a policy that does not exist is refused" 1 $?
 $T -d -r -t team0 -c "$(config '"sys_prio":65536')" 2>/dev/null; is "a sys_prio of 65536 is refused" 1 $?
-begin '' '"eth1":{"link_watch":{"name":"ethtool","delay_up":3000}},"eth2":{}'; sleep 2.5; is "delay_up is waited for" disabled "$(item ports.eth1.runner.state)"; until_state "$BOTH" 12; is "and then the port carries" "$BOTH" "$(state)"; end
+begin_timing; begin '' '"eth1":{"link_watch":{"name":"ethtool","delay_up":3000}},"eth2":{}'; sleep 1; is_in_time "delay_up is waited for" 3000 disabled "$(item ports.eth1.runner.state)"; until_state "$BOTH" 12; is "and then the port carries" "$BOTH" "$(state)"; end
 k=0; for i in 70001 65537 65538; do k=$((k + 1)); ip link add w$k index $i type veth peer name farw$k netns far; ip -n far link set farw$k master bond0; done
 begin '' '"eth1":{},"w1":{},"w2":{},"w3":{}'; for _ in $(seq $((200 * ${SLOW:-1}))); do [ "$(item ports.w3.runner.actor_lacpdu_info.port)" -gt 0 ] && break; sleep 0.1; done 2>/dev/null
 ports() { for p in w1 w2 w3; do printf '%s ' "$(item ports.$p.runner.actor_lacpdu_info.port)"; done; }

@@ -4,7 +4,7 @@ anew() { # NAME, more of the runner: no port goes on, and both come up
     take_aloud "$2"; is "$1: no port is taken over" "" "$(grep 'taken over' /run/log)"
     until_state "$BOTH" 12; is "$1: both negotiate, and carry" "$BOTH" "$(state)"; sleep 0.5
 }
-kill_it; cp $F /run/x; take_aloud; is "the file as it is: both go on" "$BOTH, 2" "$(state), $(grep -c 'taken over' /run/log)"
+begin_timing; kill_it; cp $F /run/x; take_aloud; is_in_time "the file as it is: both go on" 2000 "$BOTH, 2" "$(state), $(grep -c 'taken over' /run/log)"
 kill_it; head -c 500 $F >/run/x; cat /run/x >$F; anew "cut"
 kill_it; head -c 3000 /dev/urandom >$F; anew "random octets"
 kill_it; sed -i '1s/1$/2/' $F; anew "another version"
@@ -18,7 +18,7 @@ kill_it; awk '$1 == "port" {$11 = 99} {print}' $F >/run/x; cat /run/x >$F; anew 
 kill_it; sed -i 's/\(0180c2000002[0-9a-f]\{68\}\)../\1ff/' $F; anew "other octets"
 kill_it; anew "another sys_prio" '"sys_prio":7'
 kill_it; anew "and back"
-kill_it; ip link set eth1 down; ip link set eth1 up; take_aloud; is "a link that went down meanwhile begins, and the other one goes on" "eth2 current true, carrier 1" "$(state eth2)"
+begin_timing; kill_it; ip link set eth1 down; ip link set eth1 up; take_aloud; is_in_time "a link that went down meanwhile begins, and the other one goes on" 2000 "eth2 current true, carrier 1" "$(state eth2)"
 until_state "$BOTH" 12; is "both carry" "$BOTH" "$(state)"
 kill_it; ln -sf /run/target $F.new; take; sleep 2; is "a link in the place of the new file is not followed" "no 600" "$([ -e /run/target ] && echo yes || echo no) $(stat -c %a $F)"
 end; is "no file is left" "" "$(ls /run/teamd)"

@@ -1,6 +1,6 @@
 # Three daemons over the team driver in turns, $ROUNDS times, beside a bond of the kernel at the far end: teamd as it is, teamd with the library,
 # and lagd with plane=team. Each cell is a line "cell: WAY | ROW | VALUE".
-OURS=$T N=1 AFTER=8
+OURS=$T N=1
 export LD_LIBRARY_PATH=/mnt/lib
 bond
 cat >/run/lagd.conf <<'C'
@@ -37,7 +37,7 @@ anew() {
     [ $ended = 0 ] && TOOK=$((($(now) - from) / 100000000)) || TOOK=never
 }
 ready() { if within "$1"; then cell "$2: carries within $1 s" yes; else cell "$2: carries within $1 s" no; anew; fi; sleep 2; }
-of_trip() { cell "$1: frames lost to / from the peer, of 1,500" "${LOST% *} / ${LOST#* }"; cell "$1: longest gap of a flow, ms (the machine was late by)" "$GAP ($LATE)"; }
+of_trip() { cell "$1: frames lost to / from the peer, of 1,500 (the command took so many ms)" "${LOST% *} / ${LOST#* } ($AWAY)"; cell "$1: longest gap of a flow, ms (the machine was late by)" "$GAP ($LATE)"; }
 busy() { awk '{print $1}' /proc/$1/schedstat; }
 streams() { /mnt/iperf3 -c 192.0.2.2 -t 3 -P $1 -J 2>/dev/null | tr -d ' \t\n' | sed -n 's/.*"sum_received":{[^}]*"bits_per_second":\([0-9]*\).*/\1/p' | awk '{printf "%.0f", $1 / 1e6}'; }
 ip netns exec far /mnt/iperf3 -s >/dev/null 2>&1 &

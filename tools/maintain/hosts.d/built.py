@@ -4,13 +4,16 @@ from __future__ import annotations
 
 import glob
 import os
+import pathlib
 import subprocess
+import time
 
 from building import archives
 from checking import Failed
 from fetched import Sources
 from repository import COMPILER, MAINTAIN, TOOLS, TOP
 
+DAY = 24 * 3600
 HOSTS = os.path.join(TOP, "hosts")
 UNDEFINED = "-O1 -g -fno-omit-frame-pointer -fsanitize=undefined -fno-sanitize-recover=undefined"
 
@@ -61,14 +64,18 @@ class Built:
             raise Failed(f"{COMPILER[0]} {' '.join(words)[:100]}", ended.stderr[-1500:])
 
     def unpacked(self, *names: str) -> str:
-        """The folder in which packages of the machine are unpacked."""
+        """The folder in which packages of the machine are unpacked; they are fetched anew after a day."""
         place = f"{self.sources.cache}/unpacked/{names[0]}"
+        done = pathlib.Path(f"{place}.done")
+        if done.exists() and done.read_text(encoding="utf-8") == " ".join(names) and time.time() - done.stat().st_mtime < DAY:
+            return place
         os.makedirs(place, exist_ok=True)
         for name in names:
             package = self.sources.package(name)
             if not package:
                 raise Failed(f"apt has the package {name}")
             subprocess.run(["dpkg-deb", "-x", package, place], check=True)
+        done.write_text(" ".join(names), encoding="utf-8")
         return place
 
     def found(self, pattern: str) -> str:

@@ -6,6 +6,7 @@ import os
 import re
 import subprocess
 
+from building import library_of
 from built import Built
 from checking import Failed, check
 
@@ -24,8 +25,8 @@ READS = {"openvswitch": ("base ovs-vsctl --no-wait get port bond0 lacp", "active
 STEPS = """export DEBIAN_FRONTEND=noninteractive; sums() {{ md5sum {program} | cut -d' ' -f1; for p in {names}; do dpkg-query -W -f '${{Version}} ' $p; dpkg -V $p | grep -v '^??5?????? c ' || true; done; echo; }}
 install() {{ apt-get install -y --no-install-recommends "$@" >/run/log 2>&1 || tail -5 /run/log; }}
 base() {{ unshare -n sh -c 'C=/usr/share/openvswitch/scripts/ovs-ctl; $C --no-ovs-vswitchd --system-id=random start >/run/base 2>&1 || tail -3 /run/base; "$@"; $C stop >>/run/base 2>&1' sh "$@"; }}
-install {names}; echo "before $(sums)"; install /packages/*.deb; echo "new $(sums)"; {program} --version 2>&1 | head -1; {writes}
-install --reinstall --allow-downgrades {old}; echo "back $(sums)"; echo "old: $({reads})"
+install {names}; echo "before $(sums | paste -s -d" ")"; install /packages/*.deb; echo "new $(sums | paste -s -d" ")"; {program} --version 2>&1 | head -1; grep -a -q 'lag[.]c [0-9]' {program}; echo "library $?"; {writes}
+install --reinstall --allow-downgrades {old}; echo "back $(sums | paste -s -d" ")"; echo "old: $({reads})"
 """
 
 
@@ -41,8 +42,9 @@ def there_and_back(built: Built) -> None:
         reads, wanted = READS.get(name, ("true", ""))
         steps = STEPS.format(program=program, names=names, old=old.group(1), writes=WRITES.get(name, "true"), reads=reads)
         ended = subprocess.run(["unshare", "-m", "sh", "-c", OVERLAY, "sh", place, out, steps], capture_output=True, text=True)
-        said = dict(re.findall(r"^(before|new|back) (.*(?:\n[^bno].*)*?)$", ended.stdout, re.M))
+        said = dict(re.findall(r"^(before|new|back) (.*)$", ended.stdout, re.M))
         print(ended.stdout.strip())
         check(said.get("new") and "+niw" in said["new"] and said.get("new") != said.get("before"), f"{name}: the packages are installed", ended.stdout[-1200:], ended.stderr[-600:])
+        check(f"library {int('c/lag.c' not in library_of(built.archives()[0]))}\n" in ended.stdout, f"{name}: the program has the library that tools/host names", ended.stdout[-1200:])
         check(said.get("before") and said.get("before") == said.get("back"), f"{name}: those of before come back", ended.stdout[-1200:])
         check(f"old: {wanted}\n" in ended.stdout, f"{name}: they know what was written meanwhile", ended.stdout[-1200:], ended.stderr[-600:])

@@ -1,4 +1,4 @@
-"""teamd as it is, teamd with the library, and lagd with plane=team, measured in turns in one guest."""
+"""teamd as it is, teamd with the library, and lagd with plane=team, measured in turns in one guest; and what many idle teamds cost."""
 
 from __future__ import annotations
 
@@ -32,6 +32,25 @@ def table(told: str) -> dict[str, dict[str, list[str]]]:
     return rows
 
 
+def printed(rows: dict[str, dict[str, list[str]]], ways: dict[str, str]) -> None:
+    """The table of the rows, and the load."""
+    print("|all rounds|" + "|".join(ways.values()) + "|\n|---|" + "---|" * len(ways))
+    for row, cells in rows.items():
+        print(f"|{row}|" + "|".join(", ".join(cells.get(way, ["-"])) for way in ways) + "|")
+    print(f"the load of the machine in the last 1, 5 and 15 minutes: {' '.join(f'{it:.0f}' for it in os.getloadavg())}")
+
+
+def many(built: Built) -> None:
+    """1, 8 and 32 idle teamds beside each other."""
+    shutil.copy(program(built, True), f"{place(built)}/own")
+    told = guest(built, "many", program(built), "teamd", "ROUNDS=2")
+    rows = table(told)
+    printed(rows, {way: WAYS[way] for way in ("own", "library")})
+    carry = [it for row, cells in rows.items() if row.endswith("all carry") for it in cells.get("library", [])]
+    check(len(carry) == 6 and set(carry) == {"yes"}, "1, 8 and 32 teamds with the library carry, in two rounds", told[-1500:])
+    check(ended(told), "many: the guest comes to its end", told[-800:])
+
+
 def speed(built: Built) -> None:
     folder = place(built)
     shutil.copy(program(built, True), f"{folder}/own")
@@ -42,10 +61,7 @@ def speed(built: Built) -> None:
         shutil.copy(built.found(f"{iperf3}/**/{name}"), f"{folder}/lib/{name}")
     told = guest(built, "speed", program(built), "teamd", f"ROUNDS={ROUNDS}")
     rows = table(told)
-    print("|all rounds|" + "|".join(WAYS.values()) + "|\n|---|" + "---|" * len(WAYS))
-    for row, cells in rows.items():
-        print(f"|{row}|" + "|".join(", ".join(cells.get(way, ["-"])) for way in WAYS) + "|")
-    print(f"the load of the machine in the last 1, 5 and 15 minutes: {' '.join(f'{it:.0f}' for it in os.getloadavg())}")
+    printed(rows, WAYS)
     began = rows.get("from the start until both carry, s", {})
     check(all(len(began.get(way, [])) >= ROUNDS for way in WAYS), f"{ROUNDS} rounds of three daemons are measured", told[-1500:])
     check(ended(told), "speed: the guest comes to its end", told[-800:])

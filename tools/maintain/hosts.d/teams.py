@@ -2,9 +2,12 @@
 
 from __future__ import annotations
 
+import contextlib
+import glob
 import os
 import re
 import shutil
+import signal
 import subprocess
 from typing import Callable
 
@@ -15,11 +18,13 @@ from switches import words_of
 
 TESTS = os.path.join(HOSTS, "teamd", "tests")
 # How long a guest may take, in seconds.
-LONGEST = {"conform": 2400, "speed": 3600}
-USUAL = 1200
+LONGEST = {"conform": 2400, "speed": 5400, "many": 3600}
+USUAL, UNDER_VALGRIND = 1200, 3600
 NAMES = "restarts", "changes", "files"
 # Those that --beside runs with teamd as it is, too.
 BESIDE = "restarts", "network-manager"
+# teamdctl, teamnl and ping, with their libraries.
+UTILS = "libteam-utils", "libteam5", "libteamdctl0", "libdaemon0", "iputils-ping", "libcap2", "libidn2-0"
 # NetworkManager, and of what it wants that which a small Debian has not.
 MANAGER = ("network-manager", "libnm0", "libndp0", "libteamdctl0", "libmm-glib0", "libbluetooth3", "libcurl3-gnutls", "libjansson4", "libpsl5", "libreadline8", "libdaemon0",
            "libapparmor1", "libdbus-1-3", "dbus-bin", "dbus-daemon", "dbus-system-bus-common", "dbus-session-bus-common", "libteam-utils", "libteam5")  # fmt: skip
@@ -28,12 +33,14 @@ MANAGER = ("network-manager", "libnm0", "libndp0", "libteamdctl0", "libmm-glib0"
 VALGRIND = """#!/bin/sh
 exec env LD_PRELOAD=/mnt/kept.so valgrind --log-file=/run/valgrind.%p --leak-check=full --show-leak-kinds=definite /mnt/teamd-for-valgrind "$@"
 """
+# How many times as slow it is, for the scripts.
+SLOW = "SLOW=6"
 # The files and functions of this project, in a stack.
 OURS = re.compile(r"teamd_runner_lacp\.c|lacp_(team|groups|file|config|values)\.h|lag_(end|state)\.h|lagffi_|niw_")
 
 
 def place(built: Built) -> str:
-    """The folder that a guest sees: kmod, its modules, and what tests run."""
+    """The folder that a guest sees: kmod, its modules, teamdctl, teamnl, ping and their libraries, and what tests run."""
     folder = f"{built.folder}/guest"
     if not os.path.exists(folder):
         os.makedirs(f"{folder}/lib")
@@ -43,6 +50,12 @@ def place(built: Built) -> str:
         shutil.copytree(f"{linux}/usr/lib/uml/modules", f"{folder}/modules/lib/modules")
         shutil.copy(built.found(f"{kmod}/**/bin/kmod"), f"{folder}/modprobe")
         shutil.copy(built.found(f"{kmod}/**/libkmod.so.2.*"), f"{folder}/lib/libkmod.so.2")
+        team = built.unpacked(*UTILS)
+        os.makedirs(f"{folder}/bin")
+        for name in "teamdctl", "teamnl", "ping":
+            shutil.copy(built.found(f"{team}/**/bin/{name}"), f"{folder}/bin")
+        for it in [*glob.glob(f"{team}/usr/lib/*/lib*.so.?"), *glob.glob(f"{team}/lib/*/lib*.so.?")]:
+            shutil.copy(it, f"{folder}/lib")
         shutil.copy(built.flows(), folder)
         shutil.copy(built.shared(), folder)
     return folder
@@ -61,11 +74,17 @@ def guest(built: Built, script: str, program: str, name: str, *more: str) -> str
     linux = f"{built.sources.cache}/unpacked/user-mode-linux/usr/bin/linux.uml"
     said = ["mem=1024M", "root=/dev/root", "rootfstype=hostfs", "rootflags=/", "ro", f"init={TESTS}/init", f"uml_dir={own}", "con=null", "con0=null,fd:1", "ssl=null", "panic=-1", "quiet"]
     said += [f"SCRIPT={script}", f"TEAMD={name}", f"PLACE={folder}", f"TESTS={TESTS}", f"PROJECT={TOP}", *more]
+    run = subprocess.Popen([linux, *said], stdin=subprocess.DEVNULL, stdout=subprocess.PIPE, stderr=subprocess.DEVNULL, start_new_session=True)
     try:
-        run = subprocess.run([linux, *said], stdin=subprocess.DEVNULL, stdout=subprocess.PIPE, stderr=subprocess.DEVNULL, timeout=LONGEST.get(script, USUAL))
+        told, _ = run.communicate(timeout=UNDER_VALGRIND if SLOW in more else LONGEST.get(script, USUAL))
     except subprocess.TimeoutExpired as why:
         raise Failed(f"{script}: the guest ends in time", (why.stdout or b"").decode(errors="replace")[-1500:]) from why
-    return run.stdout.decode(errors="replace").replace("\r", "")
+    finally:
+        # Also where this tool is ended meanwhile: each process of a guest is one of this machine.
+        with contextlib.suppress(ProcessLookupError):
+            os.killpg(run.pid, signal.SIGKILL)
+        run.wait()
+    return told.decode(errors="replace").replace("\r", "")
 
 
 def ended(told: str) -> bool:
@@ -99,8 +118,6 @@ def program(built: Built, own: bool = False, **environment: str) -> str:
 def part(script: str) -> Callable[[Built], None]:
     """A part that runs one script."""
     def run_it(built: Built) -> None:
-        if script == "questions" and not shutil.which("teamdctl"):
-            raise Failed("teamdctl is here (Debian: libteam-utils)")
         if built.beside and script in BESIDE:
             print("beside: teamd as it is", *re.findall("^(?:row|passed|FAILED): .*$", guest(built, script, program(built, True), "own"), re.M), sep="\n  ", flush=True)
         judge(script, guest(built, script, program(built), "teamd"))
@@ -133,7 +150,7 @@ def valgrind(built: Built) -> None:
         it.write(VALGRIND)
     os.chmod(wrapper, 0o755)
     for script in NAMES:
-        told = guest(built, script, wrapper, "valgrind-teamd", "SLOW=6")
+        told = guest(built, script, wrapper, "valgrind-teamd", SLOW)
         print(f"{script} under valgrind: {len(re.findall('^passed: ', told, re.M))} checks passed; not passed, and not counted:", *re.findall("^FAILED: (.*)$", told, re.M), sep="\n  ")
         found = findings(told)
         print(f"valgrind finds, by {len(set(re.findall(r'^valgrind: ==([0-9]+)==', told, re.M)))} processes:", *(f"{found.count(it)} times {it}" for it in sorted(set(found))), sep="\n  ")
