@@ -12,7 +12,9 @@ use Rattle.lagprogress.proofs.Climbing.{Down, Ripe, Rising, climbed, down_settle
 use Rattle.lagprogress.proofs.ComingUp.{AreSynced, Climbs, Up, agrees_now, climbs_first, climbs_on, distributes, hosts_kept, up_synced, Agrees}
 use Rattle.lagprogress.proofs.ComingUp.{comes_up, host_turn}
 use Rattle.lagprogress.proofs.Starting.{active_at, awake_at, named_at, Ends, healthy_cable, said_by, starts}
-use Rattle.lagprogress.proofs.EachRound.{EachAt, RoundKeeps, same_index, played_join, host_each, played_on, played_split, played_steady}
+use Rattle.lagprogress.proofs.EachRound.{EachAt, RoundKeeps, same_index, joins_beside, host_each, played_on, played_split, played_steady}
+use Rattle.lagprogress.proofs.Halves.{timely}
+use Rattle.lagprogress.proofs.Quieting.{AllBeside, all_beside, as_beside}
 use Rattle.lagprogress.proofs.EndFacts.{Synced, activity}
 use Rattle.lagprogress.proofs.Linked.{many, at_end, end_here, end_with, EndPort}
 use Rattle.lagprogress.proofs.Knowing.{AtIt, Chain, Met, Signs, knows_peer, met_knows}
@@ -143,10 +145,11 @@ apart_ends old steady differ i l h =
     apart_by e own Two same = differ (sym (own One) ∙ (same ∙ own Two))
 
 -- ends that are up agree
-pub agree_up : (E : Clearing) (gives : Algorithms) (n : ℕ) (old new : WorldState) → IsWorldSound old → PlayedRounds E gives n old new → (i : ℕ)
-    (l : LinkState) (h : IsHealthyAt i l old) → AreSynced (λ s. port_at s l) (said old i l h) new → agreement_at new (suc i) ≡ Some Same
-agree_up E gives n old new sound rounds i l h up = agrees_now (λ s. port_at s l) (said old i l h) new up i
-    (λ x fl c. same_index i x l fl old new h.there (played_join E gives n old new rounds) c)
+pub agree_up : (E : Clearing) (gives : Algorithms) (n i : ℕ) (l : LinkState) (old new : WorldState) → IsWorldSound old
+    → AllBeside (λ s. port_at s l) E gives n old new → (h : IsHealthyAt i l old) → AreSynced (λ s. port_at s l) (said old i l h) new
+    → agreement_at new (suc i) ≡ Some Same
+agree_up E gives n i l old new sound rounds h up = agrees_now (λ s. port_at s l) (said old i l h) new up i
+    (λ x fl c. same_index i x l fl old new h.there (joins_beside E gives (λ s. port_at s l) n old new rounds) c)
     (λ s. hosts_kept E gives n i (λ t. port_at t l) (λ t. towards t l) old new (healthy_cable i l old sound.cabling h) rounds s
     ∙ some_is (history_at (half s old).histories (port_at s l)) (sound.ends s i l h.there))
   where
@@ -214,7 +217,7 @@ module _ (E : Clearing) (signs : (Side → ℕ) → (Side → Lacpdu) → Signs)
         let g = met i l y mid h in
         let e = end_here at w 1 g.known One Nothing mid g.link s in
         let k = played_before E gives first old mid m.steady h s in
-        at_end at w 1 g.known s mid e middle (λ p. is_selected p.choice ≡ true)
+        at_end at w 1 g.known s mid e (timely mid middle) (λ p. is_selected p.choice ≡ true)
         (is_chosen at w g.known s mid middle (m.finds mid h s) (still_links s old mid k (m.links s))
         (systems i l y s) (let known = knows_peer at w (signs at w) 1 0 0 mid g (omega arith) s in omega (arith, known)) e)
 
@@ -224,7 +227,8 @@ module _ (E : Clearing) (signs : (Side → ℕ) → (Side → Lacpdu) → Signs)
         let at : Side → ℕ = λ t. port_at t l in
         let w = said old i l y in
         played_on E gives (Climbs at w (signs at w)) mid (climbs_first at w (signs at w) mid (met i l y mid h) (chosen i l y))
-        (climbs_on at w (signs at w) E gives e (chain at w) (names old m.steady i l y) (awake_by i l y)) 20 top more
+        (λ n a b r. climbs_on at w (signs at w) E gives e (chain at w) (names old m.steady i l y) (awake_by i l y) n a b (as_beside at E gives a b r))
+        20 top more
 
     -- and have risen, as the SELECTED ports have whose links are down
     ripe : (s : Side) → AllByRecursion (λ (y : SystemPort). Ripe 0 y.port) (half s top).state.system_ports
@@ -265,7 +269,7 @@ module _ (E : Clearing) (signs : (Side → ℕ) → (Side → Lacpdu) → Signs)
         let w = said old i l y in
         let g = (climb i l y).fresh in
         let e = end_here at w 1 g.known One Nothing top g.link s in
-        at_end at w 1 g.known s top e above Synced
+        at_end at w 1 g.known s top e (timely top above) Synced
         (climbed (half s top).state e.index e.port (above s).0 e.there (ripe s) (end_with at w 1 g.known s top e (Rising 0) a))
 
   -- so in so many rounds more both ends come to agree
@@ -285,8 +289,8 @@ module _ (E : Clearing) (signs : (Side → ℕ) → (Side → Lacpdu) → Signs)
         n - first - 20 - e,
         omega (arith, enough),
         comes_up at w (signs at w) E gives e (chain at w) named (awake_by i l y) (n - first - 20 - e) cut.0 up.0 next.0 new (met i l y cut.0 cut.1)
-            (chosen e chain cut.0 up.0 cut.1 up.1 i l y) (ready e chain cut.0 up.0 cut.1 up.1 i l y) up.1
-            (turn at w named (awake_by i l y) up.0 next.0 next.1) next.2,
+            (chosen e chain cut.0 up.0 cut.1 up.1 i l y) (ready e chain cut.0 up.0 cut.1 up.1 i l y) (all_beside at E gives 20 cut.0 up.0 up.1)
+            (turn at w named (awake_by i l y) up.0 next.0 next.1) (all_beside at E gives (n - first - 20 - e) next.0 new next.2),
       )
 
 -- where each port whose link is up ends a healthy cable
@@ -340,7 +344,7 @@ module _ (Holds : LinkState → WorldState → Type 0) (Other : Side → ℕ →
 
   pub agree_of : IsWorldSound old → (i : ℕ) (l : LinkState) (y : IsHealthyAt i l old) (n : ℕ) (new : WorldState) → first + 31 ≤ n
       → HostRounds gives n old new → agreement_at new (suc i) ≡ Some Same
-  agree_of sound i l y n new enough h = agree_up NoneIsLeft gives n old new sound h i l y
+  agree_of sound i l y n new enough h = agree_up NoneIsLeft gives n i l old new sound (all_beside (λ s. port_at s l) NoneIsLeft gives n old new h) y
       (up_synced (λ s. port_at s l) (said old i l y) new (ups_of i l y n new enough h))
 
 -- where one end of each healthy cable is active

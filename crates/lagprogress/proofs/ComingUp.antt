@@ -4,8 +4,8 @@ use Rattle.lagprogress.proofs.Common.{ℕ, ◌&&◌, ◌+◌, ◌-◌, ◌||◌,
 use Rattle.lagprogress.proofs.Common.{pair_of, same_group, group-itself, Lacpdu, party_of, One, Side, Two, peer, CollectingDistributing, Machines}
 use Rattle.lagprogress.proofs.Common.{same_mux_state, SystemPort, MuxIsSettled, group_at, machines_of, all-get, Same, agreement_at, agreement_of}
 use Rattle.lagprogress.proofs.Common.{end_facts, first_agreement, is_stamp, same_groups, Algorithms, ItemValue, LinkState, WorldState}
-use Rattle.lagprogress.proofs.Common.{change_count_in, half, history_at, IsTimed, OfEach, AtPort, Sounds, all_leave, Distributes, Clearing}
-use Rattle.lagprogress.proofs.Common.{HostRounds, IsPlayed, NoneIsLeft, PlayedRounds, OfPort}
+use Rattle.lagprogress.proofs.Common.{change_count_in, half, history_at, IsTimed, OfEach, AtPort, Sounds, all_leave, LeavesPorts, Distributes}
+use Rattle.lagprogress.proofs.Common.{Clearing, HostRounds, NoneIsLeft, OfPort}
 use Rattle.lagprogress.proofs.Knowing.{AtIt, Chain, Met, Signs, able_fresh, awake_peer, beside, fits_before, fits_fresh, knows_peer, mode, stays_met}
 use Rattle.lagprogress.proofs.Knowing.{wait, wakes_now}
 use Rattle.lagprogress.proofs.HostKnowing.{FreshAt, host_chain, host_signs, knows_peer as host_knows}
@@ -16,8 +16,9 @@ use Rattle.lagprogress.proofs.Claims.{IsNamed, Owes}
 use Rattle.lagprogress.proofs.Climbing.{PartnerInSync, Rising, distributes_now, partner_along, rising_along, rising_first, ticks_partner}
 use Rattle.lagprogress.proofs.Climbing.{ticks_rising}
 use Rattle.lagprogress.proofs.EndFacts.{Learnt, Synced, activity}
-use Rattle.lagprogress.proofs.EachRound.{played_on}
-use Rattle.lagprogress.proofs.HostRound.{holds_on, host_holds, of_side}
+use Rattle.lagprogress.proofs.EachRound.{among_on}
+use Rattle.lagprogress.proofs.Quieting.{AllBeside, PlayedBeside, all_beside}
+use Rattle.lagprogress.proofs.HostRound.{holds_beside, host_holds}
 use Rattle.lagprogress.proofs.Linked.{EndPort, Fits, Link, at_end, each_map, end_here, end_with, peer_twice}
 use Rattle.lagprogress.proofs.OneRound.{Nothing, join, ticked}
 use Rattle.lagprogress.proofs.Starting.{emptied}
@@ -118,7 +119,7 @@ module _ (at : Side → ℕ) (w : Side → Lacpdu) (c : Side → ℕ) where
       (end_with at w 1 c s j e (λ p. is_selected p.choice ≡ true) chosen))
 
   pub rises_on : {E : Clearing} (s : Side) (gives : Algorithms) (n : ℕ) (old new : WorldState) → Fits 1 w c → Fits 1 w (ticked c) → 2 ≤ c s
-      → Link 1 at w c One Nothing old → IsPlayed E gives old new → AtIt at w s (Rising (20 - n)) old → AtIt at w s (Rising (20 - (n + 1))) new
+      → Link 1 at w c One Nothing old → PlayedBeside at E gives old new → AtIt at w s (Rising (20 - n)) old → AtIt at w s (Rising (20 - (n + 1))) new
   rises_on s gives n old new fits then l link h rising = subst (λ t. AtIt at w s (Rising t) new) (omega arith)
       (beside at w 1 (ticked c) s (Rising (20 - n - 1)) new
       (host_holds gives s 1 at w c (Rising (20 - n)) (Rising (20 - n - 1)) old new fits then
@@ -178,18 +179,18 @@ module _ (at : Side → ℕ) (w : Side → Lacpdu) (z : Signs) where
 
   module _ (E : Clearing) (gives : Algorithms) (e : ℕ) (k : Chain at w z E gives e) (named : (t : Side) → IsNamed (w t))
       (awake : (s : Side) → (activity (w s) ≡ true) ⊎ (activity (w (peer s)) ≡ true)) where
-    pub climb_on : (s : Side) (n : ℕ) (old new : WorldState) (g : Met at w z 1 old) → IsPlayed E gives old new
+    pub climb_on : (s : Side) (n : ℕ) (old new : WorldState) (g : Met at w z 1 old) → PlayedBeside at E gives old new
         → AtIt at w s (Rising (20 - n)) old → AtIt at w s (Rising (20 - (n + 1))) new
     climb_on s n old new g h rising = rises_on at w g.known s gives n old new (fits_before at w z named awake 1 old g (omega arith))
         (fits_fresh at w z named awake 1 old g (omega arith)) (knows_peer at w z 1 0 0 old g (omega arith) s) g.link h rising
 
-    pub climbs_on : (n : ℕ) (old new : WorldState) → IsPlayed E gives old new → Climbs n old → Climbs (n + 1) new
+    pub climbs_on : (n : ℕ) (old new : WorldState) → PlayedBeside at E gives old new → Climbs n old → Climbs (n + 1) new
     climbs_on n old new h c = record {
       fresh = stays_met at w z E gives e k named awake 1 old new (omega arith) h c.fresh;
       rising = λ s. climb_on s n old new c.fresh h (c.rising s);
     }
 
-    agrees_on : (n : ℕ) (old new : WorldState) → IsPlayed E gives old new → Agrees e n old → Agrees e (n + 1) new
+    pub agrees_on : (n : ℕ) (old new : WorldState) → PlayedBeside at E gives old new → Agrees e n old → Agrees e (n + 1) new
     agrees_on n old new h c =
         let g = c.fresh in
         record {
@@ -221,11 +222,11 @@ module _ (at : Side → ℕ) (w : Side → Lacpdu) (z : Signs) where
     -- on the cable says so
     pub comes_up : (n : ℕ) (start mid next new : WorldState) → Met at w z 1 start
         → ((s : Side) → AtIt at w s (λ p. is_selected p.choice ≡ true) start) → ((s : Side) → AtIt at w s (Rising 0) mid → AtIt at w s Synced mid)
-        → PlayedRounds E gives 20 start mid → (Met at w z 1 mid → ((s : Side) → AtIt at w s Synced mid) → Agrees e 0 next)
-        → PlayedRounds E gives n next new → Agrees e n new
+        → AllBeside at E gives 20 start mid → (Met at w z 1 mid → ((s : Side) → AtIt at w s Synced mid) → Agrees e 0 next)
+        → AllBeside at E gives n next new → Agrees e n new
     comes_up n start mid next new g chosen ready h turn more =
-        let climbed = played_on E gives Climbs start (climbs_first start g chosen) climbs_on 20 mid h in
-        played_on E gives (Agrees e) next
+        let climbed = among_on (LeavesPorts at) E gives Climbs start (climbs_first start g chosen) climbs_on 20 mid h in
+        among_on (LeavesPorts at) E gives (Agrees e) next
         (turn climbed.fresh (λ s. ready s (subst (λ t. AtIt at w s (Rising t) mid) (omega arith) (climbed.rising s)))) agrees_on n new more
 
 -- in rounds of hosts nothing is on the cable then
@@ -266,8 +267,8 @@ pub host_comes_up : (at : Side → ℕ) (w : Side → Lacpdu) → ((t : Side) �
 host_comes_up at w named awake gives n start mid new g chosen ready enough h more = (
   n,
   enough,
-  comes_up at w (host_signs at w) NoneIsLeft gives 0 (host_chain at w gives) named awake n start mid mid new g chosen ready h (host_turn at w mid)
-      more,
+  comes_up at w (host_signs at w) NoneIsLeft gives 0 (host_chain at w gives) named awake n start mid mid new g chosen ready
+      (all_beside at NoneIsLeft gives 20 start mid h) (host_turn at w mid) (all_beside at NoneIsLeft gives n mid new more),
 )
 
 pub up_synced : (at : Side → ℕ) (w : Side → Lacpdu) (j : WorldState) → Up at w j → AreSynced at w j
@@ -275,18 +276,17 @@ up_synced at w j up = synced_of at w (host_signs at w) 0 up.0 j up.1 up.2 (λ s 
 
 -- a port at an end of a cable has a history as before
 pub hosts_kept : (E : Clearing) (gives : Algorithms) (n i : ℕ) (at : Side → ℕ) (fl : Side → List ItemValue) (old new : WorldState)
-    → OnCable i at fl old.links → PlayedRounds E gives n old new → (s : Side)
+    → OnCable i at fl old.links → AllBeside at E gives n old new → (s : Side)
     → is_some (history_at (half s new).histories (at s)) ≡ is_some (history_at (half s old).histories (at s))
-hosts_kept E gives n i at fl old new c h s = (played_on E gives (λ m j. Stamped 0 at k kept j) old (record {
+hosts_kept E gives n i at fl old new c h s = (among_on (LeavesPorts at) E gives (λ m j. Stamped 0 at k kept j) old (record {
   flying = fl;
   index = i;
   links = c;
   counts = λ t. refl;
   there = λ t. refl;
   items = λ l. absurd (omega (arith, l));
-}) (λ m i j q a. holds_on gives One (λ x y j. Stamped 0 at k kept j) (λ x y. stamped_between gives 0 at k kept)
-    (λ y. stamped_tick gives 0 at k kept One) (λ x. stamped_tick gives 0 at k kept Two) q.events q.replies i j true true
-    (of_side One q.events q.ticks) q.acts a) n new h).there s
+}) (λ m i j q a. holds_beside E at gives One (λ x y j. Stamped 0 at k kept j) (λ x y. stamped_between gives 0 at k kept)
+    (λ y. stamped_tick gives 0 at k kept One) (λ x. stamped_tick gives 0 at k kept Two) i j q a) n new h).there s
   where
     k : Side → ℕ
     k t = change_count_in (history_at (half t old).histories (at t))

@@ -91,7 +91,8 @@ pub use Rattle.lagsystem.specs.Probing.{ProbesAt, ProbesIf}
 pub use Rattle.lagsystem.specs.Readers.{aggregator_numbered, collecting, distributes_in, distributing, group_at, number_of_conversation}
 pub use Rattle.lagsystem.specs.Readers.{selected_aggregator}
 pub use Rattle.lagsystem.specs.Sending.{IsLacpduOf, SendsLacpdu, SendsMarkerOf, TransmitsAt, TransmitsIf, own_marker}
-pub use Rattle.lagsystem.specs.Settings.{Set_max_delay, SetsPort, Setting, SettingPromise, SettingStep, in_mode, is_held_so, is_in_mode, with_held}
+pub use Rattle.lagsystem.specs.Settings.{Hold_port, Set_max_delay, Set_max_links, Set_mode, SetsPort, Setting, SettingPromise, SettingStep, in_mode}
+pub use Rattle.lagsystem.specs.Settings.{is_held_so, is_in_mode, with_held}
 pub use Rattle.lagsystem.specs.Settling.{ChoosesIn, PortsChangeBy, PromotesNext, Settling, aggregator_for, choice_for, choice_if, choice_in}
 pub use Rattle.lagsystem.specs.Settling.{held_unless_on, ready_of, with_choice}
 pub use Rattle.lagsystem.specs.Sound.{CallPromise, HasPorts, IsSound, NoneHeld, PortsAgree}
@@ -109,7 +110,7 @@ pub use Rattle.lagsystem.proofs.OneFrame.{effect_one}
 pub use Rattle.lagsystem.proofs.Performed.{TableChanges, processes_or_stays, table_changes}
 pub use Rattle.lagsystem.proofs.PromotionLemmas.{choices_keep, promotions_keep}
 pub use Rattle.lagsystem.proofs.Rest.{becomes_slots, can_receive_at_rest, last_slots, offers_slots, rests}
-pub use Rattle.lagsystem.proofs.Rising.{Rises, all-get, are_numbered, found_place, ports_rise}
+pub use Rattle.lagsystem.proofs.Rising.{Rises, all-get, all-set, are_numbered, found_place, ports_rise}
 pub use Rattle.lagsystem.proofs.SettingsKeep.{setting_sound}
 pub use Rattle.lagsystem.proofs.SettlingLemmas.{RunsReady, set_same}
 pub use Rattle.lagsystem.proofs.Sound.{Step-sound, agrees, first_sound}
@@ -162,6 +163,7 @@ pub use Rattle.lagbeside.proofs.Timers.{timed_starts}
 pub use Rattle.lagprogress.specs.Arriving.{Arrives, DeliverHandsUp, DisabledAreUnsynchronized, EachFrameArrives, EachFrameArrivesByHosts}
 pub use Rattle.lagprogress.specs.Arriving.{EachHostReachedHasUnsynchronized, EachReachedHasUnsynchronized, GetsPort, HandsUp, IsEventWhere}
 pub use Rattle.lagprogress.specs.Arriving.{IsHandedUp, OfferGetsPort, Sometime, SometimePlayed, TakesFrame}
+pub use Rattle.lagprogress.specs.Beside.{EachLinkStaysAgreed, EachLinkStaysUp, LeavesPorts, RoundsBeside}
 pub use Rattle.lagprogress.specs.Bundle.{AllHeard, BothAreActive, EachLinkAgrees, EachLinkComesUp, EndsHealthyCable, EndsOfEachKnow}
 pub use Rattle.lagprogress.specs.Bundle.{EnoughAggregators, EnoughLinks, HostReachedIsBundle, IsBundle, OneIsActive, ReachedIsApart, ReachedIsBundle}
 pub use Rattle.lagprogress.specs.Bundle.{SelectedPairsAgree, SelectedPairsComeUp, SystemsDiffer}
@@ -174,8 +176,9 @@ pub use Rattle.lagprogress.specs.HostFreed.{AskingInVainIsDraining, AsksInVain, 
 pub use Rattle.lagprogress.specs.HostFreed.{NoneIsHeldBesideCutOffsByHosts, NoneIsHeldOnEndsByHosts, NothingIsDue, NothingIsHeldByHosts}
 pub use Rattle.lagprogress.specs.HostFreed.{RoundIsDraining, sent_nothing}
 pub use Rattle.lagprogress.specs.HostRounds.{AfterTick, AskingIsHostRound, Asks, AsksAfterTick, AsksIn, AtSomeWorld, Clearing, EventsAreOfHosts}
-pub use Rattle.lagprogress.specs.HostRounds.{HostRounds, IsBetweenTicks, IsHostRound, IsPlayed, IsQuiet, IsTickOf, LoopIsHostRound, NoneIsLeft}
-pub use Rattle.lagprogress.specs.HostRounds.{PlayedRounds, RoundIsHostRound, RoundsAreHostRounds, RunReplies, StepReplies, TickOnce}
+pub use Rattle.lagprogress.specs.HostRounds.{HostRounds, IsBetweenTicks, IsHostRound, IsPlayed, IsPlayedAmong, IsQuiet, IsTickOf, LoopIsHostRound}
+pub use Rattle.lagprogress.specs.HostRounds.{NoneIsLeft, PlayedAmong, PlayedRounds, RoundIsHostRound, RoundsAreHostRounds, RunReplies, StepReplies}
+pub use Rattle.lagprogress.specs.HostRounds.{TickOnce, TickOnceAmong}
 pub use Rattle.lagprogress.specs.LateRounds.{ArriveIn, AskingIsLateRound, HostRoundIsLateRound, IsArrivalAt, IsLateRound, LateRounds, OldArrive}
 pub use Rattle.lagprogress.specs.LateRounds.{late_known_if_both_active, late_known_if_one_is, late_up_if_both_active, late_up_if_one_is}
 pub use Rattle.lagprogress.specs.Limited.{CarriesOnAll, DownAreUnselected, EachLimitedLinkAgrees, EachReachedHasDownUnselected, EndsAgreed}

@@ -8,7 +8,7 @@ use Rattle.lagsystem.specs.declared.drive.Reply.TheVariants as answer
 use Rattle.lagsystem.specs.declared.received.Received.TheVariants as received
 use Rattle.lagscript.specs.declared.event.Event.TheVariants as event
 use Rattle.lagprogress.proofs.EndFacts.{Along, IsEnd, Learnt, Suits, both_along, end_settles, known_along, takes_end, takes_learnt, wait_of}
-use Rattle.lagprogress.proofs.Halves.{keeps_steady}
+use Rattle.lagprogress.proofs.Halves.{keeps_timely}
 use Rattle.lagprogress.proofs.OneCable.{Arrives, delivers, put, Beside, response}
 use Rattle.lagprogress.proofs.Passing.{marker_carries_none}
 use Rattle.lagprogress.proofs.Linked.{Arrived, EndIs, Fits, Flying, IsGood, Link, along_if, arrival, each_map, each_side, beside_link, place_kept}
@@ -90,7 +90,7 @@ arrives_link : (gives : Algorithms) (cn n : ℕ) (s : Side) (d : ℕ) (at : Side
     → (l : Link d at w c x Y old) → WorldSteps gives old (event.Deliver cn n) r new → Arrives gives s at l.flying old new
     → Delivered d at w c x Y l.flying new
 arrives_link gives cn n s d at w c x Y r old new fits along l h k =
-    let steady = keeps_steady gives (event.Deliver cn n) r old new h l.steady in
+    let steady = keeps_timely gives (event.Deliver cn n) r old new h l.steady in
     let z = end_here at w d c x Y old l s in
     let P = EndIs d w c x Y in
     let good = subst (AllByRecursion (IsGood d w s)) k.first (l.good s) in

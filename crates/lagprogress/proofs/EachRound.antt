@@ -2,14 +2,15 @@
 use Rattle.lagprogress.proofs.Common.{Bool, List, Some, ap, arith, false, inl, inr, map, refl, slice_get, subst, suc, sym, true, zero, ℕ, ◌+◌, ◌∙◌}
 use Rattle.lagprogress.proofs.Common.{◌≡◌, nat_tests, Party, Lacpdu, One, Side, Two, end_at, peer, Machines, receive_rows, RunsToRest, after_sending}
 use Rattle.lagprogress.proofs.Common.{count_down, Table, SystemPort, ProcessesLacpdu, Receive, SystemState, with_system_ports, with_table, Reply}
-use Rattle.lagprogress.proofs.Common.{Algorithms, WorldSteps, link_ends, ItemValue, LinkState, WorldState, half, port_at, end_is, Plays}
+use Rattle.lagprogress.proofs.Common.{Algorithms, WorldSteps, link_ends, ItemValue, LinkState, WorldState, half, port_at, end_is, HostEvent, Plays}
 use Rattle.lagprogress.proofs.Common.{KeptBySettling, OfEach, Step-each, Tick-each, asked_each, AtPort, settling_leaves, runs_keep, takes_keep}
-use Rattle.lagprogress.proofs.Common.{Clearing, HostRounds, IsHostRound, IsPlayed, NoneIsLeft, PlayedRounds, IsRound, Rounds, IsSteady}
-use Rattle.lagprogress.proofs.Quieting.{calm_steady, calm_keeps, runs_calm, quiet_ports, quiet_ends}
+use Rattle.lagprogress.proofs.Common.{LeavesPorts, Clearing, HostRounds, IsBetweenTicks, IsHostRound, IsPlayed, IsPlayedAmong, NoneIsLeft}
+use Rattle.lagprogress.proofs.Common.{PlayedAmong, PlayedRounds, IsRound, Rounds, IsSteady}
+use Rattle.lagprogress.proofs.Quieting.{AllBeside, all_beside, calm_steady, calm_keeps, leaves_ends, runs_calm, quiet_ports}
 use Rattle.lagprogress.proofs.OneCable.{OnCable, cable, deliver_ends, emits, ticks}
 use Rattle.lagprogress.proofs.OneRound.{ticked}
 use Rattle.lagprogress.proofs.RoundEvents.{asked_half, came_half}
-use Rattle.lagprogress.proofs.HostRound.{KeptBetween, MadeByTick, holds_on, of_side}
+use Rattle.lagprogress.proofs.HostRound.{KeptBeside, KeptBetween, MadeByTick, holds_beside, holds_on, of_side}
 use Rattle.lagprogress.proofs.Linked.{peer_twice, each_side}
 use Rattle.lagsystem.specs.declared.drive.Reply.TheVariants as answer
 use Rattle.lagscript.specs.declared.event.Event.TheVariants as event
@@ -112,10 +113,10 @@ host_each P Q kp kq ticked s gives old new h a = holds_on gives s (λ x y j. Eac
 
 -- the ports that the cables join
 
-pub joins_kept : (gives : Algorithms) (links : List LinkState) → KeptBetween gives (λ j. map link_ends j.links ≡ map link_ends links)
-joins_kept gives links (Plays (event.Emit n p)) r i j b h m = (emits gives n p r i j h).2.ends ∙ m
-joins_kept gives links (Plays (event.Deliver c n)) r i j b h m = deliver_ends gives c n r i j h ∙ m
-joins_kept gives links e r i j b h m = quiet_ends gives e r i j b h ∙ m
+pub joins_kept : (at : Side → ℕ) (gives : Algorithms) (links : List LinkState) → KeptBeside at gives (λ j. map link_ends j.links ≡ map link_ends links)
+joins_kept at gives links (Plays (event.Emit n p)) r i j b h m = (emits gives n p r i j h).2.ends ∙ m
+joins_kept at gives links (Plays (event.Deliver c n)) r i j b h m = deliver_ends gives c n r i j h ∙ m
+joins_kept at gives links e r i j b h m = leaves_ends gives e at r i j b h ∙ m
 
 pub joins_tick : (gives : Algorithms) (links : List LinkState) (s : Side) → MadeByTick gives s (λ j. map link_ends j.links ≡ map link_ends links)
     (λ j. map link_ends j.links ≡ map link_ends links)
@@ -123,13 +124,27 @@ joins_tick gives links s n r i j named step m = ap (map link_ends) (ticks gives 
 
 -- so many rounds
 
+module _ (May : HostEvent → Type 0) (E : Clearing) (gives : Algorithms) where
+  pub among_on : (S : ℕ → WorldState → Type 0) (start : WorldState) → S 0 start
+      → ((n : ℕ) (old new : WorldState) → IsPlayedAmong May E gives old new → S n old → S (n + 1) new)
+      → (n : ℕ) (new : WorldState) → PlayedAmong May E gives n start new → S n new
+  among_on S start first next zero new h = subst (S 0) (sym h) first
+  among_on S start first next (suc n) new h =
+      subst (λ m. S m new) (omega arith) (next n h.0 new h.2 (among_on S start first next n h.0 h.1))
+
+  -- some rounds, and then more
+  pub among_then : (m n k : ℕ) (old mid new : WorldState) → k ≡ m + n → PlayedAmong May E gives n old mid → PlayedAmong May E gives m mid new
+      → PlayedAmong May E gives k old new
+  among_then zero n k old mid new e h more = subst (λ j. PlayedAmong May E gives k old j) (sym more)
+      (subst (λ i. PlayedAmong May E gives i old mid) (omega (arith, e)) h)
+  among_then (suc m) n zero old mid new e h more = absurd (omega (arith, e))
+  among_then (suc m) n (suc k) old mid new e h more = (more.0, among_then m n k old mid more.0 (omega (arith, e)) h more.1, more.2)
+
 module _ (E : Clearing) (gives : Algorithms) where
   pub played_on : (S : ℕ → WorldState → Type 0) (start : WorldState) → S 0 start
       → ((n : ℕ) (old new : WorldState) → IsPlayed E gives old new → S n old → S (n + 1) new)
       → (n : ℕ) (new : WorldState) → PlayedRounds E gives n start new → S n new
-  played_on S start first next zero new h = subst (S 0) (sym h) first
-  played_on S start first next (suc n) new h =
-      subst (λ m. S m new) (omega arith) (next n h.0 new h.2 (played_on S start first next n h.0 h.1))
+  played_on S start first next n new h = among_on IsBetweenTicks E gives S start first next n new h
 
   pub played_split : (k m n : ℕ) (old new : WorldState) → n ≡ k + m → PlayedRounds E gives n old new
       → (mid : WorldState) × PlayedRounds E gives m old mid × PlayedRounds E gives k mid new
@@ -150,11 +165,14 @@ module _ (E : Clearing) (gives : Algorithms) where
       (λ e r i j c step b s. calm_keeps X g kept tables delays gives e r i j c step s ∙ b s) One true true q.events q.replies i j q.ticks q.acts a)
       n new h
 
+  pub joins_beside : (at : Side → ℕ) (n : ℕ) (old new : WorldState) → AllBeside at E gives n old new
+      → map link_ends new.links ≡ map link_ends old.links
+  joins_beside at n old new h = among_on (LeavesPorts at) E gives (λ m j. map link_ends j.links ≡ map link_ends old.links) old refl
+      (λ m i j q k. holds_beside E at gives One (λ a b j. map link_ends j.links ≡ map link_ends old.links) (λ a b. joins_kept at gives old.links)
+      (λ b. joins_tick gives old.links One) (λ a. joins_tick gives old.links Two) i j q k) n new h
+
   pub played_join : (n : ℕ) (old new : WorldState) → PlayedRounds E gives n old new → map link_ends new.links ≡ map link_ends old.links
-  played_join n old new h = played_on (λ m j. map link_ends j.links ≡ map link_ends old.links) old refl
-      (λ m i j q k. holds_on gives One (λ a b j. map link_ends j.links ≡ map link_ends old.links) (λ a b. joins_kept gives old.links)
-      (λ b. joins_tick gives old.links One) (λ a. joins_tick gives old.links Two)
-      q.events q.replies i j true true (of_side One q.events q.ticks) q.acts k) n new h
+  played_join n old new h = joins_beside (λ s. 0) n old new (all_beside (λ s. 0) E gives n old new h)
 
 pub hosts_on : (gives : Algorithms) (S : ℕ → WorldState → Type 0) (start : WorldState) → S 0 start
     → ((n : ℕ) (old new : WorldState) → IsHostRound gives old new → S n old → S (n + 1) new)

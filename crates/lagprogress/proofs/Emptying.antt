@@ -8,9 +8,10 @@ use Rattle.lagprogress.proofs.Common.{TransmitsAt, Set_max_delay, Settling, Call
 use Rattle.lagprogress.proofs.Common.{settling_parts, found_place, Event, Reply, Algorithms, WorldSteps, side_of, ItemValue, WorldState, half}
 use Rattle.lagprogress.proofs.Common.{port_at, ForcesPort, HostEvent, HostSteps, Leaves, Offers, Plays, Probes, Sets, DrainingRounds, IsDrainingRound}
 use Rattle.lagprogress.proofs.Common.{IsNoMoveOf, AfterTick, AtSomeWorld, IsBetweenTicks, IsHostRound, IsQuiet, RunReplies, StepReplies, TickOnce}
-use Rattle.lagprogress.proofs.Common.{NothingInFlight, OfPort, IsSteady}
-use Rattle.lagprogress.proofs.Quieting.{IsCalm, calm_quiet, calm_steady, calm_keeps, quiet_cable, quiet_link, offered_half, moved_half, forced_half}
-use Rattle.lagprogress.proofs.Quieting.{Grown}
+use Rattle.lagprogress.proofs.Common.{NothingInFlight, OfPort}
+use Rattle.lagprogress.proofs.Halves.{AreTimely}
+use Rattle.lagprogress.proofs.Quieting.{IsCalm, calm_quiet, calm_timely, calm_keeps, leaves_link, leaves_quiet, quiet_cable, offered_half, moved_half}
+use Rattle.lagprogress.proofs.Quieting.{forced_half, Grown}
 use Rattle.lagprogress.proofs.HostSteady.{aside, caller, delay_keeps, offers_half, leaves_half, rests_half, gives_next, forces_half, probes_half}
 use Rattle.lagprogress.proofs.HostSteady.{Probed}
 use Rattle.lagsystem.specs.declared.drive.HostCall.TheVariants as host
@@ -222,9 +223,9 @@ module _ (at : Side → ℕ) (w : Side → Lacpdu) (named : (t : Side) → IsNam
     pub own : (half s j).state.system.mac ≡ mac
     pub there : IsConversation (half s j).state.table agg conv
 
-  fixed : (e : HostEvent) (r : Reply) (old new : WorldState) → IsCalm e → StepReplies gives old e r new → IsSteady old → IsFixed old → IsFixed new
+  fixed : (e : HostEvent) (r : Reply) (old new : WorldState) → IsCalm e → StepReplies gives old e r new → AreTimely old → IsFixed old → IsFixed new
   fixed e r old new calm h steady f =
-      let now = calm_steady gives e r old new calm h steady in
+      let now = calm_timely gives e r old new h steady in
       let keys = calm_keeps ℕ (λ t. length t.keys) (λ t a b. refl) (λ t a. refl) (λ t d. refl) gives e r old new calm h s in
       let cols = calm_keeps ℕ (λ t. t.conversations) (λ t a b. refl) (λ t a. refl) (λ t d. refl) gives e r old new calm h s in
       record {
@@ -458,7 +459,7 @@ module _ (at : Side → ℕ) (w : Side → Lacpdu) (named : (t : Side) → IsNam
     mid_probed m W r old new h d =
         let o = probes_half gives s (at s) old new h in
         let c = probed_cable o.0 d.index d.flying old new d.links o.2 in
-        made W (Probes s (at s)) r tt h d (quiet_link gives (Probes s (at s)) 2 at w kn s Y r old new tt h d.link).link c.0 d.index c.1
+        made W (Probes s (at s)) r tt h d (leaves_link gives (Probes s (at s)) 2 at w kn s Y r old new tt h (along kn some_known) d.link).link c.0 d.index c.1
         (by_answer o.0 o.1 c.0 c.2)
       where
         st : SystemState
@@ -476,7 +477,8 @@ module _ (at : Side → ℕ) (w : Side → Lacpdu) (named : (t : Side) → IsNam
         → StepReplies gives i e r j → Mid m W kn i → Mid m W kn j
     mid_quiet m W e r i j b still far h d =
         let g = quiet_cable gives e d.index at d.flying r i j b h d.links in
-        made W e r (calm_quiet e b) h d (quiet_link gives e 2 at w kn s Y r i j b h d.link).link g.flying d.index g.on
+        made W e r (calm_quiet e b) h d (leaves_link gives e 2 at w kn s Y r i j (leaves_quiet at e b) h (along kn some_known) d.link).link g.flying d.index
+        g.on
         (quiet_fine m W (Flights s (at s) mac g.flying) e r i j b still far d.same.there h (grown m W i j d g))
 
     mid_one_probed : (m : ℕ) (W : Type 0) (t : Side) (port : ℕ) (r : Reply) (i j : WorldState) → HostSteps gives i (Probes t port) j → Mid m W kn i
@@ -490,7 +492,7 @@ module _ (at : Side → ℕ) (w : Side → Lacpdu) (named : (t : Side) → IsNam
       | inr e ↦ mid_quiet m W (Probes t port) r i j tt tt (λ f. absurd (other_side s (sym e ∙ f))) h d
     ]
 
-    mid_between : (m : ℕ) (W : Type 0) → KeptWhere gives (IsNoMoveOf s agg conv) (Mid m W kn)
+    mid_between : (m : ℕ) (W : Type 0) → KeptWhere IsBetweenTicks gives (IsNoMoveOf s agg conv) (Mid m W kn)
     mid_between m W (Plays (event.Emit n p)) r i j still b h d = mid_asked m W n p r i j h d
     mid_between m W (Plays (event.Deliver cn n)) r i j still b h d = mid_delivers m W cn n r i j h d
     mid_between m W (Probes t port) r i j still b h d = mid_one_probed m W t port r i j h d
@@ -617,8 +619,9 @@ module _ (at : Side → ℕ) (w : Side → Lacpdu) (named : (t : Side) → IsNam
       other a k V n r i j told step d = peer_ticked (kn a true) (kn a false) k V n r i j told step d
           (peer_holds gives s 2 at w g.known Y then a (along_left a) n r i j told step d.link)
 
-      stages : Stages gives (IsNoMoveOf s agg conv) s (λ b. Mid m W (kn true b)) (λ b. Mid (m + 1) (Unit {0}) (kn false b)) (λ b. Mid (m + 1) ⊥ (kn false b)) Drained
+      stages : Stages IsBetweenTicks gives (IsNoMoveOf s agg conv) s (λ b. Mid m W (kn true b)) (λ b. Mid (m + 1) (Unit {0}) (kn false b)) (λ b. Mid (m + 1) ⊥ (kn false b)) Drained
       stages = record {
+        none = λ n b. b;
         first = λ b. mid_between (kn true b) (fits true b) m W;
         second = λ b. mid_between (kn false b) (fits false b) (m + 1) (Unit {0});
         third = λ b. mid_between (kn false b) (fits false b) (m + 1) ⊥;
@@ -649,7 +652,7 @@ module _ (at : Side → ℕ) (w : Side → Lacpdu) (named : (t : Side) → IsNam
           (q.drained s g.link.index (cable at g.link.flying) (healthy_link 2 at w g.known One Nothing old g.link))
 
       end : Mid (m + 1) ⊥ (kn false false) new
-      end = first_on gives (IsNoMoveOf s agg conv) s (λ b. Mid m W (kn true b)) (λ b. Mid (m + 1) (Unit {0}) (kn false b)) (λ b. Mid (m + 1) ⊥ (kn false b)) Drained
+      end = first_on IsBetweenTicks gives (IsNoMoveOf s agg conv) s (λ b. Mid m W (kn true b)) (λ b. Mid (m + 1) (Unit {0}) (kn false b)) (λ b. Mid (m + 1) ⊥ (kn false b)) Drained
           stages h.events h.replies old new true q.still (of_side s h.events h.ticks) h.acts
           (after_left s One NoneDue gives true true h.events h.replies old new h.ticks h.acts one_left drains) start
 

@@ -11,12 +11,12 @@ use Rattle.lagprogress.proofs.Climbing.{PartnerInSync, distributes_now, partner_
 use Rattle.lagprogress.proofs.EachRound.{same_index}
 use Rattle.lagprogress.proofs.EndFacts.{activity, Along}
 use Rattle.lagprogress.proofs.Linked.{EndIs, Fits, Link, asked_which, found, machines_there}
+use Rattle.lagprogress.proofs.Quieting.{leaves, quiet_cable, Grown, quiet_ends}
 use Rattle.lagprogress.proofs.OneCable.{came_off, Arrives, Back, Beside, Comes, OnCable, Went, arrived, asks, cable, deliver_ends, emits, passed_by}
 use Rattle.lagprogress.proofs.OneCable.{port_there, push, put, stays_beside, ticks, towards_there}
 use Rattle.lagprogress.proofs.OneRound.{one_of_both, ticked}
 use Rattle.lagsystem.specs.declared.received.Received.TheVariants as received
 use Rattle.lagprogress.proofs.HostRound.{between, left, own_holds, none_ticked, fits_in, peer_holds, KeptBetween, MadeByTick, known_in, of_side}
-use Rattle.lagprogress.proofs.Quieting.{quiet_cable, Grown, quiet_ends}
 use Rattle.lagscript.specs.declared.event.Event.TheVariants as event
 
 -- a Deliver event of this cable brings its first item; any other leaves the cable to itself
@@ -128,7 +128,8 @@ module _ (gives : Algorithms) (s : Side) (i : ℕ) (l : LinkState) (w : Side →
       either (inr a) = inl a
 
   ends_on : (a b : Bool) → KeptBetween gives (Ends (kn a b))
-  ends_on a b = between gives 2 at w (kn a b) (peer s) PartnerInSync (fits_in 2 w c (peer s) fits later a b) (along (kn a b (peer s))) (λ q y. y)
+  ends_on a b e r i j q = between gives 2 at w (kn a b) (peer s) PartnerInSync (fits_in 2 w c (peer s) fits later a b) (along (kn a b (peer s)))
+      (λ q y. y) e r i j (leaves at e q)
 
   -- a tick leaves the cables
   ticked_way : (t : Side) (n : ℕ) (r : Reply) (old new : WorldState) → side_of n ≡ Some t → WorldSteps gives old (event.Tick n 1) r new

@@ -59,13 +59,12 @@ module _ (Holds : LinkState → WorldState → Type 0) (Other : Side → ℕ →
       → HostRounds gives n old mid → 30 ≤ m → DrainingRounds s g k gives m mid new → HasIdentifierLeft (half s new).state
       → IsNotHeldOn (port_at s l) g k (half s new).state
   freed_by i l y n m mid new s q r enough h late more left is =
-      from mid (ups_of Holds Other first gives old b i l y n mid enough h) m late more
+      from mid (hosts_steady gives n old mid b.steady h) (ups_of Holds Other first gives old b i l y n mid enough h) m late more
     where
-      from : (j : WorldState)
-          → Up (λ t. port_at t l) (said old i l y) j
+      from : (j : WorldState) → IsSteady j → Up (λ t. port_at t l) (said old i l y) j
           → (k : ℕ) → 30 ≤ k → DrainingRounds s q r gives k j new
           → held_on (assignment_of (half s new).state.table q r) ≡ Some (port_at s l) → ⊥
-      from j up k late rounds held =
+      from j stable up k late rounds held =
           let w = said old i l y in
           let named = named_of Holds Other first gives old b i l y in
           let awake = awake_of Holds Other first gives old b i l y in
@@ -79,7 +78,7 @@ module _ (Holds : LinkState → WorldState → Type 0) (Other : Side → ℕ →
           let steady = each_map (λ q p. AtPort (port_at s l) PartnerInSync q p × AtPort (port_at s l) (λ p. p.choice ≡ c) q p)
           (AtPort (port_at s l) (λ p. PartnerInSync p × (p.choice ≡ c))) (λ q p a f. (a.0 f, a.1 f)) st.system_ports
           (each_both (AtPort (port_at s l) PartnerInSync) (AtPort (port_at s l) (λ p. p.choice ≡ c)) st.system_ports heard choice) in
-          let was = was_there gives k j new s q r g.link.steady (draining_are_host gives s q r k j new rounds) is in
+          let was = was_there gives k j new s q r stable (draining_are_host gives s q r k j new rounds) is in
           let rests = rounds_rest (λ t. port_at t l) w named awake s st.system.mac q r c chosen gives k j new (omega (arith, late)) left (record {
             fresh = g;
             steady = steady;

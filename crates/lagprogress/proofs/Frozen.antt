@@ -7,7 +7,7 @@ use Rattle.lagprogress.proofs.Common.{none_enabled, CallPromise, SystemState, ag
 use Rattle.lagprogress.proofs.Common.{all-get, found_place, Reply, Algorithms, WorldSteps, LinkState, WorldState, half, port_at, towards, HostEvent}
 use Rattle.lagprogress.proofs.Common.{Plays, OfEach, asked_each, AtPort, AllHeard, EndsHealthyCable, HostRounds, IsHostRound, IsQuiet, StepReplies}
 use Rattle.lagprogress.proofs.Common.{IsHealthyAt, IsSteady}
-use Rattle.lagprogress.proofs.Quieting.{IsCalm, calm_quiet, calm_steady, calm_keeps, quiet_link, quiet_ports}
+use Rattle.lagprogress.proofs.Quieting.{IsCalm, calm_quiet, calm_steady, calm_keeps, leaves_link, leaves_quiet, quiet_ports}
 use Rattle.lagprogress.proofs.Bundling.{Awake, said, Named, names}
 use Rattle.lagprogress.proofs.Choosing.{AllAsRead, AsRead, Chose, down_as_read, down_still, one_as_read, settles_choice, takes_as_read, zip_as_read}
 use Rattle.lagprogress.proofs.Climbing.{ticks_still}
@@ -186,7 +186,8 @@ module _ (Holds : LinkState → WorldState → Type 0) (gives : Algorithms) (old
     offered : (kn : Known) (from : WorldState) (e : HostEvent) (r : Reply) (i j : WorldState) → IsQuiet e → StepReplies gives i e r j
         → Mid kn from i → Mid kn from j
     offered kn from e r i j q h d = record {
-      links = λ x l y. (quiet_link gives e 1 (λ t. port_at t l) (said old x l y) (kn x l y) One Nothing r i j q h (d.links x l y)).link;
+      links = λ x l y. (leaves_link gives e 1 (λ t. port_at t l) (said old x l y) (kn x l y) One Nothing r i j (leaves_quiet (λ t. port_at t l) e q) h
+          (nothing_along (said old x l y One) (said old x l y (peer One)) (kn x l y One) 1) (d.links x l y)).link;
       stands = record {
         steady = calm_steady gives e r i j (calm_quiet e q) h d.stands.steady;
         config = config_kept e r i j (calm_quiet e q) h d.stands.config;

@@ -1,11 +1,11 @@
 -- What an event does to the two systems of a world is what some calls of theirs do.
 use Rattle.lagprogress.proofs.Common.{Bool, Err, List, Ok, Option, Result, Some, [], map, refl, slice_set, subst, suc, sym, true, zero, ℕ, ◌++◌, ◌∷◌}
 use Rattle.lagprogress.proofs.Common.{◌≡◌, AggId, One, Side, Two, Stamp, Config, Answer, SystemFault, Received, Call, Offer, Receive, Restart, Step}
-use Rattle.lagprogress.proofs.Common.{TableRun, Tick, Transmit, IsFirst, SystemState, Step-sound, first_sound, Event, Reply, AfterOffer, AfterReceive}
-use Rattle.lagprogress.proofs.Common.{AfterTransmit, Algorithms, InHalf, WorldReceives, WorldSteps, with_frame_counted, with_link_at}
+use Rattle.lagprogress.proofs.Common.{TableRun, Tick, Transmit, IsFirst, IsSound, SystemState, Step-sound, first_sound, Event, Reply, AfterOffer}
+use Rattle.lagprogress.proofs.Common.{AfterReceive, AfterTransmit, Algorithms, InHalf, WorldReceives, WorldSteps, with_frame_counted, with_link_at}
 use Rattle.lagprogress.proofs.Common.{with_stamp_collected, HalfAnswers, HalfTicks, forced_if_accepted, AreFirst, IsStart, HalfState, ItemValue}
-use Rattle.lagprogress.proofs.Common.{LinkState, WorldState, emptied, half, port_at, with_half, with_links, Step-each, first_each, calls_each}
-use Rattle.lagprogress.proofs.Common.{TimedAt, timed_kept, timed_settles, timed_starts, GoesByCalls, IsSteady, IsSteadySystem}
+use Rattle.lagprogress.proofs.Common.{LinkState, WorldState, emptied, half, port_at, with_half, with_links, PortsAreTimed, Step-each, first_each}
+use Rattle.lagprogress.proofs.Common.{calls_each, TimedAt, timed_kept, timed_settles, timed_starts, GoesByCalls, IsSteady, IsSteadySystem}
 use Rattle.cables.specs.declared.item.Stamp.TheVariants as stamp
 use Rattle.lagsystem.specs.declared.drive.Reply.TheVariants as answer
 use Rattle.lagsystem.proofs.HeldPorts.{Step-free, first_free}
@@ -146,13 +146,32 @@ each_is_calls gives e r old new x s =
 
 -- what holds of both systems
 
+-- sound, with timers within their bounds
+abbrev pub IsTimely : SystemState → Type 0
+IsTimely s = IsSound s × PortsAreTimed s
+
+abbrev pub AreTimely : WorldState → Type 0
+AreTimely j = (s : Side) → IsTimely (half s j).state
+
+pub call_timely : (gives : ℕ → ℕ → ℕ → Type 0) (old new : SystemState) (call : Call) (a : Answer) → Step gives old call a new → IsTimely old
+    → IsTimely new
+call_timely gives old new call a h k =
+    (Step-sound gives old call a new h k.0, Step-each TimedAt timed_settles gives old call a new (timed_kept call a) h k.1)
+
+pub keeps_timely : (gives : Algorithms) (e : Event) (r : Reply) (old new : WorldState) → WorldSteps gives old e r new → AreTimely old
+    → AreTimely new
+keeps_timely gives e r old new x k s =
+    let g = each_is_calls gives e r old new x s in
+    calls_each (gives s) IsTimely (call_timely (gives s)) (half s old).state (half s new).state g.0 g.1 g.2 (k s)
+
+-- so is a steady world
+pub timely : (j : WorldState) → IsSteady j → AreTimely j
+timely j k s = ((k s).0, (k s).1)
+
 pub call_steady : (gives : ℕ → ℕ → ℕ → Type 0) (old new : SystemState) (call : Call) (a : Answer) → Step gives old call a new → IsSteadySystem old
     → IsSteadySystem new
-call_steady gives old new call a h k = (
-  Step-sound gives old call a new h k.0,
-  Step-each TimedAt timed_settles gives old call a new (timed_kept call a) h k.1,
-  Step-free gives old call a new h k.2,
-)
+call_steady gives old new call a h k =
+    (let t = call_timely gives old new call a h (k.0, k.1) in (t.0, t.1, Step-free gives old call a new h k.2))
 
 pub keeps_steady : (gives : Algorithms) (e : Event) (r : Reply) (old new : WorldState) → WorldSteps gives old e r new → IsSteady old
     → IsSteady new

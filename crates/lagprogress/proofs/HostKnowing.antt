@@ -11,6 +11,7 @@ use Rattle.lagprogress.proofs.Knowing.{knows_peer as knows_met, met_knows, one_m
 use Rattle.lagprogress.proofs.Lapsing.{Lapsed, Lasting, Phase, Tails, lasting_now, lasting_passes}
 use Rattle.lagprogress.proofs.Linked.{Fits, Link, of_end, other_ports}
 use Rattle.lagprogress.proofs.OneRound.{Nothing, beside_here, join, ticked}
+use Rattle.lagprogress.proofs.Quieting.{PlayedBeside, all_beside, as_beside}
 use Rattle.lagprogress.proofs.Starting.{Ends, active_at, emptied, end_of, named_at, said_by, starts}
 use Rattle.lagprogress.proofs.Stamps.{Present}
 use Rattle.lagprogress.proofs.Telling.{Told}
@@ -33,7 +34,7 @@ module _ (at : Side → ℕ) (w : Side → Lacpdu) where
 
   awaits : (gives : Algorithms) (s : Side) → activity (w (peer s)) ≡ true → IsNamed (w (peer s)) → Fits 1 w (λ _. 0) → Fits 1 w (ticked (λ _. 0))
       → (m : ℕ) (old new : WorldState) → Link 1 at w (λ _. 0) One Nothing old → AtIt at w s (Wakeful (w s) (w (peer s))) old → NothingInFlight old
-      → AtIt at w s (Lasting (w (peer s)) m) old → IsHostRound gives old new
+      → AtIt at w s (Lasting (w (peer s)) m) old → PlayedBeside at NoneIsLeft gives old new
       → ((1 ≤ m - 1) × AtIt at w s (Wakeful (w s) (w (peer s))) new × AtIt at w s (Lasting (w (peer s)) (m - 1)) new)
       ⊎ Hears at w host_signs 1 (λ _. 0) s new
   awaits gives s active named fits then m old new l wakes none y h =
@@ -84,11 +85,12 @@ module _ (at : Side → ℕ) (w : Side → Lacpdu) where
     fits_before d j g there = fits_met at w host_signs named awake d j g there
 
     pub stays_fresh : (gives : Algorithms) (d : ℕ) (old new : WorldState) → 1 ≤ d → IsHostRound gives old new → FreshAt d old → FreshAt d new
-    stays_fresh gives d old new there h g = stays_met at w host_signs NoneIsLeft gives 0 (host_chain gives) named awake d old new there h g
+    stays_fresh gives d old new there h g = stays_met at w host_signs NoneIsLeft gives 0 (host_chain gives) named awake d old new there
+        (as_beside at NoneIsLeft gives old new h) g
 
 -- after the first round nothing is on the cable
 first_round : (gives : Algorithms) (at : Side → ℕ) (w : Side → Lacpdu) (old new : WorldState)
-    → Link 0 at w (λ _. 0) One Nothing old → IsHostRound gives old new → Link 1 at w (λ _. 0) One Nothing new
+    → Link 0 at w (λ _. 0) One Nothing old → PlayedBeside at NoneIsLeft gives old new → Link 1 at w (λ _. 0) One Nothing new
 first_round gives at w old new l h =
     let fit : Fits 0 w (λ _. 0) = λ t. (omega arith, λ m. omega (arith, m), λ m. absurd (omega (arith, m)), λ m. absurd (omega (arith, m))) in
     let then : Fits 0 w (ticked (λ _. 0)) =
@@ -102,12 +104,12 @@ first_round gives at w old new l h =
 pub active_meet : (gives : Algorithms) (at : Side → ℕ) (w : Side → Lacpdu) (n : ℕ) (old new : WorldState) → ((t : Side) → IsNamed (w t))
     → ((s : Side) → activity (w s) ≡ true) → 321 ≤ n → Link 0 at w (λ _. 0) One Nothing old → HostRounds gives n old new → Fresh at w new
 active_meet gives at w n old new named active enough l h = both_meet at w (host_signs at w) NoneIsLeft gives 0 (host_chain at w gives) named n old new
-    (λ j r. (first_round gives at w old j l r, r.empties)) h active enough
+    (λ j r. (first_round gives at w old j l r, r.empties)) (all_beside at NoneIsLeft gives n old new h) active enough
 
 pub one_meets : (gives : Algorithms) (at : Side → ℕ) (w : Side → Lacpdu) (s : Side) (n : ℕ) (old new : WorldState) → ((t : Side) → IsNamed (w t))
     → activity (w s) ≡ true → 621 ≤ n → Link 0 at w (λ _. 0) One Nothing old → HostRounds gives n old new → Fresh at w new
 one_meets gives at w s n old new named active enough l h = one_met at w (host_signs at w) NoneIsLeft gives 0 (host_chain at w gives) named n old new
-    (λ j r. (first_round gives at w old j l r, r.empties)) h s active enough
+    (λ j r. (first_round gives at w old j l r, r.empties)) (all_beside at NoneIsLeft gives n old new h) s active enough
 
 pub fresh_knows : (l : LinkState) (w : Side → Lacpdu) (j : WorldState) → Fresh (λ s. port_at s l) w j → (s : Side) → EndKnows s l j
 fresh_knows l w j g s = met_knows (λ t. port_at t l) w (host_signs (λ t. port_at t l) w) l (λ t. refl) j g s

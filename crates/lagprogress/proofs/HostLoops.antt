@@ -359,7 +359,7 @@ round_ticks links delivers arrives =
 
 of_side_after : (s : Side) (es : List HostEvent) → TickOnce One false false es → TickOnce s false false es
 of_side_after One es h = h
-of_side_after Two es h = turned es false false h
+of_side_after Two es h = turned IsBetweenTicks es false false h
 
 pub asks_behind : (s : Side) (p : ℕ) (es fs : List HostEvent) → AsksIn s p fs → AsksIn s p (es ++ fs)
 asks_behind s p [] fs h = h

@@ -3,19 +3,19 @@ use Rattle.lagprogress.proofs.Common.{Bool, List, None, Some, [], ap, arith, fal
 use Rattle.lagprogress.proofs.Common.{nat_tests, same_Some, AllByRecursion, Lacpdu, One, Side, Two, peer, Machines, periodic_rows, receive_rows}
 use Rattle.lagprogress.proofs.Common.{AtRest, RunsToRest, after_sending, count_down, SystemState, machines_of, Reply, Algorithms, WorldSteps, side_of}
 use Rattle.lagprogress.proofs.Common.{WorldState, half, limit_towards, HostEvent, Plays, OfEach, Tick-each, no, counts, AtPort, mux_leaves}
-use Rattle.lagprogress.proofs.Common.{periodic_leaves, with_rest, AfterTick, AtSomeWorld, Clearing, IsBetweenTicks, IsPlayed, IsTickOf, RunReplies}
-use Rattle.lagprogress.proofs.Common.{StepReplies, TickOnce, IsHealthyAt, OfPort}
+use Rattle.lagprogress.proofs.Common.{periodic_leaves, with_rest, LeavesPorts, AfterTick, AtSomeWorld, Clearing, IsBetweenTicks, IsTickOf, RunReplies}
+use Rattle.lagprogress.proofs.Common.{StepReplies, TickOnce, TickOnceAmong, IsHealthyAt, OfPort}
 use Rattle.lagsystem.specs.declared.drive.Reply.TheVariants as answer
 use Rattle.lagscript.specs.declared.event.Event.TheVariants as event
 use Rattle.lagprogress.proofs.Climbing.{known_still}
 use Rattle.lagprogress.proofs.Delivering.{deliver_link}
 use Rattle.lagprogress.proofs.EndFacts.{Along, IsEnd, Learnt, nothing_along, takes_learnt, ticks_end, wait_of, activity}
-use Rattle.lagprogress.proofs.Halves.{keeps_steady}
+use Rattle.lagprogress.proofs.Halves.{keeps_timely}
 use Rattle.lagprogress.proofs.Linked.{EndIs, Fits, Left, Link, each_map, each_side, emit_any, end_kept, end_here, other_ports, other_side, peer_twice}
 use Rattle.lagprogress.proofs.Linked.{place_kept}
 use Rattle.lagprogress.proofs.OneCable.{OnCable, cable, port_there, ticks}
 use Rattle.lagprogress.proofs.OneRound.{Nothing, ticked}
-use Rattle.lagprogress.proofs.Quieting.{quiet_link}
+use Rattle.lagprogress.proofs.Quieting.{PlayedBeside, leaves_link}
 
 -- numbers of both sides
 
@@ -34,15 +34,23 @@ two_other s a b = grind (arith, nat_tests)
 
 -- the events of a round, in the eyes of either system
 
-pub turned : (es : List HostEvent) (a b : Bool) → TickOnce One a b es → TickOnce Two b a es
-turned [] a b h = (h.1, h.0)
-turned (e ∷ es) a b (inl h) = inr (inl (h.0, h.1, turned es false b h.2))
-turned (e ∷ es) a b (inr (inl h)) = inl (h.0, h.1, turned es a false h.2)
-turned (e ∷ es) a b (inr (inr h)) = inr (inr (h.0, turned es a b h.1))
+pub turned : (May : HostEvent → Type 0) (es : List HostEvent) (a b : Bool) → TickOnceAmong May One a b es → TickOnceAmong May Two b a es
+turned May [] a b h = (h.1, h.0)
+turned May (e ∷ es) a b (inl h) = inr (inl (h.0, h.1, turned May es false b h.2))
+turned May (e ∷ es) a b (inr (inl h)) = inl (h.0, h.1, turned May es a false h.2)
+turned May (e ∷ es) a b (inr (inr h)) = inr (inr (h.0, turned May es a b h.1))
+
+pub side_among : (May : HostEvent → Type 0) (s : Side) (es : List HostEvent) → TickOnceAmong May One true true es → TickOnceAmong May s true true es
+side_among May One es h = h
+side_among May Two es h = turned May es true true h
 
 pub of_side : (s : Side) (es : List HostEvent) → TickOnce One true true es → TickOnce s true true es
-of_side One es h = h
-of_side Two es h = turned es true true h
+of_side s es h = side_among IsBetweenTicks s es h
+
+-- in a round beside these ports
+pub side_beside : (at : Side → ℕ) (s : Side) (es : List HostEvent) → TickOnceAmong (LeavesPorts at) One true true es
+    → TickOnceAmong (LeavesPorts at) s true true es
+side_beside at s es h = side_among (LeavesPorts at) s es h
 
 -- a tick of one system is none of the other
 one_of : (s : Side) (e : HostEvent) → IsTickOf s e → IsTickOf (peer s) e → ⊥
@@ -51,29 +59,40 @@ one_of s e (n, named, is) (m, other, also) = other_side s (same_Some (peer s) s 
     number : (n m : ℕ) → Plays (event.Tick m 1) ≡ Plays (event.Tick n 1) → m ≡ n
     number n m e = cc
 
-pub not_tick : (s : Side) (e : HostEvent) → IsTickOf s e → IsBetweenTicks e → ⊥
-not_tick s e (n, named, is) b = subst IsBetweenTicks is b
+-- no tick is among the events that may come between
+abbrev pub IsTickless : (HostEvent → Type 0) → Type 0
+IsTickless May = (n : ℕ) → May (Plays (event.Tick n 1)) → ⊥
+
+pub not_tick : (May : HostEvent → Type 0) → IsTickless May → (s : Side) (e : HostEvent) → IsTickOf s e → May e → ⊥
+not_tick May none s e (n, named, is) b = none n (subst May is b)
 
 -- a system that has ticked does not tick again
-ticked_once : (s : Side) (P : WorldState → Type 0) (gives : Algorithms) (b : Bool) (es : List HostEvent) (rs : List Reply) (old new : WorldState)
-    (run : RunReplies gives old es rs new) → TickOnce s false b es → AfterTick s P gives es rs old new run → ⊥
-ticked_once s P gives b [] rs old new run h a = a
-ticked_once s P gives b (e ∷ es) [] old new run h a = a
-ticked_once s P gives b (e ∷ es) (r ∷ rs) old new run (inl h) a = no h.1
-ticked_once s P gives b (e ∷ es) (r ∷ rs) old new run (inr (inl h)) (inl a) = one_of s e a.0 h.0
-ticked_once s P gives b (e ∷ es) (r ∷ rs) old new run (inr (inl h)) (inr a) = ticked_once s P gives false es rs run.0 new run.2 h.2 a
-ticked_once s P gives b (e ∷ es) (r ∷ rs) old new run (inr (inr h)) (inl a) = not_tick s e a.0 h.0
-ticked_once s P gives b (e ∷ es) (r ∷ rs) old new run (inr (inr h)) (inr a) = ticked_once s P gives b es rs run.0 new run.2 h.1 a
+ticked_once : (May : HostEvent → Type 0) → IsTickless May → (s : Side) (P : WorldState → Type 0) (gives : Algorithms) (b : Bool)
+    (es : List HostEvent) (rs : List Reply) (old new : WorldState) (run : RunReplies gives old es rs new) → TickOnceAmong May s false b es
+    → AfterTick s P gives es rs old new run → ⊥
+ticked_once May none s P gives b [] rs old new run h a = a
+ticked_once May none s P gives b (e ∷ es) [] old new run h a = a
+ticked_once May none s P gives b (e ∷ es) (r ∷ rs) old new run (inl h) a = no h.1
+ticked_once May none s P gives b (e ∷ es) (r ∷ rs) old new run (inr (inl h)) (inl a) = one_of s e a.0 h.0
+ticked_once May none s P gives b (e ∷ es) (r ∷ rs) old new run (inr (inl h)) (inr a) = ticked_once May none s P gives false es rs run.0 new run.2 h.2 a
+ticked_once May none s P gives b (e ∷ es) (r ∷ rs) old new run (inr (inr h)) (inl a) = not_tick May none s e a.0 h.0
+ticked_once May none s P gives b (e ∷ es) (r ∷ rs) old new run (inr (inr h)) (inr a) = ticked_once May none s P gives b es rs run.0 new run.2 h.1 a
 
 -- the stages of a round
 
--- what each event between ticks keeps
-abbrev pub KeptBetween : Algorithms → (WorldState → Type 0) → Type 0
-KeptBetween gives M = (e : HostEvent) (r : Reply) (i j : WorldState) → IsBetweenTicks e → StepReplies gives i e r j → M i → M j
+-- what each event keeps that may come between ticks
+abbrev pub KeptAmong : (HostEvent → Type 0) → Algorithms → (WorldState → Type 0) → Type 0
+KeptAmong May gives M = (e : HostEvent) (r : Reply) (i j : WorldState) → May e → StepReplies gives i e r j → M i → M j
 
--- what each event between ticks keeps that is so
-abbrev pub KeptWhere : Algorithms → (HostEvent → Type 0) → (WorldState → Type 0) → Type 0
-KeptWhere gives Is M = (e : HostEvent) (r : Reply) (i j : WorldState) → Is e → IsBetweenTicks e → StepReplies gives i e r j → M i → M j
+abbrev pub KeptBetween : Algorithms → (WorldState → Type 0) → Type 0
+KeptBetween gives M = KeptAmong IsBetweenTicks gives M
+
+abbrev pub KeptBeside : (Side → ℕ) → Algorithms → (WorldState → Type 0) → Type 0
+KeptBeside at gives M = KeptAmong (LeavesPorts at) gives M
+
+-- what each of them keeps that is so
+abbrev pub KeptWhere : (HostEvent → Type 0) → Algorithms → (HostEvent → Type 0) → (WorldState → Type 0) → Type 0
+KeptWhere May gives Is M = (e : HostEvent) (r : Reply) (i j : WorldState) → Is e → May e → StepReplies gives i e r j → M i → M j
 
 abbrev pub Whatever : HostEvent → Type 0
 Whatever e = Unit {0}
@@ -88,23 +107,25 @@ MadeByTick gives s M N = (n : ℕ) (r : Reply) (i j : WorldState) → side_of n 
 
 -- A before the tick of s, B after it, and C once P held; each of them before the tick of the other system, if that has still to
 -- tick, or after it
-pub record Stages (gives : Algorithms) (Is : HostEvent → Type 0) (s : Side) (A B C : Bool → WorldState → Type 0) (P : WorldState → Type 0) : Type 0 where
-  pub first : (b : Bool) → KeptWhere gives Is (A b)
-  pub second : (b : Bool) → KeptWhere gives Is (B b)
-  pub third : (b : Bool) → KeptWhere gives Is (C b)
+pub record Stages (May : HostEvent → Type 0) (gives : Algorithms) (Is : HostEvent → Type 0) (s : Side) (A B C : Bool → WorldState → Type 0)
+    (P : WorldState → Type 0) : Type 0 where
+  pub none : IsTickless May
+  pub first : (b : Bool) → KeptWhere May gives Is (A b)
+  pub second : (b : Bool) → KeptWhere May gives Is (B b)
+  pub third : (b : Bool) → KeptWhere May gives Is (C b)
   pub own : (b : Bool) → MadeByTick gives s (A b) (B b)
   pub other_first : MadeByTick gives (peer s) (A true) (A false)
   pub other_second : MadeByTick gives (peer s) (B true) (B false)
   pub other_third : MadeByTick gives (peer s) (C true) (C false)
   pub rests : (b : Bool) (j : WorldState) → P j → B b j → C b j
 
-module _ (gives : Algorithms) (Is : HostEvent → Type 0) (s : Side) (A B C : Bool → WorldState → Type 0) (P : WorldState → Type 0)
-    (k : Stages gives Is s A B C P) where
+module _ (May : HostEvent → Type 0) (gives : Algorithms) (Is : HostEvent → Type 0) (s : Side) (A B C : Bool → WorldState → Type 0)
+    (P : WorldState → Type 0) (k : Stages May gives Is s A B C P) where
   tick_of : (t : Side) (M N : WorldState → Type 0) → MadeByTick gives t M N → (e : HostEvent) (r : Reply) (i j : WorldState) → IsTickOf t e
       → StepReplies gives i e r j → M i → N j
   tick_of t M N f e r i j (n, named, is) h m = f n r i j named (subst (λ x. StepReplies gives i x r j) is h) m
 
-  third_on : (es : List HostEvent) (rs : List Reply) (i j : WorldState) (b : Bool) → AllByRecursion Is es → TickOnce s false b es → RunReplies gives i es rs j → C b i
+  third_on : (es : List HostEvent) (rs : List Reply) (i j : WorldState) (b : Bool) → AllByRecursion Is es → TickOnceAmong May s false b es → RunReplies gives i es rs j → C b i
       → C false j
   third_on [] [] i j b all h run m = subst (λ x. C false x) (sym run) (subst (λ x. C x i) h.1 m)
   third_on (e ∷ es) (r ∷ rs) i j b all (inl h) run m = absurd (no h.1)
@@ -113,7 +134,7 @@ module _ (gives : Algorithms) (Is : HostEvent → Type 0) (s : Side) (A B C : Bo
   third_on (e ∷ es) (r ∷ rs) i j b all (inr (inr h)) run m = third_on es rs run.0 j b all.1 h.1 run.2 (k.third b e r i run.0 all.0 h.0 run.1 m)
   third_on es rs i j b all h run m = absurd run
 
-  second_on : (es : List HostEvent) (rs : List Reply) (i j : WorldState) (b : Bool) → AllByRecursion Is es → TickOnce s false b es → (run : RunReplies gives i es rs j)
+  second_on : (es : List HostEvent) (rs : List Reply) (i j : WorldState) (b : Bool) → AllByRecursion Is es → TickOnceAmong May s false b es → (run : RunReplies gives i es rs j)
       → AtSomeWorld P gives es rs i j run → B b i → C false j
   second_on [] [] i j b all h run a m = third_on [] [] i j b all h run (k.rests b i a m)
   second_on (e ∷ es) (r ∷ rs) i j b all h run (inl a) m = third_on (e ∷ es) (r ∷ rs) i j b all h run (k.rests b i a m)
@@ -123,31 +144,45 @@ module _ (gives : Algorithms) (Is : HostEvent → Type 0) (s : Side) (A B C : Bo
   second_on (e ∷ es) (r ∷ rs) i j b all (inr (inr h)) run (inr a) m = second_on es rs run.0 j b all.1 h.1 run.2 a (k.second b e r i run.0 all.0 h.0 run.1 m)
   second_on es rs i j b all h run a m = absurd run
 
-  pub first_on : (es : List HostEvent) (rs : List Reply) (i j : WorldState) (b : Bool) → AllByRecursion Is es → TickOnce s true b es → (run : RunReplies gives i es rs j)
+  pub first_on : (es : List HostEvent) (rs : List Reply) (i j : WorldState) (b : Bool) → AllByRecursion Is es → TickOnceAmong May s true b es → (run : RunReplies gives i es rs j)
       → AfterTick s P gives es rs i j run → A b i → C false j
   first_on [] rs i j b all h run a m = absurd a
   first_on (e ∷ es) [] i j b all h run a m = absurd a
   first_on (e ∷ es) (r ∷ rs) i j b all (inl h) run (inl a) m = second_on es rs run.0 j b all.1 h.2 run.2 a.1 (tick_of s (A b) (B b) (k.own b) e r i run.0 h.0 run.1 m)
-  first_on (e ∷ es) (r ∷ rs) i j b all (inl h) run (inr a) m = absurd (ticked_once s P gives b es rs run.0 j run.2 h.2 a)
+  first_on (e ∷ es) (r ∷ rs) i j b all (inl h) run (inr a) m = absurd (ticked_once May k.none s P gives b es rs run.0 j run.2 h.2 a)
   first_on (e ∷ es) (r ∷ rs) i j b all (inr (inl h)) run (inl a) m = absurd (one_of s e a.0 h.0)
   first_on (e ∷ es) (r ∷ rs) i j b all (inr (inl h)) run (inr a) m = first_on es rs run.0 j false all.1 h.2 run.2 a
       (tick_of (peer s) (A true) (A false) k.other_first e r i run.0 h.0 run.1 (subst (λ x. A x i) h.1 m))
-  first_on (e ∷ es) (r ∷ rs) i j b all (inr (inr h)) run (inl a) m = absurd (not_tick s e a.0 h.0)
+  first_on (e ∷ es) (r ∷ rs) i j b all (inr (inr h)) run (inl a) m = absurd (not_tick May k.none s e a.0 h.0)
   first_on (e ∷ es) (r ∷ rs) i j b all (inr (inr h)) run (inr a) m = first_on es rs run.0 j b all.1 h.1 run.2 a (k.first b e r i run.0 all.0 h.0 run.1 m)
 
 -- what holds through a round, without the question what was due
+module _ (May : HostEvent → Type 0) (gives : Algorithms) (s : Side) (A : Bool → Bool → WorldState → Type 0)
+    (kept : (a b : Bool) → KeptAmong May gives (A a b)) (own : (b : Bool) → MadeByTick gives s (A true b) (A false b))
+    (other : (a : Bool) → MadeByTick gives (peer s) (A a true) (A a false)) where
+  pub holds_among : (es : List HostEvent) (rs : List Reply) (i j : WorldState) (a b : Bool) → TickOnceAmong May s a b es → RunReplies gives i es rs j
+      → A a b i → A false false j
+  holds_among [] [] i j a b h run m =
+      subst (λ x. A false false x) (sym run) (subst (λ x. A false x i) h.1 (subst (λ x. A x b i) h.0 m))
+  holds_among (e ∷ es) (r ∷ rs) i j a b (inl (t, due, h)) run m = holds_among es rs run.0 j false b h run.2
+      (own b t.0 r i run.0 t.1 (subst (λ x. StepReplies gives i x r run.0) t.2 run.1) (subst (λ x. A x b i) due m))
+  holds_among (e ∷ es) (r ∷ rs) i j a b (inr (inl (t, due, h))) run m = holds_among es rs run.0 j a false h run.2
+      (other a t.0 r i run.0 t.1 (subst (λ x. StepReplies gives i x r run.0) t.2 run.1) (subst (λ x. A a x i) due m))
+  holds_among (e ∷ es) (r ∷ rs) i j a b (inr (inr h)) run m = holds_among es rs run.0 j a b h.1 run.2 (kept a b e r i run.0 h.0 run.1 m)
+  holds_among es rs i j a b h run m = absurd run
+
 pub holds_on : (gives : Algorithms) (s : Side) (A : Bool → Bool → WorldState → Type 0) → ((a b : Bool) → KeptBetween gives (A a b))
     → ((b : Bool) → MadeByTick gives s (A true b) (A false b)) → ((a : Bool) → MadeByTick gives (peer s) (A a true) (A a false))
     → (es : List HostEvent) (rs : List Reply) (i j : WorldState) (a b : Bool) → TickOnce s a b es → RunReplies gives i es rs j → A a b i → A false false j
-holds_on gives s A kept own other [] [] i j a b h run m =
-    subst (λ x. A false false x) (sym run) (subst (λ x. A false x i) h.1 (subst (λ x. A x b i) h.0 m))
-holds_on gives s A kept own other (e ∷ es) (r ∷ rs) i j a b (inl (t, due, h)) run m = holds_on gives s A kept own other es rs run.0 j false b h run.2
-    (own b t.0 r i run.0 t.1 (subst (λ x. StepReplies gives i x r run.0) t.2 run.1) (subst (λ x. A x b i) due m))
-holds_on gives s A kept own other (e ∷ es) (r ∷ rs) i j a b (inr (inl (t, due, h))) run m = holds_on gives s A kept own other es rs run.0 j a false h run.2
-    (other a t.0 r i run.0 t.1 (subst (λ x. StepReplies gives i x r run.0) t.2 run.1) (subst (λ x. A a x i) due m))
-holds_on gives s A kept own other (e ∷ es) (r ∷ rs) i j a b (inr (inr h)) run m =
-    holds_on gives s A kept own other es rs run.0 j a b h.1 run.2 (kept a b e r i run.0 h.0 run.1 m)
-holds_on gives s A kept own other es rs i j a b h run m = absurd run
+holds_on gives s A kept own other es rs i j a b h run m = holds_among IsBetweenTicks gives s A kept own other es rs i j a b h run m
+
+-- so it is in a round beside these ports
+pub holds_beside : (E : Clearing) (at : Side → ℕ) (gives : Algorithms) (s : Side) (A : Bool → Bool → WorldState → Type 0)
+    → ((a b : Bool) → KeptBeside at gives (A a b)) → ((b : Bool) → MadeByTick gives s (A true b) (A false b))
+    → ((a : Bool) → MadeByTick gives (peer s) (A a true) (A a false)) → (old new : WorldState) → PlayedBeside at E gives old new → A true true old
+    → A false false new
+holds_beside E at gives s A kept own other old new h m = holds_among (LeavesPorts at) gives s A kept own other h.events h.replies old new true true
+    (side_beside at s h.events h.ticks) h.acts m
 
 -- one tick of system t
 
@@ -159,7 +194,7 @@ pub tick_one : (gives : Algorithms) (n : ℕ) (t : Side) (d : ℕ) (at : Side �
     → WorldSteps gives old (event.Tick n 1) r new → (l : Link d at w c x Y old) → Left d at w b x Z l.flying new
 tick_one gives n t d at w c b x Y Z r old new named here there known along moves stays h l =
     let k = ticks gives n t r old new named h in
-    let steady = keeps_steady gives (event.Tick n 1) r old new h l.steady in
+    let steady = keeps_timely gives (event.Tick n 1) r old new h l.steady in
     let was : Side → Machines → Type 0 = EndIs d w c x Y in
     let now : Side → Machines → Type 0 = EndIs d w b x Z in
     let mine = Tick-each (λ m p. AtPort (at t) (was t) m p × AtRest periodic_rows p) (AtPort (at t) (now t))
@@ -210,12 +245,12 @@ learnt_along v u c d most l there on = record {
   takes = λ x p q e awake h a y. lower_learnt d u (wait_of v) most q l (takes_learnt v u x c d p q there on e awake h a);
 }
 
--- what each event between ticks keeps of a cable
+-- what each event beside its ends keeps of a cable
 pub between : (gives : Algorithms) (d : ℕ) (at : Side → ℕ) (w : Side → Lacpdu) (c : Side → ℕ) (x : Side) (Y : Machines → Type 0)
-    → Fits d w c → Along Y (w x) (w (peer x)) (c x) d → ((p : Machines) → Y p → Y (after_sending p)) → KeptBetween gives (Link d at w c x Y)
+    → Fits d w c → Along Y (w x) (w (peer x)) (c x) d → ((p : Machines) → Y p → Y (after_sending p)) → KeptBeside at gives (Link d at w c x Y)
 between gives d at w c x Y fits along sends (Plays (event.Emit n p)) r i j b h l = (emit_any gives n p d at w c x Y r i j fits along sends l h).link
 between gives d at w c x Y fits along sends (Plays (event.Deliver cn n)) r i j b h l = (deliver_link gives cn n d at w c x Y r i j fits along l h).link
-between gives d at w c x Y fits along sends e r i j b h l = (quiet_link gives e d at w c x Y r i j b h l).link
+between gives d at w c x Y fits along sends e r i j b h l = (leaves_link gives e d at w c x Y r i j b h along l).link
 
 -- and for fewer ticks
 pub learn_less : (gives : Algorithms) (s : Side) (d : ℕ) (at : Side → ℕ) (w : Side → Lacpdu) (c : Side → ℕ) (m k : ℕ) (j : WorldState) → k ≤ m
@@ -305,9 +340,9 @@ pub host_holds : {E : Clearing} (gives : Algorithms) (x : Side) (d : ℕ) (at : 
     (old new : WorldState) → Fits d w c → Fits d w (ticked c) → Along Y (w x) (w (peer x)) (c x) d → Along Z (w x) (w (peer x)) (ticked c x) d
     → ((p q : Machines) → RunsToRest receive_rows (count_down p) q → AtRest periodic_rows p → IsEnd d (w x) (w (peer x)) (c x) p → Y p → Z q)
     → ((p : Machines) → Y p → Y (after_sending p)) → ((p : Machines) → Z p → Z (after_sending p))
-    → Link d at w c x Y old → IsPlayed E gives old new → Link d at w (ticked c) x Z new
-host_holds gives x d at w c Y Z old new fits then first last moves sends later l h =
-    all_ticked d at w c x x Z new (holds_on gives x (λ a b j. HeldIn d at w c x Y Z a b j) kept own other h.events h.replies old new true true (of_side x h.events h.ticks) h.acts
+    → Link d at w c x Y old → PlayedBeside at E gives old new → Link d at w (ticked c) x Z new
+host_holds {E} gives x d at w c Y Z old new fits then first last moves sends later l h =
+    all_ticked d at w c x x Z new (holds_beside E at gives x (λ a b j. HeldIn d at w c x Y Z a b j) kept own other old new h
     (none_ticked d at w c x x Y old l))
   where
     early : (b : Bool) → Along Y (w x) (w (peer x)) (known_in c x true b x) d
@@ -316,7 +351,7 @@ host_holds gives x d at w c Y Z old new fits then first last moves sends later l
     late : (b : Bool) → Along Z (w x) (w (peer x)) (known_in c x false b x) d
     late b = subst (λ n. Along Z (w x) (w (peer x)) n d) (sym (two_there x (c x - 1) (left b (c (peer x))))) last
 
-    kept : (a b : Bool) → KeptBetween gives (λ j. HeldIn d at w c x Y Z a b j)
+    kept : (a b : Bool) → KeptBeside at gives (λ j. HeldIn d at w c x Y Z a b j)
     kept true b = between gives d at w (known_in c x true b) x Y (fits_in d w c x fits then true b) (early b) sends
     kept false b = between gives d at w (known_in c x false b) x Z (fits_in d w c x fits then false b) (late b) later
 
@@ -329,6 +364,6 @@ host_holds gives x d at w c Y Z old new fits then first last moves sends later l
 
 -- and with nothing beside it, even if nothing is known of what comes
 pub host_keeps : {E : Clearing} (gives : Algorithms) (x : Side) (d : ℕ) (at : Side → ℕ) (w : Side → Lacpdu) (c : Side → ℕ) (old new : WorldState)
-    → Fits d w c → Fits d w (ticked c) → Link d at w c x Nothing old → IsPlayed E gives old new → Link d at w (ticked c) x Nothing new
+    → Fits d w c → Fits d w (ticked c) → Link d at w c x Nothing old → PlayedBeside at E gives old new → Link d at w (ticked c) x Nothing new
 host_keeps gives x d at w c old new fits then l h = host_holds gives x d at w c Nothing Nothing old new fits then
     (nothing_along (w x) (w (peer x)) (c x) d) (nothing_along (w x) (w (peer x)) (ticked c x) d) (λ p q r rest a y. y) (λ p y. y) (λ p y. y) l h

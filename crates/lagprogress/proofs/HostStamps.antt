@@ -2,15 +2,15 @@
 use Rattle.lagprogress.proofs.Common.{Bool, Err, List, Ok, Result, [], ap, inl, inr, is_some, slice_get, subst, sym, ℕ, ◌++◌, ◌∙◌, ◌∷◌, ◌≡◌, ◌≤◌, ◌⊎◌}
 use Rattle.lagprogress.proofs.Common.{none-some, same_Some, AllByRecursion, Lacpdu, all-append, Side, peer, Machines, SystemFault, Received, Carries}
 use Rattle.lagprogress.proofs.Common.{IsFrame, Receive, CallPromise, Reply, Algorithms, ItemValue, WorldState, change_count_in, half, history_at}
-use Rattle.lagprogress.proofs.Common.{towards, HostEvent, Plays, IsQuiet, StepReplies}
+use Rattle.lagprogress.proofs.Common.{towards, HostEvent, Plays, StepReplies}
 use Rattle.slowpdu.specs.declared.pdu.Pdu.TheVariants as pdu
 use Rattle.lagsystem.specs.declared.drive.Reply.TheVariants as answer
 use Rattle.lagscript.specs.declared.event.Event.TheVariants as event
-use Rattle.lagprogress.proofs.HostRound.{KeptBetween, MadeByTick}
+use Rattle.lagprogress.proofs.HostRound.{KeptBeside, MadeByTick}
 use Rattle.lagprogress.proofs.Linked.{Link, end_here}
 use Rattle.lagprogress.proofs.OneCable.{Arrives, IsStamped, OnCable, alone, cable, logged, port_there, ticks, towards_there}
 use Rattle.lagprogress.proofs.Passing.{receives_lacpdu}
-use Rattle.lagprogress.proofs.Quieting.{quiet_cable, quiet_logs}
+use Rattle.lagprogress.proofs.Quieting.{LeavesEnds, leaves_cable, leaves_logs}
 use Rattle.lagprogress.proofs.Stamps.{Stamped, Took, stamps_ask, stamps_deliver, took_in, took_same}
 
 -- what is on one cable
@@ -32,10 +32,10 @@ module _ (gives : Algorithms) (b : ℕ) (at k : Side → ℕ) (kept : Side → B
   grown t fl now (inr e) a = subst (AllByRecursion (IsStamped (k (peer t)))) (sym e.2)
       (all-append (IsStamped (k (peer t))) (fl t) (e.0 ∷ []) a ((λ x c. absurd (e.1 x c)), tt))
 
-  quiet_stamped : (e : HostEvent) (r : Reply) (i j : WorldState) → IsQuiet e → StepReplies gives i e r j → St i → St j
-  quiet_stamped e r i j q h l =
-      let g = quiet_cable gives e l.index at l.flying r i j q h l.links in
-      let logs = quiet_logs gives e r i j q h in
+  leaves_stamped : (e : HostEvent) (r : Reply) (i j : WorldState) → LeavesEnds at e → StepReplies gives i e r j → St i → St j
+  leaves_stamped e r i j q h l =
+      let g = leaves_cable gives e l.index at l.flying r i j q h l.links in
+      let logs = leaves_logs gives e at r i j q h in
       record {
         flying = g.flying;
         index = l.index;
@@ -45,10 +45,10 @@ module _ (gives : Algorithms) (b : ℕ) (at k : Side → ℕ) (kept : Side → B
         items = λ m t. grown t l.flying g.flying (g.grew t) (l.items m t);
       }
 
-  pub stamped_between : KeptBetween gives St
+  pub stamped_between : KeptBeside at gives St
   stamped_between (Plays (event.Emit n p)) r i j x h l = (stamps_ask gives n p b at k kept r i j l h).world
   stamped_between (Plays (event.Deliver cn n)) r i j x h l = (stamps_deliver gives cn n b at k kept r i j l h).world
-  stamped_between e r i j x h l = quiet_stamped e r i j x h l
+  stamped_between e r i j x h l = leaves_stamped e r i j x h l
 
   pub stamped_tick : (s : Side) → MadeByTick gives s St St
   stamped_tick s n r i j numbered h l =
@@ -66,14 +66,14 @@ module _ (gives : Algorithms) (b : ℕ) (at k : Side → ℕ) (kept : Side → B
   abbrev pub Took-it : Side → WorldState → Type 0
   Took-it t j = Stamped b at k kept j × Took at k kept t j
 
-  pub took_between : 1 ≤ b → (t : Side) → KeptBetween gives (Took-it t)
+  pub took_between : 1 ≤ b → (t : Side) → KeptBeside at gives (Took-it t)
   took_between some t (Plays (event.Emit n p)) r i j x h (l, y) =
       let s = stamps_ask gives n p b at k kept r i j l h in (s.world, s.took some t y)
   took_between some t (Plays (event.Deliver cn n)) r i j x h (l, y) =
       let s = stamps_deliver gives cn n b at k kept r i j l h in (s.world, s.took some t y)
   took_between some t e r i j x h (l, y) = (
-    quiet_stamped e r i j x h l,
-    took_same at k kept t i j (quiet_logs gives e r i j x h t) y,
+    leaves_stamped e r i j x h l,
+    took_same at k kept t i j (leaves_logs gives e at r i j x h t) y,
   )
 
   pub took_tick : (t s : Side) → MadeByTick gives s (Took-it t) (Took-it t)

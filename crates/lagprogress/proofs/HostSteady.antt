@@ -1,13 +1,15 @@
 -- What calls and settings of hosts leave of both systems.
 use Rattle.lagprogress.proofs.Common.{Bool, Err, List, None, Ok, Option, Result, Some, [], ap, arith, false, inl, inr, refl, subst, sym, true, ℕ, ◌∙◌}
-use Rattle.lagprogress.proofs.Common.{◌∷◌, ◌≡◌, ◌≤◌, ◌⊎◌, none-some, same_Some, AggId, Lacpdu, One, Side, Two, peer, Assignment, Table}
-use Rattle.lagprogress.proofs.Common.{next_identifier, HostCall, HostReply, Answer, SystemFault, OffersIf, Call, Carries, IsFrame, Step, call_of}
-use Rattle.lagprogress.proofs.Common.{HostPromise, GivesOrRefuses, ProbesAt, ProbesIf, SendsMarkerOf, Set_max_delay, SettingPromise, IsSound}
-use Rattle.lagprogress.proofs.Common.{SystemState, port_index, with_table, IsOther, TableAlone, host_alone, setting_sound, Step-sound, Algorithms}
-use Rattle.lagprogress.proofs.Common.{transmitted_item, with_item_sent, forced_if_accepted, HalfState, ItemValue, LinkState, WorldState, half}
-use Rattle.lagprogress.proofs.Common.{put_on_port, with_half, start_sound, AfterNumberedOffer, AfterProbe, CountsHeldIfOk, ForcesPort, HalfTells}
-use Rattle.lagprogress.proofs.Common.{HostEvent, HostRuns, HostSteps, Leaves, Offers, Plays, Probes, Rests, Sets, numbered_item, hosts_keep_headline}
-use Rattle.lagprogress.proofs.Common.{PortsAreTimed, Step-each, forces_port, calls_each, TimedAt, setting_timed, timed_kept, timed_settles}
+use Rattle.lagprogress.proofs.Common.{◌∷◌, ◌≡◌, ◌≤◌, ◌⊎◌, nat_tests, none-some, same_Some, AggId, Choice, Lacpdu, One, Side, Two, peer, Machines}
+use Rattle.lagprogress.proofs.Common.{Assignment, Table, next_identifier, HostCall, HostReply, SystemFault, SystemPort, OffersIf, Call, Carries}
+use Rattle.lagprogress.proofs.Common.{IsFrame, choice_with_link, call_of, configured_numbers, HostPromise, GivesOrRefuses, ProbesAt, ProbesIf}
+use Rattle.lagprogress.proofs.Common.{SendsMarkerOf, Hold_port, Set_max_delay, Set_max_links, Set_mode, SetsPort, Setting, SettingPromise}
+use Rattle.lagprogress.proofs.Common.{SettingStep, in_mode, is_held_so, is_in_mode, with_held, IsSound, SystemState, port_index, with_table, IsOther}
+use Rattle.lagprogress.proofs.Common.{TableAlone, host_alone, all-set, found_place, setting_sound, Step-sound, Algorithms, transmitted_item}
+use Rattle.lagprogress.proofs.Common.{with_item_sent, forced_if_accepted, HalfState, ItemValue, LinkState, WorldState, half, put_on_port, with_half}
+use Rattle.lagprogress.proofs.Common.{start_sound, AfterNumberedOffer, AfterProbe, CountsHeldIfOk, ForcesPort, HalfTells, HostEvent, HostRuns}
+use Rattle.lagprogress.proofs.Common.{HostSteps, Leaves, Offers, Plays, Probes, Rests, Sets, numbered_item, hosts_keep_headline, PortsAreTimed}
+use Rattle.lagprogress.proofs.Common.{KeptBySettling, OfEach, settling_each, zip_kept, forces_port, AtPort, setting_timed, LeavesPorts}
 use Rattle.lagprogress.proofs.Common.{EachHostReachedIsSteady, EachHostRunKeepsSteady}
 use Rattle.slowpdu.specs.declared.pdu.Pdu.TheVariants as pdu
 use Rattle.lagsystem.specs.declared.drive.HostCall.TheVariants as host
@@ -18,8 +20,8 @@ use Rattle.lagsystem.proofs.ProbingLemmas.{probes_sound}
 use Rattle.lagworld.specs.Asking.{with_sent_in}
 use Rattle.lagworld.proofs.OneSystem.{after_call}
 use Rattle.laghosts.proofs.HostHappens.{offered_joint}
-use Rattle.lagprogress.proofs.Halves.{each_is_calls, start_steady}
-use Rattle.lagprogress.proofs.Linked.{each_side}
+use Rattle.lagprogress.proofs.Halves.{AreTimely, IsTimely, keeps_timely, start_steady, timely}
+use Rattle.lagprogress.proofs.Linked.{each_both, each_side, same_index}
 use Rattle.lagprogress.proofs.Passing.{marker_carries_none}
 
 -- ---- one system
@@ -77,15 +79,6 @@ host_next gives old (host.ForcePort port) (told.ForcePort (Ok count)) new h o = 
 host_next gives old (host.ForcePort port) (told.ForcePort (Err fault)) new h o = same_next old new h.1.same
 host_next gives old (host.Call call) answer new h o = absurd o
 host_next gives old call answer new h o = absurd h
-
--- sound, with timers within their bounds
-abbrev pub IsTimely : SystemState → Type 0
-IsTimely s = IsSound s × PortsAreTimed s
-
-call_timely : (gives : ℕ → ℕ → ℕ → Type 0) (old new : SystemState) (call : Call) (a : Answer) → Step gives old call a new → IsTimely old
-    → IsTimely new
-call_timely gives old new call a h k =
-    (Step-sound gives old call a new h k.0, Step-each TimedAt timed_settles gives old call a new (timed_kept call a) h k.1)
 
 -- ---- the five calls
 
@@ -301,6 +294,16 @@ pub probes_half : (gives : Algorithms) (s : Side) (port : ℕ) (old new : WorldS
     × Probed s port a old.links new.links
 probes_half gives s port old new (a, mid, x, y) = by_answer a x y
   where
+    unsent : (a : Result (Option (List ℕ)) SystemFault) → HalfTells (gives s) (host.Probe port) (told.Probe a) (half s old) mid
+        → new ≡ with_half s mid old
+        → HostPromise (gives s) (half s old).state (host.Probe port) (told.Probe a) (half s new).state × (new.links ≡ old.links)
+    unsent a x y =
+        let e = y ∙ same_links s mid old in (
+          subst (HostPromise (gives s) (half s old).state (host.Probe port) (told.Probe a))
+              (sym (ap (λ (j : WorldState). (half s j).state) e ∙ state_there s mid old.links old)) x.answers,
+          ap (λ (j : WorldState). j.links) e,
+        )
+
     by_answer : (a : Result (Option (List ℕ)) SystemFault) → HalfTells (gives s) (host.Probe port) (told.Probe a) (half s old) mid
         → AfterProbe s port a (with_half s mid old) new → (a : Result (Option (List ℕ)) SystemFault)
         × HostPromise (gives s) (half s old).state (host.Probe port) (told.Probe a) (half s new).state × Probed s port a old.links new.links
@@ -312,20 +315,8 @@ probes_half gives s port old new (a, mid, x, y) = by_answer a x y
               (sym (ap (λ (j : WorldState). (half s j).state) e ∙ state_there s mid (put_on_port s port item old.links) old)) x.answers,
           (item, refl, ap (λ (j : WorldState). j.links) e),
         )
-    by_answer (Ok None) x y =
-        let e = y ∙ same_links s mid old in (
-          Ok None,
-          subst (HostPromise (gives s) (half s old).state (host.Probe port) (told.Probe (Ok None)))
-              (sym (ap (λ (j : WorldState). (half s j).state) e ∙ state_there s mid old.links old)) x.answers,
-          ap (λ (j : WorldState). j.links) e,
-        )
-    by_answer (Err fault) x y =
-        let e = y ∙ same_links s mid old in (
-          Err fault,
-          subst (HostPromise (gives s) (half s old).state (host.Probe port) (told.Probe (Err fault)))
-              (sym (ap (λ (j : WorldState). (half s j).state) e ∙ state_there s mid old.links old)) x.answers,
-          ap (λ (j : WorldState). j.links) e,
-        )
+    by_answer (Ok None) x y = let r = unsent (Ok None) x y in (Ok None, r.0, r.1)
+    by_answer (Err fault) x y = let r = unsent (Err fault) x y in (Err fault, r.0, r.1)
 
 -- it leaves the cables quietly
 pub beside_quietly : (s : Side) (old new : WorldState) → IsBeside s old new → Quietly s old new
@@ -362,6 +353,89 @@ delay_quietly gives s delay old new x = delay_beside s x.1 old new
     (ap (λ (y : SystemState). y.system_ports) (delayed s delay x.0 (half s old).state x.1.state x.2.answers))
     (ap (λ (k : HalfState). k.histories) x.2.same) x.3
 
+-- a setting of another port
+
+set_beside : (n m : ℕ) (P : Machines → Type 0) → KeptBySettling (AtPort n P) → (m ≡ n → ⊥) → (already : SystemPort → Bool)
+    (change : SystemPort → SystemPort) → ((x : SystemPort) → (change x).number ≡ x.number) → (o : Option ℕ) (old new : SystemState)
+    → port_index m old.system_ports ≡ o → SetsPort already change o old new → OfEach (AtPort n P) old.system_ports
+    → OfEach (AtPort n P) new.system_ports
+set_beside n m P k other already change same None old new e h a = absurd h
+set_beside n m P k other already change same (Some i) old new e h a = elim h [
+  | inl is ↦ subst (λ (s : SystemState). OfEach (AtPort n P) s.system_ports) (sym is.1) a
+  | inr settled ↦ (let b = settled.1.0 in
+      settling_each (AtPort n P) k settled.0 new settled.2 (subst (OfEach (AtPort n P)) (sym b.3)
+      (all-set (λ (x : SystemPort). AtPort n P x.number x.port) old.system_ports i (change b.0) a
+      (λ f. absurd (other (sym (found_place m old.system_ports i b.0 e b.1) ∙ (sym (same b.0) ∙ f)))))))
+]
+
+-- a limit of links leaves what is chosen of a port whose link is up
+limited_choice : (most : Option ℕ) (up : Bool) (c : Choice) → up ≡ true → choice_with_link most up c ≡ c
+limited_choice most up c e = grind (arith, nat_tests)
+
+limited_port : (most : Option ℕ) (p : Machines) → p.enabled ≡ true → record p { choice = choice_with_link most p.enabled p.choice } ≡ p
+limited_port most p up = ap (λ c. record p { choice = c }) (limited_choice most p.enabled p.choice up)
+
+abbrev pub IsUp : Machines → Type 0
+IsUp p = p.enabled ≡ true
+
+-- what it leaves of the port of its system, if the link of that is up
+setting_beside : (at : Side → ℕ) (s : Side) (P : Machines → Type 0) → KeptBySettling (AtPort (at s) P) → (setting : Setting)
+    → LeavesPorts at (Sets s setting) → (a : Result Unit SystemFault) (old new : SystemState) → SettingStep old setting a new
+    → OfEach (AtPort (at s) IsUp) old.system_ports → OfEach (AtPort (at s) P) old.system_ports → OfEach (AtPort (at s) P) new.system_ports
+setting_beside at s P k (Hold_port n held) other (Ok done) old new h up p = set_beside (at s) n P k other (is_held_so held) (with_held held)
+    (λ x. refl) (port_index n old.system_ports) old new refl h p
+setting_beside at s P k (Hold_port n held) other (Err fault) old new h up p =
+    subst (λ (t : SystemState). OfEach (AtPort (at s) P) t.system_ports) (sym h.same) p
+setting_beside at s P k (Set_mode n active short) other (Ok done) old new h up p = set_beside (at s) n P k other (is_in_mode active short)
+    (in_mode active short) (λ x. refl) (port_index n old.system_ports) old new refl h p
+setting_beside at s P k (Set_mode n active short) other (Err fault) old new h up p =
+    subst (λ (t : SystemState). OfEach (AtPort (at s) P) t.system_ports) (sym h.same) p
+setting_beside at s P k (Set_max_delay delay) other (Ok done) old new h up p =
+    subst (λ (t : SystemState). OfEach (AtPort (at s) P) t.system_ports) (sym h) p
+setting_beside at s P k (Set_max_delay delay) other (Err fault) old new h up p = absurd h
+setting_beside at s P k (Set_max_links most) other (Ok done) old new h up p = settling_each (AtPort (at s) P) k h.1.0 new h.1.2
+    (zip_kept (λ q r. r ≡ record q { choice = choice_with_link most q.enabled q.choice })
+    (λ m q. AtPort (at s) P m q × AtPort (at s) IsUp m q) (AtPort (at s) P)
+    (λ m q r e a f. subst P (sym (e ∙ limited_port most q (a.1 f))) (a.0 f)) old.system_ports h.1.0.system_ports h.1.1.0
+    (each_both (AtPort (at s) P) (AtPort (at s) IsUp) old.system_ports p up))
+setting_beside at s P k (Set_max_links most) other (Err fault) old new h up p =
+    subst (λ (t : SystemState). OfEach (AtPort (at s) P) t.system_ports) (sym h.1) p
+
+module _ (gives : Algorithms) (s : Side) (setting : Setting) (old new : WorldState) (x : HostSteps gives old (Sets s setting) new) where
+  set_there : new ≡ after_call s x.1 old.links old
+  set_there = x.3 ∙ same_links s x.1 old
+
+  pub sets_links : new.links ≡ old.links
+  sets_links = ap (λ (j : WorldState). j.links) set_there
+
+  pub sets_logs : (t : Side) → (half t new).histories ≡ (half t old).histories
+  sets_logs t = ap (λ (j : WorldState). (half t j).histories) set_there
+      ∙ logs_there s x.1 old.links old (ap (λ (k : HalfState). k.histories) x.2.same) t
+
+  own_set : (half s new).state ≡ x.1.state
+  own_set = ap (λ (j : WorldState). (half s j).state) set_there ∙ state_there s x.1 old.links old
+
+  peer_set : (half (peer s) new).state ≡ (half (peer s) old).state
+  peer_set = ap (λ (j : WorldState). (half (peer s) j).state) set_there ∙ peer_there s x.1 old.links old
+
+  pub sets_each : (at : Side → ℕ) → LeavesPorts at (Sets s setting) → (P : Machines → Type 0) (t : Side) → KeptBySettling (AtPort (at t) P)
+      → OfEach (AtPort (at t) IsUp) (half t old).state.system_ports → OfEach (AtPort (at t) P) (half t old).state.system_ports
+      → OfEach (AtPort (at t) P) (half t new).state.system_ports
+  sets_each at leaves P = each_side (λ t. KeptBySettling (AtPort (at t) P) → OfEach (AtPort (at t) IsUp) (half t old).state.system_ports
+      → OfEach (AtPort (at t) P) (half t old).state.system_ports → OfEach (AtPort (at t) P) (half t new).state.system_ports) s
+      (λ k up p. subst (λ (z : SystemState). OfEach (AtPort (at s) P) z.system_ports) (sym own_set)
+      (setting_beside at s P k setting leaves x.0 (half s old).state x.1.state x.2.answers.step up p))
+      (λ k up p. subst (λ (z : SystemState). OfEach (AtPort (at (peer s)) P) z.system_ports) (sym peer_set) p)
+
+  sets_ports : (t : Side) → (half t new).state.ports ≡ (half t old).state.ports
+  sets_ports = each_side (λ t. (half t new).state.ports ≡ (half t old).state.ports) s
+      (ap (λ (z : SystemState). z.ports) own_set ∙ x.2.answers.ports) (ap (λ (z : SystemState). z.ports) peer_set)
+
+  pub sets_place : AreTimely old → AreTimely new → (t : Side) (n : ℕ)
+      → port_index n (half t new).state.system_ports ≡ port_index n (half t old).state.system_ports
+  sets_place a b t n = same_index n (half t old).state.system_ports (half t new).state.system_ports
+      ((b t).0.ports.same ∙ (ap configured_numbers (sets_ports t) ∙ sym (a t).0.ports.same))
+
 -- what they change of neither system
 module _ (X : Type 0) (g : SystemState → X) where
   pub aside_keeps : ((s : SystemState) (t : Table) → g (with_table s t) ≡ g s) → (gives : Algorithms) (e : HostEvent) (old new : WorldState)
@@ -382,9 +456,6 @@ module _ (X : Type 0) (g : SystemState → X) where
 
 -- ---- both systems
 
-abbrev pub AreTimely : WorldState → Type 0
-AreTimely j = (s : Side) → IsTimely (half s j).state
-
 beside_timely : (s : Side) (old new : WorldState) → IsBeside s old new → AreTimely old → AreTimely new
 beside_timely s old new b k = each_side (λ t. IsTimely (half t new).state) s
     (b.sound (k s).0, subst PortsAreTimed (sym b.alone) (k s).1) (subst IsTimely (sym b.peers) (k (peer s)))
@@ -398,9 +469,7 @@ setting_both P s mid old new f y k =
     (subst P (sym (ap (λ (j : WorldState). (half (peer s) j).state) e ∙ peer_there s mid old.links old)) (k (peer s)))
 
 pub step_timely : (gives : Algorithms) (e : HostEvent) (old new : WorldState) → HostSteps gives old e new → AreTimely old → AreTimely new
-step_timely gives (Plays e) old new x k = λ s.
-    (let g = each_is_calls gives e x.0 old new x.1 s in
-    calls_each (gives s) IsTimely (call_timely (gives s)) (half s old).state (half s new).state g.0 g.1 g.2 (k s))
+step_timely gives (Plays e) old new x k = keeps_timely gives e x.0 old new x.1 k
 step_timely gives (Sets s setting) old new x k = setting_both IsTimely s x.1 old new (λ t. (
   setting_sound (half s old).state setting x.0 x.1.state x.2.answers.step t.0,
   setting_timed (half s old).state x.1.state setting x.0 x.2.answers.step t.1,
@@ -413,7 +482,7 @@ run_timely gives (e ∷ es) old new h k = run_timely gives es h.0 new h.2 (step_
 
 pub hosts_keep_steady : (gives : Algorithms) → EachHostRunKeepsSteady gives
 hosts_keep_steady gives es old new h k free = λ s.
-    (let t = run_timely gives es old new h (λ u. ((k u).0, (k u).1)) s in (t.0, t.1, free s))
+    (let t = run_timely gives es old new h (timely old k) s in (t.0, t.1, free s))
 
 pub host_reached_steady : (gives : Algorithms) → EachHostReachedIsSteady gives
 host_reached_steady gives configs es start new i first h few free = (

@@ -4,8 +4,8 @@ use Rattle.lagprogress.proofs.Common.{◌⊎◌, cases_Bool, same_Some, AllByRec
 use Rattle.lagprogress.proofs.Common.{receive_rows, AtRest, RunsToRest, after_sending, count_down, is_due, SystemPort, Carries, IsFrame}
 use Rattle.lagprogress.proofs.Common.{OnlyPortChangesBy, ProcessesLacpdu, ThenSettles, SystemState, machines_of, found_place, Reply, Algorithms}
 use Rattle.lagprogress.proofs.Common.{WorldSteps, side_of, ItemValue, WorldState, half, towards, HostEvent, Plays, timeout_time, KeptBySettling}
-use Rattle.lagprogress.proofs.Common.{OfEach, Tick-each, counts, AtPort, Sounds, AfterTick, Clearing, IsBetweenTicks, IsHostRound, IsPlayed, IsQuiet}
-use Rattle.lagprogress.proofs.Common.{StepReplies, NothingInFlight, OfPort}
+use Rattle.lagprogress.proofs.Common.{OfEach, Tick-each, counts, AtPort, Sounds, LeavesPorts, AfterTick, Clearing, NoneIsLeft, StepReplies}
+use Rattle.lagprogress.proofs.Common.{NothingInFlight, OfPort}
 use Rattle.slowpdu.specs.declared.pdu.Pdu.TheVariants as pdu
 use Rattle.lagsystem.specs.declared.drive.Reply.TheVariants as answer
 use Rattle.lagscript.specs.declared.event.Event.TheVariants as event
@@ -13,8 +13,8 @@ use Rattle.lagprogress.proofs.Claims.{IsNamed, Owes, Owing, Wakeful, owes_ticks,
 use Rattle.lagprogress.proofs.Climbing.{PartnerInSync, known_still, ticks_partner}
 use Rattle.lagprogress.proofs.Delivering.{Heard, arrived_ports, deliver_link, deliver_moves}
 use Rattle.lagprogress.proofs.EndFacts.{CanSound, sounds_along, Along, IsEnd, Learnt, activity, nothing_along, short_timeout, ticks_end, wait_of}
-use Rattle.lagprogress.proofs.HostRound.{between, KeptBetween, MadeByTick, Stages, all_ticked, first_on, fits_in, healthy_link, holds_on, known_in}
-use Rattle.lagprogress.proofs.HostRound.{learn_less, Whatever, all_whatever, learnt_along, left, none_ticked, of_side, tick_one, ticks_learnt}
+use Rattle.lagprogress.proofs.HostRound.{between, KeptBeside, MadeByTick, Stages, all_ticked, first_on, fits_in, healthy_link, holds_beside, known_in}
+use Rattle.lagprogress.proofs.HostRound.{learn_less, Whatever, all_whatever, learnt_along, left, none_ticked, side_beside, tick_one, ticks_learnt}
 use Rattle.lagprogress.proofs.HostRound.{two_other, two_there}
 use Rattle.lagprogress.proofs.Linked.{asked_which, at_end, beside_link, emit_any, found, end_with, of_end, with_ports, EndIs, Fits, Flying, IsGood}
 use Rattle.lagprogress.proofs.Linked.{Link, each_both, each_map, each_side, end_here, gains_has, HasLacpdu, other_side, peer_twice, put_other}
@@ -22,8 +22,8 @@ use Rattle.lagprogress.proofs.Linked.{put_there}
 use Rattle.lagprogress.proofs.OneCable.{Arrives, alone, cable, port_there, put, response, ticks, towards_there}
 use Rattle.lagprogress.proofs.OneRound.{Later, beside_here, sounds_pass, Nothing, Passes, ask_idle, ask_peer, one_of_both, at_rest, forget, join}
 use Rattle.lagprogress.proofs.OneRound.{ticked}
-use Rattle.lagprogress.proofs.Quieting.{quiet_link, quiet_ports}
-use Rattle.lagprogress.proofs.Telling.{Bears, SaysIt, Tells, arrive_peer, ask_on, came_to, deliver_on, due_on, sync_settles, tells_map, tells_push}
+use Rattle.lagprogress.proofs.Quieting.{LeavesEnds, PlayedBeside, ends_up, leaves_each, leaves_link}
+use Rattle.lagprogress.proofs.Telling.{Bears, SaysIt, Tells, arrive_peer, ask_on, came_to, deliver_on, due_on, left_by, sync_settles, tells_map}
 
 -- what is on the cable of the same ports
 pub same_flying : (d e : ℕ) (at : Side → ℕ) (w v : Side → Lacpdu) (c b : Side → ℕ) (x y : Side) (Y Z : Machines → Type 0) (j : WorldState)
@@ -63,7 +63,7 @@ module _ (gives : Algorithms) (d : ℕ) (at : Side → ℕ) (w : Side → Lacpdu
   abbrev pub Woken : (Side → ℕ) → WorldState → Type 0
   Woken c j = Link d at w c s (Wakeful (w s) (w (peer s))) j
 
-  woken_between : (c : Side → ℕ) → Fits d w c → KeptBetween gives (Woken c)
+  woken_between : (c : Side → ℕ) → Fits d w c → KeptBeside at gives (Woken c)
   woken_between c fits = between gives d at w c s Wakes fits (along_wakes (c s)) (λ p y. y)
 
   woken_own : (c b : Side → ℕ) → b s ≡ c s - 1 → b (peer s) ≡ c (peer s) → (2 ≤ d → 1 ≤ c s - 1) → MadeByTick gives s (Woken c) (Woken b)
@@ -78,28 +78,19 @@ module _ (gives : Algorithms) (d : ℕ) (at : Side → ℕ) (w : Side → Lacpdu
 
   module _ (X : Machines → Type 0) (keeps : KeptBySettling (AtPort (at (peer s)) X)) (sends : (p : Machines) → X p → X (after_sending p))
       (takes : (p : Machines) → partner_synchronized p ≡ true → X p) where
-    quiet_on : (c : Side → ℕ) (e : HostEvent) (r : Reply) (i j : WorldState) → IsQuiet e → StepReplies gives i e r j → OnWay c X i → OnWay c X j
-    quiet_on c e r i j b h (l, m) =
-        let k = quiet_link gives e d at w c s Wakes r i j b h l in
-        let same = quiet_ports gives e r i j b h in
-        let fl = l.flying (peer s) in (
-          k.link,
-          elim m [
-            | inl owes ↦ inl (subst (OfEach (AtPort (at s) (Owes u))) (sym (same s)) owes)
-            | inr tells ↦ (let now = tells_map u v fl (PeerIs X i) (PeerIs X j) (λ y. subst (OfEach (AtPort (at (peer s)) X)) (sym (same (peer s))) y)
-                tells in
-                inr (elim (k.grew (peer s)) [
-                  | inl e ↦ subst (λ xs. Tells u v xs (PeerIs X j)) (sym e) now
-                  | inr e ↦ subst (λ xs. Tells u v xs (PeerIs X j)) (sym e.2)
-                      (tells_push u v fl e.0 (PeerIs X j) (λ x c. absurd (e.1 x c)) (inl now))
-                ]))
-          ],
-        )
+    leaves_on : (c : Side → ℕ) → Fits d w c → (e : HostEvent) (r : Reply) (i j : WorldState) → LeavesEnds at e → StepReplies gives i e r j → OnWay c X i
+        → OnWay c X j
+    leaves_on c fits e r i j b h (l, m) =
+        let k = leaves_link gives e d at w c s Wakes r i j b h (along_wakes (c s)) l in
+        let up = ends_up d at w c s Wakes i l in
+        left_by gives d at w c s X there fits keeps sends takes i j l k.link
+        (leaves_each gives e at r i j b h (Owing d v u (c s)) s (owing_settles d v u (c s) (at s) there) (up s))
+        (leaves_each gives e at r i j b h X (peer s) keeps (up (peer s))) (k.grew (peer s)) m
 
-    pub on_between : (c : Side → ℕ) → Fits d w c → KeptBetween gives (OnWay c X)
+    pub on_between : (c : Side → ℕ) → Fits d w c → KeptBeside at gives (OnWay c X)
     on_between c fits (Plays (event.Emit n p)) r i j b h m = ask_on gives d at w c s X there fits keeps sends takes n p r i j h m
     on_between c fits (Plays (event.Deliver cn n)) r i j b h m = deliver_on gives d at w c s X there fits keeps sends takes cn n r i j h m
-    on_between c fits e r i j b h m = quiet_on c e r i j b h m
+    on_between c fits e r i j b h m = leaves_on c fits e r i j b h m
 
     -- the tick of s
     pub on_own : (c b : Side → ℕ) → b s ≡ c s - 1 → b (peer s) ≡ c (peer s) → (2 ≤ d → 1 ≤ c s - 1) → MadeByTick gives s (OnWay c X) (OnWay b X)
@@ -179,8 +170,8 @@ module _ (gives : Algorithms) (d : ℕ) (at : Side → ℕ) (w : Side → Lacpdu
 
   -- what each event keeps besides, before the peer has heard an LACPDU, and after
   pub record Extra (D E : WorldState → Type 0) : Type 0 where
-    pub first : KeptBetween gives D
-    pub second : KeptBetween gives E
+    pub first : KeptBeside at gives D
+    pub second : KeptBeside at gives E
     pub ticks_first : (t : Side) → MadeByTick gives t D D
     pub ticks_second : (t : Side) → MadeByTick gives t E E
     pub hears : (c : Side → ℕ) (i j : WorldState) (l : Link d at w c s (Wakeful (w s) (w (peer s))) i)
@@ -266,13 +257,13 @@ module _ (gives : Algorithms) (d : ℕ) (at : Side → ℕ) (w : Side → Lacpdu
     abbrev pub Turn : (Side → ℕ) → ℕ → (Machines → Type 0) → WorldState → Type 0
     Turn c most Z j = ((Link d at w c s Z j × Woken c j) × D j) ⊎ ((((o : OnWay c Any j) × Flying (o.0.flying (peer s))) × D j) ⊎ HasTold c most j)
 
-    any_between : (c : Side → ℕ) → Fits d w c → KeptBetween gives (OnWay c Any)
+    any_between : (c : Side → ℕ) → Fits d w c → KeptBeside at gives (OnWay c Any)
     any_between c fits = on_between Any any_settles (λ p y. y) (λ p y. tt) c fits
 
-    sync_between : (c : Side → ℕ) → Fits d w c → KeptBetween gives (OnWay c PartnerInSync)
+    sync_between : (c : Side → ℕ) → Fits d w c → KeptBeside at gives (OnWay c PartnerInSync)
     sync_between c fits = on_between PartnerInSync (sync_settles (at (peer s))) (λ p y. y) (λ p y. y) c fits
 
-    pub told_between : (c : Side → ℕ) (most : ℕ) → most ≤ wait_of (w (peer s)) → Fits d w c → KeptBetween gives (HasTold c most)
+    pub told_between : (c : Side → ℕ) (most : ℕ) → most ≤ wait_of (w (peer s)) → Fits d w c → KeptBeside at gives (HasTold c most)
     told_between c most less fits e r i j b h ((l, o), ea) = (
       (
         between gives d at w c (peer s) (Learnt d (w (peer (peer s))) most) fits
@@ -283,7 +274,7 @@ module _ (gives : Algorithms) (d : ℕ) (at : Side → ℕ) (w : Side → Lacpdu
     )
 
     turn_between : (c : Side → ℕ) (most : ℕ) (Z : Machines → Type 0) → most ≤ wait_of (w (peer s)) → Fits d w c
-        → Along Z (w s) (w (peer s)) (c s) d → KeptBetween gives (Turn c most Z)
+        → Along Z (w s) (w (peer s)) (c s) d → KeptBeside at gives (Turn c most Z)
     turn_between c most Z less fits along = each
       where
         asked : (n p : ℕ) (r : Reply) (i j : WorldState) → WorldSteps gives i (event.Emit n p) r j → Turn c most Z i → Turn c most Z j
@@ -320,19 +311,19 @@ module _ (gives : Algorithms) (d : ℕ) (at : Side → ℕ) (w : Side → Lacpdu
         ]
         came cn n r i j h (inr (inr m)) = inr (inr (told_between c most less fits (Plays (event.Deliver cn n)) r i j tt h m))
 
-        quiet : (e : HostEvent) (r : Reply) (i j : WorldState) → IsQuiet e → IsBetweenTicks e → StepReplies gives i e r j → Turn c most Z i → Turn c most Z j
+        quiet : (e : HostEvent) (r : Reply) (i j : WorldState) → LeavesEnds at e → LeavesPorts at e → StepReplies gives i e r j → Turn c most Z i → Turn c most Z j
         quiet e r i j b t h (inl ((l, o), da)) =
-            inl (((quiet_link gives e d at w c s Z r i j b h l).link, woken_between c fits e r i j t h o), x.first e r i j t h da)
+            inl (((leaves_link gives e d at w c s Z r i j b h along l).link, woken_between c fits e r i j t h o), x.first e r i j t h da)
         quiet e r i j b t h (inr (inl ((o, f), da))) =
             let after = any_between c fits e r i j t h o in
-            let k = quiet_link gives e d at w c s Wakes r i j b h o.0 in
+            let k = leaves_link gives e d at w c s Wakes r i j b h (along_wakes (c s)) o.0 in
             inr (inl (
               (after, subst Flying (sym (same_flying d d at w w c c s s Wakes Wakes j k.link after.0 (peer s))) (k.flying (peer s) f)),
               x.first e r i j t h da,
             ))
         quiet e r i j b t h (inr (inr m)) = inr (inr (told_between c most less fits e r i j t h m))
 
-        each : KeptBetween gives (Turn c most Z)
+        each : KeptBeside at gives (Turn c most Z)
         each (Plays (event.Emit n p)) r i j b h m = asked n p r i j h m
         each (Plays (event.Deliver cn n)) r i j b h m = came cn n r i j h m
         each e r i j b h m = quiet e r i j b b h m
@@ -566,8 +557,9 @@ module _ (gives : Algorithms) (d : ℕ) (at : Side → ℕ) (w : Side → Lacpdu
               da,
             )
 
-        stages : Stages gives Whatever s A B C NoneDue
+        stages : Stages (LeavesPorts at) gives Whatever s A B C NoneDue
         stages = record {
+          none = λ n b. b;
           first = λ b e r i j x. turn_between (kn true b) (left b W) X (left_less b W) (fits_in d w c s fits then true b) (early b) e r i j;
           second = λ b e r i j x. turn_between (kn false b) (left b W) Y (left_less b W) (fits_in d w c s fits then false b) (late Y b k.waits) e r i j;
           third = λ b e r i j x. turn_between (kn false b) (left b W) Z (left_less b W) (fits_in d w c s fits then false b) (late Z b k.asked) e r i j;
@@ -580,7 +572,7 @@ module _ (gives : Algorithms) (d : ℕ) (at : Side → ℕ) (w : Side → Lacpdu
 
         -- a round: Z holds of the end of s, or an LACPDU of it is on the cable, or the other end has heard one, and is told
         pub turns : {E : Clearing} (old new : WorldState) → Link d at w c s X old → OfEach (AtPort (at s) Wakes) (half s old).state.system_ports
-            → IsPlayed E gives old new → D old → Turn (kn false false) (W - 1) Z new
+            → PlayedBeside at E gives old new → D old → Turn (kn false false) (W - 1) Z new
         turns old new l wakes h da =
             let asked = subst (λ n. AfterTick s (λ j. OfPort (λ p. is_due p ≡ false) (machines_of n (half s j).state)) gives h.events h.replies old new
             h.acts) (port_there s at l.flying) (h.asked s l.index (cable at l.flying) (healthy_link d at w c s X old l)) in
@@ -591,12 +583,12 @@ module _ (gives : Algorithms) (d : ℕ) (at : Side → ℕ) (w : Side → Lacpdu
               ),
               da,
             ) in
-            first_on gives Whatever s A B C NoneDue stages h.events h.replies old new true (all_whatever h.events) (of_side s h.events h.ticks) h.acts
+            first_on (LeavesPorts at) gives Whatever s A B C NoneDue stages h.events h.replies old new true (all_whatever h.events) (side_beside at s h.events h.ticks) h.acts
             asked start
 
         -- Z holds of the end of s after the round, or the other end has heard an LACPDU of it, and is told
         pub host_tells : (old new : WorldState) → Link d at w c s X old → OfEach (AtPort (at s) Wakes) (half s old).state.system_ports
-            → IsHostRound gives old new → D old
+            → PlayedBeside at NoneIsLeft gives old new → D old
             → Link d at w (ticked c) s Z new ⊎ (Link d at w (ticked c) (peer s) (Learnt d (w (peer (peer s))) (W - 1)) new
             × ((OfEach (AtPort (at s) Wakes) (half s new).state.system_ports × Ended PartnerInSync new) × E new))
         host_tells old new l wakes h da = landed (turns old new l wakes h da)
@@ -612,14 +604,13 @@ module _ (gives : Algorithms) (d : ℕ) (at : Side → ℕ) (w : Side → Lacpdu
             )
 
       -- what it is told, or what is on its way, stays
-      pub stays_on : {E : Clearing} (old new : WorldState) → OnWay (kn true true) PartnerInSync old → IsPlayed E gives old new → 2 ≤ c (peer s)
+      pub stays_on : {E : Clearing} (old new : WorldState) → OnWay (kn true true) PartnerInSync old → PlayedBeside at E gives old new → 2 ≤ c (peer s)
           → OnWay (kn false false) PartnerInSync new
-      stays_on old new told h known = holds_on gives s (λ a b j. OnWay (kn a b) PartnerInSync j)
+      stays_on {E} old new told h known = holds_beside E at gives s (λ a b j. OnWay (kn a b) PartnerInSync j)
           (λ a b. sync_between (kn a b) (fits_in d w c s fits then a b))
           (λ b. on_own PartnerInSync (sync_settles (at (peer s))) (λ p y. y) (λ p y. y) (kn true b) (kn false b) (own_one b) (own_two b) (own_three b))
           (λ a n r i j numbered step o. on_other PartnerInSync (sync_settles (at (peer s))) (λ p y. y) (λ p y. y) (kn a true) (kn a false)
-          (other_one a) (other_two a) (other_three a) n r i j numbered step (stays a n r i j numbered step o.0) o)
-          h.events h.replies old new true true (of_side s h.events h.ticks) h.acts told
+          (other_one a) (other_two a) (other_three a) n r i j numbered step (stays a n r i j numbered step o.0) o) old new h told
         where
           stays : (a : Bool) (n : ℕ) (r : Reply) (i j : WorldState) → side_of n ≡ Some (peer s) → WorldSteps gives i (event.Tick n 1) r j
               → Link d at w (kn a true) s Wakes i → PeerIs PartnerInSync i → PeerIs PartnerInSync j
@@ -636,7 +627,7 @@ module _ (gives : Algorithms) (d : ℕ) (at : Side → ℕ) (w : Side → Lacpdu
       -- what it was told stays
       pub host_told : (x : Side) (Y : Machines → Type 0) (old new : WorldState) → Link d at w c x Y old
           → OfEach (AtPort (at s) Wakes) (half s old).state.system_ports
-          → NothingInFlight old → IsHostRound gives old new → 2 ≤ c (peer s) → Ended PartnerInSync old
+          → NothingInFlight old → PlayedBeside at NoneIsLeft gives old new → 2 ≤ c (peer s) → Ended PartnerInSync old
           → OfEach (AtPort (at s) Wakes) (half s new).state.system_ports × Ended PartnerInSync new
       host_told x Y old new l wakes none h known told =
           let last = stays_on old new (begin_on PartnerInSync x Y old none l wakes told) h known in
@@ -645,7 +636,7 @@ module _ (gives : Algorithms) (d : ℕ) (at : Side → ℕ) (w : Side → Lacpdu
       -- an LACPDU of the end of s is nearer, or the other end has heard one, and is told
       pub host_nears_told : (fast : Bool) (most : ℕ) (old new : WorldState) → CanSound (w s) (w (peer s)) fast (ticked c s)
           → CanSound (w s) (w (peer s)) fast (c s) → Link d at w c s (Sounds fast most) old
-          → OfEach (AtPort (at s) Wakes) (half s old).state.system_ports → IsHostRound gives old new → D old
+          → OfEach (AtPort (at s) Wakes) (half s old).state.system_ports → PlayedBeside at NoneIsLeft gives old new → D old
           → ((1 ≤ most - 1) × Link d at w (ticked c) s (Sounds fast (most - 1)) new)
           ⊎ (Link d at w (ticked c) (peer s) (Learnt d (w (peer (peer s))) (wait_of (w (peer s)) - 1)) new
           × ((OfEach (AtPort (at s) Wakes) (half s new).state.system_ports × Ended PartnerInSync new) × E new))

@@ -1,14 +1,15 @@
 -- How the ends of a cable come to know each other, by rounds of any kind.
 use Rattle.lagprogress.proofs.Common.{Bool, arith, false, inl, inr, refl, subst, suc, sym, true, zero, ℕ, ◌+◌, ◌-◌, ◌∙◌, ◌≡◌, ◌≤◌, ◌⊎◌, cases_Bool}
 use Rattle.lagprogress.proofs.Common.{Lacpdu, One, Side, Two, peer, Machines, periodic_rows, AtRest, machines_of, Algorithms, LinkState, WorldState}
-use Rattle.lagprogress.proofs.Common.{half, port_at, IsTimed, timeout_time, OfEach, no, AtPort, Sounds, silence_of, sounds_first, Clearing, IsPlayed}
-use Rattle.lagprogress.proofs.Common.{PlayedRounds, EndKnows, Knows, AtEnd, OfPort}
+use Rattle.lagprogress.proofs.Common.{half, port_at, IsTimed, timeout_time, OfEach, no, AtPort, Sounds, silence_of, sounds_first, Clearing, EndKnows}
+use Rattle.lagprogress.proofs.Common.{Knows, AtEnd, OfPort}
 use Rattle.lagprogress.proofs.Claims.{IsNamed, Wakeful, can_wake}
 use Rattle.lagprogress.proofs.EndFacts.{CanSound, IsEnd, Learnt, activity, calm, less_known, short_timeout, wait_of}
 use Rattle.lagprogress.proofs.HostRound.{host_keeps, two, two_other, two_there}
 use Rattle.lagprogress.proofs.Lapsing.{Lasting, begins_lasting, lasting_now}
 use Rattle.lagprogress.proofs.Linked.{EndIs, Fits, Link, each_map, each_side, end_here, of_end, other_ports, peer_twice, with_ports}
 use Rattle.lagprogress.proofs.OneRound.{Nothing, at_rest, forget, ticked}
+use Rattle.lagprogress.proofs.Quieting.{AllBeside, PlayedBeside}
 use Rattle.lagprogress.proofs.Telling.{Wakes}
 
 pub two_less : (s : Side) (c : Side → ℕ) (a b : ℕ) → a ≤ c s → b ≤ c (peer s) → (u : Side) → two s a b u ≤ c u
@@ -114,22 +115,22 @@ module _ (at : Side → ℕ) (w : Side → Lacpdu) (z : Signs) where
   -- What rounds of a kind make of these signs. An LACPDU is heard in so many rounds, and e more in which it is on the cable.
   pub record Chain (E : Clearing) (gives : Algorithms) (e : ℕ) : Type 0 where
     pub few : e ≤ 1
-    pub rests : (old new : WorldState) → IsPlayed E gives old new → z.Rest old → z.Rest new
+    pub rests : (old new : WorldState) → PlayedBeside at E gives old new → z.Rest old → z.Rest new
     pub ahead : (d : ℕ) (c : Side → ℕ) (s : Side) (fast : Bool) (j : WorldState) → CanSound (w s) (w (peer s)) fast (c s)
         → Link d at w c One Nothing j → z.Ahead s fast (silence_of fast + e) j
     pub nears : (d : ℕ) (s : Side) → 1 ≤ d → (activity (w s) ≡ true) ⊎ IsNamed (w (peer s)) → (c : Side → ℕ) → Fits d w c → Fits d w (ticked c)
         → (fast : Bool) (m : ℕ) (old new : WorldState) → CanSound (w s) (w (peer s)) fast (ticked c s) → CanSound (w s) (w (peer s)) fast (c s)
-        → Link d at w c One Nothing old → Wakes at w s old → z.Rest old → z.Ahead s fast m old → IsPlayed E gives old new
+        → Link d at w c One Nothing old → Wakes at w s old → z.Rest old → z.Ahead s fast m old → PlayedBeside at E gives old new
         → ((1 ≤ m - 1) × z.Ahead s fast (m - 1) new) ⊎ Hears d c s new
     pub tells : (d : ℕ) (s : Side) → 1 ≤ d → (activity (w s) ≡ true) ⊎ IsNamed (w (peer s)) → (c : Side → ℕ) → Fits d w c → Fits d w (ticked c)
-        → (old new : WorldState) → Link d at w c One Nothing old → Wakes at w s old → z.Rest old → IsPlayed E gives old new → 2 ≤ c (peer s)
+        → (old new : WorldState) → Link d at w c One Nothing old → Wakes at w s old → z.Rest old → PlayedBeside at E gives old new → 2 ≤ c (peer s)
         → z.Told s old → Wakes at w s new × z.Told s new
-    pub takes : (d : ℕ) (c : Side → ℕ) (t : Side) (old new : WorldState) → Link d at w c One Nothing old → z.Rest old → IsPlayed E gives old new
+    pub takes : (d : ℕ) (c : Side → ℕ) (t : Side) (old new : WorldState) → Link d at w c One Nothing old → z.Rest old → PlayedBeside at E gives old new
         → z.Took t old → z.Took t new
     pub begins : (s : Side) (j : WorldState) → AtIt at w s (Lasting (w (peer s)) 300) j → z.Awaited s (300 + e) j
     pub awaits : (s : Side) → activity (w (peer s)) ≡ true → IsNamed (w (peer s)) → Fits 1 w (λ _. 0) → Fits 1 w (ticked (λ _. 0)) → (m : ℕ)
         (old new : WorldState) → 1 ≤ m → Link 1 at w (λ _. 0) One Nothing old → Wakes at w s old → z.Rest old → z.Awaited s m old
-        → IsPlayed E gives old new → ((1 ≤ m - 1) × Wakes at w s new × z.Awaited s (m - 1) new) ⊎ Hears 1 (λ _. 0) s new
+        → PlayedBeside at E gives old new → ((1 ≤ m - 1) × Wakes at w s new × z.Awaited s (m - 1) new) ⊎ Hears 1 (λ _. 0) s new
 
   -- Each end is heard in so many rounds, and the other end knows it for longer, or the rounds are still few.
   pub record Going (d most n : ℕ) (j : WorldState) : Type 0 where
@@ -214,7 +215,7 @@ module _ (at : Side → ℕ) (w : Side → Lacpdu) (z : Signs) where
 
   module _ (E : Clearing) (gives : Algorithms) (e : ℕ) (k : Chain E gives e) where
     abbrev Round : WorldState → WorldState → Type 0
-    Round old new = IsPlayed E gives old new
+    Round old new = PlayedBeside at E gives old new
 
     -- the rounds in which the other end hears one that may sound
     abbrev gap : Bool → ℕ
@@ -346,6 +347,10 @@ module _ (at : Side → ℕ) (w : Side → Lacpdu) (z : Signs) where
     then_none : Fits 1 w (ticked (λ _. 0))
     then_none = fits_ticked at w (λ _. 0) (λ t. omega arith)
 
+    none_kept : (old new : WorldState) → Round old new → Link 1 at w (λ _. 0) One Nothing old → Link 1 at w (λ _. 0) One Nothing new
+    none_kept old new h link = lower at w (ticked (λ _. 0)) (λ _. 0) One Nothing new (λ _. omega arith)
+        (host_keeps gives One 1 at w (λ _. 0) old new fit_none then_none link h)
+
     -- it still calls, or the other end has just heard it
     calls_on : (s : Side) (active : activity (w s) ≡ true) (n : ℕ) (old new : WorldState) → Round old new
         → Calls s n old → Calls s (n + 1) new ⊎ Hears 1 (λ _. 0) s new
@@ -358,8 +363,7 @@ module _ (at : Side → ℕ) (w : Side → Lacpdu) (z : Signs) where
                 m - 1,
                 more,
                 omega (arith, soon, more),
-                lower at w (ticked (λ _. 0)) (λ _. 0) One Nothing new (λ _. omega arith)
-                    (host_keeps gives One 1 at w (λ _. 0) old new fit_none then_none link h),
+                none_kept old new h link,
                 k.rests old new h rest,
                 q.1,
               ))
@@ -553,8 +557,7 @@ module _ (at : Side → ℕ) (w : Side → Lacpdu) (z : Signs) where
                   m - 1,
                   more,
                   omega (arith, soon, some),
-                  lower at w (ticked (λ _. 0)) (λ _. 0) One Nothing new (λ _. omega arith)
-                      (host_keeps gives One 1 at w (λ _. 0) old new fit_none then_none link h),
+                  none_kept old new h link,
                   k.rests old new h rest,
                   q.1,
                   q.2,
@@ -574,7 +577,7 @@ module _ (at : Side → ℕ) (w : Side → Lacpdu) (z : Signs) where
 
     along : (S : ℕ → WorldState → Type 0) (start : WorldState) → ((new : WorldState) → Round start new → S 1 new)
         → ((n : ℕ) (old new : WorldState) → Round old new → S n old → S (n + 1) new)
-        → (n : ℕ) (new : WorldState) → 1 ≤ n → PlayedRounds E gives n start new → S n new
+        → (n : ℕ) (new : WorldState) → 1 ≤ n → AllBeside at E gives n start new → S n new
     along S start first next zero new l h = absurd (omega (arith, l))
     along S start first next (suc zero) new l h = first new (subst (λ j. Round j new) h.1 h.2)
     along S start first next (suc (suc n)) new l h =
@@ -585,7 +588,7 @@ module _ (at : Side → ℕ) (w : Side → Lacpdu) (z : Signs) where
     room_for false = let few = k.few in omega (arith, few)
 
     module _ (named : (t : Side) → IsNamed (w t)) (n : ℕ) (old new : WorldState)
-        (first : (j : WorldState) → Round old j → Link 1 at w (λ _. 0) One Nothing j × z.Rest j) (h : PlayedRounds E gives n old new) where
+        (first : (j : WorldState) → Round old j → Link 1 at w (λ _. 0) One Nothing j × z.Rest j) (h : AllBeside at E gives n old new) where
       comes_to_meet : (s : Side) → activity (w s) ≡ true → gap (mode at w s) + gap (mode at w (peer s)) + 2 ≤ wait at w (peer s)
           → 310 + e + gap (mode at w (peer s)) ≤ n → Met 1 new
       comes_to_meet s active room enough = came named s active room n new enough (along (λ m j. Comes s m j) old

@@ -1,13 +1,13 @@
 -- An LACPDU that was on the cable when a late round began is heard in it.
 use Rattle.lagprogress.proofs.Common.{Bool, List, Some, [], arith, false, inl, inr, length, map, refl, subst, suc, sym, true, ℕ, ◌-◌, ◌∙◌, ◌∷◌, ◌≡◌}
 use Rattle.lagprogress.proofs.Common.{◌≤◌, ◌⊎◌, Lacpdu, Side, peer, Reply, Algorithms, WorldSteps, side_of, link_ends, ItemValue, WorldState, half}
-use Rattle.lagprogress.proofs.Common.{HostEvent, Plays, KeptBySettling, AtPort, StepReplies, ArriveIn, IsArrivalAt, IsLateRound}
+use Rattle.lagprogress.proofs.Common.{HostEvent, Plays, KeptBySettling, AtPort, StepReplies, ArriveIn, IsArrivalAt, OldArrive}
 use Rattle.lagscript.specs.declared.event.Event.TheVariants as event
 use Rattle.lagprogress.proofs.Claims.{IsNamed, Wakeful, wakeful_along}
 use Rattle.lagprogress.proofs.EachRound.{joins_kept, joins_tick}
 use Rattle.lagprogress.proofs.Delivering.{arrives_moves}
 use Rattle.lagprogress.proofs.EndFacts.{activity, wait_of}
-use Rattle.lagprogress.proofs.HostRound.{KeptBetween, MadeByTick, fits_in, healthy_link, known_in, learn_less, left, of_side}
+use Rattle.lagprogress.proofs.HostRound.{KeptBeside, MadeByTick, fits_in, healthy_link, known_in, learn_less, left, side_beside}
 use Rattle.lagprogress.proofs.HostStamps.{same_items}
 use Rattle.lagprogress.proofs.HostTelling.{Any, Extra, HasTold, OnWay, all_any, any_settles, left_less, on_between, on_other, on_own, other_one}
 use Rattle.lagprogress.proofs.HostTelling.{other_three, other_two, own_one, own_three, own_two, peer_hears, told_between, told_other, told_own}
@@ -17,6 +17,7 @@ use Rattle.lagprogress.proofs.LateFlow.{stays_there}
 use Rattle.lagprogress.proofs.Linked.{Fits, Flying, put_there}
 use Rattle.lagprogress.proofs.OneCable.{Arrives, OnCable, cable, put, ticks, towards_there}
 use Rattle.lagprogress.proofs.OneRound.{forget, join, ticked}
+use Rattle.lagprogress.proofs.Quieting.{PlayedBeside}
 use Rattle.lagprogress.proofs.Telling.{back_other}
 
 module _ (gives : Algorithms) (d : ℕ) (at : Side → ℕ) (w : Side → Lacpdu) (s : Side) (there : 1 ≤ d)
@@ -49,7 +50,7 @@ module _ (gives : Algorithms) (d : ℕ) (at : Side → ℕ) (w : Side → Lacpdu
   settles : KeptBySettling (AtPort (at (peer s)) (Any gives d at w s there named))
   settles = any_settles gives d at w s there named
 
-  way_between : (a b : Bool) → KeptBetween gives (Way a b)
+  way_between : (a b : Bool) → KeptBeside at gives (Way a b)
   way_between a b = on_between gives d at w s there named (Any gives d at w s there named) settles (λ p y. y) (λ p y. tt) (kn a b) (fit a b)
 
   -- the first item came: it is no LACPDU, or was heard
@@ -97,15 +98,15 @@ module _ (gives : Algorithms) (d : ℕ) (at : Side → ℕ) (w : Side → Lacpdu
             )
           ]
 
-  kept : (k : ℕ) (a b : Bool) → KeptBetween gives (State k a b)
+  kept : (k : ℕ) (a b : Bool) → KeptBeside at gives (State k a b)
   kept k a b e r i j q h (joins, inr m) = (
-    joins_kept gives old.links e r i j q h joins,
+    joins_kept at gives old.links e r i j q h joins,
     inr (told_between gives d at w s there named D E extra (kn a b) (left b W) (less b) (fit a b) e r i j q h m),
   )
   kept k a b e r i j q h (joins, inl ((o, f), da)) =
       let g = flows gives (peer s) o.0.index at o.0.flying r i j o.0.links e q h in
       let after = way_between a b e r i j q h o in (
-        joins_kept gives old.links e r i j q h joins,
+        joins_kept at gives old.links e r i j q h joins,
         elim (flying_flows k g f) [
           | inl y ↦ inl (
             (after, subst (FlyingIn k) (sym (same_items g.index after.0.index at g.now after.0.flying j g.on after.0.links (peer s))) y),
@@ -128,18 +129,18 @@ module _ (gives : Algorithms) (d : ℕ) (at : Side → ℕ) (w : Side → Lacpdu
   comes : (k : ℕ) (a b : Bool) (e : HostEvent) (r : Reply) (i j : WorldState) → IsArrivalAt (peer s) x e → StepReplies gives i e r j
       → State (suc k) a b i → State k a b j
   comes k a b e r i j come h (joins, m) = (
-    joins_kept gives old.links e r i j (between_at come) h joins,
+    joins_kept at gives old.links e r i j (between_at at come) h joins,
     by_state m,
   )
     where
       by_state : ((((o : Way a b i) × FlyingIn (suc k) (o.0.flying (peer s))) × D i) ⊎ Told a b i)
           → (((o : Way a b j) × FlyingIn k (o.0.flying (peer s))) × D j) ⊎ Told a b j
-      by_state (inr m) = inr (told_between gives d at w s there named D E extra (kn a b) (left b W) (less b) (fit a b) e r i j (between_at come) h m)
+      by_state (inr m) = inr (told_between gives d at w s there named D E extra (kn a b) (left b W) (less b) (fit a b) e r i j (between_at at come) h m)
       by_state (inl ((o, f), da)) = elim (arrival_on a b e r i j joins come h o da) [
         | inl none ↦ absurd (subst (FlyingIn (suc k)) none f)
         | inr (inl (it, rest, plain, y, (now, same))) ↦ inl (
           (now, subst (FlyingIn k) (sym same) (elim (subst (FlyingIn (suc k)) y f) [ inl v ↦ absurd (plain v) | inr v ↦ v ])),
-          extra.first e r i j (between_at come) h da,
+          extra.first e r i j (between_at at come) h da,
         )
         | inr (inr m) ↦ inr m
       ]
@@ -196,7 +197,7 @@ module _ (gives : Algorithms) (d : ℕ) (at : Side → ℕ) (w : Side → Lacpdu
           )
 
   -- so the peer has heard it after the round
-  pub late_heard : (new : WorldState) → (o : Way true true old) → Flying (o.0.flying (peer s)) → D old → IsLateRound gives old new
+  pub late_heard : (new : WorldState) → (o : Way true true old) → Flying (o.0.flying (peer s)) → D old → PlayedBeside at OldArrive gives old new
       → HasTold gives d at w s there named D E extra (kn false false) (W - 1) new
   late_heard new o f da h = elim last.1 [ inl y ↦ absurd y.0.1 | inr m ↦ m ]
     where
@@ -204,8 +205,8 @@ module _ (gives : Algorithms) (d : ℕ) (at : Side → ℕ) (w : Side → Lacpdu
       index = stays_there x o.0.index at was o.0.flying old old stood o.0.links refl
 
       last : State 0 false false new
-      last = counted_on gives s (peer s) x State kept comes own other h.events h.replies old new (length (o.0.flying (peer s))) true true
-          (of_side s h.events h.ticks)
+      last = counted_on gives s (peer s) x at State kept comes own other h.events h.replies old new (length (o.0.flying (peer s))) true true
+          (side_beside at s h.events h.ticks)
           (subst (λ y. ArriveIn (length (o.0.flying (peer s))) (peer s) y h.events) index
           (subst (λ xs. ArriveIn (length xs) (peer s) o.0.index h.events) (towards_there (peer s) at o.0.flying)
           (h.empties (peer s) o.0.index (cable at o.0.flying)

@@ -2,6 +2,7 @@
 use Rattle.lagprogress.proofs.Common.{Bool, List, [], ap, arith, inl, inr, subst, sym, true, ℕ, ◌-◌, ◌∙◌, ◌∷◌, ◌≡◌, ◌≤◌, ◌⊎◌, AllByRecursion}
 use Rattle.lagprogress.proofs.Common.{is_selected, Lacpdu, One, Side, peer, Machines, is_synchronized, mux_rows, receive_rows, RunsToRest, count_down}
 use Rattle.lagprogress.proofs.Common.{Algorithms, ItemValue, WorldState, half, no, times_keep, AtPort, periodic_leaves, IsLateRound, LateRounds}
+use Rattle.lagprogress.proofs.Common.{OldArrive}
 use Rattle.lagprogress.proofs.Claims.{IsNamed}
 use Rattle.lagprogress.proofs.Climbing.{PartnerInSync, keeps_selected, ticks_still}
 use Rattle.lagprogress.proofs.ComingUp.{Agrees, AreSynced, owed, synced_of}
@@ -15,6 +16,7 @@ use Rattle.lagprogress.proofs.LateFlow.{Past}
 use Rattle.lagprogress.proofs.LateStart.{counts_of, flush, kept_of}
 use Rattle.lagprogress.proofs.Linked.{Flying, IsGood, Link, each_map, peer_twice}
 use Rattle.lagprogress.proofs.OneRound.{Nothing, join, ticked}
+use Rattle.lagprogress.proofs.Quieting.{PlayedBeside, as_beside}
 use Rattle.lagprogress.proofs.Starting.{raised}
 use Rattle.lagprogress.proofs.Telling.{Bears, SaysIt, Tells, tells_map}
 
@@ -47,7 +49,7 @@ module _ (at : Side → ℕ) (w : Side → Lacpdu) (k : Side → ℕ) (kept : Si
   -- a round after both are synchronized: all that is on the cable says so
 
   synced_round : (gives : Algorithms) (old new : WorldState) (g : FreshAt at w k kept 1 old) → ((s : Side) → AtIt at w s Synced old)
-      → IsLateRound gives old new → (t : Side)
+      → PlayedBeside at OldArrive gives old new → (t : Side)
       → Link 1 at w (ticked g.known) (peer t) Synced new × (x : ℕ) × Past t x at (IsGood 2 w t) 0 new
   synced_round gives old new g synced h t =
       let x = peer t in
@@ -60,7 +62,7 @@ module _ (at : Side → ℕ) (w : Side → Lacpdu) (k : Side → ℕ) (kept : Si
       (λ p y. y) (λ p y f. y) (λ f. omega (arith, l)) old new (join 1 at w g.known One x Synced old g.link (synced x)) h
 
   raises : (gives : Algorithms) (old new : WorldState) (g : FreshAt at w k kept 1 old) → ((s : Side) → AtIt at w s Synced old)
-      → IsLateRound gives old new → FreshAt at w k kept 2 new
+      → PlayedBeside at OldArrive gives old new → FreshAt at w k kept 2 new
   raises gives old new g synced h =
       let f = stays_late at w k kept named awake gives 1 old new (omega arith) h g in
       let r = synced_round gives old new g synced h in
@@ -122,7 +124,8 @@ module _ (at : Side → ℕ) (w : Side → Lacpdu) (k : Side → ℕ) (kept : Si
   -- in one round more all that is on the cable says so
   pub late_turn : (gives : Algorithms) (mid next : WorldState) → LateRounds gives 1 mid next → FreshAt at w k kept 1 mid
       → ((s : Side) → AtIt at w s Synced mid) → Agrees at w (late_signs at w k kept) 1 0 next
-  late_turn gives mid next r met synced = agrees_first next (raises gives mid next met synced (subst (λ j. IsLateRound gives j next) r.1 r.2))
+  late_turn gives mid next r met synced = agrees_first next (raises gives mid next met synced
+      (as_beside at OldArrive gives mid next (subst (λ j. IsLateRound gives j next) r.1 r.2)))
 
 -- both ends are synchronized, and know that of each other
 pub late_synced : (gives : Algorithms) (at : Side → ℕ) (w : Side → Lacpdu) (n : ℕ) (old j : WorldState) → 12 ≤ n

@@ -3,16 +3,16 @@ use Rattle.lagprogress.proofs.Common.{Bool, List, None, Option, Result, Some, []
 use Rattle.lagprogress.proofs.Common.{suc, sym, true, zero, ℕ, ◌++◌, ◌==◌, ◌∙◌, ◌∷◌, ◌≡◌, ◌⊎◌, cases_Bool, nat_tests, same_Some, AllByRecursion}
 use Rattle.lagprogress.proofs.Common.{all-append, One, Side, end_at, peer, value_of, SystemFault, Received, Receive, CallPromise, SystemState, Reply}
 use Rattle.lagprogress.proofs.Common.{Algorithms, DeliversFrom, WorldSteps, side_of, link_ends, ItemValue, LinkState, WorldState, half, towards}
-use Rattle.lagprogress.proofs.Common.{end_is, HostEvent, Plays, IsBetweenTicks, IsQuiet, RunReplies, StepReplies, TickOnce, ArriveIn, IsArrivalAt}
+use Rattle.lagprogress.proofs.Common.{end_is, HostEvent, Plays, LeavesPorts, RunReplies, StepReplies, TickOnceAmong, ArriveIn, IsArrivalAt}
 use Rattle.lagsystem.specs.declared.drive.Reply.TheVariants as answer
 use Rattle.lagscript.specs.declared.event.Event.TheVariants as event
 use Rattle.lagprogress.proofs.Delivering.{responds_none}
 use Rattle.lagprogress.proofs.EachRound.{joins_kept}
-use Rattle.lagprogress.proofs.HostRound.{KeptBetween, MadeByTick, not_tick}
+use Rattle.lagprogress.proofs.HostRound.{KeptBeside, MadeByTick, not_tick}
 use Rattle.lagprogress.proofs.Linked.{Flying, HasLacpdu, asked_which, each_side, peer_twice, push_there, put_other, put_there}
 use Rattle.lagprogress.proofs.OneCable.{Arrives, Asks, Back, Comes, Gains, OnCable, Stays, arrived, asks, cable, came, came_off, passed_by, put}
 use Rattle.lagprogress.proofs.OneCable.{response, sent_frame, ticks, stays_beside, towards_there}
-use Rattle.lagprogress.proofs.Quieting.{quiet_cable}
+use Rattle.lagprogress.proofs.Quieting.{LeavesEnds, leaves_cable}
 use Rattle.lagprogress.proofs.Telling.{back_other, went_other}
 
 -- the first so many items
@@ -194,9 +194,9 @@ module _ (gives : Algorithms) (t : Side) (x : ℕ) (at : Side → ℕ) (fl : Sid
     | inr m ↦ (let b = stays_beside gives x at fl old new c m in record { index = b.index; now = fl; on = b.links; moves = inl refl })
   ]
 
-  quiet_flows : (e : HostEvent) → IsQuiet e → StepReplies gives old e r new → Flows gives t x at fl e old new
+  quiet_flows : (e : HostEvent) → LeavesEnds at e → StepReplies gives old e r new → Flows gives t x at fl e old new
   quiet_flows e q h =
-      let g = quiet_cable gives e x at fl r old new q h c in
+      let g = leaves_cable gives e x at fl r old new q h c in
       record {
         index = x;
         now = g.flying;
@@ -204,7 +204,7 @@ module _ (gives : Algorithms) (t : Side) (x : ℕ) (at : Side → ℕ) (fl : Sid
         moves = elim (g.grew t) [ inl e ↦ inl e | inr (item, plain, e) ↦ inr (inl (item, λ q. plain q.0 q.1, e)) ];
       }
 
-  pub flows : (e : HostEvent) → IsBetweenTicks e → StepReplies gives old e r new → Flows gives t x at fl e old new
+  pub flows : (e : HostEvent) → LeavesPorts at e → StepReplies gives old e r new → Flows gives t x at fl e old new
   flows (Plays (event.Emit n p)) b h = asked_flows n p h
   flows (Plays (event.Deliver cn n)) b h = came_flows cn n h
   flows e b h = quiet_flows e b h
@@ -235,26 +235,26 @@ stays_there x y at fl now old new c d e =
 
 -- a run in which so many items towards the end of t are still to arrive
 
-pub between_at : {t : Side} {x : ℕ} {e : HostEvent} → IsArrivalAt t x e → IsBetweenTicks e
-between_at come = subst IsBetweenTicks (sym come.2) tt
+pub between_at : (at : Side → ℕ) {t : Side} {x : ℕ} {e : HostEvent} → IsArrivalAt t x e → LeavesPorts at e
+between_at at come = subst (LeavesPorts at) (sym come.2) tt
 
-module _ (gives : Algorithms) (s t : Side) (x : ℕ) (A : ℕ → Bool → Bool → WorldState → Type 0)
-    (kept : (k : ℕ) (a b : Bool) → KeptBetween gives (A k a b))
+module _ (gives : Algorithms) (s t : Side) (x : ℕ) (at : Side → ℕ) (A : ℕ → Bool → Bool → WorldState → Type 0)
+    (kept : (k : ℕ) (a b : Bool) → KeptBeside at gives (A k a b))
     (comes : (k : ℕ) (a b : Bool) (e : HostEvent) (r : Reply) (i j : WorldState) → IsArrivalAt t x e → StepReplies gives i e r j → A (suc k) a b i
     → A k a b j)
     (own : (k : ℕ) (b : Bool) → MadeByTick gives s (A k true b) (A k false b))
     (other : (k : ℕ) (a : Bool) → MadeByTick gives (peer s) (A k a true) (A k a false)) where
   -- an event that need not be an arrival
-  step_on : (e : HostEvent) (es : List HostEvent) (r : Reply) (i j : WorldState) (k : ℕ) (a b : Bool) → TickOnce s a b (e ∷ es) → StepReplies gives i e r j
-      → A k a b i → (c : Bool) × (d : Bool) × TickOnce s c d es × A k c d j
+  step_on : (e : HostEvent) (es : List HostEvent) (r : Reply) (i j : WorldState) (k : ℕ) (a b : Bool) → TickOnceAmong (LeavesPorts at) s a b (e ∷ es)
+      → StepReplies gives i e r j → A k a b i → (c : Bool) × (d : Bool) × TickOnceAmong (LeavesPorts at) s c d es × A k c d j
   step_on e es r i j k a b (inl (m, due, h)) step y =
       (false, b, h, own k b m.0 r i j m.1 (subst (λ x. StepReplies gives i x r j) m.2 step) (subst (λ x. A k x b i) due y))
   step_on e es r i j k a b (inr (inl (m, due, h))) step y =
       (a, false, h, other k a m.0 r i j m.1 (subst (λ x. StepReplies gives i x r j) m.2 step) (subst (λ x. A k a x i) due y))
   step_on e es r i j k a b (inr (inr h)) step y = (a, b, h.1, kept k a b e r i j h.0 step y)
 
-  pub counted_on : (es : List HostEvent) (rs : List Reply) (i j : WorldState) (k : ℕ) (a b : Bool) → TickOnce s a b es → ArriveIn k t x es
-      → RunReplies gives i es rs j → A k a b i → A 0 false false j
+  pub counted_on : (es : List HostEvent) (rs : List Reply) (i j : WorldState) (k : ℕ) (a b : Bool) → TickOnceAmong (LeavesPorts at) s a b es
+      → ArriveIn k t x es → RunReplies gives i es rs j → A k a b i → A 0 false false j
   counted_on [] [] i j zero a b h come run y =
       subst (λ x. A 0 false false x) (sym run) (subst (λ x. A 0 false x i) h.1 (subst (λ x. A 0 x b i) h.0 y))
   counted_on [] [] i j (suc k) a b h come run y = absurd come
@@ -262,8 +262,8 @@ module _ (gives : Algorithms) (s t : Side) (x : ℕ) (A : ℕ → Bool → Bool 
       let m = step_on e es r i run.0 0 a b h run.1 y in counted_on es rs run.0 j 0 m.0 m.1 m.2 tt run.2 m.3
   counted_on (e ∷ es) (r ∷ rs) i j (suc k) a b h (inr come) run y =
       let m = step_on e es r i run.0 (suc k) a b h run.1 y in counted_on es rs run.0 j (suc k) m.0 m.1 m.2 come run.2 m.3
-  counted_on (e ∷ es) (r ∷ rs) i j (suc k) a b (inl h) (inl come) run y = absurd (not_tick s e h.0 (between_at come.0))
-  counted_on (e ∷ es) (r ∷ rs) i j (suc k) a b (inr (inl h)) (inl come) run y = absurd (not_tick (peer s) e h.0 (between_at come.0))
+  counted_on (e ∷ es) (r ∷ rs) i j (suc k) a b (inl h) (inl come) run y = absurd (not_tick (LeavesPorts at) (λ n b. b) s e h.0 (between_at at come.0))
+  counted_on (e ∷ es) (r ∷ rs) i j (suc k) a b (inr (inl h)) (inl come) run y = absurd (not_tick (LeavesPorts at) (λ n b. b) (peer s) e h.0 (between_at at come.0))
   counted_on (e ∷ es) (r ∷ rs) i j (suc k) a b (inr (inr h)) (inl come) run y =
       counted_on es rs run.0 j k a b h.1 come.1 run.2 (comes k a b e r i run.0 come.0 run.1 y)
   counted_on es rs i j k a b h come run y = absurd run
@@ -280,15 +280,15 @@ module _ (gives : Algorithms) (s t : Side) (x : ℕ) (at : Side → ℕ) (P : It
     (plain : (item : ItemValue) → IsPlain item → P item)
     (sends : (a b : Bool) (fl : Side → List ItemValue) (i j : WorldState) → M a b i → OnCable x at fl i.links
     → (k : Asks gives (peer t) at fl i j) → (k.now t ≡ fl t) ⊎ Adds P (fl t) (k.now t))
-    (kept : (a b : Bool) → KeptBetween gives (M a b))
+    (kept : (a b : Bool) → KeptBeside at gives (M a b))
     (own : (b : Bool) → MadeByTick gives s (M true b) (M false b)) (other : (a : Bool) → MadeByTick gives (peer s) (M a true) (M a false)) where
   abbrev A : ℕ → Bool → Bool → WorldState → Type 0
   A k a b j = M a b j × Past t x at P k j
 
-  kept_past : (k : ℕ) (a b : Bool) → KeptBetween gives (A k a b)
+  kept_past : (k : ℕ) (a b : Bool) → KeptBeside at gives (A k a b)
   kept_past k a b e r i j q h (m, p) =
       let f = flows gives t x at p.flying r i j p.on e q h in
-      let same = stays_there x f.index at p.flying f.now i j p.on f.on (joins_kept gives i.links e r i j q h refl) in (
+      let same = stays_there x f.index at p.flying f.now i j p.on f.on (joins_kept at gives i.links e r i j q h refl) in (
         kept a b e r i j q h m,
         record {
           flying = f.now;
@@ -307,7 +307,7 @@ module _ (gives : Algorithms) (s t : Side) (x : ℕ) (at : Side → ℕ) (P : It
 
   comes_past : (k : ℕ) (a b : Bool) (e : HostEvent) (r : Reply) (i j : WorldState) → IsArrivalAt t x e → StepReplies gives i e r j → A (suc k) a b i
       → A k a b j
-  comes_past k a b e r i j come h (m, p) = (kept a b e r i j (between_at come) h m, past)
+  comes_past k a b e r i j come h (m, p) = (kept a b e r i j (between_at at come) h m, past)
     where
       past : Past t x at P k j
       past = elim (comes_in gives come.0 x t at p.flying r i j come.1 p.on (subst (λ y. StepReplies gives i y r j) come.2 h)) [
@@ -316,7 +316,7 @@ module _ (gives : Algorithms) (s t : Side) (x : ℕ) (at : Side → ℕ) (P : It
           on = subst (OnCable x at p.flying) (sym stays.links) p.on;
           items = subst (Beyond P k) (sym none) (beyond_none P k);
         }
-        | inr y ↦ (let same = stays_there x y.index at p.flying y.now i j p.on y.links (joins_kept gives i.links e r i j (between_at come) h refl) in
+        | inr y ↦ (let same = stays_there x y.index at p.flying y.now i j p.on y.links (joins_kept at gives i.links e r i j (between_at at come) h refl) in
             record {
               flying = y.now;
               on = subst (λ z. OnCable z at y.now j.links) same y.links;
@@ -338,7 +338,7 @@ module _ (gives : Algorithms) (s t : Side) (x : ℕ) (at : Side → ℕ) (P : It
   )
 
   pub cleared_on : (es : List HostEvent) (rs : List Reply) (fl : Side → List ItemValue) (i j : WorldState) → OnCable x at fl i.links
-      → TickOnce s true true es → ArriveIn (length (fl t)) t x es → RunReplies gives i es rs j → M true true i
+      → TickOnceAmong (LeavesPorts at) s true true es → ArriveIn (length (fl t)) t x es → RunReplies gives i es rs j → M true true i
       → M false false j × Past t x at P 0 j
-  cleared_on es rs fl i j c h come run m = counted_on gives s t x A kept_past comes_past own_past other_past es rs i j (length (fl t)) true true
+  cleared_on es rs fl i j c h come run m = counted_on gives s t x at A kept_past comes_past own_past other_past es rs i j (length (fl t)) true true
       h come run (m, record { flying = fl; on = c; items = beyond_first P (fl t) })

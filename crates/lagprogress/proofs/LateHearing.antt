@@ -1,16 +1,17 @@
 -- What a late round leaves of a cable: an LACPDU of an end is nearer, on the cable in the end, or was heard.
 use Rattle.lagprogress.proofs.Common.{Bool, List, arith, false, inl, inr, refl, subst, sym, true, ℕ, ◌-◌, ◌≡◌, ◌≤◌, ◌⊎◌, Lacpdu, One, Side, Two, peer}
-use Rattle.lagprogress.proofs.Common.{Machines, Algorithms, ItemValue, WorldState, half, OfEach, AtPort, Sounds, Clearing, IsPlayed, IsLateRound}
+use Rattle.lagprogress.proofs.Common.{Machines, Algorithms, ItemValue, WorldState, half, OfEach, AtPort, Sounds, Clearing, OldArrive}
 use Rattle.lagprogress.proofs.Claims.{IsNamed, Owes, Wakeful}
 use Rattle.lagprogress.proofs.Climbing.{PartnerInSync}
 use Rattle.lagprogress.proofs.EndFacts.{Along, CanSound, Learnt, activity, sounds_along, wait_of}
-use Rattle.lagprogress.proofs.HostRound.{all_ticked, holds_on, known_in, none_ticked, of_side}
+use Rattle.lagprogress.proofs.HostRound.{all_ticked, holds_beside, known_in, none_ticked}
 use Rattle.lagprogress.proofs.HostStamps.{Took-it, same_items, stamped_between, stamped_tick, took_between, took_now, took_tick}
 use Rattle.lagprogress.proofs.HostTelling.{Extra, HasTold, OnWay, stays_on, turns}
 use Rattle.lagprogress.proofs.LateArriving.{late_heard}
 use Rattle.lagprogress.proofs.Linked.{Fits, Flying, Link, of_end}
 use Rattle.lagprogress.proofs.OneCable.{OnCable}
 use Rattle.lagprogress.proofs.OneRound.{Later, Nothing, Passes, beside_here, join, sounds_pass, ticked}
+use Rattle.lagprogress.proofs.Quieting.{PlayedBeside}
 use Rattle.lagprogress.proofs.Stamps.{Stamped, Took}
 use Rattle.lagprogress.proofs.Telling.{Tells, Wakes}
 
@@ -86,7 +87,7 @@ module _ (gives : Algorithms) (d : ℕ) (at : Side → ℕ) (w : Side → Lacpdu
 
     -- a round in which the end may send: Z holds of it in the end, or an LACPDU is on the cable, or the other end has heard one
     pub late_passes : (X V Y Z : Machines → Type 0) → Passes X V Y Z (w s) (w (peer s)) (c s) (ticked c s) d → Along X (w s) (w (peer s)) (c s) d
-        → (old new : WorldState) → Link d at w c s X old → Wakes at w s old → Counted old → IsLateRound gives old new
+        → (old new : WorldState) → Link d at w c s X old → Wakes at w s old → Counted old → PlayedBeside at OldArrive gives old new
         → Link d at w (ticked c) s Z new ⊎ ((Wakes at w s new × Said at w s Whoever new × Flies at s new) ⊎ Hears new)
     late_passes X V Y Z p before old new l wakes stamped h = elim (turns gives d at w s there named Counted (Took-it gives 1 at k kept (peer s)) extra
         c fits then X V Y Z p before old new l wakes h stamped) [
@@ -101,7 +102,7 @@ module _ (gives : Algorithms) (d : ℕ) (at : Side → ℕ) (w : Side → Lacpdu
 
     -- what is on the cable comes
     pub late_flies : (x : Side) (old new : WorldState) → Link d at w c x Nothing old → Wakes at w s old → Counted old → Said at w s Whoever old
-        → Flies at s old → IsLateRound gives old new → Hears new
+        → Flies at s old → PlayedBeside at OldArrive gives old new → Hears new
     late_flies x old new l wakes stamped said (y, fl, on, f) h =
         let o = on_way (known_in c s true true) Whoever old (woken x Nothing old l wakes) said in
         of_told new (late_heard gives d at w s there named Counted (Took-it gives 1 at k kept (peer s)) extra c fits then y old fl on new o
@@ -110,7 +111,7 @@ module _ (gives : Algorithms) (d : ℕ) (at : Side → ℕ) (w : Side → Lacpdu
     -- an LACPDU of the end of s is nearer, or the other end has heard one
     pub late_nears : (fast : Bool) (m : ℕ) (old new : WorldState) → CanSound (w s) (w (peer s)) fast (ticked c s)
         → CanSound (w s) (w (peer s)) fast (c s) → Link d at w c One Nothing old → Wakes at w s old → Counted old → Ahead at w s fast m old
-        → IsLateRound gives old new → ((1 ≤ m - 1) × Ahead at w s fast (m - 1) new) ⊎ Hears new
+        → PlayedBeside at OldArrive gives old new → ((1 ≤ m - 1) × Ahead at w s fast (m - 1) new) ⊎ Hears new
     late_nears fast m old new can was l wakes stamped (inr (one, said, flies)) h = inr (late_flies One old new l wakes stamped said flies h)
     late_nears fast m old new can was l wakes stamped (inl (two, sounds)) h = elim (late_passes (Sounds fast (m - 1)) (Sounds fast (m - 1 - 1))
         (Sounds fast (m - 1 - 1)) (Later fast (m - 1 - 1)) (sounds_pass (w s) (w (peer s)) fast (c s) (ticked c s) d (m - 1) was can)
@@ -128,7 +129,7 @@ module _ (gives : Algorithms) (d : ℕ) (at : Side → ℕ) (w : Side → Lacpdu
         ]
 
     -- what it was told stays, or is on its way, and the end stays wakeful
-    pub late_told : {E : Clearing} (x : Side) (old new : WorldState) → Link d at w c x Nothing old → Wakes at w s old → IsPlayed E gives old new
+    pub late_told : {E : Clearing} (x : Side) (old new : WorldState) → Link d at w c x Nothing old → Wakes at w s old → PlayedBeside at E gives old new
         → 2 ≤ c (peer s) → Said at w s PartnerInSync old → Wakes at w s new × Said at w s PartnerInSync new
     late_told x old new l wakes h known said =
         let o = stays_on gives d at w s there named Counted (Took-it gives 1 at k kept (peer s)) extra c fits then old new
@@ -137,14 +138,13 @@ module _ (gives : Algorithms) (d : ℕ) (at : Side → ℕ) (w : Side → Lacpdu
 
 -- what ends took bears the present counts
 
-pub late_took : {E : Clearing} (gives : Algorithms) (at k : Side → ℕ) (kept : Side → Bool) (old new : WorldState) → IsPlayed E gives old new
+pub late_took : {E : Clearing} (gives : Algorithms) (at k : Side → ℕ) (kept : Side → Bool) (old new : WorldState) → PlayedBeside at E gives old new
     → (t : Side) → Took-it gives 1 at k kept t old → Took-it gives 1 at k kept t new
-late_took gives at k kept old new h t was = holds_on gives One (λ a b j. Took-it gives 1 at k kept t j)
+late_took {E} gives at k kept old new h t was = holds_beside E at gives One (λ a b j. Took-it gives 1 at k kept t j)
     (λ a b. took_between gives 1 at k kept (omega arith) t) (λ b. took_tick gives 1 at k kept t One) (λ a. took_tick gives 1 at k kept t Two)
-    h.events h.replies old new true true (of_side One h.events h.ticks) h.acts was
+    old new h was
 
-pub late_stamped : {E : Clearing} (gives : Algorithms) (at k : Side → ℕ) (kept : Side → Bool) (old new : WorldState) → IsPlayed E gives old new
+pub late_stamped : {E : Clearing} (gives : Algorithms) (at k : Side → ℕ) (kept : Side → Bool) (old new : WorldState) → PlayedBeside at E gives old new
     → Stamped 1 at k kept old → Stamped 1 at k kept new
-late_stamped gives at k kept old new h was = holds_on gives One (λ a b j. Stamped 1 at k kept j) (λ a b. stamped_between gives 1 at k kept)
-    (λ b. stamped_tick gives 1 at k kept One) (λ a. stamped_tick gives 1 at k kept Two) h.events h.replies old new true true
-    (of_side One h.events h.ticks) h.acts was
+late_stamped {E} gives at k kept old new h was = holds_beside E at gives One (λ a b j. Stamped 1 at k kept j)
+    (λ a b. stamped_between gives 1 at k kept) (λ b. stamped_tick gives 1 at k kept One) (λ a. stamped_tick gives 1 at k kept Two) old new h was

@@ -1,7 +1,7 @@
 -- How the ends of a cable come to know each other in late rounds.
 use Rattle.lagprogress.proofs.Common.{Bool, arith, inl, inr, refl, subst, sym, true, ℕ, ◌+◌, ◌-◌, ◌≡◌, ◌≤◌, ◌⊎◌, Lacpdu, One, Side, peer, Algorithms}
 use Rattle.lagprogress.proofs.Common.{LinkState, WorldState, half, port_at, Sounds, silence_of, BothAreActive, EndsOfEachKnow, OneIsActive}
-use Rattle.lagprogress.proofs.Common.{IsLateRound, LateRounds, OldArrive, late_known_if_both_active, late_known_if_one_is, EndKnows}
+use Rattle.lagprogress.proofs.Common.{LateRounds, OldArrive, late_known_if_both_active, late_known_if_one_is, EndKnows}
 use Rattle.lagprogress.proofs.Claims.{IsNamed, Wakeful}
 use Rattle.lagprogress.proofs.Climbing.{PartnerInSync}
 use Rattle.lagprogress.proofs.EndFacts.{Along, CanSound, activity}
@@ -13,6 +13,7 @@ use Rattle.lagprogress.proofs.Lapsing.{Lapsed, Lasting, Phase, Tails, lasting_no
 use Rattle.lagprogress.proofs.LateStart.{counts_of, first_late, kept_of}
 use Rattle.lagprogress.proofs.Linked.{Fits, Link, of_end}
 use Rattle.lagprogress.proofs.OneRound.{Nothing, beside_here, join, ticked}
+use Rattle.lagprogress.proofs.Quieting.{PlayedBeside, all_beside}
 use Rattle.lagprogress.proofs.Stamps.{Stamped, Took}
 use Rattle.lagprogress.proofs.Starting.{Ends, active_at, end_of, named_at, said_by, starts}
 
@@ -47,7 +48,7 @@ module _ (at : Side → ℕ) (w : Side → Lacpdu) (k : Side → ℕ) (kept : Si
   awaits : (gives : Algorithms) (s : Side) → activity (w (peer s)) ≡ true → IsNamed (w (peer s)) → Fits 1 w (λ _. 0) → Fits 1 w (ticked (λ _. 0))
       → (m : ℕ) (old new : WorldState) → 1 ≤ m → Link 1 at w (λ _. 0) One Nothing old → AtIt at w s (Wakeful (w s) (w (peer s))) old
       → Stamped 1 at k kept old
-      → ((2 ≤ m) × AtIt at w s (Lasting (w (peer s)) (m - 1)) old) ⊎ (Said at w s Whoever old × Flies at s old) → IsLateRound gives old new
+      → ((2 ≤ m) × AtIt at w s (Lasting (w (peer s)) (m - 1)) old) ⊎ (Said at w s Whoever old × Flies at s old) → PlayedBeside at OldArrive gives old new
       → ((1 ≤ m - 1) × AtIt at w s (Wakeful (w s) (w (peer s))) new
       × (((2 ≤ m - 1) × AtIt at w s (Lasting (w (peer s)) (m - 1 - 1)) new) ⊎ (Said at w s Whoever new × Flies at s new)))
       ⊎ Hears at w late_signs 1 (λ _. 0) s new
@@ -98,7 +99,7 @@ module _ (at : Side → ℕ) (w : Side → Lacpdu) (k : Side → ℕ) (kept : Si
     pub fits_now : (d : ℕ) (j : WorldState) (g : FreshAt d j) → 1 ≤ d → Fits d w g.known
     fits_now d j g there = fits_before at w late_signs named awake d j g there
 
-    pub stays_late : (gives : Algorithms) (d : ℕ) (old new : WorldState) → 1 ≤ d → IsLateRound gives old new → FreshAt d old → FreshAt d new
+    pub stays_late : (gives : Algorithms) (d : ℕ) (old new : WorldState) → 1 ≤ d → PlayedBeside at OldArrive gives old new → FreshAt d old → FreshAt d new
     stays_late gives d old new there h g = stays_met at w late_signs OldArrive gives 1 (late_chain gives) named awake d old new there h g
 
 -- both ends know each other, with the change counts that LACPDUs bear
@@ -113,11 +114,13 @@ module _ (gives : Algorithms) (at : Side → ℕ) (w : Side → Lacpdu) (named :
     (l : Link 0 at w (λ _. 0) One Nothing old) (h : LateRounds gives n old new) where
   pub late_active_meet : ((s : Side) → activity (w s) ≡ true) → 323 ≤ n → Fresh at w old new
   late_active_meet = both_meet at w (late_signs at w (counts_of at old) (kept_of at old)) OldArrive gives 1
-      (late_chain at w (counts_of at old) (kept_of at old) gives) named n old new (λ j r. first_late gives at w old j l r) h
+      (late_chain at w (counts_of at old) (kept_of at old) gives) named n old new (λ j r. first_late gives at w old j l r)
+      (all_beside at OldArrive gives n old new h)
 
   pub late_one_meets : (s : Side) → activity (w s) ≡ true → 624 ≤ n → Fresh at w old new
   late_one_meets = one_meets at w (late_signs at w (counts_of at old) (kept_of at old)) OldArrive gives 1
-      (late_chain at w (counts_of at old) (kept_of at old) gives) named n old new (λ j r. first_late gives at w old j l r) h
+      (late_chain at w (counts_of at old) (kept_of at old) gives) named n old new (λ j r. first_late gives at w old j l r)
+      (all_beside at OldArrive gives n old new h)
 
 pub active_ends_know_late : (gives : Algorithms) → EndsOfEachKnow LateRounds BothAreActive late_known_if_both_active gives
 active_ends_know_late gives n i l old new cabling steady healthy active enough rounds =

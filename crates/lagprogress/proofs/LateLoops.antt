@@ -6,6 +6,7 @@ use Rattle.lagprogress.proofs.EachRound.{joins_kept}
 use Rattle.lagprogress.proofs.HostLoops.{asking_is_one}
 use Rattle.lagprogress.proofs.LateFlow.{flows, gain_at, stays_there}
 use Rattle.lagprogress.proofs.OneCable.{OnCable, cable, sent_frame, ticks, towards_there}
+use Rattle.lagprogress.proofs.Quieting.{leaves}
 use Rattle.lagprogress.proofs.Starting.{healthy_cable}
 
 pub asking_is_late_round : (gives : Algorithms) → AskingIsLateRound gives
@@ -44,8 +45,8 @@ module _ (gives : Algorithms) (t : Side) (x : ℕ) (at : Side → ℕ) (j : Worl
       ticked : (s : Side) → IsTickOf s e → StepReplies gives i e r run.0 → OnCable x at fl run.0.links
       ticked s m step = subst (OnCable x at fl) (sym (ticks gives m.0 s r i run.0 m.1 (subst (λ y. StepReplies gives i y r run.0) m.2 step)).links) c
   must_arrive (e ∷ es) (r ∷ rs) i fl a b c (inr (inr h)) run =
-      let f = flows gives t x at fl r i run.0 c e h.0 run.1 in
-      let same = stays_there x f.index at fl f.now i run.0 c f.on (joins_kept gives i.links e r i run.0 h.0 run.1 refl) in
+      let f = flows gives t x at fl r i run.0 c e (leaves at e h.0) run.1 in
+      let same = stays_there x f.index at fl f.now i run.0 c f.on (joins_kept at gives i.links e r i run.0 (leaves at e h.0) run.1 refl) in
       let rest : ArriveIn (length (f.now t)) t x es =
       must_arrive es rs run.0 f.now a b (subst (λ y. OnCable y at f.now run.0.links) same f.on) h.1 run.2 in
       elim f.moves [

@@ -2,21 +2,22 @@
 use Rattle.lagprogress.proofs.Common.{Bool, List, Some, [], ap, arith, false, inl, inr, is_some, length, refl, subst, sym, true, ℕ, ◌++◌, ◌-◌, ◌∙◌}
 use Rattle.lagprogress.proofs.Common.{◌∷◌, ◌≡◌, ◌≤◌, ◌⊎◌, AllByRecursion, Lacpdu, One, Side, peer, Machines, periodic_rows, receive_rows, AtRest}
 use Rattle.lagprogress.proofs.Common.{RunsToRest, after_sending, count_down, Algorithms, ItemValue, WorldState, change_count_in, half, history_at}
-use Rattle.lagprogress.proofs.Common.{OfEach, AtPort, ArriveIn, IsLateRound, IsHealthyAt}
+use Rattle.lagprogress.proofs.Common.{OfEach, AtPort, ArriveIn, OldArrive, IsHealthyAt}
 use Rattle.lagprogress.proofs.EndFacts.{Along, IsEnd, Suits, Synced, nothing_along}
-use Rattle.lagprogress.proofs.HostRound.{KeptBetween, between, fits_in, healthy_link, host_keeps, known_in, left, none_ticked, all_ticked, of_side}
+use Rattle.lagprogress.proofs.HostRound.{KeptBeside, between, fits_in, healthy_link, host_keeps, known_in, left, none_ticked, all_ticked, side_beside}
 use Rattle.lagprogress.proofs.HostRound.{own_holds, peer_holds, two_there}
 use Rattle.lagprogress.proofs.HostStamps.{same_items, stamped_between, stamped_tick}
 use Rattle.lagprogress.proofs.LateFlow.{Adds, Past, cleared_on, gain_at}
 use Rattle.lagprogress.proofs.Linked.{Fits, IsGood, Link, of_end, other_ports, peer_twice, push_there, told_good}
 use Rattle.lagprogress.proofs.OneCable.{Asks, IsStamped, OnCable, cable, sent_frame, towards_there}
 use Rattle.lagprogress.proofs.OneRound.{Nothing, ticked}
+use Rattle.lagprogress.proofs.Quieting.{PlayedBeside}
 use Rattle.lagprogress.proofs.Stamps.{Stamped}
 use Rattle.lagprogress.proofs.Starting.{raised}
 
 -- as many arrive as were on the cable
 arriving : (gives : Algorithms) (at : Side → ℕ) (x : ℕ) (fl : Side → List ItemValue) (old new : WorldState) → IsHealthyAt x (cable at fl) old
-    → (h : IsLateRound gives old new) → (t : Side) → ArriveIn (length (fl t)) t x h.events
+    → (h : PlayedBeside at OldArrive gives old new) → (t : Side) → ArriveIn (length (fl t)) t x h.events
 arriving gives at x fl old new healthy h t =
     subst (λ xs. ArriveIn (length xs) t x h.events) (towards_there t at fl) (h.empties t x (cable at fl) healthy)
 
@@ -62,12 +63,12 @@ module _ (gives : Algorithms) (d e : ℕ) (at : Side → ℕ) (w : Side → Lacp
           (told_good e (w (peer t)) (w (peer (peer t))) cc (gives (peer t)) (at (peer t)) k.a (half (peer t) i).state (half (peer t) j).state
           (known a b) k.promise ends item.octets is v carries)
 
-  kept : (a b : Bool) → KeptBetween gives (M a b)
+  kept : (a b : Bool) → KeptBeside at gives (M a b)
   kept a b = between gives d at w (known_in c (peer t) a b) (peer t) Y (fits_in d w c (peer t) fits then a b)
       (subst (λ n. Along Y (w (peer t)) (w (peer (peer t))) n d) (sym (here a b)) (along a)) sends
 
   -- so it is after a late round
-  pub flush : (old new : WorldState) (l : Link d at w c (peer t) Y old) → IsLateRound gives old new
+  pub flush : (old new : WorldState) (l : Link d at w c (peer t) Y old) → PlayedBeside at OldArrive gives old new
       → Link d at w (ticked c) (peer t) Y new × (x : ℕ) × Past t x at (IsGood e w t) 0 new
   flush old new l h =
       let come = arriving gives at l.index l.flying old new (healthy_link d at w c (peer t) Y old l) h t in
@@ -75,17 +76,17 @@ module _ (gives : Algorithms) (d e : ℕ) (at : Side → ℕ) (w : Side → Lacp
       (λ a b fl i j m on k. sent a b fl i j l.index m on k) kept
       (λ b. own_holds gives (peer t) d at w c Y Y then last moves b)
       (λ a. peer_holds gives (peer t) d at w c Y then a (along a))
-      h.events h.replies l.flying old new l.links (of_side (peer t) h.events h.ticks) come h.acts (none_ticked d at w c (peer t) (peer t) Y old l) in
+      h.events h.replies l.flying old new l.links (side_beside at (peer t) h.events h.ticks) come h.acts (none_ticked d at w c (peer t) (peer t) Y old l) in
       (all_ticked d at w c (peer t) (peer t) Y new r.0, l.index, r.1)
 
 -- and bears the present change count
 stamps_flush : (gives : Algorithms) (at k : Side → ℕ) (kept : Side → Bool) (t : Side) (old new : WorldState) (l : Stamped 0 at k kept old)
-    → IsHealthyAt l.index (cable at l.flying) old → IsLateRound gives old new
+    → IsHealthyAt l.index (cable at l.flying) old → PlayedBeside at OldArrive gives old new
     → Stamped 0 at k kept new × Past t l.index at (IsStamped (k (peer t))) 0 new
 stamps_flush gives at k kept t old new l healthy h = cleared_on gives One t l.index at (IsStamped (k (peer t))) (λ a b j. Stamped 0 at k kept j)
     (λ item plain v carries. absurd (plain (v, carries))) sent (λ a b. stamped_between gives 0 at k kept)
     (λ b. stamped_tick gives 0 at k kept One) (λ a. stamped_tick gives 0 at k kept (peer One))
-    h.events h.replies l.flying old new l.links (of_side One h.events h.ticks) (arriving gives at l.index l.flying old new healthy h t) h.acts l
+    h.events h.replies l.flying old new l.links (side_beside at One h.events h.ticks) (arriving gives at l.index l.flying old new healthy h t) h.acts l
   where
     sent : (a b : Bool) (fl : Side → List ItemValue) (i j : WorldState) → Stamped 0 at k kept i → OnCable l.index at fl i.links
         → (y : Asks gives (peer t) at fl i j) → (y.now t ≡ fl t) ⊎ Adds (IsStamped (k (peer t))) (fl t) (y.now t)
@@ -107,7 +108,7 @@ kept_of at j s = is_some (history_at (half s j).histories (at s))
 
 -- after the first round all that is on the cable names the ends as they are, and bears the present counts
 pub first_late : (gives : Algorithms) (at : Side → ℕ) (w : Side → Lacpdu) (old new : WorldState) → Link 0 at w (λ _. 0) One Nothing old
-    → IsLateRound gives old new → Link 1 at w (λ _. 0) One Nothing new × Stamped 1 at (counts_of at old) (kept_of at old) new
+    → PlayedBeside at OldArrive gives old new → Link 1 at w (λ _. 0) One Nothing new × Stamped 1 at (counts_of at old) (kept_of at old) new
 first_late gives at w old new l h =
     let base : Link 0 at w (λ _. 0) One Nothing new = other_ports (host_keeps gives One 0 at w (λ _. 0) old new fit then l h)
     (λ s p rest timed a. (a.0, a.1)) in (

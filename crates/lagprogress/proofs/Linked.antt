@@ -9,13 +9,12 @@ use Rattle.lagprogress.proofs.Common.{Transmit, configured_numbers, PeriodicIsSe
 use Rattle.lagprogress.proofs.Common.{CallPromise, SystemState, machines_of, port_index, port_numbers, system_port_at, named, processes_or_stays}
 use Rattle.lagprogress.proofs.Common.{all-get, found_place, ports_rise, Event, Reply, Algorithms, WorldRuns, WorldSteps, side_of, ItemValue}
 use Rattle.lagprogress.proofs.Common.{WorldState, half, IsTimed, KeptBySettling, OfEach, Step-each, AtPort, at_number, calls_each, same_ports}
-use Rattle.lagprogress.proofs.Common.{IsSteady}
 use Rattle.slowpdu.specs.declared.pdu.Pdu.TheVariants as pdu
 use Rattle.lagsystem.specs.declared.drive.Reply.TheVariants as answer
 use Rattle.lagsystem.specs.declared.received.Received.TheVariants as received
 use Rattle.lagscript.specs.declared.event.Event.TheVariants as event
 use Rattle.lagprogress.proofs.EndFacts.{Along, IsEnd, Suits, activity, end_settles, wait_of}
-use Rattle.lagprogress.proofs.Halves.{each_is_calls, keeps_steady}
+use Rattle.lagprogress.proofs.Halves.{AreTimely, each_is_calls, keeps_timely}
 use Rattle.lagprogress.proofs.OneCable.{Asks, Beside, Elsewhere, Gains, OnCable, asks, emits, emits_beside, push, push_each, put, sent_frame}
 use Rattle.lagprogress.proofs.Passing.{carries_one, lacpdu_is_sent, marker_carries_none, receives_lacpdu, sent_carries}
 pub use Rattle.lagprogress.proofs.OneCable.{each_side}
@@ -38,12 +37,12 @@ index_of : (n : ℕ) (xs : List SystemPort)
     → port_index n xs ≡ place_in (position_or_len (λ m. m == n) (port_numbers xs)) (length (port_numbers xs))
 index_of n xs = ap (λ i. place_in i (length xs)) (lens n xs) ∙ ap (place_in (position_or_len (λ m. m == n) (port_numbers xs))) (many xs)
 
-same_index : (n : ℕ) (xs ys : List SystemPort) → port_numbers ys ≡ port_numbers xs → port_index n ys ≡ port_index n xs
+pub same_index : (n : ℕ) (xs ys : List SystemPort) → port_numbers ys ≡ port_numbers xs → port_index n ys ≡ port_index n xs
 same_index n xs ys e =
     index_of n ys ∙ (ap (λ l. place_in (position_or_len (λ m. m == n) l) (length l)) e ∙ sym (index_of n xs))
 
-pub place_kept : (gives : Algorithms) (e : Event) (r : Reply) (old new : WorldState) → WorldSteps gives old e r new → IsSteady old
-    → IsSteady new → (s : Side) (n : ℕ) → port_index n (half s new).state.system_ports ≡ port_index n (half s old).state.system_ports
+pub place_kept : (gives : Algorithms) (e : Event) (r : Reply) (old new : WorldState) → WorldSteps gives old e r new → AreTimely old
+    → AreTimely new → (s : Side) (n : ℕ) → port_index n (half s new).state.system_ports ≡ port_index n (half s old).state.system_ports
 place_kept gives e r old new x a b s n =
     let g = each_is_calls gives e r old new x s in
     let ports = same_ports (gives s) (half s old).state (half s new).state g.0 g.1 g.2 in
@@ -236,7 +235,7 @@ abbrev pub EndIs : ℕ → (Side → Lacpdu) → (Side → ℕ) → Side → (Ma
 EndIs d w c x Y s p = IsEnd d (w s) (w (peer s)) (c s) p × (s ≡ x → Y p)
 
 pub record Link (d : ℕ) (at : Side → ℕ) (w : Side → Lacpdu) (c : Side → ℕ) (x : Side) (Y : Machines → Type 0) (j : WorldState) : Type 0 where
-  pub steady : IsSteady j
+  pub steady : AreTimely j
   pub flying : Side → List ItemValue
   pub index : ℕ
   pub links : OnCable index at flying j.links
@@ -305,7 +304,7 @@ module _ (at : Side → ℕ) (w : Side → Lacpdu) where
         found = machines_there (at s) st place.0 it.0 place.1 it.1;
       }
 
-  pub at_end : (d : ℕ) (c : Side → ℕ) (s : Side) (j : WorldState) (e : EndPort d c s j) → IsSteady j → (P : Machines → Type 0)
+  pub at_end : (d : ℕ) (c : Side → ℕ) (s : Side) (j : WorldState) (e : EndPort d c s j) → AreTimely j → (P : Machines → Type 0)
       → P e.port.port → OfEach (AtPort (at s) P) (half s j).state.system_ports
   at_end d c s j e steady P p =
       subst (λ n. OfEach (AtPort n P) (half s j).state.system_ports) e.number
@@ -384,7 +383,7 @@ pub emit_link : (gives : Algorithms) (n : ℕ) (s : Side) (d : ℕ) (at : Side �
     → Emitted gives s d at w c x Y l.flying old new
 emit_link gives n s d at w c x Y r old new fits told along sends l h =
     let k = asks gives n s l.index at l.flying r old new told l.links h in
-    let steady = keeps_steady gives (event.Emit n (at s)) r old new h l.steady in
+    let steady = keeps_timely gives (event.Emit n (at s)) r old new h l.steady in
     let own = Step-each (AtPort (at s) (EndIs d w c x Y s)) (end_kept w c d x Y along s (at s)) (gives s) (half s old).state
     (Transmit (at s)) (answer.Transmit k.a) (half s new).state (λ p told a e. ((a e).0, λ f. sends f p ((a e).1 f))) k.promise.step
     (l.ports s) in
@@ -430,7 +429,7 @@ pub beside_link : (gives : Algorithms) (e : Event) (d : ℕ) (at : Side → ℕ)
     (Y : Machines → Type 0) (r : Reply) (old new : WorldState) → Along Y (w x) (w (peer x)) (c x) d → (l : Link d at w c x Y old)
     → WorldSteps gives old e r new → Beside gives at l.flying old new → Left d at w c x Y l.flying new
 beside_link gives e d at w c x Y r old new along l h b =
-    let steady = keeps_steady gives e r old new h l.steady in
+    let steady = keeps_timely gives e r old new h l.steady in
     record {
       link = record {
         steady = steady;

@@ -15,7 +15,7 @@ use Rattle.lagprogress.proofs.Carrying.{Lapses, LapsesAt, distributes_up, lapse_
 use Rattle.lagprogress.proofs.Climbing.{PartnerInSync}
 use Rattle.lagprogress.proofs.EachRound.{EachAt, RoundKeeps, same_index, host_each, hosts_join, hosts_on, hosts_steady}
 use Rattle.lagprogress.proofs.FlyingLemmas.{OnItsWay, in_run}
-use Rattle.lagprogress.proofs.Halves.{both_first, keeps_steady}
+use Rattle.lagprogress.proofs.Halves.{both_first, keeps_timely}
 use Rattle.lagprogress.proofs.Linked.{EndIs, IsGood, Link, place_kept, push_there, events_each}
 use Rattle.lagprogress.proofs.OneCable.{OnCable, cable, placed, port_there, push, push_each, puts, takes_all, towards_there}
 use Rattle.lagprogress.proofs.OneRound.{join}
@@ -56,7 +56,7 @@ offer_link : (gives : Algorithms) (n : ℕ) (s : Side) (d : ℕ) (at : Side → 
     → g.port ≡ at s → IsFrame g.item.octets Data_frame → WorldSteps gives old (event.Offer n agg octets) r new → (l : Link d at w c x Y old)
     → (k : Link d at w c x Y new) × (k.flying ≡ push (peer s) g.item l.flying)
 offer_link gives n s d at w c x Y agg octets r old new g port plain h l =
-    let steady = keeps_steady gives (event.Offer n agg octets) r old new h l.steady in
+    let steady = keeps_timely gives (event.Offer n agg octets) r old new h l.steady in
     let good : IsGood d w (peer s) g.item = λ v c. absurd (plain.1 c.0.1) in (
       record {
         steady = steady;

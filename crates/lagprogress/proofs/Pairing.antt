@@ -15,6 +15,8 @@ use Rattle.lagprogress.proofs.Frozen.{AllChose, AllFresh, Stands, choice_rounds,
 use Rattle.lagprogress.proofs.OneRound.{Nothing}
 use Rattle.lagprogress.proofs.Knowing.{AtIt}
 use Rattle.lagprogress.proofs.HostKnowing.{host_chain, host_signs, Fresh, FreshAt, stays_fresh}
+use Rattle.lagprogress.proofs.Quieting.{all_beside, as_beside}
+use Rattle.lagprogress.proofs.Halves.{timely}
 use Rattle.lagprogress.proofs.Starting.{said_by}
 use Rattle.lagprogress.proofs.Claims.{IsNamed}
 use Rattle.lagprogress.proofs.Linked.{at_end, end_here, end_with}
@@ -27,7 +29,11 @@ climb_one : (at : Side → ℕ) (w : Side → Lacpdu) → ((t : Side) → IsName
     → HostRounds gives 20 mid top → AtIt at w s (Rising 0) top
 climb_one at w named awake s gives mid top g chosen h =
     (hosts_on gives (λ n j. FreshAt at w 1 j × AtIt at w s (Rising (20 - n)) j) mid (g, rises_first at w g.known mid g.link s chosen)
-    (λ n i j r f. (stays_fresh at w named awake gives 1 i j (omega arith) r f.0, climb_on at w (host_signs at w) NoneIsLeft gives 0 (host_chain at w gives) named awake s n i j f.0 r f.1)) 20 top h).1
+    (λ n i j r f. (
+      stays_fresh at w named awake gives 1 i j (omega arith) r f.0,
+      climb_on at w (host_signs at w) NoneIsLeft gives 0 (host_chain at w gives) named awake s n i j f.0
+          (as_beside at NoneIsLeft gives i j r) f.1,
+    )) 20 top h).1
 
 -- a SELECTED port whose link is down
 
@@ -145,7 +151,7 @@ module _ (Holds : LinkState → WorldState → Type 0) (first : ℕ) (gives : Al
         let d = later 20 top more in
         let g = d.0 i l y in
         let e = end_here at w 1 g.known One Nothing top g.link s in
-        at_end at w 1 g.known s top e d.1.steady Synced
+        at_end at w 1 g.known s top e (timely top d.1.steady) Synced
         (climbed (half s top).state e.index e.port (d.1.steady s).0 e.there (ripe top more s) (end_with at w 1 g.known s top e (Rising 0) a))
 
   ups : (i : ℕ) (l : LinkState) (y : IsHealthyAt i l old) (n : ℕ) (new : WorldState) → first + 31 ≤ n → HostRounds gives n old new
@@ -170,7 +176,7 @@ module _ (Holds : LinkState → WorldState → Type 0) (first : ℕ) (gives : Al
   pub pairs_agree : IsWorldSound old → (i : ℕ) (l : LinkState) (y : IsHealthyAt i l old) (n : ℕ) (new : WorldState) → first + 31 ≤ n
       → HostRounds gives n old new
       → ((s : Side) → AtEnd (λ p. selected p ≡ true) s l new) → agreement_at new (suc i) ≡ Some Same
-  pairs_agree sound i l y n new enough h sel = agree_up NoneIsLeft gives n old new sound h i l y
+  pairs_agree sound i l y n new enough h sel = agree_up NoneIsLeft gives n i l old new sound (all_beside (λ s. port_at s l) NoneIsLeft gives n old new h) y
       (up_synced (λ s. port_at s l) (said_by l old (ends_at i l old y)) new (ups i l y n new enough h sel))
 
 pub selected_pairs_come_up_by_hosts : (gives : Algorithms) → SelectedPairsComeUp HostRounds OneIsActive up_if_one_is gives

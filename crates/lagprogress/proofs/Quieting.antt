@@ -1,18 +1,21 @@
 -- What moves no port (`IsQuiet`) leaves the ports, and what their LACPDUs say.
-use Rattle.lagprogress.proofs.Common.{Bool, Err, List, Ok, Result, Some, [], ap, arith, false, inl, inr, map, refl, subst, sym, ℕ, ◌++◌, ◌==◌, ◌∙◌}
-use Rattle.lagprogress.proofs.Common.{◌∷◌, ◌≡◌, ◌⊎◌, cases_Bool, nat_tests, Vec, AllByRecursion, AggId, Lacpdu, One, Side, Two, peer, value_of}
-use Rattle.lagprogress.proofs.Common.{Machines, Table, SystemFault, SystemPort, Carries, Force, IsFrame, Move_conversation, Offer, Step}
-use Rattle.lagprogress.proofs.Common.{system_force_result, system_move_result, Set_max_delay, SystemState, port_index, with_system_ports, with_table}
-use Rattle.lagprogress.proofs.Common.{becomes_slots, offers_slots, Reply, AfterOffer, Algorithms, InHalf, WorldSteps, offered_item, side_of}
-use Rattle.lagprogress.proofs.Common.{with_frame_counted, HalfForces, HalfMoves, forced_if_accepted, link_ends, HalfState, ItemValue, WorldState}
-use Rattle.lagprogress.proofs.Common.{half, put_on_port, with_half, put_ends, half_there, HostEvent, HostSteps, Plays, Sets, OfEach, AtPort}
-use Rattle.lagprogress.proofs.Common.{IsBetweenTicks, IsQuiet, IsTickOf, RunReplies, StepReplies, TickOnce, IsSteady}
-use Rattle.lagprogress.proofs.HostSteady.{Quietly, SendsPlain, aside, caller, beside_quietly, delay_quietly, delay_keeps, aside_keeps, step_timely}
-use Rattle.lagprogress.proofs.Halves.{each_is_calls, keeps_steady}
+use Rattle.lagprogress.proofs.Common.{Bool, Err, List, Ok, Result, Some, [], ap, arith, false, inl, inr, map, refl, subst, suc, sym, true, zero, ℕ}
+use Rattle.lagprogress.proofs.Common.{◌++◌, ◌==◌, ◌∙◌, ◌∷◌, ◌≡◌, ◌⊎◌, cases_Bool, nat_tests, Vec, AllByRecursion, AggId, Lacpdu, all-append, One}
+use Rattle.lagprogress.proofs.Common.{Side, Two, peer, value_of, Machines, Table, SystemFault, SystemPort, Carries, Force, IsFrame, Move_conversation}
+use Rattle.lagprogress.proofs.Common.{Offer, Step, system_force_result, system_move_result, Set_max_delay, SystemState, port_index, with_system_ports}
+use Rattle.lagprogress.proofs.Common.{with_table, becomes_slots, offers_slots, Reply, AfterOffer, Algorithms, InHalf, WorldSteps, offered_item}
+use Rattle.lagprogress.proofs.Common.{side_of, with_frame_counted, HalfForces, HalfMoves, forced_if_accepted, link_ends, HalfState, ItemValue}
+use Rattle.lagprogress.proofs.Common.{WorldState, half, put_on_port, with_half, put_ends, half_there, HostEvent, HostSteps, Plays, Sets}
+use Rattle.lagprogress.proofs.Common.{KeptBySettling, OfEach, AtPort, LeavesPorts, Clearing, IsBetweenTicks, IsPlayed, IsPlayedAmong, IsQuiet}
+use Rattle.lagprogress.proofs.Common.{IsTickOf, PlayedAmong, PlayedRounds, RunReplies, StepReplies, TickOnce, TickOnceAmong, IsSteady}
+use Rattle.lagprogress.proofs.HostSteady.{IsUp, Quietly, SendsPlain, aside, caller, beside_quietly, delay_quietly, delay_keeps, aside_keeps}
+use Rattle.lagprogress.proofs.HostSteady.{sets_each, sets_links, sets_logs, sets_place, step_timely}
+use Rattle.lagprogress.proofs.EndFacts.{Along}
+use Rattle.lagprogress.proofs.Halves.{AreTimely, each_is_calls, keeps_steady, timely}
 use Rattle.lagprogress.proofs.Unchanged.{calls_keep}
 use Rattle.lagprogress.proofs.ArrivingLemmas.{is_data, same_ports}
-use Rattle.lagprogress.proofs.Linked.{EndIs, Flying, HasLacpdu, IsGood, Link, has_on, each_side, place_kept, push_other, push_there, pushed}
-use Rattle.lagprogress.proofs.OneCable.{OnCable, half_logs, push, push_each, put_beside, puts}
+use Rattle.lagprogress.proofs.Linked.{EndIs, Flying, HasLacpdu, IsGood, Link, end_kept, has_on, each_side, of_end, place_kept, push_other, push_there}
+use Rattle.lagprogress.proofs.OneCable.{OnCable, half_logs, push, put_beside, puts}
 use Rattle.slowpdu.specs.declared.pdu.Pdu.TheVariants as pdu
 use Rattle.lagsystem.specs.declared.drive.Reply.TheVariants as answer
 use Rattle.lagscript.specs.declared.event.Event.TheVariants as event
@@ -141,11 +144,14 @@ as_step : (gives : Algorithms) (e : HostEvent) (r : Reply) (old new : WorldState
 as_step gives (Plays e) r old new h = (r, h)
 as_step gives e r old new h = h
 
+pub calm_timely : (gives : Algorithms) (e : HostEvent) (r : Reply) (old new : WorldState) → StepReplies gives old e r new → AreTimely old → AreTimely new
+calm_timely gives e r old new h k = step_timely gives e old new (as_step gives e r old new h) k
+
 pub calm_steady : (gives : Algorithms) (e : HostEvent) (r : Reply) (old new : WorldState) → IsCalm e → StepReplies gives old e r new
     → IsSteady old → IsSteady new
 calm_steady gives (Plays e) r old new c h k = keeps_steady gives e r old new h k
 calm_steady gives e r old new c h k = λ s.
-    (let t = step_timely gives e old new (as_step gives e r old new h) (λ u. ((k u).0, (k u).1)) s in (
+    (let t = calm_timely gives e r old new h (timely old k) s in (
       t.0,
       t.1,
       subst (λ ports. AllByRecursion (λ (x : SystemPort). x.held ≡ false) ports) (sym (quiet_ports gives e r old new c h s)) (k s).2,
@@ -153,7 +159,7 @@ calm_steady gives e r old new c h k = λ s.
 
 pub calm_place : (gives : Algorithms) (e : HostEvent) (r : Reply) (old new : WorldState) → IsCalm e → StepReplies gives old e r new
     → IsSteady old → IsSteady new → (s : Side) (n : ℕ) → port_index n (half s new).state.system_ports ≡ port_index n (half s old).state.system_ports
-calm_place gives (Plays e) r old new c h a b s n = place_kept gives e r old new h a b s n
+calm_place gives (Plays e) r old new c h a b s n = place_kept gives e r old new h (timely old a) (timely new b) s n
 calm_place gives e r old new c h a b s n = ap (port_index n) (quiet_ports gives e r old new c h s)
 
 module _ (X : Type 0) (g : SystemState → X)
@@ -190,56 +196,39 @@ pub record Quieted (d : ℕ) (at : Side → ℕ) (w : Side → Lacpdu) (c : Side
   pub grew : (t : Side) → (link.flying t ≡ fl t)
       ⊎ ((item : ItemValue) × ((x : Lacpdu) → IsFrame item.octets (Carries (pdu.Lacpdu x)) → ⊥) × (link.flying t ≡ fl t ++ item ∷ []))
 
-pub quiet_link : (gives : Algorithms) (e : HostEvent) (d : ℕ) (at : Side → ℕ) (w : Side → Lacpdu) (c : Side → ℕ) (x : Side)
-    (Y : Machines → Type 0) (r : Reply) (old new : WorldState) → IsQuiet e → StepReplies gives old e r new → (l : Link d at w c x Y old)
-    → Quieted d at w c x Y l.flying new
-quiet_link gives e d at w c x Y r old new q h l = by_links k.links
-  where
-    s : Side
-    s = (quietly gives e r old new q h).0
+-- what leaves the ends of a cable: what moves no port, and the settings of other ports
 
-    k : Quietly s old new
-    k = (quietly gives e r old new q h).1
+abbrev pub LeavesEnds : (Side → ℕ) → HostEvent → Type 0
+LeavesEnds at (Sets s setting) = LeavesPorts at (Sets s setting)
+LeavesEnds at e = IsQuiet e
 
-    steady : IsSteady new
-    steady = calm_steady gives e r old new (calm_quiet e q) h l.steady
+pub leaves_quiet : (at : Side → ℕ) (e : HostEvent) → IsQuiet e → LeavesEnds at e
+leaves_quiet at (Sets s (Set_max_delay delay)) q = tt
+leaves_quiet at (Sets s setting) q = absurd q
+leaves_quiet at e q = q
 
-    ports : (t : Side) → OfEach (AtPort (at t) (EndIs d w c x Y t)) (half t new).state.system_ports
-    ports t = subst (OfEach (AtPort (at t) (EndIs d w c x Y t))) (sym (k.same t)) (l.ports t)
+pub ends_up : (d : ℕ) (at : Side → ℕ) (w : Side → Lacpdu) (c : Side → ℕ) (x : Side) (Y : Machines → Type 0) (j : WorldState) → Link d at w c x Y j
+    → (t : Side) → OfEach (AtPort (at t) IsUp) (half t j).state.system_ports
+ends_up d at w c x Y j l t = of_end l t IsUp (λ p rest timed a. a.0.1.0)
 
-    place : (t : Side) → (i : ℕ) × (port_index (at t) (half t new).state.system_ports ≡ Some i)
-    place t = ((l.place t).0, ap (port_index (at t)) (k.same t) ∙ (l.place t).1)
+-- of an end whose link is up, what settling keeps
+pub leaves_each : (gives : Algorithms) (e : HostEvent) (at : Side → ℕ) (r : Reply) (old new : WorldState) → LeavesEnds at e
+    → StepReplies gives old e r new → (P : Machines → Type 0) (t : Side) → KeptBySettling (AtPort (at t) P)
+    → OfEach (AtPort (at t) IsUp) (half t old).state.system_ports → OfEach (AtPort (at t) P) (half t old).state.system_ports
+    → OfEach (AtPort (at t) P) (half t new).state.system_ports
+leaves_each gives (Sets s setting) at r old new q h P t k up p = sets_each gives s setting old new h at q P t k up p
+leaves_each gives e at r old new q h P t k up p = subst (OfEach (AtPort (at t) P)) (sym (quiet_ports gives e r old new q h t)) p
 
-    same_items : OnCable l.index at l.flying new.links → Quieted d at w c x Y l.flying new
-    same_items on = record {
-      link = record { steady = steady; flying = l.flying; index = l.index; links = on; good = l.good; place = place; ports = ports };
-      flying = λ t f. f;
-      grew = λ t. inl refl;
-    }
+leaves_place : (gives : Algorithms) (e : HostEvent) (at : Side → ℕ) (r : Reply) (old new : WorldState) → LeavesEnds at e
+    → StepReplies gives old e r new → AreTimely old → AreTimely new → (t : Side) (n : ℕ)
+    → port_index n (half t new).state.system_ports ≡ port_index n (half t old).state.system_ports
+leaves_place gives (Sets s setting) at r old new q h a b t n = sets_place gives s setting old new h a b t n
+leaves_place gives e at r old new q h a b t n = ap (port_index n) (quiet_ports gives e r old new q h t)
 
-    by_links : (new.links ≡ old.links) ⊎ SendsPlain s old new → Quieted d at w c x Y l.flying new
-    by_links (inl e) = same_items (subst (OnCable l.index at l.flying) (sym e) l.links)
-    by_links (inr m) = elim (cases_Bool (at s == m.port)) [
-      | inl t ↦ (let port : m.port ≡ at s = grind (arith, nat_tests) in record {
-        link = record {
-          steady = steady;
-          flying = push (peer s) m.item l.flying;
-          index = l.index;
-          links = subst (OnCable l.index at (push (peer s) m.item l.flying)) (sym (m.sent ∙ ap (λ p. put_on_port s p m.item old.links) port))
-              (puts s l.index at l.flying m.item old.links l.links);
-          good = push_each (λ t. IsGood d w t) (peer s) m.item l.flying (λ v c. absurd (m.plain v c)) l.good;
-          place = place;
-          ports = ports;
-        };
-        flying = λ t f. pushed (λ u xs. Flying (l.flying u) → Flying xs) (peer s) m.item l.flying
-            (λ g y. has_on HasLacpdu (l.flying (peer s)) (m.item ∷ []) (g y)) (λ u y. y) t f;
-        grew = λ t. each_side (λ u. (push (peer s) m.item l.flying u ≡ l.flying u) ⊎ ((item : ItemValue)
-            × ((x : Lacpdu) → IsFrame item.octets (Carries (pdu.Lacpdu x)) → ⊥) × (push (peer s) m.item l.flying u ≡ l.flying u ++ item ∷ []))) s
-            (inl (push_other s m.item l.flying)) (inr (m.item, m.plain, push_there (peer s) m.item l.flying)) t;
-      })
-      | inr f ↦ (let other : at s ≡ m.port → ⊥ = grind (arith, nat_tests) in
-          same_items (subst (OnCable l.index at l.flying) (sym m.sent) (put_beside s m.port l.index at l.flying m.item old.links other l.links)))
-    ]
+pub leaves_logs : (gives : Algorithms) (e : HostEvent) (at : Side → ℕ) (r : Reply) (old new : WorldState) → LeavesEnds at e
+    → StepReplies gives old e r new → (t : Side) → (half t new).histories ≡ (half t old).histories
+leaves_logs gives (Sets s setting) at r old new q h t = sets_logs gives s setting old new h t
+leaves_logs gives e at r old new q h t = quiet_logs gives e r old new q h t
 
 -- what becomes of any cable
 pub record Grown (i : ℕ) (at : Side → ℕ) (fl : Side → List ItemValue) (new : WorldState) : Type 0 where
@@ -289,6 +278,80 @@ quiet_ends gives e r old new q h = by_links k.links
     by_links : (new.links ≡ old.links) ⊎ SendsPlain s old new → map link_ends new.links ≡ map link_ends old.links
     by_links (inl x) = ap (map link_ends) x
     by_links (inr m) = ap (map link_ends) m.sent ∙ put_ends s m.port m.item old.links
+
+pub leaves_cable : (gives : Algorithms) (e : HostEvent) (i : ℕ) (at : Side → ℕ) (fl : Side → List ItemValue) (r : Reply) (old new : WorldState)
+    → LeavesEnds at e → StepReplies gives old e r new → OnCable i at fl old.links → Grown i at fl new
+leaves_cable gives (Sets s setting) i at fl r old new q h c =
+    record { flying = fl; on = subst (OnCable i at fl) (sym (sets_links gives s setting old new h)) c; grew = λ t. inl refl }
+leaves_cable gives e i at fl r old new q h c = quiet_cable gives e i at fl r old new q h c
+
+pub leaves_link : (gives : Algorithms) (e : HostEvent) (d : ℕ) (at : Side → ℕ) (w : Side → Lacpdu) (c : Side → ℕ) (x : Side)
+    (Y : Machines → Type 0) (r : Reply) (old new : WorldState) → LeavesEnds at e → StepReplies gives old e r new → Along Y (w x) (w (peer x)) (c x) d
+    → (l : Link d at w c x Y old) → Quieted d at w c x Y l.flying new
+leaves_link gives e d at w c x Y r old new q h along l =
+    let g = leaves_cable gives e l.index at l.flying r old new q h l.links in
+    let steady = calm_timely gives e r old new h l.steady in
+    record {
+      link = record {
+        steady = steady;
+        flying = g.flying;
+        index = l.index;
+        links = g.on;
+        good = λ t. elim (g.grew t) [
+          | inl e ↦ subst (AllByRecursion (IsGood d w t)) (sym e) (l.good t)
+          | inr e ↦ subst (AllByRecursion (IsGood d w t)) (sym e.2)
+              (all-append (IsGood d w t) (l.flying t) (e.0 ∷ []) (l.good t) ((λ v c. absurd (e.1 v c)), tt))
+        ];
+        place = λ t. ((l.place t).0, leaves_place gives e at r old new q h l.steady steady t (at t) ∙ (l.place t).1);
+        ports = λ t. leaves_each gives e at r old new q h (EndIs d w c x Y t) t (end_kept w c d x Y along t (at t)) (ends_up d at w c x Y old l t)
+            (l.ports t);
+      };
+      flying = λ t f. elim (g.grew t) [
+        | inl e ↦ subst Flying (sym e) f
+        | inr e ↦ subst Flying (sym e.2) (has_on HasLacpdu (l.flying t) (e.0 ∷ []) f)
+      ];
+      grew = g.grew;
+    }
+
+pub leaves_ends : (gives : Algorithms) (e : HostEvent) (at : Side → ℕ) (r : Reply) (old new : WorldState) → LeavesEnds at e
+    → StepReplies gives old e r new → map link_ends new.links ≡ map link_ends old.links
+leaves_ends gives (Sets s setting) at r old new q h = ap (map link_ends) (sets_links gives s setting old new h)
+leaves_ends gives e at r old new q h = quiet_ends gives e r old new q h
+
+-- what comes between ticks may come beside any ports, so the rounds that hosts play are such
+
+pub leaves : (at : Side → ℕ) (e : HostEvent) → IsBetweenTicks e → LeavesPorts at e
+leaves at (Sets s (Set_max_delay delay)) b = tt
+leaves at (Sets s setting) b = absurd b
+leaves at e b = b
+
+leaves_all : (at : Side → ℕ) (s : Side) (a b : Bool) (es : List HostEvent) → TickOnce s a b es → TickOnceAmong (LeavesPorts at) s a b es
+leaves_all at s a b [] h = h
+leaves_all at s a b (e ∷ es) (inl h) = inl (h.0, h.1, leaves_all at s false b es h.2)
+leaves_all at s a b (e ∷ es) (inr (inl h)) = inr (inl (h.0, h.1, leaves_all at s a false es h.2))
+leaves_all at s a b (e ∷ es) (inr (inr h)) = inr (inr (leaves at e h.0, leaves_all at s a b es h.1))
+
+-- a round beside these ports
+abbrev pub PlayedBeside : (Side → ℕ) → Clearing → Algorithms → WorldState → WorldState → Type 0
+PlayedBeside at E gives old new = IsPlayedAmong (LeavesPorts at) E gives old new
+
+abbrev pub AllBeside : (Side → ℕ) → Clearing → Algorithms → ℕ → WorldState → WorldState → Type 0
+AllBeside at E gives n old new = PlayedAmong (LeavesPorts at) E gives n old new
+
+pub as_beside : (at : Side → ℕ) (E : Clearing) (gives : Algorithms) (old new : WorldState) → IsPlayed E gives old new → PlayedBeside at E gives old new
+as_beside at E gives old new h = record {
+  events = h.events;
+  replies = h.replies;
+  ticks = leaves_all at One true true h.events h.ticks;
+  acts = h.acts;
+  asked = h.asked;
+  empties = h.empties;
+}
+
+pub all_beside : (at : Side → ℕ) (E : Clearing) (gives : Algorithms) (n : ℕ) (old new : WorldState) → PlayedRounds E gives n old new
+    → AllBeside at E gives n old new
+all_beside at E gives zero old new h = h
+all_beside at E gives (suc n) old new h = (h.0, all_beside at E gives n old h.0 h.1, as_beside at E gives h.0 new h.2)
 
 -- an Offer event leaves a system to itself, or offers it the frame
 

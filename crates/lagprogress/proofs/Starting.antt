@@ -6,6 +6,7 @@ use Rattle.lagprogress.proofs.Common.{SystemPort, model_port_of, number_of_port,
 use Rattle.lagprogress.proofs.Common.{found_place, ports_rise, link_ends, world_setup, ItemValue, LinkState, WorldState, half, port_at, towards}
 use Rattle.lagprogress.proofs.Common.{OfEach, AtPort, at_number, higher, AreApart, AtEnd, IsHealthy, IsHealthyAt, NothingInFlight, OfPort, IsSteady}
 use Rattle.lagprogress.proofs.EndFacts.{Says, Synced, activity}
+use Rattle.lagprogress.proofs.Halves.{timely}
 use Rattle.lagprogress.proofs.Linked.{EndIs, IsGood, Link, each_side, peer_twice, both_at, machines_there}
 use Rattle.lagprogress.proofs.OneCable.{OnCable, as_cable, cable, towards_there}
 use Rattle.lagprogress.proofs.OneRound.{Nothing}
@@ -63,7 +64,7 @@ only_cabling l j h = subst (λ ls. IsCabling (map link_ends ls)) (sym h.only) on
 pub starts : (i : ℕ) (l : LinkState) (j : WorldState) (e : Ends l j) → IsSteady j → IsCabling (world_setup j).cables → IsHealthyAt i l j
     → Link 0 (λ s. port_at s l) (said_by l j e) (λ _. 0) One Nothing j
 starts i l j e steady cabling h = record {
-  steady = steady;
+  steady = timely j steady;
   flying = λ s. towards s l;
   index = i;
   links = healthy_cable i l j cabling h;

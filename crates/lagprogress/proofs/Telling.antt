@@ -273,20 +273,36 @@ module _ (gives : Algorithms) (d : ℕ) (at : Side → ℕ) (w : Side → Lacpdu
         ],
       )
 
+  -- an event leaves what is on its way, or adds what bears no LACPDU
+  pub left_by : (old new : WorldState) (l : Held old) (k : Held new)
+      → (OfEach (AtPort (at s) (Owing d (w s) (w (peer s)) (c s))) (half s old).state.system_ports
+      → OfEach (AtPort (at s) (Owing d (w s) (w (peer s)) (c s))) (half s new).state.system_ports) → (HoldsAt old → HoldsAt new)
+      → (k.flying (peer s) ≡ l.flying (peer s))
+      ⊎ ((item : ItemValue) × ((x : Lacpdu) → IsFrame item.octets (Carries (pdu.Lacpdu x)) → ⊥) × (k.flying (peer s) ≡ l.flying (peer s) ++ item ∷ []))
+      → OwesAt old ⊎ Tells (w (peer s)) (w s) (l.flying (peer s)) (HoldsAt old) → On new
+  left_by old new l k own other grew m =
+      let u = w (peer s) in
+      let v = w s in
+      let fl = l.flying (peer s) in (
+        k,
+        elim m [
+          | inl owes ↦ inl (owed (half s new).state (own (owing old l owes)))
+          | inr tells ↦ (let now = tells_map u v fl (HoldsAt old) (HoldsAt new) other tells in
+              inr (elim grew [
+                | inl e ↦ subst (λ xs. Tells u v xs (HoldsAt new)) (sym e) now
+                | inr e ↦ subst (λ xs. Tells u v xs (HoldsAt new)) (sym e.2)
+                    (tells_push u v fl e.0 (HoldsAt new) (λ x c. absurd (e.1 x c)) (inl now))
+              ]))
+        ],
+      )
+
   -- the event leaves the cable to itself
   left_alone : (old new : WorldState) (l : Held old) (k : Held new) → Beside gives at l.flying old new → k.flying ≡ l.flying
       → OwesAt old ⊎ Tells (w (peer s)) (w s) (l.flying (peer s)) (HoldsAt old) → On new
-  left_alone old new l k b same m = (
-    k,
-    elim m [
-      | inl owes ↦ inl (owed (half s new).state (elsewhere_each (Owing d (w s) (w (peer s)) (c s)) (gives s) (at s) (half s old).state
-          (half s new).state (owing_settles d (w s) (w (peer s)) (c s) (at s) there) (b.calls s) (owing old l owes)))
-      | inr tells ↦ inr (subst (λ (f : Side → List ItemValue). Tells (w (peer s)) (w s) (f (peer s)) (HoldsAt new)) (sym same)
-          (tells_map (w (peer s)) (w s) (l.flying (peer s)) (HoldsAt old) (HoldsAt new)
-          (λ y. elsewhere_each X (gives (peer s)) (at (peer s)) (half (peer s) old).state (half (peer s) new).state keeps (b.calls (peer s)) y)
-          tells))
-    ],
-  )
+  left_alone old new l k b same m = left_by old new l k (elsewhere_each (Owing d (w s) (w (peer s)) (c s)) (gives s) (at s) (half s old).state
+      (half s new).state (owing_settles d (w s) (w (peer s)) (c s) (at s) there) (b.calls s))
+      (elsewhere_each X (gives (peer s)) (at (peer s)) (half (peer s) old).state (half (peer s) new).state keeps (b.calls (peer s)))
+      (inl (ap (λ (f : Side → List ItemValue). f (peer s)) same)) m
 
   pub ask_on : (n p : ℕ) (r : Reply) (old new : WorldState) → WorldSteps gives old (event.Emit n p) r new → On old → On new
   ask_on n p r old new h (l, m) = elim (asked_which gives n p l.index at l.flying r old new l.links h) [

@@ -36,12 +36,17 @@ IsBetweenTicks (Plays (event.Emit n p)) = Unit {0}
 IsBetweenTicks (Plays (event.Deliver c n)) = Unit {0}
 IsBetweenTicks e = IsQuiet e
 
--- each event is a tick of system s or of its peer, or comes between ticks; and each of the two ticks once, if it has still to tick
+-- each event is a tick of system s or of its peer, or is one that may come between ticks; and each of the two ticks once, if it has still
+-- to tick
+abbrev pub TickOnceAmong : (HostEvent → Type 0) → Side → (own other : Bool) → List HostEvent → Type 0
+TickOnceAmong May s own other [] = (own ≡ false) × (other ≡ false)
+TickOnceAmong May s own other (e ∷ es) =
+    (IsTickOf s e × (own ≡ true) × TickOnceAmong May s false other es)
+    ⊎ ((IsTickOf (peer s) e × (other ≡ true) × TickOnceAmong May s own false es) ⊎ (May e × TickOnceAmong May s own other es))
+
+-- so it is, where these events come between ticks
 abbrev pub TickOnce : Side → (own other : Bool) → List HostEvent → Type 0
-TickOnce s own other [] = (own ≡ false) × (other ≡ false)
-TickOnce s own other (e ∷ es) =
-    (IsTickOf s e × (own ≡ true) × TickOnce s false other es)
-    ⊎ ((IsTickOf (peer s) e × (other ≡ true) × TickOnce s own false es) ⊎ (IsBetweenTicks e × TickOnce s own other es))
+TickOnce s own other es = TickOnceAmong IsBetweenTicks s own other es
 
 -- From old, the event, call or setting of a host may lead to new; r is the reply to an event, and of no account else.
 abbrev pub StepReplies : Algorithms → WorldState → HostEvent → Reply → WorldState → Type 0
@@ -74,21 +79,29 @@ AfterTick s P gives (e ∷ es) [] old new run = ⊥
 abbrev pub Clearing : Type 1
 Clearing = List HostEvent → WorldState → WorldState → Type 0
 
--- These events act, each system ticks once among them, at each end of a healthy cable no LACPDU is due at some time after its system's
--- tick, and the cables are cleared so far.
-pub record IsPlayed (Clears : Clearing) (gives : Algorithms) (old new : WorldState) : Type 0 where
+-- These events act, each system ticks once among events that may come, at each end of a healthy cable no LACPDU is due at some time after
+-- its system's tick, and the cables are cleared so far.
+pub record IsPlayedAmong (May : HostEvent → Type 0) (Clears : Clearing) (gives : Algorithms) (old new : WorldState) : Type 0 where
   pub events : List HostEvent
   pub replies : List Reply
-  pub ticks : TickOnce One true true events
+  pub ticks : TickOnceAmong May One true true events
   pub acts : RunReplies gives old events replies new
   pub asked : (s : Side) (i : ℕ) (l : LinkState) → IsHealthyAt i l old
       → AfterTick s (λ j. AtEnd (λ p. is_due p ≡ false) s l j) gives events replies old new acts
   pub empties : Clears events old new
 
 -- so many of them lead from one world to the other
+abbrev pub PlayedAmong : (HostEvent → Type 0) → Clearing → Algorithms → ℕ → WorldState → WorldState → Type 0
+PlayedAmong May Clears gives zero old new = new ≡ old
+PlayedAmong May Clears gives (suc n) old new =
+    (mid : WorldState) × PlayedAmong May Clears gives n old mid × IsPlayedAmong May Clears gives mid new
+
+-- so it is, where these events come between ticks
+abbrev pub IsPlayed : Clearing → Algorithms → WorldState → WorldState → Type 0
+IsPlayed Clears gives old new = IsPlayedAmong IsBetweenTicks Clears gives old new
+
 abbrev pub PlayedRounds : Clearing → Algorithms → ℕ → WorldState → WorldState → Type 0
-PlayedRounds Clears gives zero old new = new ≡ old
-PlayedRounds Clears gives (suc n) old new = (mid : WorldState) × PlayedRounds Clears gives n old mid × IsPlayed Clears gives mid new
+PlayedRounds Clears gives n old new = PlayedAmong IsBetweenTicks Clears gives n old new
 
 -- in the end nothing is on any cable
 abbrev pub NoneIsLeft : Clearing

@@ -14,6 +14,7 @@ pub mod Limited
 pub mod CutOff
 pub mod HostRounds
 pub mod LateRounds
+pub mod Beside
 pub mod HostFreed
 pub mod PlayedByHosts
 pub mod Together

@@ -46,3 +46,21 @@ pub fn each_link_agrees_by_clocks<F: Fn(u16, usize) -> usize>()
     ensures both { (one two : F) → EachLinkAgrees LateRounds BothAreActive late_up_if_both_active (both_algorithms (F.post one) (F.post two)) }
     ensures one { (one two : F) → EachLinkAgrees LateRounds OneIsActive late_up_if_one_is (both_algorithms (F.post one) (F.post two)) }
 {}
+
+ghost use Rattle.lagprogress.specs.Beside.{EachLinkStaysAgreed, EachLinkStaysUp};
+
+// promise: **a setting of another port does no harm to a link that is up:** behind 356 | 657 late rounds both its ports stay up, and agree,
+//    for any number of late rounds in which hosts also hold other ports, let them go and set their modes, CollectorMaxDelay and any limit of
+//    links. For a link that is not up the count begins anew behind a setting (`reached_worlds_are_bundles`, `hosts_both`, `hosts_one`)
+// contract: `each_link_stays_up_by_clocks` (`up_both`, `up_one`, `agrees_both`, `agrees_one`: `RoundsBeside`)
+// premises: those of `each_link_comes_up_by_clocks` and of `each_link_agrees_by_clocks` before the rounds; no setting holds, lets go or sets
+//    the port at an end of this link. Nothing is asked of the other ports and cables behind them
+/// The links that come up as in `each_link_comes_up_by_clocks` stay up, and agree, in any number of late rounds behind them in which hosts
+/// also make settings: other ports are held, let go, or set to other modes, CollectorMaxDelay is set, and so is any limit of links that
+/// `set_max_links` takes. No setting is one of `hold_port` or `set_mode` for a port at an end of the link (6.4.2.3, 6.4.7, 6.4.8; profile).
+pub fn each_link_stays_up_by_clocks<F: Fn(u16, usize) -> usize>()
+    ensures up_both { (one two : F) → EachLinkStaysUp BothAreActive late_up_if_both_active (both_algorithms (F.post one) (F.post two)) }
+    ensures up_one { (one two : F) → EachLinkStaysUp OneIsActive late_up_if_one_is (both_algorithms (F.post one) (F.post two)) }
+    ensures agrees_both { (one two : F) → EachLinkStaysAgreed BothAreActive late_up_if_both_active (both_algorithms (F.post one) (F.post two)) }
+    ensures agrees_one { (one two : F) → EachLinkStaysAgreed OneIsActive late_up_if_one_is (both_algorithms (F.post one) (F.post two)) }
+{}
