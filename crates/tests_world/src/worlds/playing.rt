@@ -3,8 +3,8 @@ ghost use Rattle.std.specs.Prelude.{◌≡◌, IfOk};
 ghost use Rattle.distributor.specs.Calls.{PicksIndexes};
 
 use crate::comparing::same;
+use crate::worlds::compare_run;
 use crate::worlds::given::{events, lines, world_config};
-use crate::worlds::{Row, compare_run, lines_of};
 use cables::AnyCable;
 use lagworld::{Event, Reply, RunFault, World, WorldFault};
 use std::alloc::Global;
@@ -90,23 +90,4 @@ pub(crate) fn runs_lines<F: Fn(u16, usize) -> usize + Drop>(
     let events = events(rt, alloc, setting, lines)?;
     same(rt, "run", &run_of(world, &events).is_ok(), &true);
     Ok(())
-}
-
-/// A new world in which the events of a row were played by one `run`, with the replies that the row expects.
-pub(crate) fn played<F: Fn(u16, usize) -> usize + Drop>(
-    rt: &impl Abort,
-    alloc: Global,
-    row: &Row,
-    one: F,
-    two: F,
-) -> Result<World<AnyCable, F>, WorldFault>
-    requires one { PicksIndexes (F.pre one) (F.post one) }
-    requires two { PicksIndexes (F.pre two) (F.post two) }
-    ensures algorithm_one { IfOk result (λ world. world.one ≡ one) }
-    ensures algorithm_two { IfOk result (λ world. world.two ≡ two) }
-{
-    let text = lines_of(alloc, row)?;
-    let mut world = world_of(rt, alloc, row.setting, None, one, two)?;
-    plays_lines(rt, alloc, &mut world, row.setting, text.as_str())?;
-    Ok(world)
 }

@@ -3,9 +3,9 @@ use crate::worlds::given::{
     INDIVIDUAL, ONE_SHORT, TWO_LONG, add_line, empty_direction, lines, modulo, world_config,
 };
 use crate::worlds::joined::joined;
-use crate::worlds::playing::{played, run_of, step_of, world_of};
+use crate::worlds::playing::{plays_lines, run_of, step_of, world_of};
 use crate::worlds::starts::COMING_UP;
-use crate::worlds::{Flow, Row, plays, tells};
+use crate::worlds::{Flow, Row, lines_of, plays, tells};
 use cables::{AnyCable, Cable, Item, Stamp};
 use lagsystem::{BadConfig, PortChange};
 use lagtypes::{AggId, Key};
@@ -348,7 +348,9 @@ fn tells_systems<F: Fn(u16, usize) -> usize + Drop>(rt: &impl Abort, world: &Wor
 
 /// Plays the row, and asks for what does not exist.
 fn nothing_told(rt: &impl Abort, alloc: Global) -> Result<(), WorldFault> {
-    let world = played(rt, alloc, &FORCED_ROW, modulo, modulo)?;
+    let text = lines_of(alloc, &FORCED_ROW)?;
+    let mut world = world_of(rt, alloc, FORCED_ROW.setting, None, modulo, modulo)?;
+    plays_lines(rt, alloc, &mut world, FORCED_ROW.setting, text.as_str())?;
     tells(rt, &world, &FORCED_ROW);
     same(rt, "cable 0", &world.agreement(0), &None);
     same(rt, "cable 3", &world.agreement(3), &None);

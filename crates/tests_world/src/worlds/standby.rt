@@ -1,7 +1,7 @@
 use crate::comparing::same;
 use crate::worlds::given::modulo;
-use crate::worlds::playing::played;
-use crate::worlds::{Flow, Row, tells};
+use crate::worlds::playing::{plays_lines, world_of};
+use crate::worlds::{Flow, Row, lines_of, tells};
 use cables::AnyCable;
 use lagsystem::Choice;
 use lagtypes::AggId;
@@ -230,7 +230,9 @@ fn chosen<F: Fn(u16, usize) -> usize + Drop>(
 
 /// Plays a row, and then compares Selected of each port.
 fn leads_to(rt: &impl Abort, alloc: Global, row: &Row, wanted: Choices) -> Result<(), WorldFault> {
-    let world = played(rt, alloc, row, modulo, modulo)?;
+    let text = lines_of(alloc, row)?;
+    let mut world = world_of(rt, alloc, row.setting, None, modulo, modulo)?;
+    plays_lines(rt, alloc, &mut world, row.setting, text.as_str())?;
     tells(rt, &world, row);
     chosen(rt, &world, wanted);
     Ok(())
