@@ -41,8 +41,8 @@ class Stack:
 
     # So often `tick` is called.
     tick_seconds = 0.1
-    # Whether it runs in the process of the bench, and whether a call of it did not return.
-    is_inside, is_over = True, False
+    # Whether it runs in the process of the bench.
+    is_inside = True
 
     def __init__(self) -> None:
         self.world: World
@@ -126,7 +126,6 @@ def calling(device: Stack, name: str) -> Iterator[None]:
         with limited(f"in {name}") if device.is_inside else nullcontext():
             yield
     except Gone:
-        device.is_over = True
         raise
     except Exception as why:
         raise Gone(f"the stack broke by {type(why).__name__}\n{traceback.format_exc(limit=-3)}") from why
@@ -179,9 +178,8 @@ class World:
 
     def close(self) -> None:
         """Ends the stack, if it can."""
-        if not self.device.is_over:
-            with suppress(Exception), calling(self.device, "stop"):
-                self.device.stop()
+        with suppress(Exception), calling(self.device, "stop"):
+            self.device.stop()
         self.device.leave()
 
     def wait(self, seconds: float) -> list[Arrival]:

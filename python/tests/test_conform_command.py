@@ -304,6 +304,7 @@ def test_a_hook_that_can_not_be_run_is_refused_by_name(line: str, why: str, tmp_
     b = Bench(World(Device()), Waits(line))
     with pytest.raises(refusals.Refused, match=f"^--hook {re.escape(line)}: the shell {why}: .*{re.escape(line)}"):
         command.prepare_device(argparse.Namespace(hook=line, set=[]), b)
+    b.close()
 
 
 def interface(folder: Path, name: str, **files: str) -> None:
