@@ -22,7 +22,7 @@ use Rattle.lagtool_capture.specs.Ends.{named_by}
 use Rattle.lagtool_capture.specs.EndTexts.{tenths_text}
 use Rattle.lagtool_capture.specs.FindingTexts.{number_text}
 use Rattle.lagtool_capture.specs.Gaps.{median}
-use Rattle.lagtool_capture.specs.Links.{carries, far_sender, link_of}
+use Rattle.lagtool_capture.specs.Links.{carries, far_sender}
 use Rattle.lagtool_capture.specs.LinkTexts.{state_text}
 use Rattle.lagtool_capture.specs.Names.{identity_of}
 use Rattle.lagtool_capture.specs.LineTexts.{marker_word, seconds_text, signed_seconds}
@@ -178,18 +178,6 @@ link_state_part first x =
 -- the record of a link
 unfoldable pub link_record : Option ℕ → Link → List ℕ
 link_record first l = 123 ∷ (link_ends_part l ++ 44 ∷ (link_state_part first l.state ++ codes "}\n"))
-
-abbrev pub link_records : Option ℕ → Option Link → List ℕ
-link_records first None = []
-link_records first (Some l) = link_record first l
-
--- the record of the link of an end among all ends, unless it is told at an end before it
-unfoldable pub record_of_end : Option ℕ → List LacpduSender → Option ℕ → LacpduSender → List ℕ
-record_of_end first all until e = link_records first (link_of all until e)
-
--- the records of the links of these ends among all ends
-abbrev pub links_records : Option ℕ → List LacpduSender → Option ℕ → List LacpduSender → List ℕ
-links_records first all until es = flat_map (record_of_end first all until) es
 
 -- the records of ends among all ends
 abbrev pub ends_records : Option ℕ → List LacpduSender → List LacpduSender → List ℕ

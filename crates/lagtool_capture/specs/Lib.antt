@@ -14,6 +14,7 @@ pub mod EndTexts
 pub mod FindingTexts
 pub mod LinkTexts
 pub mod Json
+pub mod LinkForms
 pub mod SlowFrames
 pub mod Noticing
 pub mod CaptureReadings

@@ -1,8 +1,7 @@
 -- What is said of links before all else.
-use Rattle.std.specs.Prelude.{◌++◌, ℕ, List, [], Option, Some, None, codes, decimal, flat_map}
+use Rattle.std.specs.Prelude.{◌++◌, ℕ, List, [], Option, Some, None, codes, decimal}
 use Rattle.findings.specs.declared.slow_frame.LinkEnd.{LinkEnd}
 use Rattle.lagtypes.specs.Texts.{mac_text}
-use Rattle.lagtool_capture.specs.declared.ends.LacpduSender.{LacpduSender}
 use Rattle.lagtool_capture.specs.declared.links.KeyApart.{KeyApart}
 use Rattle.lagtool_capture.specs.declared.links.LastSent.{LastSent}
 use Rattle.lagtool_capture.specs.declared.links.Link.{Link}
@@ -11,7 +10,6 @@ use Rattle.lagtool_capture.specs.declared.links.LinkState.{LinkState}
 use Rattle.lagtool_capture.specs.declared.links.LinkState.TheVariants as is
 use Rattle.lagtool_capture.specs.FindingTexts.{port_part}
 use Rattle.lagtool_capture.specs.LineTexts.{interface_part, since_text}
-use Rattle.lagtool_capture.specs.Links.{link_of}
 
 -- MAC has key K here, and K on a link in use
 unfoldable pub key_part : KeyApart → List ℕ
@@ -49,18 +47,6 @@ unfoldable pub link_line : Option ℕ → Link → List ℕ
 link_line first l =
     codes "link " ++ (place_text l.near.sender ++ (far_part l.far ++ (interface_part l.near.sender.interface
     ++ (codes ": " ++ (state_text first l.state ++ codes "\n")))))
-
-abbrev pub link_part : Option ℕ → Option Link → List ℕ
-link_part first None = []
-link_part first (Some l) = link_line first l
-
--- the line of the link of an end among all ends, unless it is told at an end before it
-unfoldable pub line_of_end : Option ℕ → List LacpduSender → Option ℕ → LacpduSender → List ℕ
-line_of_end first all until e = link_part first (link_of all until e)
-
--- the lines of the links of these ends among all ends
-abbrev pub links_text : Option ℕ → List LacpduSender → Option ℕ → List LacpduSender → List ℕ
-links_text first all until es = flat_map (line_of_end first all until) es
 
 -- how many links there are, and how many of them carry
 unfoldable pub link_counts_text : LinkCounts → List ℕ

@@ -20,11 +20,12 @@ use Rattle.lagtool_capture.specs.EndTexts.{counts_text, ends_text}
 use Rattle.lagtool_capture.specs.Ends.{end_index, ends_after, is_beyond, last_of}
 use Rattle.lagtool_capture.specs.SlowFrames.{frame_in}
 use Rattle.lagtool_capture.specs.FindingTexts.{findings_text}
-use Rattle.lagtool_capture.specs.Json.{counts_record, ends_records, findings_records, frame_record, links_records}
+use Rattle.lagtool_capture.specs.Json.{counts_record, ends_records, findings_records, frame_record}
 use Rattle.lagtool_capture.specs.LacpduTexts.{shown_of}
 use Rattle.lagtool_capture.specs.LineTexts.{line_text}
 use Rattle.lagtool_capture.specs.Links.{link_counts, until_of}
-use Rattle.lagtool_capture.specs.LinkTexts.{link_counts_text, links_text}
+use Rattle.lagtool_capture.specs.LinkForms.{links_lines, links_records}
+use Rattle.lagtool_capture.specs.LinkTexts.{link_counts_text}
 use Rattle.lagtool_capture.specs.Names.{identity_of, identity_text, names_text, number_of}
 
 -- How many packets there were; the time of the first that has one; how many packets are frames of the slow protocols; how
@@ -179,7 +180,7 @@ legend_behind s = if s.settings.frames then [] else names_text s.names s.names
 -- how many links carry, a line for each link, for each end that sent LACPDUs and for each finding, and the counts: as texts
 abbrev pub closing_texts : List Finding → ReportState → List ℕ
 closing_texts fs s =
-    link_counts_text (link_counts s.ends) ++ (links_text s.first s.ends (until_of s.ends) s.ends ++ (legend_behind s ++ ends_findings_counts fs s))
+    link_counts_text (link_counts s.ends) ++ (links_lines s.first s.ends (until_of s.ends) s.ends ++ (legend_behind s ++ ends_findings_counts fs s))
 
 -- the same as records
 abbrev pub closing_records : List Finding → ReportState → List ℕ

@@ -2,7 +2,8 @@ ghost use Rattle.std.specs.Prelude.{◌≡◌, ◌++◌, [], length, OnErr, OnOk
 ghost use Rattle.lagtool_capture.specs.Counting.{one_more};
 ghost use Rattle.lagtool_capture.specs.Reporting.{closing_records, closing_texts, ends_findings_counts, legend_added, legend_behind, after_frame, after_lacpdu, after_named, counted, last_shown, name_number, named, nothing_seen, with_end, with_ends, with_line};
 ghost use Rattle.lagtool_capture.specs.Links.{link_counts, until_of};
-ghost use Rattle.lagtool_capture.specs.LinkTexts.{link_counts_text, links_text};
+ghost use Rattle.lagtool_capture.specs.LinkForms.{links_lines};
+ghost use Rattle.lagtool_capture.specs.LinkTexts.{link_counts_text};
 ghost use Rattle.lagstreams.specs.Sinks.{WritesPart, WritesWhole};
 
 use crate::end_texts::{CountsText, EndsText};
@@ -11,10 +12,10 @@ use crate::fault::ReadFault;
 use crate::finding_texts::FindingsText;
 use crate::json::FrameRecord;
 use crate::json_ends::{CountsRecord, EndsRecords, FindingsRecords};
-use crate::json_links::LinksRecords;
 use crate::lacpdu_texts::{LacpduLine, ShownFields};
 use crate::line::{HeadText, SinceText, WhatText};
-use crate::link_texts::{LinkCountsText, LinksText};
+use crate::link_forms::{LinkForm, LinksText};
+use crate::link_texts::LinkCountsText;
 use crate::links::{link_counts, until_of};
 use crate::names::{Identity, MOST_NAMES, NamesText, number_of};
 use crate::settings::Settings;
@@ -253,7 +254,8 @@ impl CaptureReport {
     {
         let first = self.first;
         let counts = CountsRecord(self.counts(findings));
-        let links = LinksRecords {
+        let links = LinksText {
+            form: LinkForm::Record,
             first,
             until: until_of(&self.ends),
             ends: &self.ends,
@@ -273,11 +275,12 @@ impl CaptureReport {
     fn put_links(&mut self) -> Result<(), AllocError>
         ensures { OnOk result (self.new ≡ record self.old {
           to_write = self.old.to_write
-              ++ (link_counts_text (link_counts self.old.ends) ++ links_text self.old.first self.old.ends (until_of self.old.ends) self.old.ends);
+              ++ (link_counts_text (link_counts self.old.ends) ++ links_lines self.old.first self.old.ends (until_of self.old.ends) self.old.ends);
         }) }
     {
         let counts = LinkCountsText(link_counts(&self.ends));
         let links = LinksText {
+            form: LinkForm::Line,
             first: self.first,
             until: until_of(&self.ends),
             ends: &self.ends,

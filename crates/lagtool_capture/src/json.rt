@@ -2,7 +2,7 @@ ghost use Rattle.std.specs.Prelude.{Some};
 ghost use Rattle.lagtool_capture.specs.Json.{destination_value, frame_record, gap_value, info_value, members, phase_value, port_value, since_value, what_members};
 
 use crate::ends::Phase;
-use crate::line::{HeadText, SecondsText, WhatText};
+use crate::line::{HeadText, SecondsText, SignedSeconds, WhatText};
 use bitflags::Flags;
 use lagtypes::MacText;
 use slowpdu::{Info, MarkerKind};
@@ -20,12 +20,7 @@ impl fmt::Display for SinceValue {
 
     fn fmt<W: fmt::Write>(&self, f: &mut fmt::Formatter<W>) -> fmt::Result {
         match (self.first, self.time) {
-            (Some(first), Some(time)) if time < first => write!(
-                f,
-                "-{}",
-                SecondsText(first - time)
-            ),
-            (Some(first), Some(time)) => write!(f, "{}", SecondsText(time - first)),
+            (Some(first), Some(time)) => write!(f, "{}", SignedSeconds { first, time }),
             _ => f.write_str("null"),
         }
     }

@@ -1,10 +1,9 @@
 ghost use Rattle.std.specs.Prelude.{Some};
-ghost use Rattle.lagtool_capture.specs.Json.{known_value, link_ends_part, link_record, link_records, link_state_part, links_records, record_of_end};
+ghost use Rattle.lagtool_capture.specs.Json.{known_value, link_ends_part, link_record, link_state_part};
 
-use crate::ends::LacpduSender;
 use crate::json_ends::{LinkEndValue, PartnerValue};
 use crate::link_texts::StateText;
-use crate::links::{Link, LinkState, link_of};
+use crate::links::{Link, LinkState};
 use std::fmt;
 
 /// True, false, or null if it is not known.
@@ -61,9 +60,9 @@ impl fmt::Display for LinkStatePart {
 
 /// The record of a link, with times from the first of the capture.
 #[derive(Clone, Copy)]
-struct LinkRecord {
-    first: Option<u64>,
-    link: Link,
+pub(crate) struct LinkRecord {
+    pub first: Option<u64>,
+    pub link: Link,
 }
 
 impl fmt::Display for LinkRecord {
@@ -77,74 +76,5 @@ impl fmt::Display for LinkRecord {
             state: self.link.state,
         };
         write!(f, "{{{ends},{state}}}\n")
-    }
-}
-
-/// The same, if there is a link.
-#[derive(Clone, Copy)]
-struct LinkRecords {
-    first: Option<u64>,
-    link: Option<Link>,
-}
-
-impl fmt::Display for LinkRecords {
-    ghost output = { λ t. Some (link_records t.first t.link) };
-
-    fn fmt<W: fmt::Write>(&self, f: &mut fmt::Formatter<W>) -> fmt::Result {
-        let first = self.first;
-        match self.link {
-            Some(link) => write!(f, "{}", LinkRecord { first, link }),
-            None => Ok(()),
-        }
-    }
-}
-
-/// The record of the link of an end among all ends, unless it is told at an end before it.
-#[derive(Clone, Copy)]
-struct RecordOfEnd<'a> {
-    first: Option<u64>,
-    all: &'a [LacpduSender],
-    until: Option<u64>,
-    end: &'a LacpduSender,
-}
-
-impl fmt::Display for RecordOfEnd<'_> {
-    ghost output = { λ t. Some (record_of_end t.first t.all.now t.until t.end.now) };
-
-    #[tactic(auto, unfolding(crate::specs::Json::record_of_end))]
-    fn fmt<W: fmt::Write>(&self, f: &mut fmt::Formatter<W>) -> fmt::Result {
-        let link = LinkRecords {
-            first: self.first,
-            link: link_of(self.all, self.until, self.end),
-        };
-        write!(f, "{link}")
-    }
-}
-
-/// The records of the links of ends, in a capture whose last LACPDU has the time `until`.
-#[derive(Clone, Copy)]
-pub(crate) struct LinksRecords<'a> {
-    pub first: Option<u64>,
-    pub until: Option<u64>,
-    pub ends: &'a [LacpduSender],
-}
-
-impl fmt::Display for LinksRecords<'_> {
-    ghost output = { λ t. Some (links_records t.first t.ends.now t.until t.ends.now) };
-
-    fn fmt<W: fmt::Write>(&self, f: &mut fmt::Formatter<W>) -> fmt::Result {
-        let first = self.first;
-        let until = self.until;
-        let all = self.ends;
-        for end in all {
-            let record = RecordOfEnd {
-                first,
-                all,
-                until,
-                end,
-            };
-            write!(f, "{record}")?;
-        }
-        Ok(())
     }
 }

@@ -18,6 +18,7 @@ mod json_ends;
 mod json_links;
 mod lacpdu_texts;
 mod line;
+mod link_forms;
 mod link_texts;
 mod links;
 mod names;

@@ -1,5 +1,5 @@
 ghost use Rattle.std.specs.Prelude.{◌≡◌, Some};
-ghost use Rattle.lagtool_capture.specs.LineTexts.{destination_part, head_text, interface_part, marker_text, seconds_text, since_text, six_digits, tags_part, what_text};
+ghost use Rattle.lagtool_capture.specs.LineTexts.{destination_part, head_text, interface_part, marker_text, seconds_text, signed_seconds, since_text, six_digits, tags_part, what_text};
 
 use crate::lacpdu_texts::LacpduLine;
 use findings::SlowFrame;
@@ -47,8 +47,27 @@ impl fmt::Display for SecondsText {
     }
 }
 
-/// The seconds from the first time of a capture to another, with a minus sign if that is earlier; a dash if one is not
-/// known.
+/// The seconds from the first time of a capture to another, with a minus sign if that is earlier.
+#[derive(Clone, Copy)]
+pub(crate) struct SignedSeconds {
+    pub first: u64,
+    pub time: u64,
+}
+
+impl fmt::Display for SignedSeconds {
+    ghost output = { λ t. Some (signed_seconds t.first t.time) };
+
+    fn fmt<W: fmt::Write>(&self, f: &mut fmt::Formatter<W>) -> fmt::Result {
+        let (first, time) = (self.first, self.time);
+        if time < first {
+            write!(f, "-{}", SecondsText(first - time))
+        } else {
+            write!(f, "{}", SecondsText(time - first))
+        }
+    }
+}
+
+/// The same; a dash if one of the times is not known.
 #[derive(Clone, Copy)]
 pub(crate) struct SinceText {
     pub first: Option<u64>,
@@ -60,12 +79,7 @@ impl fmt::Display for SinceText {
 
     fn fmt<W: fmt::Write>(&self, f: &mut fmt::Formatter<W>) -> fmt::Result {
         match (self.first, self.time) {
-            (Some(first), Some(time)) if time < first => write!(
-                f,
-                "-{}",
-                SecondsText(first - time)
-            ),
-            (Some(first), Some(time)) => write!(f, "{}", SecondsText(time - first)),
+            (Some(first), Some(time)) => write!(f, "{}", SignedSeconds { first, time }),
             _ => f.write_str("-"),
         }
     }

@@ -1,10 +1,9 @@
 ghost use Rattle.std.specs.Prelude.{Some};
-ghost use Rattle.lagtool_capture.specs.LinkTexts.{far_part, key_part, line_of_end, link_counts_text, link_line, link_part, links_text, place_text, state_text};
+ghost use Rattle.lagtool_capture.specs.LinkTexts.{far_part, key_part, link_counts_text, link_line, place_text, state_text};
 
-use crate::ends::LacpduSender;
 use crate::finding_texts::PortPart;
 use crate::line::{InterfacePart, SinceText};
-use crate::links::{KeyApart, LastSent, Link, LinkCounts, LinkState, link_of};
+use crate::links::{KeyApart, LastSent, Link, LinkCounts, LinkState};
 use findings::LinkEnd;
 use lagtypes::MacText;
 use std::fmt;
@@ -119,9 +118,9 @@ impl fmt::Display for FarPart {
 
 /// The line of a link, with times from the first of the capture.
 #[derive(Clone, Copy)]
-struct LinkLine {
-    first: Option<u64>,
-    link: Link,
+pub(crate) struct LinkLine {
+    pub first: Option<u64>,
+    pub link: Link,
 }
 
 impl fmt::Display for LinkLine {
@@ -138,75 +137,6 @@ impl fmt::Display for LinkLine {
             state: link.state,
         };
         write!(f, "link {near}{far}{interface}: {state}\n")
-    }
-}
-
-/// The same, if there is a link.
-#[derive(Clone, Copy)]
-struct LinkPart {
-    first: Option<u64>,
-    link: Option<Link>,
-}
-
-impl fmt::Display for LinkPart {
-    ghost output = { λ t. Some (link_part t.first t.link) };
-
-    fn fmt<W: fmt::Write>(&self, f: &mut fmt::Formatter<W>) -> fmt::Result {
-        let first = self.first;
-        match self.link {
-            Some(link) => write!(f, "{}", LinkLine { first, link }),
-            None => Ok(()),
-        }
-    }
-}
-
-/// The line of the link of an end among all ends, unless it is told at an end before it.
-#[derive(Clone, Copy)]
-struct LineOfEnd<'a> {
-    first: Option<u64>,
-    all: &'a [LacpduSender],
-    until: Option<u64>,
-    end: &'a LacpduSender,
-}
-
-impl fmt::Display for LineOfEnd<'_> {
-    ghost output = { λ t. Some (line_of_end t.first t.all.now t.until t.end.now) };
-
-    #[tactic(auto, unfolding(crate::specs::LinkTexts::line_of_end))]
-    fn fmt<W: fmt::Write>(&self, f: &mut fmt::Formatter<W>) -> fmt::Result {
-        let link = LinkPart {
-            first: self.first,
-            link: link_of(self.all, self.until, self.end),
-        };
-        write!(f, "{link}")
-    }
-}
-
-/// The lines of the links of ends, in a capture whose last LACPDU has the time `until`.
-#[derive(Clone, Copy)]
-pub(crate) struct LinksText<'a> {
-    pub first: Option<u64>,
-    pub until: Option<u64>,
-    pub ends: &'a [LacpduSender],
-}
-
-impl fmt::Display for LinksText<'_> {
-    ghost output = { λ t. Some (links_text t.first t.ends.now t.until t.ends.now) };
-
-    fn fmt<W: fmt::Write>(&self, f: &mut fmt::Formatter<W>) -> fmt::Result {
-        let first = self.first;
-        let until = self.until;
-        let all = self.ends;
-        for end in all {
-            let line = LineOfEnd {
-                first,
-                all,
-                until,
-                end,
-            };
-            write!(f, "{line}")?;
-        }
-        Ok(())
     }
 }
 
