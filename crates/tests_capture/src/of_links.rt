@@ -88,20 +88,28 @@ fn one_link(rt: &impl Abort, alloc: Global, one: End, other: End, is: &str) -> R
     Ok(())
 }
 
+/// Two links in use, with these keys of system 1 and of system 2.
+fn two_links(one: [u16; 2], other: [u16; 2]) -> [Sent; 4] {
+    let (first, second) = (End(1, one[0], 1, UP), End(1, one[1], 2, UP));
+    let (third, fourth) = (End(2, other[0], 7, UP), End(2, other[1], 8, UP));
+    [
+        Sent(0, first, third),
+        Sent(0, second, fourth),
+        Sent(1, third, first),
+        Sent(1, fourth, second),
+    ]
+}
+
+// Of one bundle, and of two bundles between two systems, whose keys are no keys apart.
 #[test]
 fn links_that_carry_are_counted(rt: HostRuntime) -> Result<(), Fail> {
-    let all = [
-        Sent(0, End(1, 15, 1, UP), End(2, 143, 7, UP)),
-        Sent(0, End(1, 15, 2, UP), End(2, 143, 8, UP)),
-        Sent(1, End(2, 143, 7, UP), End(1, 15, 1, UP)),
-        Sent(1, End(2, 143, 8, UP), End(1, 15, 2, UP)),
-    ];
     let lines = "\
 links 2 carrying 2
 link 02-00-00-00-00-01 port 1 - 02-00-00-00-00-02 port 7: carries, both ways
 link 02-00-00-00-00-01 port 2 - 02-00-00-00-00-02 port 8: carries, both ways
 ";
-    begins(&rt, rt.alloc(), &all, lines)
+    begins(&rt, rt.alloc(), &two_links([15, 15], [143, 143]), lines)?;
+    begins(&rt, rt.alloc(), &two_links([1, 2], [8, 9]), lines)
 }
 
 // As of two channel groups at a switch: bonding beside ports with keys 143 and 79 (6.3.6).
@@ -123,34 +131,12 @@ link 02-00-00-00-00-01 port 2 - 02-00-00-00-00-02 port 8: carries, both ways
 
 #[test]
 fn links_in_use_with_two_keys_carry_apart(rt: HostRuntime) -> Result<(), Fail> {
-    let all = [
-        Sent(0, End(1, 1, 1, UP), End(2, 9, 7, UP)),
-        Sent(0, End(1, 2, 2, UP), End(2, 9, 8, UP)),
-        Sent(1, End(2, 9, 7, UP), End(1, 1, 1, UP)),
-        Sent(1, End(2, 9, 8, UP), End(1, 2, 2, UP)),
-    ];
     let lines = "\
 links 2 carrying 2
 link 02-00-00-00-00-01 port 1 - 02-00-00-00-00-02 port 7: carries, both ways, apart: 02-00-00-00-00-01 has key 1 here, and 2 on a link in use
 link 02-00-00-00-00-01 port 2 - 02-00-00-00-00-02 port 8: carries, both ways, apart: 02-00-00-00-00-01 has key 2 here, and 1 on a link in use
 ";
-    begins(&rt, rt.alloc(), &all, lines)
-}
-
-#[test]
-fn two_bundles_between_two_systems_are_no_keys_apart(rt: HostRuntime) -> Result<(), Fail> {
-    let all = [
-        Sent(0, End(1, 1, 1, UP), End(2, 8, 7, UP)),
-        Sent(0, End(1, 2, 2, UP), End(2, 9, 8, UP)),
-        Sent(1, End(2, 8, 7, UP), End(1, 1, 1, UP)),
-        Sent(1, End(2, 9, 8, UP), End(1, 2, 2, UP)),
-    ];
-    let lines = "\
-links 2 carrying 2
-link 02-00-00-00-00-01 port 1 - 02-00-00-00-00-02 port 7: carries, both ways
-link 02-00-00-00-00-01 port 2 - 02-00-00-00-00-02 port 8: carries, both ways
-";
-    begins(&rt, rt.alloc(), &all, lines)
+    begins(&rt, rt.alloc(), &two_links([1, 2], [9, 9]), lines)
 }
 
 // 6.4.4: whoever asks for short timeouts waits 3 seconds, else 90.
