@@ -32,7 +32,7 @@ state_text first (is.Unattached s) =
     codes "does not carry: " ++ (mac_text s.source ++ codes " has not attached it: it uses another aggregator, or has links enough")
 state_text first is.Waiting = codes "does not carry: its ends do not collect and distribute"
 state_text first is.Alone = codes "not seen: its other end is not in the capture"
-state_text first is.Unanswered = codes "does not carry: nobody answers"
+state_text first is.Unanswered = codes "not seen: nobody answers, and its end may use it alone"
 
 -- an end of a link: its source address and its port
 unfoldable pub place_text : LinkEnd → List ℕ

@@ -179,6 +179,7 @@ abbrev pub carries : LinkState → Option Bool
 carries is.Carries = Some true
 carries (is.CarriesApart k) = Some true
 carries is.Alone = None
+carries is.Unanswered = None
 carries x = Some false
 
 abbrev pub is_true : Option Bool → Bool

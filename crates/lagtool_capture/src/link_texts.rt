@@ -81,7 +81,9 @@ impl fmt::Display for StateText {
                 f.write_str("does not carry: its ends do not collect and distribute")
             }
             LinkState::Alone => f.write_str("not seen: its other end is not in the capture"),
-            LinkState::Unanswered => f.write_str("does not carry: nobody answers"),
+            LinkState::Unanswered => {
+                f.write_str("not seen: nobody answers, and its end may use it alone")
+            }
         }
     }
 }

@@ -62,7 +62,7 @@ pub enum LinkState {
     Waiting,
     /// Its other end is not in the capture, and hears this one.
     Alone,
-    /// Its other end is not in the capture, and this one hears nobody.
+    /// Its other end is not in the capture, and this one hears nobody: it may use the link by itself.
     Unanswered,
 }
 
@@ -94,7 +94,7 @@ impl LinkState {
         match self {
             LinkState::Carries => Some(true),
             LinkState::CarriesApart(_) => Some(true),
-            LinkState::Alone => None,
+            LinkState::Alone | LinkState::Unanswered => None,
             _ => Some(false),
         }
     }

@@ -248,10 +248,26 @@ links 1 carrying 0
 link 02-00-00-00-00-01 port 1: not seen: its other end is not in the capture
 ";
     begins(&rt, rt.alloc(), &alone, lines)?;
-    let unheard = [Sent(0, End(1, 1, 1, 0x47), End(0, 0, 0, 0))];
+    let looped = [Sent(0, End(1, 1, 1, UP), End(1, 1, 1, UP))];
     let lines = "\
 links 1 carrying 0
-link 02-00-00-00-00-01 port 1: does not carry: nobody answers
+link 02-00-00-00-00-01 port 1: does not carry: both ends have one system, a loop or a copied identifier
 ";
-    begins(&rt, rt.alloc(), &unheard, lines)
+    begins(&rt, rt.alloc(), &looped, lines)
+}
+
+// As of bonding beside a static channel: it uses port 1 alone, which its LACPDUs do not say.
+#[test]
+fn a_link_that_nobody_answers_may_be_used_alone(rt: HostRuntime) -> Result<(), Fail> {
+    let nobody = End(0, 0, 0, 0);
+    let all = [
+        Sent(0, End(1, 15, 1, 0x4f), nobody),
+        Sent(0, End(1, 15, 2, 0x47), nobody),
+    ];
+    let lines = "\
+links 2 carrying 0
+link 02-00-00-00-00-01 port 1: not seen: nobody answers, and its end may use it alone
+link 02-00-00-00-00-01 port 2: not seen: nobody answers, and its end may use it alone
+";
+    begins(&rt, rt.alloc(), &all, lines)
 }

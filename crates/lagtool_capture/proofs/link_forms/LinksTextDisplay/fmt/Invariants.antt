@@ -1,4 +1,5 @@
-use Rattle.lagtool_capture.proofs.Common.{take, HasWritten, IsPlainFormatter, links_text}
+use Rattle.lagtool_capture.proofs.Common.{take, HasWritten, IsPlainFormatter}
+use Rattle.lagtool_capture.specs.LinkForms.{links_text}
 use Rattle.lagtool_capture.proofs.link_forms.LinksTextDisplay.fmt.Given as goal
 
 abbrev pub invariant-loop-end : goal.invariant-loop-end
