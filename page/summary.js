@@ -50,7 +50,7 @@ function ofOneEnd(end, until) {
     if (end.named === end.system) return [IDLE, `${end.short} hears itself: a loop`];
     if (isSilent(end, until)) return [IDLE, `${end.short} sends nothing after ${roundedSeconds(end.record.last)}, and nobody else speaks here`];
     if (end.distributes && isKnown(end.named)) return [UNKNOWN, `${end.short} says that it carries; the other direction is not in this capture`];
-    return isKnown(end.named) ? [UNKNOWN, `${end.short} alone is in this capture: it names ${addressOf(end.named)}`] : [IDLE, end.has("active") ? `nobody answers ${end.short}` : `${end.short} is passive, and nobody answers it`];
+    return isKnown(end.named) ? [UNKNOWN, `${end.short} alone is in this capture: it names ${addressOf(end.named)}`] : [UNKNOWN, `${end.has("active") ? `nobody answers ${end.short}` : `${end.short} is passive, and nobody answers it`}; it may use the link alone`];
 }
 
 /* Whether a link with both ends carries, and why not; and whether that says no more than their states. `beside` are the links of its systems. */

@@ -44,7 +44,7 @@ async function recordsOf(lagtool, files, isJoined = false) {
 async function ofCaptures(lagtool, files) {
     const { records, said, faults, note } = await recordsOf(lagtool, files);
     const bundles = bundlesOf(records), causes = causesOf(records, bundles), lines = linesOf(records, bundles), [found] = headlineOf(lines, causes);
-    const headline = found || "No LACPDU is in this capture: capture the members of the bond (eth0, eth1), not the bond; look whether LACP is on.";
+    const headline = found || "No LACPDU is in this capture: capture the members of the bond (eth0, eth1), not the bond; look whether LACP is on, and whether both ends are passive.";
     return { headline, lines, note, causes, counts: countsOf(causes), said: [...faults, said].filter(Boolean).join("\n"), isUnread: !lines.length, placeOf: (packet) => records.placeOf(packet) };
 }
 

@@ -103,7 +103,7 @@ def of_ends(tests: Tests, browser: Browser, folder: str) -> None:
                                                     [f"{SYSTEM}1 port 1 - {SYSTEM}1 port 2: does not carry: both ends have one system: a loop, or a copied identifier"]),
         "two passive ends": (made.passive, "0 of 1 link carries. Both ends are passive.", ["Both ends are passive"], [link(1, "does not carry: both ends are passive")]),
         "a stranger that hears nobody": (made.stranger, "1 of 2 links carries. A third system speaks on the link, and hears nobody.", ["A third system speaks on the link, and hears nobody"],
-                                         [f"{SYSTEM}3 port 5 - nobody: does not carry: nobody answers {SYSTEM}3 port 5", link(1, up)]),
+                                         [f"{SYSTEM}3 port 5 - nobody: not seen: nobody answers {SYSTEM}3 port 5; it may use the link alone", link(1, up)]),
         "a clock that is set back": (made.set_back, "1 of 1 link carries. The clock was set back while it was captured.", ["The clock was set back while it was captured"], [link(1, up)]),
         "an end that starts anew": (made.restarted, "The link carries, both ways, since 51.0 s. Before, an end was silent, and starts anew.",
                                     ["Until 51.0 s: an end was silent, and starts anew", "Remark: a wait of less than 2 seconds before synchronization"], [link(1, up)]),
