@@ -964,8 +964,8 @@ static inline struct niw_queued niw_null_queued(void) {
 }
 
 /* Makes empty queues and puts them into an empty handle: one for each conversation, numbered from 0. At most `in_all`
- * frames wait in all, and at most `each` in each. All memory is taken here: 2,048 octets at most, and for each conversation 32, and 8 for each
- * frame that may wait in it, which is the lesser of `in_all` and `each`. By NIW_POOL it is 1,200 and 48 in their place. */
+ * frames wait in all, and at most `each` in each. All memory is taken here: 2,048 octets at most, and for each conversation 32, and 8
+ * for each frame that may wait in it, which is the lesser of `in_all` and `each`. By NIW_POOL it is 1,200 and 48 in their place. */
 static inline uint32_t niw_queue_new(struct niw_queue *handle, uint16_t conversations, size_t in_all, size_t each) {
     return handle ? lagffi_queue_new(handle, conversations, in_all, each) : niw_null_status();
 }

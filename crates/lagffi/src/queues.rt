@@ -18,8 +18,8 @@ use dataplane::{Holding, Refusal};
 use std::alloc::Global;
 
 /// Makes empty queues and puts them into an empty handle: one for each conversation, numbered from 0. At most `in_all`
-/// frames wait in all, and at most `each` in each. All memory is taken here: for each conversation 32 octets, and 8 for each frame that
-/// may wait in it, which is the lesser of `in_all` and `each`.
+/// frames wait in all, and at most `each` in each. All memory is taken here: 2,048 octets at most, and for each conversation 32, and 8
+/// for each frame that may wait in it, which is the lesser of `in_all` and `each`. By NIW_POOL it is 1,200 and 48 in their place.
 /// Refuses: NIW_HAS_QUEUE, NIW_NO_MEMORY.
 #[unsafe(no_mangle)]
 pub extern "C" fn lagffi_queue_new(
