@@ -236,3 +236,17 @@ def rules_found(page: str, stored: Callable[[str], Sequence[int]]) -> list[str]:
 def rules_of(records: str, report: str) -> list[int]:
     """The rules of findings in the stored records of a capture, or in its stored report."""
     return [int(it) for it in re.findall(r'"record":"finding","rule":(\d+)', records) + re.findall(r"^finding (\d+) ", report, re.M)]
+
+
+def lines_to_read(page: str, lines_of: Callable[[str], int]) -> list[str]:
+    """Where a row of ASSURANCE that says what to read of specs/ has another number of lines; one that begins with `these` has those before it."""
+    wrong, before = [], 0
+    for told, number in re.findall(r"^\|[^|]*\|((?:these, and )?`\w+`: [^|]*)\|([\d,]+)\|$", page, re.M):
+        files = [(crate, name) for crate, names in re.findall(r"`(\w+)`: ([^;]*)", told) for name in re.findall(r"`(\w+)`", names)]
+        if "all but" in told:
+            continue
+        count = sum(lines_of(f"crates/{crate}/specs/{name}.antt") for crate, name in files) + (before if told.startswith("these") else 0)
+        before = count
+        if number != f"{count:,}":
+            wrong.append(f"{ASSURANCE}: {told[:60]}.. has {number} lines, and they are {count:,}")
+    return wrong
