@@ -57,8 +57,9 @@ SetsNoneFree hears n (Hold_port m held) = (m ≢ n) × (hears m ≡ None)
 SetsNoneFree hears n (Set_mode m active short) = m ≢ n
 SetsNoneFree hears n setting = Unit {0}
 
--- An aggregator of a sound system has this key. No other port of the key begins to wait in it after the first tick, while each hears
--- the party that it has recorded, or nothing, for at most 30 ticks; whatever the ports of other keys hear.
+-- An aggregator of a sound system has this key, and for at most 30 ticks each other port of the key hears the party that it has recorded,
+-- or nothing; ports of other keys may hear anything. Then the same calls lead to the same state by a run in which no other port begins to
+-- wait in the aggregator after the first tick, as `ComesUp` asks.
 abbrev pub NoneBeginsToWait : (ℕ → ℕ → ℕ → Type 0) → Type 0
 NoneBeginsToWait gives = (hears : ℕ → Option Party) (agg : AggId) (key : Key) (n : ℕ) (old new : SystemState) (calls : List Call)
     (replies : List Reply) → IsSound old → WaitsAreBounded old → key_of old.keys agg.0 ≡ Some key

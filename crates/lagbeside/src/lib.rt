@@ -164,8 +164,8 @@ ghost use Rattle.lagbeside.specs.Joining.{NoneBeginsToWait};
 //    each hears the party that it has recorded, or nothing
 // contract: `ports_that_hear_the_same_do_not_begin` (`NoneBeginsToWait`)
 // premises: at most 30 ticks, and `WaitsAreBounded`; each of them is SELECTED or STANDBY at first, and in EXPIRED only with more ticks left than
-//    come, or its link is down (`HasJoined`); no link of them comes up, none of them is held or let go, and no other port is configured; no restart.
-//    Ports of other keys may hear anything
+//    come, or its link is down (`HasJoined`); `set_link` takes none of their links up, none of them is held or let go, no other port is configured,
+//    and the port itself is not held, let go or set to a mode (`SetsNoneFree`); no restart. Ports of other keys may hear anything
 /// Ports that hear the same do not begin to wait: in at most 30 ticks, with which EXPIRED begins, none of the other ports of a key that
 /// is in an aggregator, or whose link is down, begins to wait in one after the first tick, while each hears the party that it has
 /// recorded, or nothing, whatever ports of other keys hear (6.4.12 to 6.4.15).

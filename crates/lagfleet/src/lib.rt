@@ -13,7 +13,8 @@ ghost use Rattle.lagfleet.specs.Fleet.{FleetTookFromFixedEnd, IsFleetInvariant};
 // contract: `fleet` (`one_partner`, `agree`, `in_order`, `each_in_order`, `counts_from_zero`, `took_from_far_end`, `took_from_fixed_end`,
 //    `names_far_end`, `took_synchronized`, `one_device`, `not_with_itself`)
 // premises: those of the law of two systems; no slow protocols frame is offered by number; a system that takes over has the identifier, the
-//    keys of aggregators and the ports of the one before (`IsAlikeSetup`), and meets `IsNetworkSuccessor`: its first marker may be any
+//    keys of aggregators and the ports of the one before (`IsAlikeSetup`), and meets `IsNetworkSuccessor`: the first marker of its configuration may
+//    be any, the next one that it sends is not below that of the one before
 /// After every list of calls of any number of systems, each with an algorithm of its own, whatever the algorithms return: those of
 /// `HostCall`, settings, and takeovers by a system that goes on where another was, as after a warm start. LACPDUs may overtake data, and
 /// cables may be taken out and put in elsewhere at any time (6.2.4, 6.3.6, 6.4.14, 6.5; profile).

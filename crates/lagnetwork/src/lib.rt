@@ -75,9 +75,10 @@ pub fn ends_meet_after_move()
 
 ghost use Rattle.lagnetwork.specs.NetworkLaw.{LawfulCallsAreCalls};
 
-// promise: a takeover is possible: a system of which no conversation waits may take its own place. A system that takes over has the identifier,
-//    the keys of aggregators and the ports of the one before; its configuration may have other own parameters, and another first marker
-// contract: `network` (`takeovers`), `IsAlikeSetup`
+// promise: a takeover is possible: a system of which no conversation waits may take its own place
+// contract: `network` (`takeovers`)
+// premises: a system that takes over has the identifier, the keys of aggregators and the ports of the one before (`IsAlikeSetup`); its configuration
+//    may have other own parameters, and another first marker. That one with another configuration takes over is not shown here
 // promise: a call of one system, lawful moves with visible acts, is a call of the network, whatever cables accept, and leaves what it sends on
 //    them
 // contract: `lawful_calls`

@@ -26,8 +26,8 @@ LeavesPorts at e = IsBetweenTicks e
 abbrev pub RoundsBeside : LinkState → Algorithms → ℕ → WorldState → WorldState → Type 0
 RoundsBeside l gives n old new = PlayedAmong (LeavesPorts (λ s. port_at s l)) OldArrive gives n old new
 
--- Where a link of a bundle is up after so many late rounds or more, both its ends distribute after any number of such rounds, too. The
--- other ports may be held then, or have come up or not; and any limit of links may have been set.
+-- A healthy link of a bundle distributes at both ends behind so many late rounds or more, and then after any number of these rounds. Other
+-- ports may be held then, or have come up or not; and any limit of links may have been set.
 abbrev pub EachLinkStaysUp : (LinkState → WorldState → Type 0) → ℕ → Algorithms → Type 0
 EachLinkStaysUp Holds least gives = (n m i : ℕ) (l : LinkState) (old mid new : WorldState) → IsBundle Holds old → IsHealthyAt i l old
     → least ≤ n → LateRounds gives n old mid → RoundsBeside l gives m mid new → (s : Side) → AtEnd Distributes s l new

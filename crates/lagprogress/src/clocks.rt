@@ -51,10 +51,13 @@ ghost use Rattle.lagprogress.specs.Beside.{EachLinkStaysAgreed, EachLinkStaysUp}
 
 // promise: **a setting of another port does no harm to a link that is up:** behind 356 | 657 late rounds both its ports stay up, and agree,
 //    for any number of late rounds in which hosts also hold other ports, let them go and set their modes, CollectorMaxDelay and any limit of
-//    links. For a link that is not up the count begins anew behind a setting (`reached_worlds_are_bundles`, `hosts_both`, `hosts_one`)
+//    links. Else the count begins anew behind a setting, if no port is held then, and there are aggregators and links enough
+//    (`reached_worlds_are_bundles`, `hosts_both`, `hosts_one`)
 // contract: `each_link_stays_up_by_clocks` (`up_both`, `up_one`, `agrees_both`, `agrees_one`: `RoundsBeside`)
 // premises: those of `each_link_comes_up_by_clocks` and of `each_link_agrees_by_clocks` before the rounds; no setting holds, lets go or sets
-//    the port at an end of this link. Nothing is asked of the other ports and cables behind them
+//    the port at an end of this link. Each end of a healthy cable is asked still, and what was on it arrives, as in each late round; whether
+//    other ports are held, or come up, is of no account
+// not said: which lists of calls are such rounds while a port is held; that a link stays up that came up while another port was held
 /// The links that come up as in `each_link_comes_up_by_clocks` stay up, and agree, in any number of late rounds behind them in which hosts
 /// also make settings: other ports are held, let go, or set to other modes, CollectorMaxDelay is set, and so is any limit of links that
 /// `set_max_links` takes. No setting is one of `hold_port` or `set_mode` for a port at an end of the link (6.4.2.3, 6.4.7, 6.4.8; profile).
