@@ -132,7 +132,7 @@ static void follow_link(struct protocol *protocol, struct link *link, const stru
         lost = losses > 0;
         link->counts[LOSSES] += losses;
     }
-    spared = (interface->flags & IFF_UP) && is_spared(protocol->settings, link, carrier, lost);
+    spared = (interface->flags & IFF_UP) && is_spared(protocol, link, carrier, lost);
     if (spared && !carrier) return;
     if (lost && !spared && link->up) {
         if (!link->away) link->counts[LOSSES]--; /* which set_link counts */
@@ -311,7 +311,7 @@ void watch_carriers(struct protocol *protocol, bool all) {
     own->suspected = false;
     EACH_LINK(link, protocol->ports) {
         bool changed = link->socket >= 0 && has_new_carrier(link);
-        if (!changed && link->up && !link->away) link->carried_at = milliseconds();
+        if (!changed && link->up && !link->away) note_carrier(protocol->settings, link);
         if (changed || (link->socket >= 0 && has_waited(protocol, link))) any = ask_for(protocol->changes, link->index, 0) || any;
     }
     if (any) receive_changes(protocol);

@@ -131,7 +131,8 @@ struct link {
     bool held;             /* whether the file takes it out of use */
     bool waits;            /* whether its carrier is there, and has to be steady for longer before it is up */
     uint64_t steady_since; /* the milliseconds since which that is there, while it waits */
-    uint64_t carried_at;    /* the milliseconds at which its carrier was seen last, and had not gone */
+    uint64_t carried_at;    /* the milliseconds at which its carrier was seen last, and had been steady for delay-down */
+    uint64_t returned_at;   /* those at which that came back last, or 0 */
     bool away;              /* whether that is away, and the link is up by delay-down */
     uint32_t kernel_losses; /* how often the carrier went, as the kernel last told */
     bool unsent;            /* whether `frame` waits for room in its second, or for the kernel to take it */
@@ -374,7 +375,8 @@ void look_for_twins(struct protocol *protocol);
 bool is_restored(struct protocol *protocol, struct link *link);
 void forget_carrier(struct link *link);
 bool has_waited(struct protocol *protocol, const struct link *link);
-bool is_spared(const struct settings *settings, struct link *link, bool carrier, bool lost);
+void note_carrier(const struct settings *settings, struct link *link);
+bool is_spared(struct protocol *protocol, struct link *link, bool carrier, bool lost);
 
 /* revert.c */
 void pass_revert_second(struct protocol *protocol);
