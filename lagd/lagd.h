@@ -402,6 +402,7 @@ uint16_t choose_key(struct protocol *protocol, const struct link *link);
 struct speed read_speed(int socket, const char *name);
 bool write_speed(int socket, const char *name, uint32_t megabits);
 void apply_speed(struct protocol *protocol, struct link *link, const char *interface);
+bool has_other_speed(struct protocol *protocol, const struct link *link, const char *interface);
 const char *speed_text(const struct speed *speed, char room[static 40]);
 
 /* system.c */
