@@ -490,6 +490,7 @@ const char *boot_id(char room[static BOOT_ROOM]);
 void forget_interface(int folder, const struct link *link);
 
 /* folder.c */
+int try_folder(const char *folder, const char **fault);
 int open_folder(const char *folder);
 unsigned long network_namespace(void);
 uint64_t namespace_cookie(void);
