@@ -177,10 +177,11 @@ void look_at_bundle(struct protocol *protocol) {
 }
 
 /* The bundle is as the last daemon had it, which is no change. */
-void go_on_as(struct protocol *protocol, const struct bundle *last) {
+void go_on_as(struct protocol *protocol, const struct bundle *last, bool follows) {
     protocol->bundle.state = last->state;
     protocol->bundle.changed_at = last->changed_at;
     protocol->bundle_private->chosen_last = last->aggregator;
+    protocol->bundle_private->followed = follows ? last->aggregator : 0;
 }
 
 /* The daemon ends. */

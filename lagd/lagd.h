@@ -471,7 +471,7 @@ struct worth worth_of(struct protocol *protocol, uint16_t aggregator);
 uint64_t patience_with(struct protocol *protocol, uint16_t active, uint16_t other);
 void follow_peer(struct protocol *protocol, uint16_t aggregator);
 bool is_following(const struct bundle_private *own);
-void go_on_as(struct protocol *protocol, const struct bundle *last);
+void go_on_as(struct protocol *protocol, const struct bundle *last, bool follows);
 void choose_aggregator(struct protocol *protocol, struct bundle *now);
 bool is_as_good_as_any(struct protocol *protocol, uint16_t aggregator);
 void look_at_bundle(struct protocol *protocol);

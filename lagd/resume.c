@@ -160,7 +160,7 @@ void resume_conversations(struct plane *plane, bool goes_on) {
 void resume_data(struct protocol *protocol, unsigned count) {
     bool goes_on = count > 0 && protocol->process->inherited->bundle.aggregator <= protocol->aggregator_count;
     read_views(protocol);
-    if (goes_on) go_on_as(protocol, &protocol->process->inherited->bundle);
+    if (goes_on) go_on_as(protocol, &protocol->process->inherited->bundle, protocol->process->inherited->follows);
     CALL(protocol->plane->carrying->resume, protocol->plane, goes_on);
 }
 

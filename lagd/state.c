@@ -118,6 +118,7 @@ static void write_state(struct state *own, FILE *file) {
     fprintf(file, "marker %" PRIu32 "\n", is_done(own->carry->parts.process, marker.status, "niw_next_marker") && marker.left ? marker.id : 0);
     fprintf(file, "bundle %u %u %lld\n", own->carry->parts.protocol->bundle.state, own->carry->parts.protocol->bundle.aggregator,
         (long long)own->carry->parts.protocol->bundle.changed_at);
+    if (is_following(own->carry->parts.protocol->bundle_private)) fputs("follows\n", file);
     if (tap_index(own->carry->parts.device) != 0)
         fprintf(file, "tap %d %d %" PRIu32 " %u\n", tap_index(own->carry->parts.device),
             ASK(plane->carrying->has_made_device, false, plane),
@@ -300,6 +301,7 @@ static bool read_rest(struct inherited *inherited, FILE *file) {
         if (strcmp(word, "wall") == 0) read = fscanf(file, "%" SCNu64, &inherited->wall) == 1;
         if (strcmp(word, "marker") == 0) read = fscanf(file, "%" SCNu32, &inherited->marker) == 1;
         if (strcmp(word, "bundle") == 0) read = read_bundle(inherited, file);
+        if (strcmp(word, "follows") == 0) read = inherited->follows = true;
         if (strcmp(word, "tap") == 0)
             read = fscanf(file, "%d %d %" SCNu32 " %u", &inherited->tap, &inherited->persists, &inherited->mtu,
                 &inherited->answering) == 4
@@ -325,6 +327,7 @@ static void keep_interfaces(struct state *own, bool team) {
     memset(inherited->members, 0, sizeof inherited->members);
     inherited->port_count = 0;
     inherited->bundle = (struct bundle){0};
+    inherited->follows = false;
     inherited->answering = NOT_ASKED;
     inherited->tap = inherited->persists = 0;
     inherited->mtu = 0;
