@@ -21,9 +21,9 @@ static void add_time(struct report *report, time_t time) {
 static void add_bundle(struct control *control) {
     add(control->report, "\"bundle\":");
     add_string(control->report, control->parts.settings->name);
-    add(control->report, ",\"state\":\"%s\",\"links\":%u,\"carrying\":%u,\"aggregator\":%u", bundle_state_text(control->parts.protocol->bundle.state),
-        control->parts.protocol->bundle.links,
-        control->parts.protocol->bundle.carrying, control->parts.protocol->bundle.aggregator);
+    add(control->report, ",\"state\":\"%s\",\"links\":%u,\"carrying\":%u,\"away\":%u,\"aggregator\":%u",
+        bundle_state_text(control->parts.protocol->bundle.state), control->parts.protocol->bundle.links,
+        control->parts.protocol->bundle.carrying, count_away(control->parts.ports), control->parts.protocol->bundle.aggregator);
     add_time(control->report, control->parts.protocol->bundle.changed_at);
 }
 

@@ -457,6 +457,7 @@ void print_all_changes(struct protocol *protocol);
 bool print_change(struct protocol *protocol, struct link *link);
 struct facts facts_of(struct protocol *protocol, const struct link *link);
 bool carries(struct protocol *protocol, const struct link *link);
+uint16_t count_away(const struct ports *ports);
 
 /* bundle.c */
 struct worth { /* of an aggregator, by the ports that carry there */

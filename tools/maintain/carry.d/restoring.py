@@ -163,9 +163,10 @@ def spared(programs: Programs) -> None:
         with pair(programs, options=["--delay-down", str(DELAY), *way]) as (laid, ours, theirs):
             seen: list[str] = []
             came = [port["counters"]["distributed"] for port in ours.ports().values()]
-            events: list[Event] = [(1, lambda: laid.tell("cut", 1)), (1.4, lambda: seen.append(ours.text())), (1.7, lambda: laid.tell("join", 1))]
+            events: list[Event] = [(1, lambda: laid.tell("cut", 1)), (1.4, lambda: seen.extend((ours.text(), str(ours.told()["away"])))), (1.7, lambda: laid.tell("join", 1))]
             outcome = run_flows(programs, 4, events)
             check(AWAY in seen[0] and "but the carrier of a1 is away" in seen[0], "the status says that a carrier is away", seen[0])
+            check(seen[1] == "1" and ours.told()["away"] == 0, "and JSON, while it is", seen[1])
             now = [port["counters"]["distributed"] for port in ours.ports().values()]
             check(now == came and ours.links() == theirs.links() == 2, f"a link that is back in time never went {way}", ours.printed())
             check_order(outcome, "through that", ours.text())
