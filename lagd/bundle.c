@@ -1,7 +1,7 @@
 /* The bundle as a whole: up where all its links carry, degraded where some do, down where fewer than min-links do. */
 #include "lagd.h"
 
-/* For how long the peer may send in another aggregator alone, in milliseconds. */
+/* For how long the peer may send in another aggregator alone, in milliseconds of ticks in which a frame came there. */
 #define PATIENCE 3000
 
 struct bundle_private {
@@ -103,7 +103,7 @@ bool is_as_good_as_any(struct protocol *protocol, uint16_t aggregator) {
     return aggregator != 0 && aggregator_after(protocol, aggregator) == aggregator;
 }
 
-/* For how long the partner of the active aggregator may send in another one alone until this end goes there, in milliseconds; 0: for ever.
+/* For how long the partner of the active aggregator may send in another one alone until this end goes there, as PATIENCE has it; 0: for ever.
  * The end with the better system waits for longer, so that not both go. */
 uint64_t patience_with(struct protocol *protocol, uint16_t active, uint16_t other) {
     struct worth now = worth_of(protocol, active), next = worth_of(protocol, other);
@@ -114,10 +114,15 @@ uint64_t patience_with(struct protocol *protocol, uint16_t active, uint16_t othe
 
 /* The peer sends in an aggregator that this end does not prefer, and in no other one: both ends go by it, or no data would arrive. */
 void follow_peer(struct protocol *protocol, uint16_t aggregator) {
-    protocol->bundle_private->chosen_last = aggregator;
-    protocol->bundle_private->followed = aggregator_after(protocol, 0) == aggregator ? 0 : aggregator;
-    (void)say(protocol->process, LOG_WARNING | ABOUT_BUNDLE, "bundle %s: the peer sends in aggregator %u: it carries, whatever select=%s prefers",
-        protocol->settings->name, aggregator, selection_text(protocol->settings->select));
+    struct bundle_private *own = protocol->bundle_private;
+    own->chosen_last = aggregator;
+    own->followed = aggregator_after(protocol, 0) == aggregator ? 0 : aggregator;
+    if (own->followed == 0)
+        (void)say(protocol->process, LOG_NOTICE | ABOUT_BUNDLE, "bundle %s: the peer sends in aggregator %u: it carries",
+            protocol->settings->name, aggregator);
+    else
+        (void)say(protocol->process, LOG_WARNING | ABOUT_BUNDLE, "bundle %s: the peer sends in aggregator %u: it carries, whatever select=%s prefers",
+            protocol->settings->name, aggregator, selection_text(protocol->settings->select));
 }
 
 /* Whether the active aggregator is the one in which the peer sends, and not the one that is preferred. */
