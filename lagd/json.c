@@ -112,7 +112,7 @@ void write_json(struct control *control) {
     add(control->report, ",\"key\":%u,\"collector_max_delay\":%u", control->parts.settings->key, control->parts.settings->config.max_delay);
     add(control->report, ",\"min_links\":%u,\"max_links\":%u,\"select\":\"%s\",\"follows_peer\":%s,\"seconds\":%" PRIu64 ",",
         control->parts.settings->min_links, control->parts.settings->config.max_links, selection_text(control->parts.settings->select),
-        is_following(control->parts.protocol->bundle_private) ? "true" : "false", seconds_passed(control->parts.protocol->system));
+        is_following(control->parts.protocol->selection) ? "true" : "false", seconds_passed(control->parts.protocol->system));
     CALL(control->parts.plane->carrying->show, control, AS_JSON);
     add(control->report, "\"ports\":[");
     EACH_LINK(link, control->parts.ports) {

@@ -229,7 +229,8 @@ struct ports {
 
 /* LACP: the system of the library, what the kernel tells of interfaces, and which ports the bundle has. */
 #define EACH_FILE_OF_PROTOCOL(DO) \
-    DO(bundle, bundle_private) DO(changes, changes) DO(halt, halt) DO(keys, keys) DO(system, system)
+    DO(bundle, bundle_private) DO(changes, changes) DO(halt, halt) DO(keys, keys) \
+    DO(select, selection) DO(system, system)
 struct protocol {
     struct process *process;
     struct settings *settings; /* those that hold now */
@@ -459,7 +460,7 @@ struct facts facts_of(struct protocol *protocol, const struct link *link);
 bool carries(struct protocol *protocol, const struct link *link);
 uint16_t count_away(const struct ports *ports);
 
-/* bundle.c */
+/* select.c */
 struct worth { /* of an aggregator, by the ports that carry there */
     uint16_t links;
     bool has_partner;
@@ -471,10 +472,13 @@ struct worth { /* of an aggregator, by the ports that carry there */
 struct worth worth_of(struct protocol *protocol, uint16_t aggregator);
 uint64_t patience_with(struct protocol *protocol, uint16_t active, uint16_t other);
 void follow_peer(struct protocol *protocol, uint16_t aggregator);
-bool is_following(const struct bundle_private *own);
-void go_on_as(struct protocol *protocol, const struct bundle *last, bool follows);
+bool is_following(const struct select_private *own);
+void go_on_selecting(struct select_private *own, uint16_t aggregator, bool follows);
 void choose_aggregator(struct protocol *protocol, struct bundle *now);
 bool is_as_good_as_any(struct protocol *protocol, uint16_t aggregator);
+
+/* bundle.c */
+void go_on_as(struct protocol *protocol, const struct bundle *last, bool follows);
 void look_at_bundle(struct protocol *protocol);
 void allow_bundle_line(struct bundle_private *own);
 void end_bundle(struct protocol *protocol);

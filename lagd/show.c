@@ -21,7 +21,7 @@ static void add_policy(struct report *report, const struct settings *settings) {
 static void add_selection(struct report *report, struct protocol *protocol) {
     enum selection by = protocol->settings->select;
     add(report, "  select: %s", selection_text(by));
-    if (is_following(protocol->bundle_private))
+    if (is_following(protocol->selection))
         add(report, ", but it follows the peer, which sends in aggregator %u alone", protocol->bundle.aggregator);
     for (uint16_t aggregator = 1; aggregator <= protocol->aggregator_count; aggregator++) {
         struct worth worth = worth_of(protocol, aggregator);

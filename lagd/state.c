@@ -118,7 +118,7 @@ static void write_state(struct state *own, FILE *file) {
     fprintf(file, "marker %" PRIu32 "\n", is_done(own->carry->parts.process, marker.status, "niw_next_marker") && marker.left ? marker.id : 0);
     fprintf(file, "bundle %u %u %lld\n", own->carry->parts.protocol->bundle.state, own->carry->parts.protocol->bundle.aggregator,
         (long long)own->carry->parts.protocol->bundle.changed_at);
-    if (is_following(own->carry->parts.protocol->bundle_private)) fputs("follows\n", file);
+    if (is_following(own->carry->parts.protocol->selection)) fputs("follows\n", file);
     if (tap_index(own->carry->parts.device) != 0)
         fprintf(file, "tap %d %d %" PRIu32 " %u\n", tap_index(own->carry->parts.device),
             ASK(plane->carrying->has_made_device, false, plane),
