@@ -1,128 +1,15 @@
 /* The bundle as a whole: up where all its links carry, degraded where some do, down where fewer than min-links do. */
 #include "lagd.h"
 
-/* For how long the peer may send in another aggregator alone, in milliseconds. */
-#define PATIENCE 3000
-
 struct bundle_private {
     unsigned lines; /* how many changes may still be told */
     bool told; /* whether the first state was */
-    uint16_t chosen_last; /* what choose_aggregator answered last, or 0 */
-    uint16_t followed; /* one in which the peer alone sends, whatever this end prefers, or 0 */
 };
 
 struct bundle_private *make_bundle_private(void) {
     struct bundle_private *made = make_room(sizeof *made);
     made->lines = MOST_LINES;
     return made;
-}
-
-/* A system as a number: the lower one is the better one (IEEE 802.1AX-2014, 6.3.2). */
-static uint64_t number_of(uint16_t priority, const uint8_t *mac) {
-    uint64_t number = priority;
-    for (unsigned i = 0; i < 6; i++) number = number << 8 | mac[i];
-    return number;
-}
-
-/* Adds a port that carries in an aggregator to what that is worth. Its identifier is that of the end with the better system, so that both
- * ends put ports into the same order. */
-static void add_port_worth(struct protocol *protocol, const struct link *link, struct worth *worth) {
-    const struct niw_view *view = &link->view;
-    uint64_t own = number_of(protocol->settings->config.priority, protocol->settings->config.mac);
-    uint64_t other = number_of(view->partner_priority, view->partner_mac);
-    bool is_own = view->defaulted || own < other;
-    uint64_t system = is_own ? own : other;
-    uint32_t port = is_own ? (uint32_t)link->settings.priority << 16 | link->settings.number
-                           : (uint32_t)view->partner_port_priority << 16 | view->partner_port;
-    bool is_first = worth->links++ == 0;
-    worth->has_partner = worth->has_partner || !view->defaulted;
-    worth->partner = other;
-    if (link->has_speed && link->speed.megabits != UINT32_MAX) worth->megabits += link->speed.megabits;
-    if (!is_first && (system > worth->system || (system == worth->system && port >= worth->port))) return;
-    worth->system = system;
-    worth->port = port;
-}
-
-/* What an aggregator is worth: all 0 where none of its ports carries. */
-struct worth worth_of(struct protocol *protocol, uint16_t aggregator) {
-    struct worth worth = {0};
-    EACH_LINK(link, protocol->ports)
-        if (aggregator != 0 && link->view.aggregator == aggregator && carries(protocol, link)) add_port_worth(protocol, link, &worth);
-    return worth;
-}
-
-/* Whether an aggregator is worth more than another one, which carried last if it `stays`. */
-static bool is_worth_more(const struct settings *settings, const struct worth *one, const struct worth *other, bool stays) {
-    bool enough = one->links >= settings->min_links;
-    if (one->has_partner != other->has_partner) return one->has_partner;
-    if (enough != (other->links >= settings->min_links)) return enough;
-    if (settings->select == SELECT_BANDWIDTH && one->megabits != other->megabits) return one->megabits > other->megabits;
-    if (settings->select == SELECT_BANDWIDTH && (one->links != other->links || stays)) return one->links > other->links;
-    if (settings->select == SELECT_PRIORITY_STABLE && stays) return false;
-    return one->system != other->system ? one->system < other->system : one->port < other->port;
-}
-
-/* The aggregator that is worth most, where `before` carried last. */
-static uint16_t best_after(struct protocol *protocol, uint16_t before) {
-    struct worth best = worth_of(protocol, before);
-    uint16_t chosen = best.links > 0 ? before : 0;
-    EACH_LINK(link, protocol->ports) {
-        uint16_t aggregator = link->view.aggregator;
-        struct worth now;
-        if (aggregator == chosen || !carries(protocol, link)) continue;
-        now = worth_of(protocol, aggregator);
-        if (now.links == 0 || (chosen != 0 && !is_worth_more(protocol->settings, &now, &best, chosen == before))) continue;
-        best = now;
-        chosen = aggregator;
-    }
-    return chosen;
-}
-
-/* The aggregator that carries, where `before` carried last; 0 for none. The library takes one on defaults only where none has a partner. If
- * a partner is required, its links do not carry, and the answer is 0. */
-static uint16_t aggregator_after(struct protocol *protocol, uint16_t before) {
-    uint64_t aggregator;
-    if (protocol->settings->select != SELECT_COUNT) return best_after(protocol, before);
-    if (!is_told(protocol->process, niw_active_aggregator(&protocol->own_system, before), "niw_active_aggregator", &aggregator)) return 0;
-    return worth_of(protocol, (uint16_t)aggregator).links > 0 ? (uint16_t)aggregator : 0;
-}
-
-/* Chooses the aggregator whose ports carry, and remembers it: while it is kept it stays among equals, whoever calls. Else, of equals, it is
- * the one with the least group, so that the other end chooses it, too. One in which the peer alone sends is chosen as long as it carries. */
-void choose_aggregator(struct protocol *protocol, struct bundle *now) {
-    struct bundle_private *own = protocol->bundle_private;
-    struct worth followed = worth_of(protocol, own->followed);
-    bool stays = protocol->settings->select == SELECT_PRIORITY_STABLE || ASK(protocol->plane->carrying->keeps_aggregator, true, protocol->plane);
-    if (protocol->settings->select == SELECT_COUNT || !followed.has_partner || followed.links < protocol->settings->min_links) own->followed = 0;
-    own->chosen_last = now->aggregator = own->followed != 0 ? own->followed : aggregator_after(protocol, stays ? own->chosen_last : 0);
-    now->carrying = worth_of(protocol, now->aggregator).links;
-}
-
-/* Whether no aggregator has more than this one: a partner where this one has none, or more ports. */
-bool is_as_good_as_any(struct protocol *protocol, uint16_t aggregator) {
-    return aggregator != 0 && aggregator_after(protocol, aggregator) == aggregator;
-}
-
-/* For how long the partner of the active aggregator may send in another one alone until this end goes there, in milliseconds; 0: for ever.
- * The end with the better system waits for longer, so that not both go. */
-uint64_t patience_with(struct protocol *protocol, uint16_t active, uint16_t other) {
-    struct worth now = worth_of(protocol, active), next = worth_of(protocol, other);
-    uint64_t own = number_of(protocol->settings->config.priority, protocol->settings->config.mac);
-    if (protocol->settings->select == SELECT_COUNT || !next.has_partner || now.partner != next.partner) return 0;
-    return own < now.partner ? 2 * PATIENCE : PATIENCE;
-}
-
-/* The peer sends in an aggregator that this end does not prefer, and in no other one: both ends go by it, or no data would arrive. */
-void follow_peer(struct protocol *protocol, uint16_t aggregator) {
-    protocol->bundle_private->chosen_last = aggregator;
-    protocol->bundle_private->followed = aggregator_after(protocol, 0) == aggregator ? 0 : aggregator;
-    (void)say(protocol->process, LOG_WARNING | ABOUT_BUNDLE, "bundle %s: the peer sends in aggregator %u: it carries, whatever select=%s prefers",
-        protocol->settings->name, aggregator, selection_text(protocol->settings->select));
-}
-
-/* Whether the active aggregator is the one in which the peer sends, and not the one that is preferred. */
-bool is_following(const struct bundle_private *own) {
-    return own->followed != 0;
 }
 
 /* How many links there may be. */
@@ -177,10 +64,10 @@ void look_at_bundle(struct protocol *protocol) {
 }
 
 /* The bundle is as the last daemon had it, which is no change. */
-void go_on_as(struct protocol *protocol, const struct bundle *last) {
+void go_on_as(struct protocol *protocol, const struct bundle *last, bool follows) {
     protocol->bundle.state = last->state;
     protocol->bundle.changed_at = last->changed_at;
-    protocol->bundle_private->chosen_last = last->aggregator;
+    go_on_selecting(protocol->selection, last->aggregator, follows);
 }
 
 /* The daemon ends. */

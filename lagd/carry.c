@@ -16,7 +16,7 @@ struct carry_private {
     uint64_t heard_at; /* the time at which frames came in the active aggregator last, or 0 */
     uint64_t heard_before; /* how many had come in an active one then */
     uint64_t looked_at; /* of suspect_aggregator */
-    uint64_t elsewhere; /* for how many milliseconds frames came in another aggregator, and none in the active one */
+    uint64_t elsewhere; /* 100 for each tick in which a frame came in another aggregator, since one came in the active one */
     unsigned on_defaults[NIW_MOST_PORTS]; /* ticks for which a port ran on defaults */
     unsigned wakes_after[NIW_MOST_PORTS]; /* how many of them it may */
 };
@@ -58,7 +58,7 @@ void forget_heard(struct carry *carry) {
 }
 
 /* A frame came in an aggregator that is not the active one. If no aggregator has more than that one, the peer may send there. It is looked
- * at once a tick, however many frames come. */
+ * at once a tick, however many frames come, and only in a tick in which one does: few frames take long. */
 void suspect_aggregator(struct carry *carry, uint32_t aggregator) {
     struct carry_private *own = carry->carry_private;
     uint64_t patience;

@@ -122,7 +122,7 @@ static bool follow_discipline(struct protocol *protocol, struct link *link, cons
  * it went. IFF_RUNNING may be a second old, and IFF_LOWER_UP is the carrier itself. */
 static void follow_link(struct protocol *protocol, struct link *link, const struct interface *interface) {
     uint16_t port = link->settings.number;
-    bool up, carrier = (interface->flags & IFF_UP) && (interface->flags & IFF_RUNNING) && (interface->flags & IFF_LOWER_UP), lost = false, spared;
+    bool up, carrier = (interface->flags & IFF_UP) && (interface->flags & IFF_RUNNING) && (interface->flags & IFF_LOWER_UP), lost = false, other, spared;
     if (interface->has_mac) follow_address(protocol->plane, link, interface->mac);
     if (!follow_discipline(protocol, link, interface)) return;
     if (interface->mtu != 0) CALL(protocol->plane->carrying->follow_mtu, protocol->plane, link, interface->mtu);
@@ -132,9 +132,10 @@ static void follow_link(struct protocol *protocol, struct link *link, const stru
         lost = losses > 0;
         link->counts[LOSSES] += losses;
     }
-    spared = (interface->flags & IFF_UP) && is_spared(protocol->settings, link, carrier, lost);
+    other = carrier && (lost || link->away) && has_other_speed(protocol, link, interface->name);
+    spared = (interface->flags & IFF_UP) && is_spared(protocol, link, carrier, lost) && !other;
     if (spared && !carrier) return;
-    if (lost && !spared && link->up) {
+    if ((lost || other) && !spared && link->up) {
         if (!link->away) link->counts[LOSSES]--; /* which set_link counts */
         set_link(protocol, port, false);
     }
@@ -311,7 +312,7 @@ void watch_carriers(struct protocol *protocol, bool all) {
     own->suspected = false;
     EACH_LINK(link, protocol->ports) {
         bool changed = link->socket >= 0 && has_new_carrier(link);
-        if (!changed && link->up && !link->away) link->carried_at = milliseconds();
+        if (!changed && link->up && !link->away) note_carrier(protocol->settings, link);
         if (changed || (link->socket >= 0 && has_waited(protocol, link))) any = ask_for(protocol->changes, link->index, 0) || any;
     }
     if (any) receive_changes(protocol);

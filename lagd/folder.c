@@ -31,19 +31,33 @@ uint64_t namespace_cookie(void) {
     return cookie;
 }
 
-/* Opens the folder, and makes it where it is missing. One of another user, one that others may write, and a symbolic link to one are
- * refused: whoever has it could put a link or a socket of his own in it. */
-int open_folder(const char *folder) {
+/* Why a folder that is open is refused, or NULL. */
+static const char *fault_of(int folder) {
     struct stat found;
-    int opened;
+    if (fstat(folder, &found) < 0) return strerror(errno);
+    if (found.st_uid != 0 && found.st_uid != geteuid()) return "the folder belongs to another user";
+    return found.st_mode & (S_IWGRP | S_IWOTH) ? "other users may write the folder" : NULL;
+}
+
+/* Opens the folder, and makes it where it is missing; or answers -1, and why not, which errno tells where `fault` is NULL. One of another user, one that others may write, and a symbolic
+ * link to one are refused: whoever has it could put a link or a socket of his own in it. */
+int try_folder(const char *folder, const char **fault) {
     bool made = mkdir(folder, 0755) == 0;
-    if (!made && errno != EEXIST) stop(REFUSED, folder, strerror(errno));
-    opened = open(folder, O_RDONLY | O_DIRECTORY | O_NOFOLLOW | O_CLOEXEC);
-    if (opened < 0 && (errno == ELOOP || errno == ENOTDIR)) stop(REFUSED, "a symbolic link, or no folder", folder);
-    if (opened < 0 || fstat(opened, &found) < 0) stop(REFUSED, folder, strerror(errno));
+    int opened = made || errno == EEXIST ? open(folder, O_RDONLY | O_DIRECTORY | O_NOFOLLOW | O_CLOEXEC) : -1;
+    *fault = errno == ELOOP || errno == ENOTDIR ? "a symbolic link, or no folder" : NULL;
+    if (opened < 0) return -1;
     if (made) (void)fchmod(opened, 0755); /* whatever the umask is */
-    if (made) (void)fstat(opened, &found);
-    if (found.st_uid != 0 && found.st_uid != geteuid()) stop(REFUSED, "the folder belongs to another user", folder);
-    if (found.st_mode & (S_IWGRP | S_IWOTH)) stop(REFUSED, "other users may write the folder", folder);
+    *fault = fault_of(opened);
+    if (!*fault) return opened;
+    close(opened);
+    return -1;
+}
+
+/* Opens the folder, without which there is no daemon. */
+int open_folder(const char *folder) {
+    const char *fault;
+    int opened = try_folder(folder, &fault);
+    if (opened < 0 && fault) stop(REFUSED, fault, folder);
+    if (opened < 0) stop(REFUSED, folder, strerror(errno));
     return opened;
 }

@@ -21,9 +21,9 @@ static void add_time(struct report *report, time_t time) {
 static void add_bundle(struct control *control) {
     add(control->report, "\"bundle\":");
     add_string(control->report, control->parts.settings->name);
-    add(control->report, ",\"state\":\"%s\",\"links\":%u,\"carrying\":%u,\"aggregator\":%u", bundle_state_text(control->parts.protocol->bundle.state),
-        control->parts.protocol->bundle.links,
-        control->parts.protocol->bundle.carrying, control->parts.protocol->bundle.aggregator);
+    add(control->report, ",\"state\":\"%s\",\"links\":%u,\"carrying\":%u,\"away\":%u,\"aggregator\":%u",
+        bundle_state_text(control->parts.protocol->bundle.state), control->parts.protocol->bundle.links,
+        control->parts.protocol->bundle.carrying, count_away(control->parts.ports), control->parts.protocol->bundle.aggregator);
     add_time(control->report, control->parts.protocol->bundle.changed_at);
 }
 
@@ -112,7 +112,7 @@ void write_json(struct control *control) {
     add(control->report, ",\"key\":%u,\"collector_max_delay\":%u", control->parts.settings->key, control->parts.settings->config.max_delay);
     add(control->report, ",\"min_links\":%u,\"max_links\":%u,\"select\":\"%s\",\"follows_peer\":%s,\"seconds\":%" PRIu64 ",",
         control->parts.settings->min_links, control->parts.settings->config.max_links, selection_text(control->parts.settings->select),
-        is_following(control->parts.protocol->bundle_private) ? "true" : "false", seconds_passed(control->parts.protocol->system));
+        is_following(control->parts.protocol->selection) ? "true" : "false", seconds_passed(control->parts.protocol->system));
     CALL(control->parts.plane->carrying->show, control, AS_JSON);
     add(control->report, "\"ports\":[");
     EACH_LINK(link, control->parts.ports) {

@@ -29,12 +29,15 @@ const char *boot_id(char room[static BOOT_ROOM]) {
 FILE *open_kept(int folder, const struct link *link, const char *kind, int flags, const char *mode) {
     char name[64];
     FILE *file;
-    int opened;
+    int opened, fault;
     name_file(link, kind, name);
     opened = openat(folder, name, flags | O_NOFOLLOW | O_CLOEXEC, 0600);
     file = opened < 0 ? NULL : fdopen(opened, mode);
-    if (!file && opened >= 0) close(opened); /* which leaves errno */
-    return file;
+    if (file || opened < 0) return file;
+    fault = errno;
+    close(opened);
+    errno = fault;
+    return NULL;
 }
 
 /* Puts a file of an interface in the place of another one; answers whether it did. */

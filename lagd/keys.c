@@ -174,6 +174,14 @@ void apply_speed(struct protocol *protocol, struct link *link, const char *inter
     if (by_speed) give_key(protocol, link);
 }
 
+/* Whether a link that is up has come back at another speed, which with key-by-speed has another key. */
+bool has_other_speed(struct protocol *protocol, const struct link *link, const char *interface) {
+    struct speed now;
+    if (!protocol->settings->key_by_speed || !link->up || !link->has_speed) return false;
+    now = read_speed(link->socket, interface);
+    return !is_same_speed(&now, &link->speed);
+}
+
 /* The speed as text, as '1000 Mb/s, full duplex'. */
 const char *speed_text(const struct speed *speed, char room[static 40]) {
     const char *duplex = speed->duplex == DUPLEX_FULL ? "full duplex" : speed->duplex == DUPLEX_HALF ? "half duplex" : "unknown duplex";

@@ -131,7 +131,8 @@ struct link {
     bool held;             /* whether the file takes it out of use */
     bool waits;            /* whether its carrier is there, and has to be steady for longer before it is up */
     uint64_t steady_since; /* the milliseconds since which that is there, while it waits */
-    uint64_t carried_at;    /* the milliseconds at which its carrier was seen last, and had not gone */
+    uint64_t carried_at;    /* the milliseconds at which its carrier was seen last, and had been steady for delay-down */
+    uint64_t returned_at;   /* those at which that came back last, or 0 */
     bool away;              /* whether that is away, and the link is up by delay-down */
     uint32_t kernel_losses; /* how often the carrier went, as the kernel last told */
     bool unsent;            /* whether `frame` waits for room in its second, or for the kernel to take it */
@@ -228,7 +229,8 @@ struct ports {
 
 /* LACP: the system of the library, what the kernel tells of interfaces, and which ports the bundle has. */
 #define EACH_FILE_OF_PROTOCOL(DO) \
-    DO(bundle, bundle_private) DO(changes, changes) DO(halt, halt) DO(keys, keys) DO(system, system)
+    DO(bundle, bundle_private) DO(changes, changes) DO(halt, halt) DO(keys, keys) \
+    DO(select, selection) DO(system, system)
 struct protocol {
     struct process *process;
     struct settings *settings; /* those that hold now */
@@ -374,7 +376,8 @@ void look_for_twins(struct protocol *protocol);
 bool is_restored(struct protocol *protocol, struct link *link);
 void forget_carrier(struct link *link);
 bool has_waited(struct protocol *protocol, const struct link *link);
-bool is_spared(const struct settings *settings, struct link *link, bool carrier, bool lost);
+void note_carrier(const struct settings *settings, struct link *link);
+bool is_spared(struct protocol *protocol, struct link *link, bool carrier, bool lost);
 
 /* revert.c */
 void pass_revert_second(struct protocol *protocol);
@@ -400,6 +403,7 @@ uint16_t choose_key(struct protocol *protocol, const struct link *link);
 struct speed read_speed(int socket, const char *name);
 bool write_speed(int socket, const char *name, uint32_t megabits);
 void apply_speed(struct protocol *protocol, struct link *link, const char *interface);
+bool has_other_speed(struct protocol *protocol, const struct link *link, const char *interface);
 const char *speed_text(const struct speed *speed, char room[static 40]);
 
 /* system.c */
@@ -454,8 +458,9 @@ void print_all_changes(struct protocol *protocol);
 bool print_change(struct protocol *protocol, struct link *link);
 struct facts facts_of(struct protocol *protocol, const struct link *link);
 bool carries(struct protocol *protocol, const struct link *link);
+uint16_t count_away(const struct ports *ports);
 
-/* bundle.c */
+/* select.c */
 struct worth { /* of an aggregator, by the ports that carry there */
     uint16_t links;
     bool has_partner;
@@ -467,10 +472,13 @@ struct worth { /* of an aggregator, by the ports that carry there */
 struct worth worth_of(struct protocol *protocol, uint16_t aggregator);
 uint64_t patience_with(struct protocol *protocol, uint16_t active, uint16_t other);
 void follow_peer(struct protocol *protocol, uint16_t aggregator);
-bool is_following(const struct bundle_private *own);
-void go_on_as(struct protocol *protocol, const struct bundle *last);
+bool is_following(const struct select_private *own);
+void go_on_selecting(struct select_private *own, uint16_t aggregator, bool follows);
 void choose_aggregator(struct protocol *protocol, struct bundle *now);
 bool is_as_good_as_any(struct protocol *protocol, uint16_t aggregator);
+
+/* bundle.c */
+void go_on_as(struct protocol *protocol, const struct bundle *last, bool follows);
 void look_at_bundle(struct protocol *protocol);
 void allow_bundle_line(struct bundle_private *own);
 void end_bundle(struct protocol *protocol);
@@ -487,6 +495,7 @@ const char *boot_id(char room[static BOOT_ROOM]);
 void forget_interface(int folder, const struct link *link);
 
 /* folder.c */
+int try_folder(const char *folder, const char **fault);
 int open_folder(const char *folder);
 unsigned long network_namespace(void);
 uint64_t namespace_cookie(void);

@@ -111,6 +111,8 @@ void write_metrics(struct control *control) {
     add_bundle_states(control);
     add_bundle_value(control, "bundle_links", "gauge", "how many links the bundle has", control->parts.protocol->bundle.links);
     add_bundle_value(control, "bundle_links_carrying", "gauge", "how many of them carry", control->parts.protocol->bundle.carrying);
+    add_bundle_value(control, "bundle_links_away", "gauge", "how many count as up by delay-down, while their carriers are away",
+        count_away(control->parts.ports));
     add_bundle_value(control, "bundle_min_links", "gauge", "with fewer the bundle is down", control->parts.settings->min_links);
     add_bundle_value(control, "bundle_last_change_timestamp_seconds", "gauge", "when the state of the bundle changed last",
         (uint64_t)control->parts.protocol->bundle.changed_at);

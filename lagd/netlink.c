@@ -48,8 +48,11 @@ int error_of(const struct nlmsghdr *message) {
 static struct mnl_socket *open_netlink(int bus) {
     static const struct sockaddr_nl kernel = {.nl_family = AF_NETLINK};
     struct mnl_socket *opened = mnl_socket_open2(bus, SOCK_NONBLOCK | SOCK_CLOEXEC);
+    int fault;
     if (!opened || connect(mnl_socket_get_fd(opened), (const struct sockaddr *)&kernel, sizeof kernel) == 0) return opened;
-    (void)mnl_socket_close(opened); /* which leaves errno */
+    fault = errno;
+    (void)mnl_socket_close(opened);
+    errno = fault;
     return NULL;
 }
 

@@ -18,8 +18,8 @@ struct settings;
 struct tap_plane;
 struct team_plane;
 
-/* Calls a function of a table, which may be missing where there is nothing to do; or asks it, where what is usual is the answer of a missing
- * one. Those that are called without either are in each table. */
+/* CALL calls a function of a table, or does nothing without one; ASK answers `usual` without one. run_programs, set, set_again, send_marker,
+ * accept_response and answer of the last two tables are in each one. */
 #define CALL(function, ...) do { if (function) (function)(__VA_ARGS__); } while (0)
 #define ASK(function, usual, ...) ((function) ? (function)(__VA_ARGS__) : (usual))
 

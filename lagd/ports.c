@@ -25,6 +25,13 @@ bool carries(struct protocol *protocol, const struct link *link) {
     return status == NIW_PORT_STATUS_DISTRIBUTING || status == WITHOUT_PARTNER || status == AWAY;
 }
 
+/* How many links count as up, though their carriers are away. */
+uint16_t count_away(const struct ports *ports) {
+    uint16_t count = 0;
+    EACH_LINK_AS_IS(link, ports) count = (uint16_t)(count + link->away);
+    return count;
+}
+
 /* What there is to print of a port. */
 struct facts facts_of(struct protocol *protocol, const struct link *link) {
     const struct niw_view *view = &link->view;

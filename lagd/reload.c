@@ -131,7 +131,10 @@ static unsigned apply_settings(struct protocol *protocol, const struct settings 
     protocol->settings->delay_down = wanted->delay_down;
     protocol->settings->revert = wanted->revert;
     memcpy(protocol->settings->hook, wanted->hook, sizeof protocol->settings->hook);
-    EACH_LINK(link, protocol->ports) link->changed = true;
+    EACH_LINK(link, protocol->ports) {
+        link->changed = true;
+        if (wanted->select != SELECT_BANDWIDTH && !protocol->settings->key_by_speed) link->has_speed = false; /* nobody reads it any more */
+    }
     return changed;
 }
 

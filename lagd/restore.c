@@ -35,7 +35,14 @@ void forget_carrier(struct link *link) {
     set_waiting(link, false);
 }
 
-/* Whether a link whose carrier is away has been so for as long as delay-down has it. */
+/* The carrier of a link is there, and had not gone since the last call. One that came back a moment ago may go again as soon: only where it was
+ * steady for as long as it may be away, it may be so anew. */
+void note_carrier(const struct settings *settings, struct link *link) {
+    uint64_t now = milliseconds();
+    if (now - link->returned_at >= settings->delay_down) link->carried_at = now;
+}
+
+/* Whether a carrier was not steady for as long as delay-down has it. */
 static bool is_lost(const struct settings *settings, const struct link *link) {
     return milliseconds() - link->carried_at >= settings->delay_down;
 }
@@ -45,12 +52,14 @@ bool has_waited(struct protocol *protocol, const struct link *link) {
     return (link->waits && is_over(protocol, link)) || (link->away && is_lost(protocol->settings, link));
 }
 
-/* The kernel told of a link whether its carrier is there, and whether it was lost since: answers whether the link stays up all the same. For the
- * library its port is operable for so long (port_enabled of IEEE 802.1AX-2014, 6.4.12, leaves to the hardware when it is not). */
-bool is_spared(const struct settings *settings, struct link *link, bool carrier, bool lost) {
-    bool spared = link->up && (lost || !carrier) && !is_lost(settings, link);
+/* The kernel told of a link whether its carrier is there, and whether it was lost since: answers whether the link stays up all the same. What is
+ * there at the start counts as steady. For the library its port is operable for so long (port_enabled of IEEE 802.1AX-2014, 6.4.12, leaves to the
+ * hardware when it is not). */
+bool is_spared(struct protocol *protocol, struct link *link, bool carrier, bool lost) {
+    bool spared = link->up && (lost || !carrier) && !is_lost(protocol->settings, link);
     if (spared && !carrier && !link->away && !lost) link->counts[LOSSES]++; /* of a kernel that does not count them */
-    if (carrier && (spared || !lost)) link->carried_at = milliseconds();
+    if (carrier && (lost || link->away || (!link->up && !link->waits && protocol->process->has_started))) link->returned_at = milliseconds();
+    if (carrier) note_carrier(protocol->settings, link);
     if (!spared && !carrier) return false;
     link->changed = link->changed || link->away != !carrier;
     link->away = !carrier;

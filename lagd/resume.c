@@ -23,8 +23,8 @@ static uint64_t timeout_of(bool is_short) {
     return is_short ? SHORT_TIMEOUT : LONG_TIMEOUT;
 }
 
-/* Whether so much time passed since then, and not more than that. What is of later than now is of another clock; what is of before this boot has
- * run over. */
+/* Whether so much time passed since then, and not more than that. What is of later than now is of another clock; what is of before this boot
+ * wraps around, and still counts right. */
 static bool is_within(uint64_t began, uint64_t then, uint64_t most) {
     return began - then < most;
 }
@@ -160,7 +160,7 @@ void resume_conversations(struct plane *plane, bool goes_on) {
 void resume_data(struct protocol *protocol, unsigned count) {
     bool goes_on = count > 0 && protocol->process->inherited->bundle.aggregator <= protocol->aggregator_count;
     read_views(protocol);
-    if (goes_on) go_on_as(protocol, &protocol->process->inherited->bundle);
+    if (goes_on) go_on_as(protocol, &protocol->process->inherited->bundle, protocol->process->inherited->follows);
     CALL(protocol->plane->carrying->resume, protocol->plane, goes_on);
 }
 

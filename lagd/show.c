@@ -20,7 +20,9 @@ static void add_policy(struct report *report, const struct settings *settings) {
 /* Which aggregator carries, and what each one has of what decides that. */
 static void add_selection(struct report *report, struct protocol *protocol) {
     enum selection by = protocol->settings->select;
-    add(report, "  select: %s%s", selection_text(by), is_following(protocol->bundle_private) ? ", but the peer sends in the active one alone" : "");
+    add(report, "  select: %s", selection_text(by));
+    if (is_following(protocol->selection))
+        add(report, ", but it follows the peer, which sends in aggregator %u alone", protocol->bundle.aggregator);
     for (uint16_t aggregator = 1; aggregator <= protocol->aggregator_count; aggregator++) {
         struct worth worth = worth_of(protocol, aggregator);
         if (worth.links == 0) continue;

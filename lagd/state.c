@@ -1,6 +1,6 @@
 /* The state that a daemon leaves to the next one: a file beside the status socket, written each second and at the end. A line is added to it
- * before the first frame of a conversation goes on another link. It goes with each stop of which the peers are told. With state-dir there is a
- * second one, for the first daemon after a reboot: that knows interfaces by their names, and times by the clock on the wall. */
+ * before the first frame of a conversation goes on another link. It goes with each stop of which the peers are told. With state-dir a daemon
+ * that leaves writes a copy, for the first one after a reboot: that knows interfaces by their names, and times by the clock on the wall. */
 #define _GNU_SOURCE
 #include <errno.h>
 #include <fcntl.h>
@@ -26,15 +26,13 @@
 #define UNWRITTEN_MARKERS 65536
 /* For how long frames may have waited, in milliseconds: with the second in which a state is written. */
 #define MOST_AWAY 3000
-/* How often what is to outlive a reboot is written, in states. */
-#define KEPT_EACH 10
 
 struct state {
     struct carry *carry; /* what is saved, as far as it concerns data */
     struct team_plane *team;
     int file; /* the state that was written last, or -1 */
     int kept_folder; /* state-dir, or -1 */
-    unsigned written; /* how many states were */
+    bool has_copy; /* whether something may be there */
     uint64_t space; /* the namespace_cookie of this network namespace */
     int members[CONVERSATIONS]; /* the interface of each conversation that it has, or 0 */
     bool over; /* whether the peers are told of the end */
@@ -120,6 +118,7 @@ static void write_state(struct state *own, FILE *file) {
     fprintf(file, "marker %" PRIu32 "\n", is_done(own->carry->parts.process, marker.status, "niw_next_marker") && marker.left ? marker.id : 0);
     fprintf(file, "bundle %u %u %lld\n", own->carry->parts.protocol->bundle.state, own->carry->parts.protocol->bundle.aggregator,
         (long long)own->carry->parts.protocol->bundle.changed_at);
+    if (is_following(own->carry->parts.protocol->selection)) fputs("follows\n", file);
     if (tap_index(own->carry->parts.device) != 0)
         fprintf(file, "tap %d %d %" PRIu32 " %u\n", tap_index(own->carry->parts.device),
             ASK(plane->carrying->has_made_device, false, plane),
@@ -138,8 +137,8 @@ static void keep_file(struct state *own, int file) {
     own->file = file;
 }
 
-/* Puts a whole file in the place of the last one; answers it, or -errno. */
-static int replace_file(struct state *own, int folder, const char *name) {
+/* Puts a whole file in the place of the last one, which is on the disk before if it `lasts`; answers it, or -errno. */
+static int replace_file(struct state *own, int folder, const char *name, bool lasts) {
     char new_name[NAME_ROOM + 40];
     int fd, kept;
     FILE *file;
@@ -152,7 +151,7 @@ static int replace_file(struct state *own, int folder, const char *name) {
         return kept;
     }
     write_state(own, file);
-    kept = fflush(file) == 0 && !ferror(file) ? fcntl(fd, F_DUPFD_CLOEXEC, 0) : -1;
+    kept = fflush(file) == 0 && !ferror(file) && (!lasts || fsync(fd) == 0) ? fcntl(fd, F_DUPFD_CLOEXEC, 0) : -1;
     if (fclose(file) == 0 && kept >= 0 && !own->carry->parts.process->broken && renameat(folder, new_name, folder, name) == 0) return kept;
     fd = last_fault();
     if (kept >= 0) close(kept);
@@ -161,28 +160,12 @@ static int replace_file(struct state *own, int folder, const char *name) {
 }
 
 /* It could not be written: there is none. */
-static void lose_file(struct state *own, int folder, const char *name, int fault) {
+static void lose_file(struct state *own, int fault) {
     if (!own->failed)
         (void)say(own->carry->parts.process, LOG_WARNING | ABOUT_HANDOVER, "its state cannot be kept, so the next daemon starts anew: %s",
             strerror(-fault));
     own->failed = true;
-    (void)unlinkat(folder, name, 0);
-}
-
-/* Writes the state; answers whether it did. Where that fails there is none. What is to outlive a reboot is written less often: not each second
- * to a disk. */
-bool save_state(struct state *own, bool leaves) {
-    struct process *process = own->carry->parts.process;
-    int file, copy = 0;
-    if (own->over || process->broken || !process->has_started) return false;
-    if (own->kept_folder >= 0 && (own->written++ % KEPT_EACH == 0 || leaves)) copy = replace_file(own, own->kept_folder, own->kept_name);
-    if (copy < 0) lose_file(own, own->kept_folder, own->kept_name, copy);
-    if (copy > 0) close(copy);
-    file = replace_file(own, process->folder, own->name);
-    keep_file(own, file);
-    if (file < 0) lose_file(own, process->folder, own->name, file);
-    if (file >= 0 && (copy > 0 || own->kept_folder < 0)) own->failed = false;
-    return file >= 0;
+    (void)unlinkat(own->carry->parts.process->folder, own->name, 0);
 }
 
 /* The next frame of a conversation goes on this port: a daemon that goes on from here has to know. */
@@ -194,7 +177,7 @@ void keep_port(struct state *own, uint16_t number, uint16_t port) {
     own->members[number] = index;
     length = snprintf(line, sizeof line, "on %u %d\n", number, index);
     if (write(own->file, line, (size_t)length) == length) return;
-    lose_file(own, own->carry->parts.process->folder, own->name, last_fault());
+    lose_file(own, last_fault());
     keep_file(own, -1);
 }
 
@@ -207,6 +190,32 @@ static void remove_state(struct state *own, int folder, const char *name) {
     else
         (void)say(own->carry->parts.process, LOG_ERR | ABOUT_HANDOVER,
             "its state cannot be removed: %s: remove %s, or start no daemon for as long as a partner is waited for", strerror(errno), name);
+}
+
+/* Writes the copy, which is of no use any more while a daemon runs. It may be on a disk that takes long: it is written once, by a daemon that
+ * leaves. */
+static void save_copy(struct state *own, bool leaves) {
+    int copy = leaves ? replace_file(own, own->kept_folder, own->kept_name, true) : -1;
+    if (copy >= 0)
+        close(copy);
+    else if (leaves)
+        (void)say(own->carry->parts.process, LOG_WARNING | ABOUT_HANDOVER, "its state cannot be kept in %s, so a start after a reboot begins anew: %s",
+            own->carry->parts.settings->state_dir, strerror(-copy));
+    if (copy < 0 && own->has_copy) remove_state(own, own->kept_folder, own->kept_name);
+    own->has_copy = copy >= 0;
+}
+
+/* Writes the state; answers whether it did. Where that fails there is none. */
+bool save_state(struct state *own, bool leaves) {
+    struct process *process = own->carry->parts.process;
+    int file;
+    if (own->over || process->broken || !process->has_started) return false;
+    file = replace_file(own, process->folder, own->name, false);
+    keep_file(own, file);
+    if (file < 0) lose_file(own, file);
+    if (file >= 0) own->failed = false;
+    if (own->kept_folder >= 0 && (leaves ? file >= 0 : own->has_copy)) save_copy(own, leaves);
+    return file >= 0;
 }
 
 /* The peers are told of the end: no daemon goes on from here. */
@@ -292,6 +301,7 @@ static bool read_rest(struct inherited *inherited, FILE *file) {
         if (strcmp(word, "wall") == 0) read = fscanf(file, "%" SCNu64, &inherited->wall) == 1;
         if (strcmp(word, "marker") == 0) read = fscanf(file, "%" SCNu32, &inherited->marker) == 1;
         if (strcmp(word, "bundle") == 0) read = read_bundle(inherited, file);
+        if (strcmp(word, "follows") == 0) read = inherited->follows = true;
         if (strcmp(word, "tap") == 0)
             read = fscanf(file, "%d %d %" SCNu32 " %u", &inherited->tap, &inherited->persists, &inherited->mtu,
                 &inherited->answering) == 4
@@ -317,6 +327,7 @@ static void keep_interfaces(struct state *own, bool team) {
     memset(inherited->members, 0, sizeof inherited->members);
     inherited->port_count = 0;
     inherited->bundle = (struct bundle){0};
+    inherited->follows = false;
     inherited->answering = NOT_ASKED;
     inherited->tap = inherited->persists = 0;
     inherited->mtu = 0;
@@ -380,6 +391,17 @@ static FILE *open_state(int folder, const char *name) {
     return file;
 }
 
+/* Opens state-dir. A bundle goes on without the copy. */
+static void open_kept_folder(struct state *own) {
+    const char *folder = own->carry->parts.settings->state_dir, *fault;
+    if (!folder[0] || own->kept_folder >= 0) return;
+    own->kept_folder = try_folder(folder, &fault);
+    own->has_copy = own->kept_folder >= 0;
+    if (own->kept_folder < 0)
+        (void)say(own->carry->parts.process, LOG_WARNING | ABOUT_HANDOVER, "no state is kept in %s, so a start after a reboot begins anew: %s", folder,
+            fault ? fault : strerror(errno));
+}
+
 /* Reads what the last daemon left. What counts for nothing has a line, and the daemon starts anew. */
 void recall_state(struct state *own) {
     const struct settings *settings = own->carry->parts.settings;
@@ -389,7 +411,7 @@ void recall_state(struct state *own) {
     snprintf(own->name, sizeof own->name, "%lu.%s.state", network_namespace(), settings->name);
     snprintf(own->kept_name, sizeof own->kept_name, "%s.state", settings->name);
     own->space = namespace_cookie();
-    if (settings->state_dir[0] && own->kept_folder < 0) own->kept_folder = open_folder(settings->state_dir);
+    open_kept_folder(own);
     file = open_state(own->carry->parts.process->folder, own->name);
     is_kept = !file && own->kept_folder >= 0;
     if (is_kept) file = open_state(own->kept_folder, own->kept_name);

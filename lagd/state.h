@@ -35,6 +35,7 @@ struct inherited {
     uint64_t ahead;               /* so much is CLOCK_BOOTTIME of its boot ahead of that of this one; 0: it is of this one */
     uint32_t marker;              /* the identifier of the next one */
     struct bundle bundle;         /* its state, aggregator and time of the last change */
+    bool follows;                 /* whether that aggregator is the one in which the peer sends, and not the one that is preferred */
     unsigned answering;           /* enum answering */
     int tap;                      /* the index of the TAP device, or 0 */
     int persists;                 /* whether the daemon made it outlive itself */

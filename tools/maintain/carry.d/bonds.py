@@ -128,6 +128,7 @@ class Status(TypedDict):
 
     state: str
     carrying: int
+    away: int
     carry: Carry
     ports: list[Member]
 

@@ -163,9 +163,10 @@ def spared(programs: Programs) -> None:
         with pair(programs, options=["--delay-down", str(DELAY), *way]) as (laid, ours, theirs):
             seen: list[str] = []
             came = [port["counters"]["distributed"] for port in ours.ports().values()]
-            events: list[Event] = [(1, lambda: laid.tell("cut", 1)), (1.4, lambda: seen.append(ours.text())), (1.7, lambda: laid.tell("join", 1))]
+            events: list[Event] = [(1, lambda: laid.tell("cut", 1)), (1.4, lambda: seen.extend((ours.text(), str(ours.told()["away"])))), (1.7, lambda: laid.tell("join", 1))]
             outcome = run_flows(programs, 4, events)
             check(AWAY in seen[0] and "but the carrier of a1 is away" in seen[0], "the status says that a carrier is away", seen[0])
+            check(seen[1] == "1" and ours.told()["away"] == 0, "and JSON, while it is", seen[1])
             now = [port["counters"]["distributed"] for port in ours.ports().values()]
             check(now == came and ours.links() == theirs.links() == 2, f"a link that is back in time never went {way}", ours.printed())
             check_order(outcome, "through that", ours.text())
@@ -191,6 +192,18 @@ def spared(programs: Programs) -> None:
             gone = lambda: any(line.startswith("the link is down") or "in time" in line for line in ours.lines("a1")[lines:])
             check(within(3, gone), "one whose daemon stood still for so long goes", ours.printed())
             check(within(COMES_UP, lambda: ours.links() == theirs.links() == 2), "it comes back", ours.text())
+            time.sleep(DELAY / 1000)  # until its carrier was steady
+            laid.tell("cut", 1)
+            time.sleep(DELAY / 1000 * 0.6)
+            laid.tell("join", 1)
+            time.sleep(0.2)
+            check(ours.links() == 2, "its carrier was away for a moment", ours.printed())
+            laid.tell("cut", 1)
+            down = within(DELAY / 1000 * 0.7, lambda: statuses(ours)[1] == "the link is down")
+            check(down, "one that comes and goes is not spared for longer", ours.printed())
+            laid.tell("join", 1)
+            check(within(COMES_UP, lambda: ours.links() == theirs.links() == 2), "it comes back", ours.text())
+            time.sleep(DELAY / 1000)
             laid.tell("cut", 1)
             check(within(1, lambda: statuses(ours)[1] == AWAY), "the carrier is away", ours.text())
             ip(OURS, "link", "del", "a1")

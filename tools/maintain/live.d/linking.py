@@ -153,7 +153,7 @@ def build_lists(folder: str) -> str:
 def build_policy(folder: str, libraries: Sequence[str]) -> str:
     """Builds what the daemon decides of data alone, with ASan and UBSan, over cables in memory; answers the path of the program. What it is
     not linked with it does not call."""
-    decides = ("bundle", "carry", "data", "flight", "frames", "held", "markers", "moves", "names", "probe")
+    decides = ("bundle", "carry", "data", "flight", "frames", "held", "markers", "moves", "names", "probe", "select")
     sources = [*(f"{MAINTAIN}/live.d/{name}.c" for name in ("policy", "checks")), *sources_of(*decides)]
     return build(os.path.join(folder, "policy"), sources, libraries, *STRICT, f"-I{DAEMON}", *SANITIZED)
 

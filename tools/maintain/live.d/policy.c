@@ -1,4 +1,4 @@
-/* Two ends of a bundle in memory: what the daemon decides of data (lagd/carry.c, probe.c, bundle.c, lagd/tap/data.c, moves.c, flight.c, held.c, and what it
+/* Two ends of a bundle in memory: what the daemon decides of data (lagd/carry.c, probe.c, bundle.c, select.c, lagd/tap/data.c, moves.c, flight.c, held.c, and what it
  * takes of Marker PDUs: frames.c, markers.c), over the library, with a clock and cables of its own. Random events come: frames of the hosts,
  * links that go and come, ticks that are late, peers that answer no markers, or late, or by the wrong link, and sends that fail. After each
  * one no frame goes on a port while one of its conversation can still come by another one, none comes twice or behind a later one, each is
@@ -391,6 +391,7 @@ static void make_end(struct end *end, uint8_t which) {
     lagd->device = (struct device *)(void *)end;
     join_parts(lagd);
     lagd->protocol.bundle_private = make_bundle_private();
+    lagd->protocol.selection = make_select_private();
     lagd->carry.carry_private = make_carry_private();
     lagd->tap.flight = make_flight_private();
     lagd->tap.held = make_held_private();

@@ -223,6 +223,7 @@ def outlives_boot(part: Part) -> None:
     ]
     for what, text, change in rows:
         both_up(ours, theirs, "both links come to distribute")
+        check(not os.path.exists(f"{kept}/a0.state"), "no copy is kept while a daemon runs")
         lines = theirs.printed()
         ours = boots(part, ours, kept, change)
         check(text in ours.printed(), f"a state {what}: a line says so", ours.printed())
@@ -236,6 +237,9 @@ def outlives_boot(part: Part) -> None:
     os.kill(int(child), signal.SIGTERM)
     ours.process.wait(ENDS)
     check(not os.path.exists(f"{kept}/a0.state"), "a stop leaves none")
+    ours = part.ours(options=["--timeout", "long", "--state-dir", "/proc/kept"])
+    both_up(ours, theirs, "where the folder cannot be made, both links distribute")
+    check("no state is kept in /proc/kept" in ours.printed(), "and a line says so", ours.printed())
 
 
 PARTS = {"the next daemon goes on": goes_on, "a state beyond a reboot": outlives_boot, "restarts in a row": in_a_row, "a limit of links through a restart": keeps_limit,

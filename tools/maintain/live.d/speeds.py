@@ -17,7 +17,7 @@ from daemon import KEY, SYSTEM, Daemon, Part
 from daemons import COMES_UP
 from spaces import OURS, THEIRS, ip, within_space
 
-TUNSETIFF, TAP_WITHOUT_INFO = 0x400454CA, 0x1002
+TUNSETIFF, TUNSETCARRIER, TAP_WITHOUT_INFO = 0x400454CA, 0x400454E2, 0x1002
 SIOCETHTOOL, GET_SETTINGS, SET_SETTINGS = 0x8946, 0x4C, 0x4D
 # Where struct ethtool_link_settings of linux/ethtool.h has the speed, the duplex and the count of words; and how long it is at most.
 SPEED, DUPLEX, WORDS, SETTINGS_ROOM = 4, 8, 15, 2048
@@ -129,7 +129,7 @@ def unequal(part: Part) -> None:
         check(within(COMES_UP, lambda: groups_of(ours, names) == [names]), "without key-by-speed unequal links share a group", ours.text())
         check("  speed: " not in ours.text() and ours.port("t0")["speed"] is None, "and no speed is told", ours.text())
         ours.ends("the daemon")
-        ours = part.ours(*names, options=["--key-by-speed"])
+        ours = part.ours(*names, options=["--key-by-speed", "--delay-down", "3000"])
         apart = lambda: groups_of(ours, names) == [["t0", "t1"], ["t2"]]
         check(within(COMES_UP, apart), "with key-by-speed the slower one is in a group of its own", ours.text(), theirs.text())
         keys = [ours.port(name)["actor"]["key"] for name in names]
@@ -140,6 +140,12 @@ def unequal(part: Part) -> None:
         check(within(COMES_UP, lambda: groups_of(ours, names) == [names]), "as fast as they are, it joins them", ours.text())
         renew(0, 1000, HALF)
         check(within(COMES_UP, lambda: groups_of(ours, names) == [["t0"], ["t1", "t2"]]), "of half duplex, one leaves", ours.text())
+        time.sleep(3)  # until its carrier was steady
+        fcntl.ioctl(cables[0].ends[0], TUNSETCARRIER, struct.pack("i", 0))
+        check(within(1, lambda: ours.port("t0")["link"] == "away"), "its carrier is away for a moment", ours.text())
+        Settings(OURS, "t0").set(1000, FULL)
+        fcntl.ioctl(cables[0].ends[0], TUNSETCARRIER, struct.pack("i", 1))
+        check(within(COMES_UP, lambda: groups_of(ours, names) == [names]), "back at the speed of the others, it joins them", ours.text())
         ours.ends("the daemon")
         theirs.ends("the other daemon")
     finally:
