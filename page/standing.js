@@ -18,9 +18,11 @@ const isPassive = (it) => !(it.state & ACTIVITY_BIT);
 
 function linkFacts({ name, told, ports, hash }) {
     const down = ports.filter((it) => it.link === false), up = ports.filter((it) => isLinked(it) && it.aggregator !== null), linked = ports.filter(isLinked);
-    const parts = [...new Set(up.map((it) => it.aggregator))], standing = ports.filter((it) => it.standsBy);
+    const parts = [...new Set(up.map((it) => it.aggregator))], standing = ports.filter((it) => it.standsBy), away = ports.filter((it) => it.isAway);
     return [
         { name: "link-down", ports: down, title: `the link of ${namesIn(down)} is down`, advice: "Nothing of LACP is to be judged there: look at the cable and at the other end's port." },
+        { name: "away", ports: away, title: `the carrier of ${namesIn(away)} is away, and LACP takes the link as up (delay-down): it passes nothing now`,
+            advice: "Read the status again: it comes back within delay-down, or it is down." },
         { name: "aggregators", ports: parts.length > 1 ? up : [], title: `${told} is in ${parts.length} parts, of which one is used`,
             advice: `${up.map((it) => `${it.name} in ${it.aggregator}`).join(", ")}: each has another partner, key or speed, or no partner.` },
         { name: "speeds", ports: isSeveral(linked, (it) => it.speed) ? linked : [], title: `the links of ${told} differ in speed or duplex`,
@@ -80,7 +82,7 @@ export function factsIn(texts) {
 const RANKS = ["no-lacp", "no-state", "no-root", "set-down", 30, "own-address", "never-heard", 29, 15, "apart", "link-down", "speeds", "stands-by", 5, "passive-unheard", 14, "deaf-there", 12, 22, 17, 2, 3, 4, "too-few"];
 const isUnheard = ({ rank }) => rank === 12;
 /* What calls for nothing by itself. */
-const ASIDE = ["aggregators", "same-partner-port", "one-system", "note", "said"];
+const ASIDE = ["away", "aggregators", "same-partner-port", "one-system", "note", "said"];
 
 const isCutIn = (text) => text.bundles.some((it) => it.isCut);
 const causeOf = (given) => ({ kind: FAULT, lines: [], effects: [], ports: [], ...given });
@@ -132,6 +134,7 @@ function howApart(port, used) {
 /* Why a port of a text does not carry. */
 function whyIdle(port, bundle) {
     if (port.link === false) return "its link is down";
+    if (port.isAway) return "its carrier is away now";
     if (port.standsBy) return `it stands by: ${bundle.hash.join(" is ")}`;
     if (!port.actor) return "the text has nothing of its LACPDUs";
     if (!port.partner) return "it hears nobody";
@@ -187,6 +190,8 @@ export function headlineOfTexts(texts, lines, causes) {
     if (texts.some(isCutIn)) return ["The text is cut: nothing is named. Give all of it, with the line behind it.", "bad"];
     if (cause) return [`${head}${capitalized(cause.title)}.`, "bad"];
     if (!all) return ["No port of an LACP bundle is in this text.", "bad"];
+    const away = causes.find(({ rank }) => rank === "away");
+    if (away) return [`${head}${capitalized(away.title)}.`, ""];
     if (carry < all) return [`${head}The text does not show why: give the text of the other end, or capture.`, ""];
     const twins = causes.find(({ rank }) => rank === "same-partner-port");
     if (twins) return [`${head}${capitalized(twins.title)}: right if switches act as one (MLAG).`, ""];

@@ -92,6 +92,18 @@ def of_programs(tests: Tests) -> None:
     tests.same("who churns for 60 s does not start", ["Look again in 10 s" in churned, "It has been so for 60 s or more" in churned], [False, True])
 
 
+def of_away(tests: Tests) -> None:
+    """A link whose carrier is away, and that lagd takes as up, is no fault, and does not carry."""
+    away, word = "its carrier is away, for less than delay-down so far", "1 of 2 links carries. The carrier of p2 is away, and LACP takes the link as up (delay-down): it passes nothing now."
+    head, last = read(os.path.join(STATUS, "healthy-lagd.txt")).split("member: p2:")
+    shown = f"{head}member: p2:{last.replace('it distributes', away).replace('link: up', 'link: away')}"
+    head, last = read(os.path.join(STATUS, "healthy-lagd-json.json")).split('{"port":2,')
+    line = head + '{"port":2,' + last.replace("it distributes", away).replace('"link":"up"', '"link":"away"')
+    for form, text in ("text", shown), ("JSON", line):
+        ended, said = told_of(text)
+        tests.same(f"a carrier that is away for a moment, as {form}", [ended, said.partition("\n")[0], "\n1. remark: the carrier of p2 is away" in said], [1, word, True])
+
+
 def of_speeds(tests: Tests) -> None:
     """Where keys differ because speeds do, the speeds come first, and the keys below them; else the keys."""
     text = read(os.path.join(STATUS, "speeds-bonding.txt"))
@@ -136,7 +148,7 @@ def of_texts(tests: Tests, browser: Browser) -> None:
     of_ways(tests, browser)
     of_cuts(tests, browser)
     of_explain(tests, browser)
-    for it in of_words, of_endings, of_programs, of_speeds, of_hashes:
+    for it in of_words, of_endings, of_programs, of_away, of_speeds, of_hashes:
         it(tests)
     passive = read(os.path.join(STATUS, "healthy-bonding.txt")).replace("port state: 63", "port state: 62")
     tests.same("two passive ends do not carry, as in a capture", pasted(browser, passive)[0], "0 of 2 links carry. Both ends are passive: p1, p2.")
