@@ -1,4 +1,4 @@
-/* What a rule says of a text: its name for a moment, what is seen, and what to do, in the words of the program whose text it is. */
+/* What a rule says of a text: its title where a status is one moment, what is seen, and what to do, in the words of the program whose text it is. */
 
 /* For each form of a text how its program counts LACPDUs, and what gives its ports one key. */
 const BONDING = { counts: "it counts no LACPDUs, so capture at both ends (tcpdump -i PORT 'ether proto 0x8809')", key: "one speed, and full duplex" };
@@ -52,7 +52,7 @@ function adviceOnKeys({ ports, form }) {
 }
 
 /* What rules say of texts; what stands not here is said as of a capture. `ports` are those of the text, `isLasting` is whether one of those that
- * are meant churns. */
+ * are meant churns, `isImplied` whether all are the other ends; for these `implied` has the title. */
 export const RULES = new Map([
     [5, { title: "both ends are passive" }],
     [12, {
@@ -69,8 +69,8 @@ export const RULES = new Map([
         advice: (it) => `${asLong(it)}the other end has it in no aggregator, in another one, or beyond its limit (switch: max links). Look at its status.`,
     }],
     [22, {
-        title: "it is attached, and the other end has not attached it",
-        advice: (it) => `${asLong(it)}the other end has chosen another aggregator, or has links enough (switch: max links). Look at its status.`,
+        title: "it is attached, and the other end has not attached it", implied: (names) => `the partner of ${names} says that it is synchronized, and this end does not`,
+        advice: (it) => `${asLong(it)}${it.isImplied ? "this end" : "the other end"} has chosen another aggregator, or has links enough (switch: max links).${it.isImplied ? "" : " Look at its status."}`,
     }],
     [29, { title: "links lead to two systems", said: ({ ports }) => [eachOf(ports, (it) => it.partner.system ? dashed(it.partner.system) : "a system that is not named")] }],
     [30, { title: "the partner is this system itself" }],

@@ -91,8 +91,9 @@ function causesOfRules(found, { bundles, form }) {
     const rules = [...new Set(found.map((it) => it.rule))].map((rule) => found.filter((it) => it.rule === rule)), ports = bundles.flatMap((it) => it.ports);
     return rules.map((list) => {
         const [{ rule, clause, name, advice }] = list, own = RULES.get(rule) ?? {}, here = list.filter((it) => !it.isImplied), meant = list.map((it) => it.port);
-        const who = here.length ? namesIn(here.map((it) => it.port)) : `the other end of ${namesIn(meant)}`, seen = { ports, form, isLasting: meant.some((it) => it.isLasting) };
-        return causeOf({ rank: rule, rule, clause, title: `${own.title ?? name}: ${who}`, advice: own.advice?.(seen) ?? advice, lines: own.said?.(seen) ?? [], ports: meant });
+        const who = here.length ? namesIn(here.map((it) => it.port)) : `the other end of ${namesIn(meant)}`, seen = { ports, form, isLasting: meant.some((it) => it.isLasting), isImplied: !here.length };
+        const title = (!here.length && own.implied?.(namesIn(meant))) || `${own.title ?? name}: ${who}`;
+        return causeOf({ rank: rule, rule, clause, title, advice: own.advice?.(seen) ?? advice, lines: own.said?.(seen) ?? [], ports: meant });
     });
 }
 

@@ -88,6 +88,8 @@ def of_programs(tests: Tests) -> None:
     tests.same("nothing came 1 times", [name for name, text in said.items() if " 1 times" in text], [])
     failed = read(os.path.join(STATUS, "healthy-bonding.txt")).replace("Link Failure Count: 0", "Link Failure Count: 1", 1)
     tests.same("a link failed once", "p1: its link failed once since the bond has it" in told_of(failed)[1], True)
+    partner = "the partner of q2 says that it is synchronized, and this end does not"
+    tests.same("of an end that attached nothing it is said who did not", partner in told_of(read(os.path.join(STATUS, "standby-bonding.other.txt")))[1], True)
     churned = said["churned-bonding.txt"]
     tests.same("who churns for 60 s does not start", ["Look again in 10 s" in churned, "It has been so for 60 s or more" in churned], [False, True])
 
@@ -110,7 +112,7 @@ def of_speeds(tests: Tests) -> None:
     text = text.replace("oper key: 9", "oper key: 5").replace("oper key: 7", "oper key: 5")
     one_there = told_of(text)[1]
     first, keys = "1 of 2 links carries. The links of the bond differ in speed or duplex.", "keys differ within one pair of systems"
-    tests.same("speeds explain keys", [one_there.partition("\n")[0], f"likely effects: {keys}" in one_there], [first, True])
+    tests.same("speeds explain keys", [one_there.partition("\n")[0], f"likely effect: {keys}" in one_there], [first, True])
     other = told_of(text.replace("Speed: 100 Mbps", "Speed: 1000 Mbps"))[1]
     tests.same("keys that differ at one speed come first", other.partition("\n")[0], "1 of 2 links carries. Keys differ within one pair of systems: p1, p2.")
 
