@@ -11,6 +11,9 @@ import { linksOfTexts } from "./implied.js";
 import { dashed, isLinked, isSeveral, keysFollowSpeed, namesIn, RULES } from "./advice.js";
 
 const isHalf = (it) => it.speed.endsWith("half");
+const speedOf = (it) => parseInt(it.speed, 10);
+/* The links that are slower than another, or half duplex. */
+const slowIn = (ports) => ports.filter((it) => isHalf(it) || ports.some((other) => speedOf(other) > speedOf(it)));
 const hearsNobody = (it) => (it.state & (DEFAULTED_BIT | EXPIRED_BIT)) !== 0;
 const isPassive = (it) => !(it.state & ACTIVITY_BIT);
 
@@ -26,7 +29,7 @@ function linkFacts({ name, told, ports, hash }) {
         { name: "aggregators", ports: parts.length > 1 ? up : [], title: `${told} is in ${parts.length} parts, of which one is used`,
             advice: `${up.map((it) => `${it.name} in ${it.aggregator}`).join(", ")}: each has another partner, key or speed, or no partner.` },
         { name: "speeds", ports: isSeveral(linked, (it) => it.speed) ? linked : [], title: `the links of ${told} differ in speed or duplex`,
-            advice: `${linked.map((it) => `${it.name} ${it.speed}`).join(", ")}: give them one speed and full duplex.${linked.some(isHalf) ? " Linux bonding sends no LACPDUs at half duplex." : ""}` },
+            advice: `${linked.map((it) => `${it.name} ${it.speed}`).join(", ")}: look at ethtool ${namesIn(slowIn(linked))} (what both ends advertise). A link that was faster before is a cable with two good pairs, or a port with a forced speed: set autonegotiation at both ends, try another cable. All want one speed and full duplex.${linked.some(isHalf) ? " Linux bonding sends no LACPDUs at half duplex." : ""}` },
         { name: "stands-by", ports: standing, title: `${told} uses one link at a time: its ${hash?.join(" is ")}`,
             advice: `${namesIn(standing)} stands by. For all links: ovs-vsctl set port ${name} bond_mode=balance-tcp` },
     ];

@@ -113,6 +113,7 @@ def of_speeds(tests: Tests) -> None:
     one_there = told_of(text)[1]
     first, keys = "1 of 2 links carries. The links of the bond differ in speed or duplex.", "keys differ within one pair of systems"
     tests.same("speeds explain keys", [one_there.partition("\n")[0], f"likely effect: {keys}" in one_there], [first, True])
+    tests.same("the slow link is named", "look at ethtool p2 (what" in one_there, True)
     other = told_of(text.replace("Speed: 100 Mbps", "Speed: 1000 Mbps"))[1]
     tests.same("keys that differ at one speed come first", other.partition("\n")[0], "1 of 2 links carries. Keys differ within one pair of systems: p1, p2.")
 
