@@ -45,8 +45,17 @@ function aloneSaid(ports, form) {
 /* A start lasts less than 10 s; who churns has been so for 60 s (6.4.17). */
 const asLong = ({ isLasting }) => isLasting ? "It has been so for 60 s or more, so it is no start: " : "Look again in 10 s: after a start it ends by itself. If it is still so: ";
 
+/* Ports whose partners name one port of one system. */
+export const portsNamedAlike = (ports) => heardIn(ports).filter((it) => it.partner.port !== null && heardIn(ports).some((other) => other !== it && other.partner.system === it.partner.system && other.partner.port === it.partner.port));
+
+/* Whether these differ in keys, so that no group of one box could hold them. */
+export const areTwinsApart = (ports) => isSeveral(portsNamedAlike(ports), (it) => it.partner.key) && !keysFollowSpeed(ports);
+
 function adviceOnKeys({ ports, form }) {
-    const sides = sidesWithKeys(ports), there = "one group there (switch: one channel-group; bonding: one bond, one speed and duplex; Open vSwitch: one bond; teamd: one lacp_key)";
+    if (areTwinsApart(ports)) {
+        return `${namesIn(portsNamedAlike(ports))} name one port of one system, so two boxes have one system: an MLAG pair (give both the same MLAG number; bonding: the same ad_user_port_key), or two machines with one system address (give each its own).`;
+    }
+    const sides = sidesWithKeys(ports), there = "one group there (switch: one channel-group; bonding: one bond, one speed, duplex and ad_user_port_key; Open vSwitch: one bond; teamd: one lacp_key)";
     const ways = sides.map((side) => side === "actor" ? `give these ports of this end ${PROGRAMS.get(form).key}` : `put the other ends of these ports into ${there}`).join(", and ");
     return ways ? `${ways[0].toUpperCase()}${ways.slice(1)}; or these are two bundles, and cables are crossed.` : null;
 }

@@ -8,7 +8,7 @@ import { ALONE, CARRIES, howManyCarry, IDLE, UNKNOWN } from "./summary.js";
 import { flowSaid, hashesSaid } from "./hashes.js";
 import { ACTIVITY_BIT, DEFAULTED_BIT, DISTRIBUTING_BIT, EXPIRED_BIT } from "./status.js";
 import { linksOfTexts } from "./implied.js";
-import { dashed, isLinked, isSeveral, keysFollowSpeed, namesIn, RULES } from "./advice.js";
+import { areTwinsApart, dashed, isLinked, isSeveral, keysFollowSpeed, namesIn, RULES, portsNamedAlike } from "./advice.js";
 
 const isHalf = (it) => it.speed.endsWith("half");
 const speedOf = (it) => parseInt(it.speed, 10);
@@ -51,7 +51,7 @@ function silentFacts({ ports }, form) {
 function partnerFacts({ name, ports }) {
     const heard = ports.filter((it) => it.partner), apart = heard.filter((it) => isLinked(it) && it.partner.system === null && it.aggregator !== null);
     const alike = heard.filter((it) => it.partner.system === it.actor.system && it.partner.priority !== null && it.partner.priority !== it.actor.priority);
-    const twins = heard.filter((it) => heard.some((other) => other !== it && it.partner.port !== null && other.partner.system === it.partner.system && other.partner.port === it.partner.port));
+    const twins = areTwinsApart(ports) ? [] : portsNamedAlike(ports);
     return [
         { name: "apart", ports: apart, title: `another aggregator than the one in use has ${namesIn(apart)}`,
             advice: `Both ends speak there: it has another partner, or another key (another speed or duplex). As root, cat /proc/net/bonding/${name} names it.` },

@@ -90,6 +90,8 @@ def of_programs(tests: Tests) -> None:
     tests.same("a link failed once", "p1: its link failed once since the bond has it" in told_of(failed)[1], True)
     partner = "the partner of q2 says that it is synchronized, and this end does not"
     tests.same("of an end that attached nothing it is said who did not", partner in told_of(read(os.path.join(STATUS, "standby-bonding.other.txt")))[1], True)
+    keys = said["keys-bonding.txt"]
+    tests.same("two boxes that are one system are one finding", ["two boxes have one system" in keys, "channel-group" in keys, "remark: p1, p2 name" in keys], [True, False, False])
     churned = said["churned-bonding.txt"]
     tests.same("who churns for 60 s does not start", ["Look again in 10 s" in churned, "It has been so for 60 s or more" in churned], [False, True])
 
