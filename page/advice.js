@@ -1,4 +1,4 @@
-/* What a rule says of a text: its name for a moment, what is seen, and what to do, in the words of the program whose text it is. */
+/* What a rule says of a text: its title where a status is one moment, what is seen, and what to do, in the words of the program whose text it is. */
 
 /* For each form of a text how its program counts LACPDUs, and what gives its ports one key. */
 const BONDING = { counts: "it counts no LACPDUs, so capture at both ends (tcpdump -i PORT 'ether proto 0x8809')", key: "one speed, and full duplex" };
@@ -45,14 +45,23 @@ function aloneSaid(ports, form) {
 /* A start lasts less than 10 s; who churns has been so for 60 s (6.4.17). */
 const asLong = ({ isLasting }) => isLasting ? "It has been so for 60 s or more, so it is no start: " : "Look again in 10 s: after a start it ends by itself. If it is still so: ";
 
+/* Ports whose partners name one port of one system. */
+export const portsNamedAlike = (ports) => heardIn(ports).filter((it) => it.partner.port !== null && heardIn(ports).some((other) => other !== it && other.partner.system === it.partner.system && other.partner.port === it.partner.port));
+
+/* Whether these differ in keys, so that no group of one box could hold them. */
+export const areTwinsApart = (ports) => isSeveral(portsNamedAlike(ports), (it) => it.partner.key) && !keysFollowSpeed(ports);
+
 function adviceOnKeys({ ports, form }) {
-    const sides = sidesWithKeys(ports), there = "one group there (switch: one channel-group; bonding: one bond, one speed and duplex; Open vSwitch: one bond; teamd: one lacp_key)";
+    if (areTwinsApart(ports)) {
+        return `${namesIn(portsNamedAlike(ports))} name one port of one system, so two boxes have one system: an MLAG pair (give both the same MLAG number; bonding: the same ad_user_port_key), or two machines with one system address (give each its own).`;
+    }
+    const sides = sidesWithKeys(ports), there = "one group there (switch: one channel-group; bonding: one bond, one speed, duplex and ad_user_port_key; Open vSwitch: one bond; teamd: one lacp_key)";
     const ways = sides.map((side) => side === "actor" ? `give these ports of this end ${PROGRAMS.get(form).key}` : `put the other ends of these ports into ${there}`).join(", and ");
     return ways ? `${ways[0].toUpperCase()}${ways.slice(1)}; or these are two bundles, and cables are crossed.` : null;
 }
 
 /* What rules say of texts; what stands not here is said as of a capture. `ports` are those of the text, `isLasting` is whether one of those that
- * are meant churns. */
+ * are meant churns, `isImplied` whether all are the other ends; for these `implied` has the title. */
 export const RULES = new Map([
     [5, { title: "both ends are passive" }],
     [12, {
@@ -69,8 +78,8 @@ export const RULES = new Map([
         advice: (it) => `${asLong(it)}the other end has it in no aggregator, in another one, or beyond its limit (switch: max links). Look at its status.`,
     }],
     [22, {
-        title: "it is attached, and the other end has not attached it",
-        advice: (it) => `${asLong(it)}the other end has chosen another aggregator, or has links enough (switch: max links). Look at its status.`,
+        title: "it is attached, and the other end has not attached it", implied: (names) => `the partner of ${names} says that it is synchronized, and this end does not`,
+        advice: (it) => `${asLong(it)}${it.isImplied ? "this end" : "the other end"} has chosen another aggregator, or has links enough (switch: max links).${it.isImplied ? "" : " Look at its status."}`,
     }],
     [29, { title: "links lead to two systems", said: ({ ports }) => [eachOf(ports, (it) => it.partner.system ? dashed(it.partner.system) : "a system that is not named")] }],
     [30, { title: "the partner is this system itself" }],

@@ -1,5 +1,5 @@
-/* Captures as files have them: several as one, by their times; and what pcapng says beside packets, the names of interfaces and comments. the
- * module says does not rest on this, where one file is given that has whole packets. */
+/* Captures as files have them: several as one, by their times; and what pcapng says beside packets, the names of interfaces and comments. What
+ * the module says does not rest on this, where one file is given that has whole packets. */
 
 import { COOKED, COOKED_2, ETHERNET, IF_TSRESOL, INTERFACE, PACKET, PIECE, Reading, SECTION, SLOW, TAGS } from "./packets.js";
 

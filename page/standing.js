@@ -8,9 +8,12 @@ import { ALONE, CARRIES, howManyCarry, IDLE, UNKNOWN } from "./summary.js";
 import { flowSaid, hashesSaid } from "./hashes.js";
 import { ACTIVITY_BIT, DEFAULTED_BIT, DISTRIBUTING_BIT, EXPIRED_BIT } from "./status.js";
 import { linksOfTexts } from "./implied.js";
-import { dashed, isLinked, isSeveral, keysFollowSpeed, namesIn, RULES } from "./advice.js";
+import { areTwinsApart, dashed, isLinked, isSeveral, keysFollowSpeed, namesIn, RULES, portsNamedAlike } from "./advice.js";
 
 const isHalf = (it) => it.speed.endsWith("half");
+const speedOf = (it) => parseInt(it.speed, 10);
+/* The links that are slower than another, or half duplex. */
+const slowIn = (ports) => ports.filter((it) => isHalf(it) || ports.some((other) => speedOf(other) > speedOf(it)));
 const hearsNobody = (it) => (it.state & (DEFAULTED_BIT | EXPIRED_BIT)) !== 0;
 const isPassive = (it) => !(it.state & ACTIVITY_BIT);
 
@@ -18,13 +21,15 @@ const isPassive = (it) => !(it.state & ACTIVITY_BIT);
 
 function linkFacts({ name, told, ports, hash }) {
     const down = ports.filter((it) => it.link === false), up = ports.filter((it) => isLinked(it) && it.aggregator !== null), linked = ports.filter(isLinked);
-    const parts = [...new Set(up.map((it) => it.aggregator))], standing = ports.filter((it) => it.standsBy);
+    const parts = [...new Set(up.map((it) => it.aggregator))], standing = ports.filter((it) => it.standsBy), away = ports.filter((it) => it.isAway);
     return [
         { name: "link-down", ports: down, title: `the link of ${namesIn(down)} is down`, advice: "Nothing of LACP is to be judged there: look at the cable and at the other end's port." },
+        { name: "away", ports: away, title: `the carrier of ${namesIn(away)} is away, and LACP takes the link as up (delay-down): it passes nothing now`,
+            advice: "Read the status again: it comes back within delay-down, or it is down." },
         { name: "aggregators", ports: parts.length > 1 ? up : [], title: `${told} is in ${parts.length} parts, of which one is used`,
             advice: `${up.map((it) => `${it.name} in ${it.aggregator}`).join(", ")}: each has another partner, key or speed, or no partner.` },
         { name: "speeds", ports: isSeveral(linked, (it) => it.speed) ? linked : [], title: `the links of ${told} differ in speed or duplex`,
-            advice: `${linked.map((it) => `${it.name} ${it.speed}`).join(", ")}: give them one speed and full duplex.${linked.some(isHalf) ? " Linux bonding sends no LACPDUs at half duplex." : ""}` },
+            advice: `${linked.map((it) => `${it.name} ${it.speed}`).join(", ")}: look at ethtool ${namesIn(slowIn(linked))} (what both ends advertise). A link that was faster before is a cable with two good pairs, or a port with a forced speed: set autonegotiation at both ends, try another cable. All want one speed and full duplex.${linked.some(isHalf) ? " Linux bonding sends no LACPDUs at half duplex." : ""}` },
         { name: "stands-by", ports: standing, title: `${told} uses one link at a time: its ${hash?.join(" is ")}`,
             advice: `${namesIn(standing)} stands by. For all links: ovs-vsctl set port ${name} bond_mode=balance-tcp` },
     ];
@@ -46,7 +51,7 @@ function silentFacts({ ports }, form) {
 function partnerFacts({ name, ports }) {
     const heard = ports.filter((it) => it.partner), apart = heard.filter((it) => isLinked(it) && it.partner.system === null && it.aggregator !== null);
     const alike = heard.filter((it) => it.partner.system === it.actor.system && it.partner.priority !== null && it.partner.priority !== it.actor.priority);
-    const twins = heard.filter((it) => heard.some((other) => other !== it && it.partner.port !== null && other.partner.system === it.partner.system && other.partner.port === it.partner.port));
+    const twins = areTwinsApart(ports) ? [] : portsNamedAlike(ports);
     return [
         { name: "apart", ports: apart, title: `another aggregator than the one in use has ${namesIn(apart)}`,
             advice: `Both ends speak there: it has another partner, or another key (another speed or duplex). As root, cat /proc/net/bonding/${name} names it.` },
@@ -80,7 +85,7 @@ export function factsIn(texts) {
 const RANKS = ["no-lacp", "no-state", "no-root", "set-down", 30, "own-address", "never-heard", 29, 15, "apart", "link-down", "speeds", "stands-by", 5, "passive-unheard", 14, "deaf-there", 12, 22, 17, 2, 3, 4, "too-few"];
 const isUnheard = ({ rank }) => rank === 12;
 /* What calls for nothing by itself. */
-const ASIDE = ["aggregators", "same-partner-port", "one-system", "note", "said"];
+const ASIDE = ["away", "aggregators", "same-partner-port", "one-system", "note", "said"];
 
 const isCutIn = (text) => text.bundles.some((it) => it.isCut);
 const causeOf = (given) => ({ kind: FAULT, lines: [], effects: [], ports: [], ...given });
@@ -89,8 +94,9 @@ function causesOfRules(found, { bundles, form }) {
     const rules = [...new Set(found.map((it) => it.rule))].map((rule) => found.filter((it) => it.rule === rule)), ports = bundles.flatMap((it) => it.ports);
     return rules.map((list) => {
         const [{ rule, clause, name, advice }] = list, own = RULES.get(rule) ?? {}, here = list.filter((it) => !it.isImplied), meant = list.map((it) => it.port);
-        const who = here.length ? namesIn(here.map((it) => it.port)) : `the other end of ${namesIn(meant)}`, seen = { ports, form, isLasting: meant.some((it) => it.isLasting) };
-        return causeOf({ rank: rule, rule, clause, title: `${own.title ?? name}: ${who}`, advice: own.advice?.(seen) ?? advice, lines: own.said?.(seen) ?? [], ports: meant });
+        const who = here.length ? namesIn(here.map((it) => it.port)) : `the other end of ${namesIn(meant)}`, seen = { ports, form, isLasting: meant.some((it) => it.isLasting), isImplied: !here.length };
+        const title = (!here.length && own.implied?.(namesIn(meant))) || `${own.title ?? name}: ${who}`;
+        return causeOf({ rank: rule, rule, clause, title, advice: own.advice?.(seen) ?? advice, lines: own.said?.(seen) ?? [], ports: meant });
     });
 }
 
@@ -132,6 +138,7 @@ function howApart(port, used) {
 /* Why a port of a text does not carry. */
 function whyIdle(port, bundle) {
     if (port.link === false) return "its link is down";
+    if (port.isAway) return "its carrier is away now";
     if (port.standsBy) return `it stands by: ${bundle.hash.join(" is ")}`;
     if (!port.actor) return "the text has nothing of its LACPDUs";
     if (!port.partner) return "it hears nobody";
@@ -187,6 +194,8 @@ export function headlineOfTexts(texts, lines, causes) {
     if (texts.some(isCutIn)) return ["The text is cut: nothing is named. Give all of it, with the line behind it.", "bad"];
     if (cause) return [`${head}${capitalized(cause.title)}.`, "bad"];
     if (!all) return ["No port of an LACP bundle is in this text.", "bad"];
+    const away = causes.find(({ rank }) => rank === "away");
+    if (away) return [`${head}${capitalized(away.title)}.`, ""];
     if (carry < all) return [`${head}The text does not show why: give the text of the other end, or capture.`, ""];
     const twins = causes.find(({ rank }) => rank === "same-partner-port");
     if (twins) return [`${head}${capitalized(twins.title)}: right if switches act as one (MLAG).`, ""];

@@ -51,7 +51,7 @@ const bundleOfText = (name, told, ports, given) => ({ name, told, ports, hash: n
 
 /* A port with what a form has of it. */
 const portOfText = (given) => ({
-    link: null, source: "", actor: null, partner: null, aggregator: null, isUsed: null, isAlone: false, isLasting: false, speed: "", facts: [], ...given,
+    link: null, isAway: false, source: "", actor: null, partner: null, aggregator: null, isUsed: null, isAlone: false, isLasting: false, speed: "", facts: [], ...given,
 });
 
 const times = (number) => Number(number) === 1 ? "once" : `${number} times`;
@@ -235,12 +235,16 @@ function factsOfShow(part, said, receive, actor) {
 
 const isChurning = (churns) => churns.includes("CHURN");
 
+/* The link of a port, as lagd says it: with `away` LACP takes it as up (delay-down), and nothing passes. */
+const linkOfLagd = (said) => ({ link: said === "up" || said === "away", isAway: said === "away" });
+
 function memberOfShow(part, active) {
     const [, name = "?", receive = ""] = /^(?:member|slave): (.*?): (.*)$/m.exec(part) ?? [], said = valuesIn(part), actor = partyOfShow(said, "actor"), partner = partyOfShow(said, "partner");
     const aggregator = numberOf(said.get("aggregator")), mayEnable = said.get("may_enable");
-    const isUsed = mayEnable === undefined ? null : mayEnable === "true" && (active === null || aggregator === active), known = knownPartner(actor, partner);
+    const of = said.has("link") ? linkOfLagd(said.get("link")) : {};
+    const isUsed = mayEnable === undefined ? null : mayEnable === "true" && !of.isAway && (active === null || aggregator === active), known = knownPartner(actor, partner);
     return portOfText({
-        name, link: said.has("link") ? said.get("link") === "up" : null, source: macOf(said.get("address") ?? said.get("actor sys_id")), actor, partner: known,
+        name, ...of, source: macOf(said.get("address") ?? said.get("actor sys_id")), actor, partner: known,
         aggregator, isUsed, isAlone: isUsed === true && actor !== null && !known, isLasting: isChurning([said.get("actor_churn"), said.get("partner_churn")]),
         facts: factsOfShow(part, said, receive, actor), isWhole: actor !== null && partner !== null,
     });
@@ -286,9 +290,9 @@ function showOf(text) {
 function memberOfLagd(bundle, port) {
     const partyOf = (it, system, priority) => ({ priority, system: macOf(system), key: it.key, portPriority: it.port_priority, port: it.port, state: octetOf(it.state) ?? 0 });
     const actor = partyOf(port.actor, bundle.system, bundle.system_priority), known = knownPartner(actor, partyOf(port.partner, port.partner.system, port.partner.system_priority));
-    const isUsed = port.carries && port.aggregator === bundle.aggregator;
+    const of = linkOfLagd(port.link), isUsed = port.carries && !of.isAway && port.aggregator === bundle.aggregator;
     return portOfText({
-        name: port.interface, link: port.link === "up", source: macOf(port.address), actor, partner: known, aggregator: port.aggregator,
+        name: port.interface, ...of, source: macOf(port.address), actor, partner: known, aggregator: port.aggregator,
         isUsed, isAlone: isUsed && !known, isLasting: isChurning([port.actor_churn, port.partner_churn]),
         facts: [...port.status !== "it distributes" ? [`lagd says: ${port.status}`] : [], ...port.other_system ? [`another system speaks: ${port.other_system.system}`] : [], ...countsSaid(port.counters ?? {})],
     });

@@ -27,7 +27,7 @@ function* textOfCause(cause, number, placeOf) {
     for (const it of (cause.findings ?? []).slice(0, MOST_PLACES)) yield `   at ${it.at.name}, ${placeOf(it.packet)}${it.seconds === null ? "" : `, ${it.seconds.toFixed(6)} s`}`;
     const more = (cause.findings ?? []).length - MOST_PLACES;
     if (more > 0) yield `   and at ${more} more`;
-    if (cause.effects.length) yield `   likely effects: ${cause.effects.map((it) => it.title).join("; ")}`;
+    if (cause.effects.length) yield `   likely effect${cause.effects.length > 1 ? "s" : ""}: ${cause.effects.map((it) => it.title).join("; ")}`;
 }
 
 const textOfAll = ({ headline, lines, note, counts, causes, placeOf = String }) => [

@@ -88,8 +88,24 @@ def of_programs(tests: Tests) -> None:
     tests.same("nothing came 1 times", [name for name, text in said.items() if " 1 times" in text], [])
     failed = read(os.path.join(STATUS, "healthy-bonding.txt")).replace("Link Failure Count: 0", "Link Failure Count: 1", 1)
     tests.same("a link failed once", "p1: its link failed once since the bond has it" in told_of(failed)[1], True)
+    partner = "the partner of q2 says that it is synchronized, and this end does not"
+    tests.same("of an end that attached nothing it is said who did not", partner in told_of(read(os.path.join(STATUS, "standby-bonding.other.txt")))[1], True)
+    keys = said["keys-bonding.txt"]
+    tests.same("two boxes that are one system are one finding", ["two boxes have one system" in keys, "channel-group" in keys, "remark: p1, p2 name" in keys], [True, False, False])
     churned = said["churned-bonding.txt"]
     tests.same("who churns for 60 s does not start", ["Look again in 10 s" in churned, "It has been so for 60 s or more" in churned], [False, True])
+
+
+def of_away(tests: Tests) -> None:
+    """A link whose carrier is away, and that lagd takes as up, is no fault, and does not carry."""
+    away, word = "its carrier is away, for less than delay-down so far", "1 of 2 links carries. The carrier of p2 is away, and LACP takes the link as up (delay-down): it passes nothing now."
+    head, last = read(os.path.join(STATUS, "healthy-lagd.txt")).split("member: p2:")
+    shown = f"{head}member: p2:{last.replace('it distributes', away).replace('link: up', 'link: away')}"
+    head, last = read(os.path.join(STATUS, "healthy-lagd-json.json")).split('{"port":2,')
+    line = head + '{"port":2,' + last.replace("it distributes", away).replace('"link":"up"', '"link":"away"')
+    for form, text in ("text", shown), ("JSON", line):
+        ended, said = told_of(text)
+        tests.same(f"a carrier that is away for a moment, as {form}", [ended, said.partition("\n")[0], "\n1. remark: the carrier of p2 is away" in said], [1, word, True])
 
 
 def of_speeds(tests: Tests) -> None:
@@ -98,7 +114,8 @@ def of_speeds(tests: Tests) -> None:
     text = text.replace("oper key: 9", "oper key: 5").replace("oper key: 7", "oper key: 5")
     one_there = told_of(text)[1]
     first, keys = "1 of 2 links carries. The links of the bond differ in speed or duplex.", "keys differ within one pair of systems"
-    tests.same("speeds explain keys", [one_there.partition("\n")[0], f"likely effects: {keys}" in one_there], [first, True])
+    tests.same("speeds explain keys", [one_there.partition("\n")[0], f"likely effect: {keys}" in one_there], [first, True])
+    tests.same("the slow link is named", "look at ethtool p2 (what" in one_there, True)
     other = told_of(text.replace("Speed: 100 Mbps", "Speed: 1000 Mbps"))[1]
     tests.same("keys that differ at one speed come first", other.partition("\n")[0], "1 of 2 links carries. Keys differ within one pair of systems: p1, p2.")
 
@@ -136,7 +153,7 @@ def of_texts(tests: Tests, browser: Browser) -> None:
     of_ways(tests, browser)
     of_cuts(tests, browser)
     of_explain(tests, browser)
-    for it in of_words, of_endings, of_programs, of_speeds, of_hashes:
+    for it in of_words, of_endings, of_programs, of_away, of_speeds, of_hashes:
         it(tests)
     passive = read(os.path.join(STATUS, "healthy-bonding.txt")).replace("port state: 63", "port state: 62")
     tests.same("two passive ends do not carry, as in a capture", pasted(browser, passive)[0], "0 of 2 links carry. Both ends are passive: p1, p2.")
