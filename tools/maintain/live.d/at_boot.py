@@ -84,6 +84,8 @@ def boot_with(name: str) -> Callable[[Part], None]:
         part.unhurried()
         if not os.path.exists("/dev/net/tun"):
             raise Skipped("there is no /dev/net/tun")
+        if not shutil.which("ping"):
+            raise Skipped("no command ping (Debian: iputils-ping)")
         machine = Machine(part, more=lay_over(Packages(PEERS, True), name))
         try:
             theirs = part.theirs(options=["--carry", "lag0"])
