@@ -44,13 +44,15 @@ function deafEnds(ends) {
     return lost.filter((it) => lostSince(it) - first < TOGETHER);
 }
 
-/* Why a link with one end in the capture is not seen to carry. */
-function ofOneEnd(end, until) {
+/* Why a link with one end in the capture is not seen to carry. An end that nobody answers uses no link alone beside those that carry. */
+function ofOneEnd(end, until, beside) {
     if (!end.last) return [UNKNOWN, "no LACPDU of it could be read"];
     if (end.named === end.system) return [IDLE, `${end.short} hears itself: a loop`];
     if (isSilent(end, until)) return [IDLE, `${end.short} sends nothing after ${roundedSeconds(end.record.last)}, and nobody else speaks here`];
     if (end.distributes && isKnown(end.named)) return [UNKNOWN, `${end.short} says that it carries; the other direction is not in this capture`];
-    return isKnown(end.named) ? [UNKNOWN, `${end.short} alone is in this capture: it names ${addressOf(end.named)}`] : [UNKNOWN, `${end.has("active") ? `nobody answers ${end.short}` : `${end.short} is passive, and nobody answers it`}; it may use the link alone`];
+    if (isKnown(end.named)) return [UNKNOWN, `${end.short} alone is in this capture: it names ${addressOf(end.named)}`];
+    const why = end.has("active") ? `nobody answers ${end.short}` : `${end.short} is passive, and nobody answers it`;
+    return beside.some((it) => it.carries && it.ends.some((other) => other?.system === end.system)) ? [IDLE, why] : [UNKNOWN, `${why}; it may use the link alone`];
 }
 
 /* Whether a link with both ends carries, and why not; and whether that says no more than their states. `beside` are the links of its systems. */
@@ -88,7 +90,7 @@ function ofStates(ends) {
 function lineOf(link, groups, until, beside) {
     const heard = link.ends.filter((it) => it?.last), isWhole = heard.length === 2;
     if (!heard.length) return null;
-    const [how, why, isVague] = isWhole ? ofBothEnds(link, groups, until, beside) : ofOneEnd(heard[0], until), [{ label }] = heard;
+    const [how, why, isVague] = isWhole ? ofBothEnds(link, groups, until, beside) : ofOneEnd(heard[0], until, beside), [{ label }] = heard;
     const far = isWhole ? "" : isKnown(heard[0].named ?? "") ? ` - ${addressOf(heard[0].named)}` : " - nobody", ends = `${heard.map((it) => it.short).join(" - ")}${far}`;
     return { link, port: heard[0].port, name: label ? `${label} (${ends})` : ends, how, why, isVague };
 }
