@@ -1,10 +1,10 @@
 -- A port that is the only one of its key waits for no other.
-use Rattle.lagbeside.proofs.Common.{Bool, List, Some, [], ap, false, refl, slice_get, suc, sym, true, zero, ℕ, ◌&&◌, ◌==◌, ◌∙◌, ◌∷◌, ◌≡◌, ◌≢◌}
+use Rattle.lagbeside.proofs.Common.{Bool, List, Some, [], ap, false, refl, slice_get, suc, sym, true, zero, ℕ, ◌&&◌, ◌==◌, ◌∙◌, ◌∷◌, ◌≡◌, ◌≢◌, Asides}
 use Rattle.lagbeside.proofs.Common.{and_parts, same_Some, AllByRecursion, AggId, Key, Party, Waiting, same_mux_state, occupies, Reply, SystemPort}
-use Rattle.lagbeside.proofs.Common.{Call, Tick, key_of, occupied, Setting, IsSound, SystemState, Step-frame, Step-sound, LeavesPort, RunsOnceTicked}
-use Rattle.lagbeside.proofs.Common.{RunsWhile, ComesUpAlone, IsOnlyOfKey, NoneBegins, begins_in}
+use Rattle.lagbeside.proofs.Common.{Call, Tick, key_of, occupied, Setting, IsSound, SystemState, LeavesPort, OnceTicked}
+use Rattle.lagbeside.proofs.Common.{Runs, ComesUpAlone, IsOnlyOfKey, NoneBegins, begins_in}
 use Rattle.lagbeside.proofs.Beside.{comes_up}
-use Rattle.lagbeside.proofs.EachSetting.{asides_sound, kept_key}
+use Rattle.lagbeside.proofs.EachSetting.{asides_sound, kept_key, key_after}
 use Rattle.lagbeside.proofs.Selecting.{occupies_is}
 
 pub begins_not : (agg : AggId) (key : Key) (keys : List Key) (y : SystemPort) (b : Bool) → begins_in agg y ≡ b → key_of keys agg.0 ≡ Some key
@@ -28,48 +28,27 @@ at_state : (n : ℕ) (agg : AggId) (key : Key) (s : SystemState) → IsSound s �
 at_state n agg key s h k a = none_begin n agg key s.keys s.system_ports k (λ j y e o. h.occupants.key j agg.0 y e o) a
 
 module _ (Sets : Setting → Type 0) (n : ℕ) (agg : AggId) (key : Key) (gives : ℕ → ℕ → ℕ → Type 0) where
-  while_alone : (old new : SystemState) (calls : List Call) (replies : List Reply) → IsSound old → key_of old.keys agg.0 ≡ Some key
-      → RunsWhile Sets (IsOnlyOfKey key n) gives old calls replies new → RunsWhile Sets (NoneBegins agg n) gives old calls replies new
-  while_alone old new [] [] h k r =
-      (r.0, at_state n agg key new (asides_sound Sets old new r.0) (kept_key Sets key agg old new r.0 k) r.1)
-  while_alone old new (call ∷ calls) (answer ∷ answers) h k r = (
-    r.0,
-    r.1,
-    at_state n agg key r.0 (asides_sound Sets old r.0 r.3) (kept_key Sets key agg old r.0 r.3 k) r.2,
-    r.3,
-    r.4,
-    while_alone r.1 new calls answers (Step-sound gives r.0 call answer r.1 r.4 (asides_sound Sets old r.0 r.3))
-        (ap (λ (s : SystemState). key_of s.keys agg.0) (Step-frame gives r.0 call answer r.1 r.4)
-        ∙ kept_key Sets key agg old r.0 r.3 k) r.5,
-  )
-  while_alone old new calls replies h k r = absurd r
+  alone_at : (ticked : Bool) (old new : SystemState) → key_of old.keys agg.0 ≡ Some key → Asides Sets old new
+      → (ticked ≡ true → IsOnlyOfKey key n new) → ticked ≡ true → NoneBegins agg n new
+  alone_at ticked old new k r a e = at_state n agg key new (asides_sound Sets old new r) (kept_key Sets key agg old new r k) (a e)
 
-  once_alone : (old new : SystemState) (calls : List Call) (replies : List Reply) → IsSound old → key_of old.keys agg.0 ≡ Some key
-      → RunsOnceTicked Sets (IsOnlyOfKey key n) gives old calls replies new → RunsOnceTicked Sets (NoneBegins agg n) gives old calls replies new
-  once_alone old new [] [] h k r = r
-  once_alone old new (Tick ∷ calls) (answer ∷ answers) h k r = (
-    r.0,
-    r.1,
-    r.2,
-    r.3,
-    while_alone r.1 new calls answers (Step-sound gives r.0 Tick answer r.1 r.3 (asides_sound Sets old r.0 r.2))
-        (ap (λ (s : SystemState). key_of s.keys agg.0) (Step-frame gives r.0 Tick answer r.1 r.3)
-        ∙ kept_key Sets key agg old r.0 r.2 k) r.4,
+  alone_run : (ticked : Bool) (old new : SystemState) (calls : List Call) (replies : List Reply) (states : List SystemState)
+      → key_of old.keys agg.0 ≡ Some key → Runs Sets gives old calls replies states new
+      → OnceTicked (IsOnlyOfKey key n) ticked calls states new → OnceTicked (NoneBegins agg n) ticked calls states new
+  alone_run ticked old new [] [] [] k r a = alone_at ticked old new k r a
+  alone_run ticked old new (Tick ∷ calls) (answer ∷ answers) (before ∷ states) k r a = (
+    alone_at ticked old before k r.1 a.0,
+    alone_run true r.0 new calls answers states (key_after Sets key agg gives old before r.0 Tick answer r.1 r.2 k) r.3 a.1,
   )
-  once_alone old new (call ∷ calls) (answer ∷ answers) h k r = (
-    r.0,
-    r.1,
-    r.2,
-    r.3,
-    once_alone r.1 new calls answers (Step-sound gives r.0 call answer r.1 r.3 (asides_sound Sets old r.0 r.2))
-        (ap (λ (s : SystemState). key_of s.keys agg.0) (Step-frame gives r.0 call answer r.1 r.3)
-        ∙ kept_key Sets key agg old r.0 r.2 k) r.4,
+  alone_run ticked old new (call ∷ calls) (answer ∷ answers) (before ∷ states) k r a = (
+    alone_at ticked old before k r.1 a.0,
+    alone_run ticked r.0 new calls answers states (key_after Sets key agg gives old before r.0 call answer r.1 r.2 k) r.3 a.1,
   )
-  once_alone old new calls replies h k r = absurd r
+  alone_run ticked old new calls replies states k r a = absurd r
 
 pub comes_up_alone : (gives : ℕ → ℕ → ℕ → Type 0) → ComesUpAlone gives
-comes_up_alone gives u left agg old new calls replies i x y s timed at served l c runs each fed many there =
+comes_up_alone gives u left agg old new calls replies states i x y s timed at served l c run alone each fed many there =
     let key : key_of old.keys agg.0 ≡ Some u.own.key = s.occupants.key i agg.0 x at (ap occupied c)
     ∙ ap (λ (p : Party). Some p.key) served.1 in
-    comes_up gives u left agg old new calls replies i x y s timed at served l c
-    (once_alone (LeavesPort x.number) x.number agg u.own.key gives old new calls replies s key runs) each fed many there
+    comes_up gives u left agg old new calls replies states i x y s timed at served l c run
+    (alone_run (LeavesPort x.number) x.number agg u.own.key gives false old new calls replies states key run alone) each fed many there

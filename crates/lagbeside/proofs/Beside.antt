@@ -3,14 +3,14 @@ use Rattle.lagbeside.proofs.Common.{Bool, List, Some, [], ap, arith, false, inl,
 use Rattle.lagbeside.proofs.Common.{◌≡◌, ◌≤◌, nat_tests, AggId, Choice, Selected, is_selected, is_unselected, MuxState, Attached}
 use Rattle.lagbeside.proofs.Common.{CollectingDistributing, Detached, Waiting, is_synchronized, mux_rows, partner_synchronized, same_mux_state}
 use Rattle.lagbeside.proofs.Common.{AtRest, Reply, SystemPort, Call, configured_numbers, MuxIsSettled, Setting, IsSound, SystemState, port_numbers}
-use Rattle.lagbeside.proofs.Common.{Step-frame, all-get, ports_rise, EachCall, tick_count, LeavesPort, RunsWhile, ComesUp, Fed, IsServed}
-use Rattle.lagbeside.proofs.Common.{LeavesServed, NoneBegins, Service, StaysUp}
+use Rattle.lagbeside.proofs.Common.{Step-frame, all-get, ports_rise, EachCall, tick_count, LeavesPort, Runs, ComesUp, Fed, IsServed}
+use Rattle.lagbeside.proofs.Common.{LeavesServed, Service, StaysUp}
 use Rattle.lagbeside.proofs.EachPort.{OfEach}
 use Rattle.lagbeside.proofs.EachSetting.{asides_stand}
 use Rattle.lagbeside.proofs.Hearing.{no}
 use Rattle.lagbeside.proofs.OnePort.{AtPort, at_number, same_place}
 use Rattle.lagbeside.proofs.Serving.{Climbs, Comes, run_served}
-use Rattle.lagbeside.proofs.Others.{Beside, Hard, never_waits, once_runs, others_once, timed_soft}
+use Rattle.lagbeside.proofs.Others.{Beside, Hard, never_waits, others_run, timed_soft}
 
 comes_first : (m : MuxState) (un : Bool) (n t : ℕ) → un ≡ false → (same_mux_state Detached m && not un) ≡ false → n ≤ t → Comes true t m n
 comes_first m un n t e h l = grind (arith, nat_tests)
@@ -28,39 +28,39 @@ same_number old new i x y s t e at there =
     let numbers : port_numbers new.system_ports ≡ port_numbers old.system_ports = t.ports.same ∙ (ap configured_numbers e ∙ sym s.ports.same) in
     same_place old.system_ports new.system_ports i x y numbers at there
 
-pub runs_ports : (Sets : Setting → Type 0) (Is : SystemState → Type 0) (gives : ℕ → ℕ → ℕ → Type 0) (old new : SystemState) (calls : List Call) (replies : List Reply)
-    → RunsWhile Sets Is gives old calls replies new → new.ports ≡ old.ports
-runs_ports Sets Is gives old new [] [] h = (asides_stand Sets old new h.0).1
-runs_ports Sets Is gives old new (call ∷ calls) (answer ∷ answers) h =
-    runs_ports Sets Is gives h.1 new calls answers h.5 ∙ (ap (λ (s : SystemState). s.ports) (Step-frame gives h.0 call answer h.1 h.4)
-    ∙ (asides_stand Sets old h.0 h.3).1)
-runs_ports Sets Is gives old new calls replies h = absurd h
+pub runs_ports : (Sets : Setting → Type 0) (gives : ℕ → ℕ → ℕ → Type 0) (old new : SystemState) (calls : List Call) (replies : List Reply)
+    (states : List SystemState) → Runs Sets gives old calls replies states new → new.ports ≡ old.ports
+runs_ports Sets gives old new [] [] [] h = (asides_stand Sets old new h).1
+runs_ports Sets gives old new (call ∷ calls) (answer ∷ answers) (before ∷ states) h =
+    runs_ports Sets gives h.0 new calls answers states h.3 ∙ (ap (λ (s : SystemState). s.ports) (Step-frame gives before call answer h.0 h.2)
+    ∙ (asides_stand Sets old before h.1).1)
+runs_ports Sets gives old new calls replies states h = absurd h
 
 -- the port after the calls
-after : (Is : SystemState → Type 0) (gives : ℕ → ℕ → ℕ → Type 0) (u : Service) (left : ℕ) (agg : AggId) (old new : SystemState) (calls : List Call) (replies : List Reply)
-    (i : ℕ) (x : SystemPort) (may : Bool) (t : ℕ) → IsSound old → slice_get old.system_ports i ≡ Some x → IsServed u left x.port → 1 ≤ left
-    → x.port.choice ≡ Selected agg → Comes may t x.port.mux x.port.wait_while → RunsWhile (LeavesPort x.number) Is gives old calls replies new
+after : (gives : ℕ → ℕ → ℕ → Type 0) (u : Service) (left : ℕ) (agg : AggId) (old new : SystemState) (calls : List Call) (replies : List Reply)
+    (states : List SystemState) (i : ℕ) (x : SystemPort) (may : Bool) (t : ℕ) → IsSound old → slice_get old.system_ports i ≡ Some x → IsServed u left x.port → 1 ≤ left
+    → x.port.choice ≡ Selected agg → Comes may t x.port.mux x.port.wait_while → Runs (LeavesPort x.number) gives old calls replies states new
     → EachCall (LeavesServed u x.number) calls replies → Fed u.short x.number left calls replies
     → IsSound new × OfEach (AtPort x.number (Climbs u (Selected agg) may 1 (t - tick_count calls))) new.system_ports
-after Is gives u left agg old new calls replies i x may t s at served l c comes run each fed =
-    run_served u (Selected agg) refl x.number gives Is may left t l old new calls replies
+after gives u left agg old new calls replies states i x may t s at served l c comes run each fed =
+    run_served u (Selected agg) refl x.number gives may left t l old new calls replies states
     (at_number (Climbs u (Selected agg) may left t) 0 old.system_ports i x (ports_rise old s.ports) at ((served, c), comes)) run each fed
 
 rested : (s : SystemState) (i : ℕ) (x : SystemPort) → IsSound s → slice_get s.system_ports i ≡ Some x → AtRest (mux_rows false) x.port
 rested s i x h at = (all-get (MuxIsSettled s.keys s.system_ports) s.system_ports i x at h.quiet.0).mux
 
 pub stays_up : (gives : ℕ → ℕ → ℕ → Type 0) → StaysUp gives
-stays_up gives u left agg old new calls replies i x y s at served l c run each fed there =
+stays_up gives u left agg old new calls replies states i x y s at served l c run each fed there =
     let rest = rested old i x s at in
     let first : Comes true x.port.wait_while x.port.mux x.port.wait_while =
     comes_first x.port.mux (is_unselected x.port.choice) x.port.wait_while x.port.wait_while (chosen x.port.choice agg c).1 rest.0 (omega arith) in
-    let end = after (λ w. Unit {0}) gives u left agg old new calls replies i x true x.port.wait_while s at served l c first run each fed in
-    let number = same_number old new i x y s end.0 (runs_ports _ _ gives old new calls replies run) at there in
+    let end = after gives u left agg old new calls replies states i x true x.port.wait_while s at served l c first run each fed in
+    let number = same_number old new i x y s end.0 (runs_ports (LeavesPort x.number) gives old new calls replies states run) at there in
     let b = all-get (λ (z : SystemPort). AtPort x.number (Climbs u (Selected agg) true 1 (x.port.wait_while - tick_count calls)) z.number z.port)
     new.system_ports i y there end.1 number in (
       b.0.0,
       b.0.1,
-      λ m. (let last = after (λ w. Unit {0}) gives u left agg old new calls replies i x false 0 s at served l c (inl (ap is_synchronized m)) run each fed in
+      λ m. (let last = after gives u left agg old new calls replies states i x false 0 s at served l c (inl (ap is_synchronized m)) run each fed in
           let d = all-get (λ (z : SystemPort). AtPort x.number (Climbs u (Selected agg) false 1 (0 - tick_count calls)) z.number z.port)
           new.system_ports i y there last.1 number in
           elim d.1 [
@@ -82,23 +82,22 @@ wait_only n u c t (x ∷ xs) a = (
     not_synced m e h = grind (arith, nat_tests)
 
 pub comes_up : (gives : ℕ → ℕ → ℕ → Type 0) → ComesUp gives
-comes_up gives u left agg old new calls replies i x y s timed at served l c runs each fed many there =
-    let run = once_runs (LeavesPort x.number) x.number agg gives (NoneBegins agg x.number) old new calls replies runs in
+comes_up gives u left agg old new calls replies states i x y s timed at served l c run none each fed many there =
     let rest = rested old i x s at in
     let time = all-get (λ (z : SystemPort). z.port.wait_while ≤ 20) old.system_ports i x at timed in
     let first : Comes true 20 x.port.mux x.port.wait_while =
     comes_first x.port.mux (is_unselected x.port.choice) x.port.wait_while 20 (chosen x.port.choice agg c).1 rest.0 time in
-    let end = after (λ w. Unit {0}) gives u left agg old new calls replies i x true 20 s at served l c first run each fed in
-    let number = same_number old new i x y s end.0 (runs_ports _ _ gives old new calls replies run) at there in
+    let end = after gives u left agg old new calls replies states i x true 20 s at served l c first run each fed in
+    let number = same_number old new i x y s end.0 (runs_ports (LeavesPort x.number) gives old new calls replies states run) at there in
     let t = 20 - tick_count calls in
-    let r = 20 - tick_count calls in
     let b = all-get (λ (z : SystemPort). AtPort x.number (Climbs u (Selected agg) true 1 t) z.number z.port) new.system_ports i y there end.1 number in
-    let others = others_once (LeavesPort x.number) x.number agg gives old new calls replies (timed_soft x.number agg old.system_ports timed) runs (omega (arith, many)) in
+    let others = others_run (LeavesPort x.number) x.number agg gives false 20 old new calls replies states (λ e. refl)
+    (timed_soft x.number agg old.system_ports timed) run none in
     elim b.1 [
       | inl sync ↦ distributing_now y.port.mux (is_selected y.port.choice) (partner_synchronized y.port) sync (chosen y.port.choice agg b.0.1).0
           b.0.0.6 (rested new i y end.0 there).1.1.1.1.0
-      | inr w ↦ absurd (never_waits u (Selected agg) new i y agg t r (omega (arith, many)) (omega (arith, many)) end.0 there b.0.1
+      | inr w ↦ absurd (never_waits u (Selected agg) new i y agg t t (omega (arith, many)) (omega (arith, many)) end.0 there b.0.1
           (subst (λ n. OfEach (AtPort n (λ p. p.mux ≡ Waiting → p.wait_while ≤ t)) new.system_ports) (sym number)
           (wait_only x.number u (Selected agg) t new.system_ports end.1))
-          (subst (λ n. OfEach (Beside n (Hard agg r)) new.system_ports) (sym number) others) w.1)
+          (subst (λ n. OfEach (Beside n (Hard agg t)) new.system_ports) (sym number) others) w.1)
     ]

@@ -1,5 +1,5 @@
 -- What the machines of a port keep, every setting keeps of each port, and so does what stands between two calls.
-use Rattle.lagbeside.proofs.Common.{Bool, Err, None, Ok, Option, Result, Some, ap, false, inl, inr, refl, subst, suc, sym, true, zero, ℕ, ◌∙◌, ◌≡◌}
+use Rattle.lagbeside.proofs.Common.{Bool, Err, List, None, Ok, Option, Result, Some, [], ap, false, inl, inr, refl, subst, suc, sym, true, zero, ℕ, ◌∙◌, ◌∷◌, ◌≡◌, Call, List, Reply, Runs, Step, Step-frame}
 use Rattle.lagbeside.proofs.Common.{AggId, Key, Unselected, with_mode, Machines, SystemFault, SystemPort, choice_with_link, key_of, SetsPort, Setting}
 use Rattle.lagbeside.proofs.Common.{SettingStep, in_mode, is_held_so, is_in_mode, with_held, Settling, IsSound, SystemState, port_index, with_table}
 use Rattle.lagbeside.proofs.Common.{settling_keeps, all-get, all-set, found_place, AsideTimes, Asides, IsAside}
@@ -101,8 +101,15 @@ module _ (Sets More : Setting → Type 0) (k : (setting : Setting) → Sets sett
   times_weaker zero old new h = one_weaker old new h
   times_weaker (suc n) old new h = (h.0, one_weaker old h.0 h.1, times_weaker n h.0 new h.2)
 
-  pub asides_weaken : (old new : SystemState) → Asides Sets old new → Asides More old new
-  asides_weaken old new h = (h.0, times_weaker h.0 old new h.1)
+  asides_weaker : (old new : SystemState) → Asides Sets old new → Asides More old new
+  asides_weaker old new h = (h.0, times_weaker h.0 old new h.1)
+
+  pub runs_weaken : (gives : ℕ → ℕ → ℕ → Type 0) (old new : SystemState) (calls : List Call) (replies : List Reply) (states : List SystemState)
+      → Runs Sets gives old calls replies states new → Runs More gives old calls replies states new
+  runs_weaken gives old new [] [] [] h = asides_weaker old new h
+  runs_weaken gives old new (call ∷ calls) (answer ∷ answers) (before ∷ states) h =
+      (h.0, asides_weaker old before h.1, h.2, runs_weaken gives h.0 new calls answers states h.3)
+  runs_weaken gives old new calls replies states h = absurd h
 
 table_each : (P : ℕ → Machines → Type 0) (s t : SystemState) → t ≡ with_table s t.table → OfEach P s.system_ports → OfEach P t.system_ports
 table_each P s t e a = subst (OfEach P) (sym (ap (λ (w : SystemState). w.system_ports) e)) a
@@ -132,6 +139,11 @@ module _ (Sets : Setting → Type 0) where
   pub kept_key : (key : Key) (agg : AggId) (old new : SystemState) → Asides Sets old new → key_of old.keys agg.0 ≡ Some key
       → key_of new.keys agg.0 ≡ Some key
   kept_key key agg old new h k = ap (λ keys. key_of keys agg.0) (asides_stand old new h).0 ∙ k
+
+  pub key_after : (key : Key) (agg : AggId) (gives : ℕ → ℕ → ℕ → Type 0) (old before mid : SystemState) (call : Call) (answer : Reply)
+      → Asides Sets old before → Step gives before call answer mid → key_of old.keys agg.0 ≡ Some key → key_of mid.keys agg.0 ≡ Some key
+  key_after key agg gives old before mid call answer h step k =
+      ap (λ (s : SystemState). key_of s.keys agg.0) (Step-frame gives before call answer mid step) ∙ kept_key key agg old before h k
 
   module _ (P : ℕ → Machines → Type 0) (k : KeptBySettling P) (c : (setting : Setting) → Sets setting → KeptBySetting P setting) where
     one_each : (old new : SystemState) → IsAside Sets old new → OfEach P old.system_ports → OfEach P new.system_ports

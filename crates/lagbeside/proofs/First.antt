@@ -1,7 +1,7 @@
 -- From the first LACPDU on.
-use Rattle.lagbeside.proofs.Common.{Bool, Ok, ap, arith, false, inl, inr, refl, subst, sym, true, ℕ, ◌∙◌, ◌≡◌, ◌≤◌, ◌⊎◌, AggId, Choice, Selected}
+use Rattle.lagbeside.proofs.Common.{Bool, Ok, ap, arith, false, inl, inr, refl, subst, sym, true, ℕ, ◌∙◌, ◌≡◌, ◌≤◌, ◌⊎◌, AggId, Choice, Selected, Runs}
 use Rattle.lagbeside.proofs.Common.{Standby, Unselected, Party, is_selected, Machines, TookLacpdu, SystemPort, Receive, SystemState, port_index}
-use Rattle.lagbeside.proofs.Common.{Step-frame, all-get, ports_rise, Step-sound, EachCall, LeavesPort, RunsOnceTicked, StandsByFull, WantsAggregator}
+use Rattle.lagbeside.proofs.Common.{Step-frame, all-get, ports_rise, Step-sound, EachCall, LeavesPort, OnceTicked, StandsByFull, WantsAggregator}
 use Rattle.lagbeside.proofs.Common.{CarriesBeside, Fed, IsServed, LeavesServed, NoneBegins, Service, WaitsAreBounded, timeout_time}
 use Rattle.lagsystem.specs.declared.drive.Reply.TheVariants as reply
 use Rattle.lagbeside.proofs.Beside.{comes_up, same_number}
@@ -45,9 +45,10 @@ carries_beside gives u old mid octets i x w s timed at up same step serves there
     (reply.Receive (Ok TookLacpdu)) mid (λ v p q e f h a. bounded_takes v p q h a) step timed in (
       agg.0,
       agg.1,
-      λ new calls replies y runs each fed many end.
-          comes_up gives u (timeout_time u.short) agg.0 mid new calls replies i w y t time there here (some u.short) agg.1
-          (subst (λ n. RunsOnceTicked (LeavesPort n) (NoneBegins agg.0 n) gives mid calls replies new) (sym number) runs)
+      λ new calls replies states y run none each fed many end.
+          comes_up gives u (timeout_time u.short) agg.0 mid new calls replies states i w y t time there here (some u.short) agg.1
+          (subst (λ n. Runs (LeavesPort n) gives mid calls replies states new) (sym number) run)
+          (subst (λ n. OnceTicked (NoneBegins agg.0 n) false calls states new) (sym number) none)
           (subst (λ n. EachCall (LeavesServed u n) calls replies) (sym number) each)
           (subst (λ n. Fed u.short n (timeout_time u.short) calls replies) (sym number) fed) many end,
     )

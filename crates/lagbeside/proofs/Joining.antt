@@ -7,12 +7,12 @@ use Rattle.lagbeside.proofs.Common.{ReceiveState, Current, Defaulted, Expired, I
 use Rattle.lagbeside.proofs.Common.{mux_rows, partner_synchronized, same_mux_state, RunsPeriodic, default_partner, receive_rows}
 use Rattle.lagbeside.proofs.Common.{recorded_synchronization, same_receive_state, AtRest, RunsToRest, after_sending, count_down, occupies, Reply}
 use Rattle.lagbeside.proofs.Common.{SystemPort, Call, Configure, ProcessesLacpdu, Receive, Restart, Set_link, Step, Tick, Transmit, choice_with_link}
-use Rattle.lagbeside.proofs.Common.{key_of, none_enabled, MuxIsSettled, occupied, Setting, IsSound, SystemState, named, Step-frame, rests, EachCall}
-use Rattle.lagbeside.proofs.Common.{tick_count, Asides, LeavesPort, Runs, RunsOnceTicked, RunsWhile, NoneBegins, WaitsAreBounded, begins_in}
+use Rattle.lagbeside.proofs.Common.{key_of, none_enabled, MuxIsSettled, occupied, Setting, IsSound, SystemState, named, rests, EachCall}
+use Rattle.lagbeside.proofs.Common.{tick_count, Asides, LeavesPort, Runs, OnceTicked, Runs, NoneBegins, WaitsAreBounded, begins_in}
 use Rattle.lagbeside.specs.Joining.{LetsNoneJoin, NoneBeginsToWait, OthersStandApart, SetsNoneFree, StandsApart}
 use Rattle.lagbeside.proofs.Alone.{begins_not}
 use Rattle.lagbeside.proofs.EachPort.{KeptByCall, KeptBySettling, MayBeGiven, OfEach, Step-each, Tick-each}
-use Rattle.lagbeside.proofs.EachSetting.{KeptBySetting, asides_each, asides_sound, asides_weaken, kept_key}
+use Rattle.lagbeside.proofs.EachSetting.{KeptBySetting, asides_each, asides_sound, kept_key, key_after, runs_weaken}
 use Rattle.lagbeside.proofs.Hearing.{EnabledKeep, both, is_number, no, times_keep}
 use Rattle.lagbeside.proofs.Knowing.{decoded}
 use Rattle.lagbeside.proofs.Never.{timed_bits}
@@ -418,9 +418,6 @@ module _ (key : Key) (hears : ℕ → Option Party) (n : ℕ) where
     set_less (Setting.Set_max_delay max_delay) u = tt
     set_less (Setting.Set_max_links max_links) u = tt
 
-    less : (old new : SystemState) → Asides Sets old new → Asides (LeavesPort n) old new
-    less old new h = asides_weaken Sets (LeavesPort n) set_less old new h
-
     call_keeps : (t w : ℕ) → t ≤ 30 → (before mid : SystemState) (call : Call) (answer : Reply) → LetsNoneJoin hears n call answer → (call ≡ Tick → ⊥)
         → Step gives before call answer mid → OfEach (Others t w) before.system_ports → OfEach (Others t w) mid.system_ports
     call_keeps t w l before mid call answer u none h a =
@@ -431,66 +428,42 @@ module _ (key : Key) (hears : ℕ → Option Party) (n : ℕ) where
     tick_keeps t w v l m before mid answer h a = Tick-each (Others t w) (Others (t - 1) v) (others_settle (t - 1) v)
         (λ k p q r b other. kind_ticks key t w v (hears k) p q l m r (b other)) gives before answer mid h a
 
-    key_after : (old mid : SystemState) (call : Call) (answer : Reply) → Step gives old call answer mid → key_of old.keys agg.0 ≡ Some key
-        → key_of mid.keys agg.0 ≡ Some key
-    key_after old mid call answer h k = ap (λ (s : SystemState). key_of s.keys agg.0) (Step-frame gives old call answer mid h) ∙ k
+    -- a port that begins to wait has 20 ticks left: before the first tick each may have as many
+    abbrev most_left : Bool → ℕ
+    most_left ticked = if ticked then 19 else 20
 
-    run_so : (t : ℕ) (old new : SystemState) (calls : List Call) (replies : List Reply) → t ≤ 30 → tick_count calls ≤ t
-        → key_of old.keys agg.0 ≡ Some key → OfEach (Others t 19) old.system_ports → Runs Sets gives old calls replies new
-        → EachCall (LetsNoneJoin hears n) calls replies → RunsWhile (LeavesPort n) (NoneBegins agg n) gives old calls replies new
-    run_so t old new [] [] l c k a r u =
-        (less old new r.0, at_state agg t new (asides_sound Sets old new r.0) (kept_key Sets key agg old new r.0 k) (aside t 19 old new r.0 a))
-    run_so t old new (Tick ∷ calls) (answer ∷ answers) l c k a r u =
-        let s = asides_sound Sets old r.0 r.3 in
-        let still = kept_key Sets key agg old r.0 r.3 k in
-        let b = aside t 19 old r.0 r.3 a in (
-          r.0,
-          r.1,
-          at_state agg t r.0 s still b,
-          less old r.0 r.3,
-          r.4,
-          run_so (t - 1) r.1 new calls answers (omega (arith, l)) (omega (arith, c)) (key_after r.0 r.1 Tick answer r.4 still)
-              (tick_keeps t 19 19 (omega (arith, c)) (omega arith) r.0 r.1 answer r.4 b) r.5 u.1,
-        )
-    run_so t old new (call ∷ calls) (answer ∷ answers) l c k a r u =
-        let s = asides_sound Sets old r.0 r.3 in
-        let still = kept_key Sets key agg old r.0 r.3 k in
-        let b = aside t 19 old r.0 r.3 a in (
-          r.0,
-          r.1,
-          at_state agg t r.0 s still b,
-          less old r.0 r.3,
-          r.4,
-          run_so t r.1 new calls answers l c (key_after r.0 r.1 call answer r.4 still)
-              (call_keeps t 19 l r.0 r.1 call answer u.0 (λ e. cc) r.4 b) r.5 u.1,
-        )
-    run_so t old new calls replies l c k a r u = absurd r
+    most_before : (ticked : Bool) → most_left ticked ≤ 19 + 1
+    most_before true = omega arith
+    most_before false = omega arith
 
-    once_so : (t : ℕ) (old new : SystemState) (calls : List Call) (replies : List Reply) → t ≤ 30 → tick_count calls ≤ t
-        → key_of old.keys agg.0 ≡ Some key → OfEach (Others t 20) old.system_ports → Runs Sets gives old calls replies new
-        → EachCall (LetsNoneJoin hears n) calls replies → RunsOnceTicked (LeavesPort n) (NoneBegins agg n) gives old calls replies new
-    once_so t old new [] [] l c k a r u = less old new r.0
-    once_so t old new (Tick ∷ calls) (answer ∷ answers) l c k a r u =
-        let still = kept_key Sets key agg old r.0 r.3 k in (
-          r.0,
-          r.1,
-          less old r.0 r.3,
-          r.4,
-          run_so (t - 1) r.1 new calls answers (omega (arith, l)) (omega (arith, c)) (key_after r.0 r.1 Tick answer r.4 still)
-              (tick_keeps t 20 19 (omega (arith, c)) (omega arith) r.0 r.1 answer r.4 (aside t 20 old r.0 r.3 a)) r.5 u.1,
+    none_at : (ticked : Bool) (t : ℕ) (old new : SystemState) → key_of old.keys agg.0 ≡ Some key → Asides Sets old new
+        → OfEach (Others t (most_left ticked)) new.system_ports → ticked ≡ true → NoneBegins agg n new
+    none_at ticked t old new k h a e = at_state agg t new (asides_sound Sets old new h) (kept_key Sets key agg old new h k)
+        (subst (λ b. OfEach (Others t (most_left b)) new.system_ports) e a)
+
+    none_run : (ticked : Bool) (t : ℕ) (old new : SystemState) (calls : List Call) (replies : List Reply) (states : List SystemState) → t ≤ 30
+        → tick_count calls ≤ t → key_of old.keys agg.0 ≡ Some key → OfEach (Others t (most_left ticked)) old.system_ports
+        → Runs Sets gives old calls replies states new → EachCall (LetsNoneJoin hears n) calls replies
+        → OnceTicked (NoneBegins agg n) ticked calls states new
+    none_run ticked t old new [] [] [] l c k a r u = none_at ticked t old new k r (aside t (most_left ticked) old new r a)
+    none_run ticked t old new (Tick ∷ calls) (answer ∷ answers) (before ∷ states) l c k a r u =
+        let b = aside t (most_left ticked) old before r.1 a in (
+          none_at ticked t old before k r.1 b,
+          none_run true (t - 1) r.0 new calls answers states (omega (arith, l)) (omega (arith, c))
+              (key_after Sets key agg gives old before r.0 Tick answer r.1 r.2 k)
+              (tick_keeps t (most_left ticked) 19 (omega (arith, c)) (most_before ticked) before r.0 answer r.2 b) r.3 u.1,
         )
-    once_so t old new (call ∷ calls) (answer ∷ answers) l c k a r u =
-        let still = kept_key Sets key agg old r.0 r.3 k in (
-          r.0,
-          r.1,
-          less old r.0 r.3,
-          r.4,
-          once_so t r.1 new calls answers l c (key_after r.0 r.1 call answer r.4 still)
-              (call_keeps t 20 l r.0 r.1 call answer u.0 (λ e. cc) r.4 (aside t 20 old r.0 r.3 a)) r.5 u.1,
+    none_run ticked t old new (call ∷ calls) (answer ∷ answers) (before ∷ states) l c k a r u =
+        let b = aside t (most_left ticked) old before r.1 a in (
+          none_at ticked t old before k r.1 b,
+          none_run ticked t r.0 new calls answers states l c (key_after Sets key agg gives old before r.0 call answer r.1 r.2 k)
+              (call_keeps t (most_left ticked) l before r.0 call answer u.0 (λ e. cc) r.2 b) r.3 u.1,
         )
-    once_so t old new calls replies l c k a r u = absurd r
+    none_run ticked t old new calls replies states l c k a r u = absurd r
 
 pub none_begins_to_wait : (gives : ℕ → ℕ → ℕ → Type 0) → NoneBeginsToWait gives
-none_begins_to_wait gives hears agg key n old new calls replies s waits k others r u l =
-    once_so key hears n agg gives (tick_count calls) old new calls replies l (omega arith) k
-    (at_first key hears n (tick_count calls) l old s waits others) r u
+none_begins_to_wait gives hears agg key n old new calls replies states s waits k others r u l = (
+  runs_weaken (SetsNoneFree hears n) (LeavesPort n) (set_less key hears n agg gives) gives old new calls replies states r,
+  none_run key hears n agg gives false (tick_count calls) old new calls replies states l (omega arith) k
+      (at_first key hears n (tick_count calls) l old s waits others) r u,
+)

@@ -1,12 +1,12 @@
 -- The other ports of an aggregator wait no longer, if none begins to.
 use Rattle.lagbeside.proofs.Common.{Bool, List, Option, Some, [], ap, arith, eqb-true, false, if◌then◌else◌, inl, inr, not, refl, slice_get, subst}
-use Rattle.lagbeside.proofs.Common.{sym, true, ℕ, ◌&&◌, ◌+◌, ◌-◌, ◌==◌, ◌||◌, ◌∙◌, ◌∷◌, ◌≡◌, ◌≤◌, ◌⊎◌, cases_Bool, nat_tests, AllByRecursion, AggId}
+use Rattle.lagbeside.proofs.Common.{sym, true, ℕ, ◌&&◌, ◌+◌, ◌-◌, ◌==◌, ◌∙◌, ◌∷◌, ◌≡◌, ◌≤◌, ◌⊎◌, cases_Bool, nat_tests, AllByRecursion, AggId}
 use Rattle.lagbeside.proofs.Common.{Key, Choice, Selected, Standby, Unselected, is_unselected, same_party, Lacpdu, party_of, MuxState, Attached}
 use Rattle.lagbeside.proofs.Common.{CollectingDistributing, Detached, Waiting, Machines, mux_rows, same_mux_state, default_partner, lacpdu_rows}
 use Rattle.lagbeside.proofs.Common.{receive_rows, RunsToRest, Starts, before_start, count_down, has_chosen, has_waited, is_detached_or_waiting}
 use Rattle.lagbeside.proofs.Common.{occupies, Reply, SystemPort, Call, Configure, ProcessesLacpdu, Receive, Restart, Set_link, Tick, Transmit}
 use Rattle.lagbeside.proofs.Common.{changed_party, choice_with_link, MuxIsSettled, Setting, IsSound, SystemState, stage_of, tick_count, Asides, Runs}
-use Rattle.lagbeside.proofs.Common.{RunsOnceTicked, RunsWhile, NoneBegins, Service, begins_in}
+use Rattle.lagbeside.proofs.Common.{OnceTicked, Runs, NoneBegins, Service, begins_in}
 use Rattle.lagbeside.proofs.EachPort.{KeptByCall, KeptBySettling, OfEach, Step-each, Tick-each}
 use Rattle.lagbeside.proofs.Hearing.{no}
 use Rattle.lagbeside.proofs.OnePort.{AtPort, periodic_leaves}
@@ -161,52 +161,29 @@ module _ (Sets : Setting → Type 0) (n : ℕ) (agg : AggId) (gives : ℕ → �
       → OfEach (Beside n (Hard agg (t - (ticks + 1)))) ports
   more_gone t ticks ports a = subst (λ m. OfEach (Beside n (Hard agg m)) ports) (omega arith) a
 
-  pub others_run : (t : ℕ) (old new : SystemState) (calls : List Call) (replies : List Reply) → OfEach (Beside n (Soft agg t)) old.system_ports
-      → RunsWhile Sets (NoneBegins agg n) gives old calls replies new → OfEach (Beside n (Hard agg (t - tick_count calls))) new.system_ports
-  others_run t old new [] [] a h = subst (λ m. OfEach (Beside n (Hard agg m)) new.system_ports) (omega arith)
-      (harden n agg t new.system_ports h.1 (aside_soft t old new h.0 a))
-  others_run t old new (Tick ∷ calls) (answer ∷ answers) a h =
+  -- before the first tick no port has more ticks left than it starts with
+  now_hard : (ticked : Bool) (t : ℕ) (s : SystemState) → (ticked ≡ false → t ≡ 20) → (ticked ≡ true → NoneBegins agg n s)
+      → OfEach (Beside n (Soft agg t)) s.system_ports → OfEach (Beside n (Hard agg t)) s.system_ports
+  now_hard true t s e none a = harden n agg t s.system_ports (none refl) a
+  now_hard false t s e none a = subst (λ m. OfEach (Beside n (Hard agg m)) s.system_ports) (sym (e refl))
+      (all_hard n agg s.system_ports (subst (λ m. OfEach (Beside n (Soft agg m)) s.system_ports) (e refl) a))
+
+  pub others_run : (ticked : Bool) (t : ℕ) (old new : SystemState) (calls : List Call) (replies : List Reply) (states : List SystemState)
+      → (ticked ≡ false → t ≡ 20) → OfEach (Beside n (Soft agg t)) old.system_ports → Runs Sets gives old calls replies states new
+      → OnceTicked (NoneBegins agg n) ticked calls states new → OfEach (Beside n (Hard agg (t - tick_count calls))) new.system_ports
+  others_run ticked t old new [] [] [] e a h none = subst (λ m. OfEach (Beside n (Hard agg m)) new.system_ports) (omega arith)
+      (now_hard ticked t new e none (aside_soft t old new h a))
+  others_run ticked t old new (Tick ∷ calls) (answer ∷ answers) (before ∷ states) e a h none =
       let mid = Tick-each (Beside n (Hard agg t)) (Beside n (Soft agg (t - 1))) (soft_settles n agg (t - 1))
-      (λ m p q r b e. soft_ticks agg t p q r (b e)) gives h.0 answer h.1 h.4
-      (harden n agg t h.0.system_ports h.2 (aside_soft t old h.0 h.3 a)) in
-      more_gone t (tick_count calls) new.system_ports (others_run (t - 1) h.1 new calls answers mid h.5)
-  others_run t old new (call ∷ calls) (answer ∷ answers) a h =
-      others_run t h.1 new calls answers
-      (Step-each (Beside n (Soft agg t)) (soft_settles n agg t) gives h.0 call answer h.1 (soft_calls n agg t call answer (λ e. cc)) h.4
-      (aside_soft t old h.0 h.3 a)) h.5
-  others_run t old new calls replies a h = absurd h
-
-  one_gone : (ticks : ℕ) (ports : List SystemPort) → OfEach (Beside n (Hard agg (19 - ticks))) ports
-      → OfEach (Beside n (Hard agg (20 - (ticks + 1)))) ports
-  one_gone ticks ports a = subst (λ m. OfEach (Beside n (Hard agg m)) ports) (omega arith) a
-
-  pub others_once : (old new : SystemState) (calls : List Call) (replies : List Reply) → OfEach (Beside n (Soft agg 20)) old.system_ports
-      → RunsOnceTicked Sets (NoneBegins agg n) gives old calls replies new → 1 ≤ tick_count calls
-      → OfEach (Beside n (Hard agg (20 - tick_count calls))) new.system_ports
-  others_once old new [] [] a h l = absurd (omega (arith, l))
-  others_once old new (Tick ∷ calls) (answer ∷ answers) a h l =
-      let mid = Tick-each (Beside n (Hard agg 20)) (Beside n (Soft agg 19)) (soft_settles n agg 19)
-      (λ m p q r b e. soft_ticks agg 20 p q r (b e)) gives h.0 answer h.1 h.3
-      (all_hard n agg h.0.system_ports (aside_soft 20 old h.0 h.2 a)) in
-      one_gone (tick_count calls) new.system_ports (others_run 19 h.1 new calls answers mid h.4)
-  others_once old new (call ∷ calls) (answer ∷ answers) a h l =
-      others_once h.1 new calls answers
-      (Step-each (Beside n (Soft agg 20)) (soft_settles n agg 20) gives h.0 call answer h.1 (soft_calls n agg 20 call answer (λ e. cc)) h.3
-      (aside_soft 20 old h.0 h.2 a)) h.4 l
-  others_once old new calls replies a h l = absurd h
-
-  forget : (Is : SystemState → Type 0) (old new : SystemState) (calls : List Call) (replies : List Reply)
-      → RunsWhile Sets Is gives old calls replies new → Runs Sets gives old calls replies new
-  forget Is old new [] [] h = (h.0, tt)
-  forget Is old new (call ∷ calls) (answer ∷ answers) h = (h.0, h.1, tt, h.3, h.4, forget Is h.1 new calls answers h.5)
-  forget Is old new calls replies h = absurd h
-
-  pub once_runs : (Is : SystemState → Type 0) (old new : SystemState) (calls : List Call) (replies : List Reply)
-      → RunsOnceTicked Sets Is gives old calls replies new → Runs Sets gives old calls replies new
-  once_runs Is old new [] [] h = (h, tt)
-  once_runs Is old new (Tick ∷ calls) (answer ∷ answers) h = (h.0, h.1, tt, h.2, h.3, forget Is h.1 new calls answers h.4)
-  once_runs Is old new (call ∷ calls) (answer ∷ answers) h = (h.0, h.1, tt, h.2, h.3, once_runs Is h.1 new calls answers h.4)
-  once_runs Is old new calls replies h = absurd h
+      (λ m p q r b f. soft_ticks agg t p q r (b f)) gives before answer h.0 h.2
+      (now_hard ticked t before e none.0 (aside_soft t old before h.1 a)) in
+      more_gone t (tick_count calls) new.system_ports
+      (others_run true (t - 1) h.0 new calls answers states (λ f. absurd (no (sym f))) mid h.3 none.1)
+  others_run ticked t old new (call ∷ calls) (answer ∷ answers) (before ∷ states) e a h none =
+      others_run ticked t h.0 new calls answers states e
+      (Step-each (Beside n (Soft agg t)) (soft_settles n agg t) gives before call answer h.0 (soft_calls n agg t call answer (λ f. cc)) h.2
+      (aside_soft t old before h.1 a)) h.3 none.1
+  others_run ticked t old new calls replies states e a h none = absurd h
 
 -- a member at rest that has not waited is synchronized
 

@@ -6,7 +6,7 @@ use Rattle.lagbeside.proofs.Common.{Machines, is_synchronized, mux_rows, same_mu
 use Rattle.lagbeside.proofs.Common.{count_down, Reply, TookLacpdu, SystemPort, Call, Configure, OnlyPortChangesBy, ProcessesLacpdu, Receive, Restart}
 use Rattle.lagbeside.proofs.Common.{Set_link, Step, ThenSettles, Tick, Transmit, choice_with_link, can_receive, can_receive_in, Setting, IsSound}
 use Rattle.lagbeside.proofs.Common.{SystemState, port_index, named, all-get, found_place, processed_on, EachCall, tick_count, Asides, LeavesPort}
-use Rattle.lagbeside.proofs.Common.{RunsWhile, Fed, IsServed, LeavesServed, Serves, Service, in_sync, timeout_time}
+use Rattle.lagbeside.proofs.Common.{Runs, Fed, IsServed, LeavesServed, Serves, Service, in_sync, timeout_time}
 use Rattle.lagsystem.specs.declared.drive.Reply.TheVariants as reply
 use Rattle.lagbeside.proofs.EachSetting.{KeptBySetting, asides_each, asides_sound}
 use Rattle.lagbeside.proofs.EachPort.{KeptByCall, KeptBySettling, OfEach, Step-each, Tick-each, took}
@@ -253,22 +253,23 @@ module _ (u : Service) (c : Choice) (sel : is_selected c ≡ true) (n : ℕ) (gi
       → OfEach (AtPort n (Climbs u c may 1 (t - (ticks + 1)))) ports
   one_more may t ticks ports a = subst (λ m. OfEach (AtPort n (Climbs u c may 1 m)) ports) (omega arith) a
 
-  pub run_served : (Is : SystemState → Type 0) (may : Bool) (left t : ℕ) → 1 ≤ left → (old new : SystemState) (calls : List Call) (replies : List Reply)
-      → OfEach (AtPort n (Climbs u c may left t)) old.system_ports → RunsWhile (LeavesPort n) Is gives old calls replies new → EachCall (LeavesServed u n) calls replies
+  pub run_served : (may : Bool) (left t : ℕ) → 1 ≤ left → (old new : SystemState) (calls : List Call) (replies : List Reply)
+      (states : List SystemState) → OfEach (AtPort n (Climbs u c may left t)) old.system_ports
+      → Runs (LeavesPort n) gives old calls replies states new → EachCall (LeavesServed u n) calls replies
       → Fed u.short n left calls replies → IsSound new × OfEach (AtPort n (Climbs u c may 1 (t - tick_count calls))) new.system_ports
-  run_served Is may left t l old new [] [] a h v f = (
-    asides_sound (LeavesPort n) old new h.0,
-    aside_kept may 1 (t - 0) old new h.0
+  run_served may left t l old new [] [] [] a h v f = (
+    asides_sound (LeavesPort n) old new h,
+    aside_kept may 1 (t - 0) old new h
         (subst (λ m. OfEach (AtPort n (Climbs u c may 1 m)) old.system_ports) (omega arith) (weaker may left t l old.system_ports a)),
   )
-  run_served Is may left t l old new (Tick ∷ calls) (answer ∷ answers) a h v f =
+  run_served may left t l old new (Tick ∷ calls) (answer ∷ answers) (before ∷ states) a h v f =
       let mid = Tick-each (AtPort n (Climbs u c may left t)) (AtPort n (Climbs u c may (left - 1) (t - 1)))
-      (climbs_settles n u c may (left - 1) (t - 1) sel) (λ m p q r b e. climbs_ticks u c may left t p q f.0 r (b e)) gives h.0 answer h.1 h.4
-      (aside_kept may left t old h.0 h.3 a) in
-      let end = run_served Is may (left - 1) (t - 1) (omega (arith, f.0)) h.1 new calls answers mid h.5 v.1 f.1 in
+      (climbs_settles n u c may (left - 1) (t - 1) sel) (λ m p q r b e. climbs_ticks u c may left t p q f.0 r (b e)) gives before answer h.0 h.2
+      (aside_kept may left t old before h.1 a) in
+      let end = run_served may (left - 1) (t - 1) (omega (arith, f.0)) h.0 new calls answers states mid h.3 v.1 f.1 in
       (end.0, one_more may t (tick_count calls) new.system_ports end.1)
-  run_served Is may left t l old new (call ∷ calls) (answer ∷ answers) a h v f =
-      run_served Is may (if processed_on n call answer then timeout_time u.short else left) t (fed_kept left call answer l) h.1 new calls answers
-      (served_call may left t l call answer h.0 h.1 (asides_sound (LeavesPort n) old h.0 h.3) v.0 (λ e. cc) h.4 (aside_kept may left t old h.0 h.3 a)) h.5
-      v.1 f
-  run_served Is may left t l old new calls replies a h v f = absurd h
+  run_served may left t l old new (call ∷ calls) (answer ∷ answers) (before ∷ states) a h v f =
+      run_served may (if processed_on n call answer then timeout_time u.short else left) t (fed_kept left call answer l) h.0 new calls answers states
+      (served_call may left t l call answer before h.0 (asides_sound (LeavesPort n) old before h.1) v.0 (λ e. cc) h.2
+      (aside_kept may left t old before h.1 a)) h.3 v.1 f
+  run_served may left t l old new calls replies states a h v f = absurd h

@@ -21,7 +21,7 @@ use Rattle.lagsystem.specs.Settings.{Hold_port, Set_mode, Setting}
 use Rattle.lagsystem.specs.Sound.{IsSound}
 use Rattle.lagsystem.specs.State.{SystemState}
 use Rattle.lagbeside.specs.Heartbeat.{EachCall, tick_count}
-use Rattle.lagbeside.specs.Runs.{LeavesPort, Runs, RunsOnceTicked}
+use Rattle.lagbeside.specs.Runs.{LeavesPort, OnceTicked, Runs}
 use Rattle.lagbeside.specs.Serving.{NoneBegins, WaitsAreBounded}
 
 -- The link of the port is down. Or the port is SELECTED or STANDBY, has recorded this party, and is not DEFAULTED anew within so many
@@ -58,11 +58,11 @@ SetsNoneFree hears n (Set_mode m active short) = m ≢ n
 SetsNoneFree hears n setting = Unit {0}
 
 -- An aggregator of a sound system has this key, and for at most 30 ticks each other port of the key hears the party that it has recorded,
--- or nothing; ports of other keys may hear anything. Then the same calls lead to the same state by a run in which no other port begins to
--- wait in the aggregator after the first tick, as `ComesUp` asks.
+-- or nothing; ports of other keys may hear anything. Then, in each run of this kind, no other port begins to wait in the aggregator after
+-- the first tick; and the run leaves port n. So it is as `ComesUp` asks.
 abbrev pub NoneBeginsToWait : (ℕ → ℕ → ℕ → Type 0) → Type 0
 NoneBeginsToWait gives = (hears : ℕ → Option Party) (agg : AggId) (key : Key) (n : ℕ) (old new : SystemState) (calls : List Call)
-    (replies : List Reply) → IsSound old → WaitsAreBounded old → key_of old.keys agg.0 ≡ Some key
-    → OthersStandApart (tick_count calls) key hears n old → Runs (SetsNoneFree hears n) gives old calls replies new
+    (replies : List Reply) (states : List SystemState) → IsSound old → WaitsAreBounded old → key_of old.keys agg.0 ≡ Some key
+    → OthersStandApart (tick_count calls) key hears n old → Runs (SetsNoneFree hears n) gives old calls replies states new
     → EachCall (LetsNoneJoin hears n) calls replies → tick_count calls ≤ 30
-    → RunsOnceTicked (LeavesPort n) (NoneBegins agg n) gives old calls replies new
+    → Runs (LeavesPort n) gives old calls replies states new × OnceTicked (NoneBegins agg n) false calls states new

@@ -1,5 +1,5 @@
 -- Lists of calls of one system, with what stands between them: settings, and the calls of a host with a data plane.
-use Rattle.std.specs.Prelude.{◌≡◌, ◌≢◌, ◌⊎◌, ℕ, zero, suc, Bool, List, [], ◌∷◌, Result}
+use Rattle.std.specs.Prelude.{◌≡◌, ◌≢◌, ◌⊎◌, ℕ, zero, suc, Bool, true, List, [], ◌∷◌, Result}
 use Rattle.lagsystem.specs.declared.drive.Reply.{Reply}
 use Rattle.lagsystem.specs.declared.fault.SystemFault.{SystemFault}
 use Rattle.lagsystem.specs.Calls.{Call, Step, Tick}
@@ -13,10 +13,10 @@ LeavesPort n (Hold_port m held) = m ≢ n
 LeavesPort n (Set_mode m active short) = m ≢ n
 LeavesPort n setting = Unit {0}
 
--- port n has this LACP_Activity after the setting, if it has it before
-abbrev pub LeavesActivity : ℕ → Bool → Setting → Type 0
-LeavesActivity n active (Set_mode m now short) = m ≡ n → now ≡ active
-LeavesActivity n active setting = Unit {0}
+-- the setting makes port n active only if it may be that; it may make it passive
+abbrev pub ActiveOnlyIf : Bool → ℕ → Setting → Type 0
+ActiveOnlyIf may n (Set_mode m active short) = m ≡ n → active ≡ true → may ≡ true
+ActiveOnlyIf may n setting = Unit {0}
 
 -- a setting of this kind is made, with any answer
 abbrev pub IsSet : (Setting → Type 0) → SystemState → SystemState → Type 0
@@ -37,29 +37,17 @@ AsideTimes Sets (suc n) old new = (mid : SystemState) × IsAside Sets old mid ×
 abbrev pub Asides : (Setting → Type 0) → SystemState → SystemState → Type 0
 Asides Sets old new = (n : ℕ) × AsideTimes Sets n old new
 
--- such calls, and what stands between them, lead from the one state to the other; and the state just before each call is so, and the last one
-abbrev pub RunsWhile : (Setting → Type 0) → (SystemState → Type 0) → (ℕ → ℕ → ℕ → Type 0) → SystemState → List Call → List Reply
-    → SystemState → Type 0
-RunsWhile Sets Is gives old [] [] new = Asides Sets old new × Is new
-RunsWhile Sets Is gives old (call ∷ calls) (answer ∷ answers) new =
-    (before : SystemState) × (mid : SystemState) × Is before × Asides Sets old before × Step gives before call answer mid
-    × RunsWhile Sets Is gives mid calls answers new
-RunsWhile Sets Is gives old [] (answer ∷ answers) new = ⊥
-RunsWhile Sets Is gives old (call ∷ calls) [] new = ⊥
+-- Such calls, and what stands between them, lead from the one state to the other, by these states just before each call.
+abbrev pub Runs : (Setting → Type 0) → (ℕ → ℕ → ℕ → Type 0) → SystemState → List Call → List Reply → List SystemState → SystemState → Type 0
+Runs Sets gives old [] [] [] new = Asides Sets old new
+Runs Sets gives old (call ∷ calls) (answer ∷ answers) (before ∷ states) new =
+    (mid : SystemState) × Asides Sets old before × Step gives before call answer mid × Runs Sets gives mid calls answers states new
+Runs Sets gives old calls answers states new = ⊥
 
--- so each is after the first tick
-abbrev pub RunsOnceTicked : (Setting → Type 0) → (SystemState → Type 0) → (ℕ → ℕ → ℕ → Type 0) → SystemState → List Call → List Reply
-    → SystemState → Type 0
-RunsOnceTicked Sets Is gives old [] [] new = Asides Sets old new
-RunsOnceTicked Sets Is gives old (Tick ∷ calls) (answer ∷ answers) new =
-    (before : SystemState) × (mid : SystemState) × Asides Sets old before × Step gives before Tick answer mid
-    × RunsWhile Sets Is gives mid calls answers new
-RunsOnceTicked Sets Is gives old (call ∷ calls) (answer ∷ answers) new =
-    (before : SystemState) × (mid : SystemState) × Asides Sets old before × Step gives before call answer mid
-    × RunsOnceTicked Sets Is gives mid calls answers new
-RunsOnceTicked Sets Is gives old [] (answer ∷ answers) new = ⊥
-RunsOnceTicked Sets Is gives old (call ∷ calls) [] new = ⊥
-
--- such calls lead from the one state to the other
-abbrev pub Runs : (Setting → Type 0) → (ℕ → ℕ → ℕ → Type 0) → SystemState → List Call → List Reply → SystemState → Type 0
-Runs Sets gives old calls answers new = RunsWhile Sets (λ s. Unit {0}) gives old calls answers new
+-- The state just before each of these calls is so, and the last one, once a tick has gone: before them, if the flag says that, or
+-- among them.
+abbrev pub OnceTicked : (SystemState → Type 0) → Bool → List Call → List SystemState → SystemState → Type 0
+OnceTicked Is ticked [] states new = ticked ≡ true → Is new
+OnceTicked Is ticked (call ∷ calls) [] new = Unit {0}
+OnceTicked Is ticked (Tick ∷ calls) (before ∷ states) new = (ticked ≡ true → Is before) × OnceTicked Is true calls states new
+OnceTicked Is ticked (call ∷ calls) (before ∷ states) new = (ticked ≡ true → Is before) × OnceTicked Is ticked calls states new
