@@ -1,8 +1,8 @@
 -- A port that is the only one of its key waits for no other.
-use Rattle.lagbeside.proofs.Common.{Bool, List, Some, [], ap, false, refl, slice_get, suc, sym, true, zero, ℕ, ◌&&◌, ◌==◌, ◌∙◌, ◌∷◌, ◌≡◌, ◌≢◌, Asides}
+use Rattle.lagbeside.proofs.Common.{Bool, List, Some, [], ap, false, refl, slice_get, suc, sym, true, zero, ℕ, ◌&&◌, ◌==◌, ◌∙◌, ◌∷◌, ◌≡◌, ◌≢◌}
 use Rattle.lagbeside.proofs.Common.{and_parts, same_Some, AllByRecursion, AggId, Key, Party, Waiting, same_mux_state, occupies, Reply, SystemPort}
-use Rattle.lagbeside.proofs.Common.{Call, Tick, key_of, occupied, Setting, IsSound, SystemState, LeavesPort, OnceTicked}
-use Rattle.lagbeside.proofs.Common.{Runs, ComesUpAlone, IsOnlyOfKey, NoneBegins, begins_in}
+use Rattle.lagbeside.proofs.Common.{Call, Tick, key_of, occupied, Setting, IsSound, SystemState, Asides, LeavesPort, OnceTicked, Runs, ComesUpAlone}
+use Rattle.lagbeside.proofs.Common.{IsOnlyOfKey, NoneBegins, begins_in}
 use Rattle.lagbeside.proofs.Beside.{comes_up}
 use Rattle.lagbeside.proofs.EachSetting.{asides_sound, kept_key, key_after}
 use Rattle.lagbeside.proofs.Selecting.{occupies_is}

@@ -3,8 +3,8 @@ use Rattle.lagbeside.proofs.Common.{Bool, List, Some, [], ap, arith, false, inl,
 use Rattle.lagbeside.proofs.Common.{◌≡◌, ◌≤◌, nat_tests, AggId, Choice, Selected, is_selected, is_unselected, MuxState, Attached}
 use Rattle.lagbeside.proofs.Common.{CollectingDistributing, Detached, Waiting, is_synchronized, mux_rows, partner_synchronized, same_mux_state}
 use Rattle.lagbeside.proofs.Common.{AtRest, Reply, SystemPort, Call, configured_numbers, MuxIsSettled, Setting, IsSound, SystemState, port_numbers}
-use Rattle.lagbeside.proofs.Common.{Step-frame, all-get, ports_rise, EachCall, tick_count, LeavesPort, Runs, ComesUp, Fed, IsServed}
-use Rattle.lagbeside.proofs.Common.{LeavesServed, Service, StaysUp}
+use Rattle.lagbeside.proofs.Common.{Step-frame, all-get, ports_rise, EachCall, tick_count, LeavesPort, Runs, ComesUp, Fed, IsServed, LeavesServed}
+use Rattle.lagbeside.proofs.Common.{Service, StaysUp}
 use Rattle.lagbeside.proofs.EachPort.{OfEach}
 use Rattle.lagbeside.proofs.EachSetting.{asides_stand}
 use Rattle.lagbeside.proofs.Hearing.{no}

@@ -74,7 +74,7 @@ pub use Rattle.lagsystem.proofs.Rising.{Rises, all-get, all-set, found_place, po
 pub use Rattle.lagsystem.proofs.Sound.{Step-sound}
 pub use Rattle.lagbeside.specs.Hearing.{IsNoticed, LeavesUnheard, processed_on}
 pub use Rattle.lagbeside.specs.Heartbeat.{EachCall, IsHeard, IsSilentShortly, LeavesUpAndSilent, tick_count}
-pub use Rattle.lagbeside.specs.Runs.{AsideTimes, Asides, IsAside, ActiveOnlyIf, LeavesPort, OnceTicked, Runs}
+pub use Rattle.lagbeside.specs.Runs.{ActiveOnlyIf, AsideTimes, Asides, IsAside, LeavesPort, OnceTicked, Runs}
 pub use Rattle.lagbeside.specs.Selecting.{IsFull, SharesGroup, StandsByFull, WantsAggregator, aggregators_with, ports_with}
 pub use Rattle.lagbeside.specs.Serving.{Brings, CarriesBeside, ComesUp, ComesUpAlone, Fed, IsOnlyOfKey, IsServed, IsUnanswered, LeavesServed}
 pub use Rattle.lagbeside.specs.Serving.{LeavesUnanswered, NeverAlone, NoneBegins, Serves, Service, StaysUp, WaitsAreBounded, begins_in, in_sync}

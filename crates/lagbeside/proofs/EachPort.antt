@@ -81,7 +81,7 @@ standby_none aggs l s h = grind (arith, nat_tests, standby_not_eligible)
 abbrev AtRestAnd : (ℕ → Machines → Type 0) → ℕ → Machines → Type 0
 AtRestAnd P n p = P n p × (is_selected p.choice ≡ false → is_synchronized p.mux ≡ false) × (is_unselected p.choice ≡ true → p.mux ≡ Detached)
 
-unsynchronized : (m : MuxState) (sel b : Bool) → sel ≡ false → (same_mux_state Attached m && not sel) ≡ false
+pub unsynchronized : (m : MuxState) (sel b : Bool) → sel ≡ false → (same_mux_state Attached m && not sel) ≡ false
     → (same_mux_state CollectingDistributing m && (not sel || b)) ≡ false → is_synchronized m ≡ false
 unsynchronized m sel b e f g = grind (arith, nat_tests)
 

@@ -1,8 +1,9 @@
 -- What the machines of a port keep, every setting keeps of each port, and so does what stands between two calls.
-use Rattle.lagbeside.proofs.Common.{Bool, Err, List, None, Ok, Option, Result, Some, [], ap, false, inl, inr, refl, subst, suc, sym, true, zero, ℕ, ◌∙◌, ◌∷◌, ◌≡◌, Call, List, Reply, Runs, Step, Step-frame}
-use Rattle.lagbeside.proofs.Common.{AggId, Key, Unselected, with_mode, Machines, SystemFault, SystemPort, choice_with_link, key_of, SetsPort, Setting}
-use Rattle.lagbeside.proofs.Common.{SettingStep, in_mode, is_held_so, is_in_mode, with_held, Settling, IsSound, SystemState, port_index, with_table}
-use Rattle.lagbeside.proofs.Common.{settling_keeps, all-get, all-set, found_place, AsideTimes, Asides, IsAside}
+use Rattle.lagbeside.proofs.Common.{Bool, Err, List, None, Ok, Option, Result, Some, [], ap, false, inl, inr, refl, subst, suc, sym, true, zero, ℕ}
+use Rattle.lagbeside.proofs.Common.{◌∙◌, ◌∷◌, ◌≡◌, AggId, Key, Unselected, with_mode, Machines, Reply, SystemFault, SystemPort, Call, Step}
+use Rattle.lagbeside.proofs.Common.{choice_with_link, key_of, SetsPort, Setting, SettingStep, in_mode, is_held_so, is_in_mode, with_held, Settling}
+use Rattle.lagbeside.proofs.Common.{IsSound, SystemState, port_index, with_table, Step-frame, settling_keeps, all-get, all-set, found_place}
+use Rattle.lagbeside.proofs.Common.{AsideTimes, Asides, IsAside, Runs}
 use Rattle.lagbeside.proofs.EachPort.{KeptBySettling, OfEach, settling_each, zip_kept}
 
 -- what a setting itself does keeps P

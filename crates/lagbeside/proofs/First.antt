@@ -1,8 +1,8 @@
 -- From the first LACPDU on.
-use Rattle.lagbeside.proofs.Common.{Bool, Ok, ap, arith, false, inl, inr, refl, subst, sym, true, ℕ, ◌∙◌, ◌≡◌, ◌≤◌, ◌⊎◌, AggId, Choice, Selected, Runs}
+use Rattle.lagbeside.proofs.Common.{Bool, Ok, ap, arith, false, inl, inr, refl, subst, sym, true, ℕ, ◌∙◌, ◌≡◌, ◌≤◌, ◌⊎◌, AggId, Choice, Selected}
 use Rattle.lagbeside.proofs.Common.{Standby, Unselected, Party, is_selected, Machines, TookLacpdu, SystemPort, Receive, SystemState, port_index}
-use Rattle.lagbeside.proofs.Common.{Step-frame, all-get, ports_rise, Step-sound, EachCall, LeavesPort, OnceTicked, StandsByFull, WantsAggregator}
-use Rattle.lagbeside.proofs.Common.{CarriesBeside, Fed, IsServed, LeavesServed, NoneBegins, Service, WaitsAreBounded, timeout_time}
+use Rattle.lagbeside.proofs.Common.{Step-frame, all-get, ports_rise, Step-sound, EachCall, LeavesPort, OnceTicked, Runs, StandsByFull}
+use Rattle.lagbeside.proofs.Common.{WantsAggregator, CarriesBeside, Fed, IsServed, LeavesServed, NoneBegins, Service, WaitsAreBounded, timeout_time}
 use Rattle.lagsystem.specs.declared.drive.Reply.TheVariants as reply
 use Rattle.lagbeside.proofs.Beside.{comes_up, same_number}
 use Rattle.lagbeside.proofs.EachPort.{Step-each, took}

@@ -1,22 +1,25 @@
 -- Ports that have joined, or whose link is down, do not begin to wait.
 use Rattle.lagbeside.proofs.Common.{Bool, List, None, Option, Some, [], ap, arith, false, if◌then◌else◌, inl, inr, not, refl, slice_get, subst, suc}
-use Rattle.lagbeside.proofs.Common.{sym, true, zero, ℕ, ◌&&◌, ◌+◌, ◌-◌, ◌<◌, ◌==◌, ◌||◌, ◌∙◌, ◌∷◌, ◌≡◌, ◌≢◌, ◌≤◌, ◌⊎◌, and_parts, cases_Bool}
-use Rattle.lagbeside.proofs.Common.{nat_tests, AllByRecursion, AggId, Key, Choice, Selected, Standby, Unselected, Party, is_selected, is_unselected}
-use Rattle.lagbeside.proofs.Common.{same_party, party_itself, Lacpdu, party_of, MuxState, Attached, CollectingDistributing, Detached, Waiting}
-use Rattle.lagbeside.proofs.Common.{ReceiveState, Current, Defaulted, Expired, Initialize, PortDisabled, with_mode, Machines, is_synchronized}
-use Rattle.lagbeside.proofs.Common.{mux_rows, partner_synchronized, same_mux_state, RunsPeriodic, default_partner, receive_rows}
-use Rattle.lagbeside.proofs.Common.{recorded_synchronization, same_receive_state, AtRest, RunsToRest, after_sending, count_down, occupies, Reply}
-use Rattle.lagbeside.proofs.Common.{SystemPort, Call, Configure, ProcessesLacpdu, Receive, Restart, Set_link, Step, Tick, Transmit, choice_with_link}
-use Rattle.lagbeside.proofs.Common.{key_of, none_enabled, MuxIsSettled, occupied, Setting, IsSound, SystemState, named, rests, EachCall}
-use Rattle.lagbeside.proofs.Common.{tick_count, Asides, LeavesPort, Runs, OnceTicked, Runs, NoneBegins, WaitsAreBounded, begins_in}
+use Rattle.lagbeside.proofs.Common.{sym, true, zero, ℕ, ◌&&◌, ◌+◌, ◌-◌, ◌<◌, ◌==◌, ◌∙◌, ◌∷◌, ◌≡◌, ◌≢◌, ◌≤◌, ◌⊎◌, and_parts, cases_Bool, nat_tests}
+use Rattle.lagbeside.proofs.Common.{AllByRecursion, AggId, Key, Choice, Selected, Standby, Unselected, Party, is_selected, is_unselected, same_party}
+use Rattle.lagbeside.proofs.Common.{party_itself, Lacpdu, party_of, MuxState, Attached, CollectingDistributing, Detached, Waiting, ReceiveState}
+use Rattle.lagbeside.proofs.Common.{Current, Defaulted, Expired, Initialize, PortDisabled, with_mode, Machines, is_synchronized, mux_rows}
+use Rattle.lagbeside.proofs.Common.{partner_synchronized, same_mux_state, RunsPeriodic, default_partner, receive_rows, recorded_synchronization}
+use Rattle.lagbeside.proofs.Common.{same_receive_state, AtRest, RunsToRest, after_sending, count_down, occupies, Reply, SystemPort, Call, Configure}
+use Rattle.lagbeside.proofs.Common.{ProcessesLacpdu, Receive, Restart, Set_link, Step, Tick, Transmit, choice_with_link, key_of, none_enabled}
+use Rattle.lagbeside.proofs.Common.{MuxIsSettled, occupied, Setting, IsSound, SystemState, named, rests, EachCall, tick_count, Asides, LeavesPort}
+use Rattle.lagbeside.proofs.Common.{OnceTicked, Runs, NoneBegins, WaitsAreBounded, begins_in}
 use Rattle.lagbeside.specs.Joining.{LetsNoneJoin, NoneBeginsToWait, OthersStandApart, SetsNoneFree, StandsApart}
 use Rattle.lagbeside.proofs.Alone.{begins_not}
-use Rattle.lagbeside.proofs.EachPort.{KeptByCall, KeptBySettling, MayBeGiven, OfEach, Step-each, Tick-each}
+use Rattle.lagbeside.proofs.EachPort.{unsynchronized, KeptByCall, KeptBySettling, MayBeGiven, OfEach, Step-each, Tick-each}
 use Rattle.lagbeside.proofs.EachSetting.{KeptBySetting, asides_each, asides_sound, kept_key, key_after, runs_weaken}
 use Rattle.lagbeside.proofs.Hearing.{EnabledKeep, both, is_number, no, times_keep}
 use Rattle.lagbeside.proofs.Knowing.{decoded}
 use Rattle.lagbeside.proofs.Never.{timed_bits}
 use Rattle.lagbeside.proofs.OnePort.{mux_leaves, periodic_leaves}
+use Rattle.lagbeside.proofs.Others.{attached_waits, distributing_waits}
+use Rattle.lagbeside.proofs.Serving.{and_right}
+use Rattle.lagbeside.proofs.Sounding.{not_gone}
 use Rattle.lagbeside.proofs.Timers.{RowsKeep, runs_keep, takes_keep}
 
 -- what the mux machine of a port is like that is not UNSELECTED
@@ -41,17 +44,8 @@ Joined who t w p = Clear w p.choice p.mux p.wait_while × Holds who t p
 
 -- settling
 
-attached_waits : {A : Type 0} → Attached ≡ Waiting → A
-attached_waits e = absurd cc
-
-distributing_waits : {A : Type 0} → CollectingDistributing ≡ Waiting → A
-distributing_waits e = absurd cc
-
 left_detached : (m : MuxState) (un : Bool) → (same_mux_state Detached m && not un) ≡ true → (un ≡ false) × (same_mux_state Detached m ≡ true)
 left_detached m un h = grind (arith, nat_tests)
-
-guard_of : (a b : Bool) → (a && b) ≡ true → b ≡ true
-guard_of a b h = grind (arith, nat_tests)
 
 not_so : (b : Bool) → not b ≡ true → b ≡ false
 not_so b h = grind (arith, nat_tests)
@@ -66,9 +60,9 @@ joined_rows : (who : Party) (t w : ℕ) (ready : Bool) → EnabledKeep (Joined w
 joined_rows who t w ready = (
   λ p h a. (let d = left_detached p.mux (is_unselected p.choice) h in absurd (both _ d.1 (a.0 d.0).0)),
   (
-    λ p h a. (λ f. both (is_unselected p.choice) (guard_of _ (is_unselected p.choice) h) f, a.1),
+    λ p h a. (λ f. both (is_unselected p.choice) (and_right _ (is_unselected p.choice) h) f, a.1),
     (
-      λ p h a. (λ f. (refl, λ s. both (is_selected p.choice) (and_parts (is_selected p.choice) ready (guard_of _ _ h)).0 s, λ e. attached_waits e), a.1),
+      λ p h a. (λ f. (refl, λ s. both (is_selected p.choice) (and_parts (is_selected p.choice) ready (and_right _ _ h)).0 s, λ e. attached_waits e), a.1),
       (
         λ p h a. (λ f. (let d = left_attached p.mux (is_selected p.choice) h in absurd (both _ d.1 ((a.0 f).1 d.0))), a.1),
         (
@@ -76,7 +70,7 @@ joined_rows who t w ready = (
             λ f. (
               refl,
               λ s. both (is_selected p.choice)
-                  (and_parts (is_selected p.choice) (partner_synchronized p) (guard_of _ _ h)).0 s,
+                  (and_parts (is_selected p.choice) (partner_synchronized p) (and_right _ _ h)).0 s,
               λ e. distributing_waits e,
             ),
             a.1,
@@ -136,12 +130,12 @@ receive_joined : (who : Party) (t w : ℕ) → EnabledKeep (Joined who t w) rece
 receive_joined who t w = (
   λ p h a. (a.0, elim a.1 [ inl down ↦ inl down | inr s ↦ absurd (not_initial t p.current_while p.receive true h s.1) ]),
   (
-    λ p h a. (a.0, inl (not_so p.enabled (guard_of _ (not p.enabled) h))),
+    λ p h a. (a.0, inl (not_so p.enabled (and_right _ (not p.enabled) h))),
     (
       λ p h a. (
         a.0,
         elim a.1 [
-          | inl down ↦ absurd (both p.enabled (guard_of _ p.enabled h) down)
+          | inl down ↦ absurd (both p.enabled (and_right _ p.enabled h) down)
           | inr s ↦ absurd (not_disabled t p.current_while p.receive p.enabled h s.1)
         ],
       ),
@@ -272,20 +266,13 @@ kind_takes key t w l (Some who) v p q same h a = joined_takes who t w l v p q (s
 stays_there : (m : MuxState) (un : Bool) → (same_mux_state Detached m && not un) ≡ false → un ≡ false → same_mux_state Detached m ≡ false
 stays_there m un d e = grind (arith, nat_tests)
 
-unsynced : (m : MuxState) (sel b : Bool) → sel ≡ false → (same_mux_state Attached m && not sel) ≡ false
-    → (same_mux_state CollectingDistributing m && (not sel || b)) ≡ false → is_synchronized m ≡ false
-unsynced m sel b e f g = grind (arith, nat_tests)
-
-above_zero : (n : ℕ) → (n == 0) ≡ false → 1 ≤ n
-above_zero n h = grind (arith, nat_tests)
-
 first_lasts : (t : ℕ) (r : ReceiveState) (up : Bool) (n : ℕ) → up ≡ true → t ≤ 30 → (same_receive_state Initialize r && true) ≡ false
     → (same_receive_state PortDisabled r && up) ≡ false → (same_receive_state Current r && (n == 0)) ≡ false → (r ≡ Expired → t < n)
     → Lasts t r n
 first_lasts t Initialize up n e l i d c x = absurd (no (sym i))
 first_lasts t PortDisabled up n e l i d c x = absurd (no (sym d ∙ e))
 first_lasts t Expired up n e l i d c x = (let f = x refl in omega (arith, f))
-first_lasts t Current up n e l i d c x = (let f = above_zero n c in omega (arith, l, f))
+first_lasts t Current up n e l i d c x = (let f = not_gone n c in omega (arith, l, f))
 first_lasts t Defaulted up n e l i d c x = tt
 
 first_kind : (key : Key) (t : ℕ) → t ≤ 30 → (o : Option Party) (p : Machines) → AtRest (mux_rows false) p
@@ -294,7 +281,7 @@ first_kind key t l None p m r w a = a
 first_kind key t l (Some who) p m r w a = (
   λ un. (
     stays_there p.mux (is_unselected p.choice) m.0 un,
-    λ s. unsynced p.mux (is_selected p.choice) (not (partner_synchronized p)) s m.1.1.1.0 m.1.1.1.1.1.0,
+    λ s. unsynchronized p.mux (is_selected p.choice) (not (partner_synchronized p)) s m.1.1.1.0 m.1.1.1.1.1.0,
     λ e. w,
   ),
   elim a [

@@ -89,9 +89,14 @@ known_goes_on v n = record { settles = known_settles v n; ticks = tick_known v; 
 
 -- what the LACPDU leaves
 
-starts_with : (short : Bool) → timeout_time short ≤ (if short then 30 else 900)
+pub starts_with : (short : Bool) → timeout_time short ≤ (if short then 30 else 900)
 starts_with true = omega arith
 starts_with false = omega arith
+
+pub asleep : (c b : Bool) → b ≡ true → (if b then c else true) ≡ true → (c && b) ≡ false → ⊥
+asleep true true e a k = no (sym k)
+asleep false true e a k = no a
+asleep c false e a k = no e
 
 pub decoded : (t : Bool) (info : Info) → bits_of (with_synchronization t info.state) ≡ record (bits_of info.state) {
   synchronization
@@ -122,11 +127,6 @@ recorded v p q up awake h = elim h [
   ]
   | inr r ↦ absurd (asleep (can_receive_in p.receive) p.enabled up awake r.0.0)
 ]
-  where
-    asleep : (c b : Bool) → b ≡ true → (if b then c else true) ≡ true → (c && b) ≡ false → ⊥
-    asleep true true e a k = no (sym k)
-    asleep false true e a k = no a
-    asleep c false e a k = no e
 
 pub placed : (l : List SystemPort) (i : ℕ) (w t : SystemPort) → slice_get l i ≡ Some w → slice_get (slice_set l i t) i ≡ Some t
 placed [] i w t e = absurd (none-some w e)

@@ -1,10 +1,11 @@
 -- A port that no LACPDU was in sync with.
-use Rattle.lagbeside.proofs.Common.{Bool, List, [], ap, arith, false, inl, inr, not, refl, subst, sym, true, ℕ, ◌&&◌, ◌||◌, ◌∙◌, ◌∷◌, ◌≡◌, cases_Bool, same_party, party_of}
-use Rattle.lagbeside.proofs.Common.{nat_tests, Party, StateBits, is_selected, bits_of, with_synchronization, with_timeout, encode_then_decode, Info}
-use Rattle.lagbeside.proofs.Common.{Lacpdu, MuxState, CollectingDistributing, Machines, partner_synchronized, same_mux_state, receive_rows}
-use Rattle.lagbeside.proofs.Common.{recorded_synchronization, count_down, Reply, SystemPort, Call, Configure, ProcessesLacpdu, Receive, Restart}
-use Rattle.lagbeside.proofs.Common.{Set_link, Tick, Transmit, choice_with_link, MuxIsSettled, Setting, IsSound, SystemState, all-get, ports_rise}
-use Rattle.lagbeside.proofs.Common.{EachCall, Asides, ActiveOnlyIf, Runs, Brings, IsUnanswered, LeavesUnanswered, NeverAlone, in_sync}
+use Rattle.lagbeside.proofs.Common.{Bool, List, [], ap, arith, false, inl, inr, not, refl, subst, sym, true, ℕ, ◌&&◌, ◌||◌, ◌∙◌, ◌∷◌, ◌≡◌, cases_Bool}
+use Rattle.lagbeside.proofs.Common.{nat_tests, Party, StateBits, is_selected, same_party, bits_of, with_synchronization, with_timeout}
+use Rattle.lagbeside.proofs.Common.{encode_then_decode, Info, Lacpdu, party_of, MuxState, CollectingDistributing, Machines, partner_synchronized}
+use Rattle.lagbeside.proofs.Common.{same_mux_state, receive_rows, recorded_synchronization, count_down, Reply, SystemPort, Call, Configure}
+use Rattle.lagbeside.proofs.Common.{ProcessesLacpdu, Receive, Restart, Set_link, Tick, Transmit, choice_with_link, MuxIsSettled, Setting, IsSound}
+use Rattle.lagbeside.proofs.Common.{SystemState, all-get, ports_rise, EachCall, ActiveOnlyIf, Asides, Runs, Brings, IsUnanswered, LeavesUnanswered}
+use Rattle.lagbeside.proofs.Common.{NeverAlone, in_sync}
 use Rattle.lagbeside.proofs.EachPort.{KeptByCall, KeptBySettling, OfEach, Step-each, Tick-each}
 use Rattle.lagbeside.proofs.EachSetting.{KeptBySetting, asides_each, asides_sound}
 use Rattle.lagbeside.proofs.Beside.{runs_ports, same_number}
@@ -36,10 +37,10 @@ lonely_rows own may = (
 )
 
 -- an LACPDU that is in sync with a passive port is so with an active one
-less_sync : (active may said kept both named : Bool) → (active ≡ true → may ≡ true) → (said && (kept || (may && both)) && named) ≡ false
-    → (said && (kept || (active && both)) && named) ≡ false
-less_sync true may said kept both named e h = subst (λ b. (said && (kept || (b && both)) && named) ≡ false) (e refl) h
-less_sync false may said kept both named e h = grind (arith, nat_tests)
+less_sync : (active may sync actor partner named : Bool) → (active ≡ true → may ≡ true)
+    → (sync && (actor || (may && partner)) && named) ≡ false → (sync && (actor || (active && partner)) && named) ≡ false
+less_sync true may sync actor partner named e h = subst (λ b. (sync && (actor || (b && partner)) && named) ≡ false) (e refl) h
+less_sync false may sync actor partner named e h = grind (arith, nat_tests)
 
 lonely_takes : (own : Party) (may : Bool) (v : Lacpdu) (p q : Machines) → in_sync own may v ≡ false → ProcessesLacpdu v p q
     → Lonely own may p → Lonely own may q

@@ -1,11 +1,11 @@
 -- The other ports of an aggregator wait no longer, if none begins to.
 use Rattle.lagbeside.proofs.Common.{Bool, List, Option, Some, [], ap, arith, eqb-true, false, if◌then◌else◌, inl, inr, not, refl, slice_get, subst}
-use Rattle.lagbeside.proofs.Common.{sym, true, ℕ, ◌&&◌, ◌+◌, ◌-◌, ◌==◌, ◌∙◌, ◌∷◌, ◌≡◌, ◌≤◌, ◌⊎◌, cases_Bool, nat_tests, AllByRecursion, AggId}
-use Rattle.lagbeside.proofs.Common.{Key, Choice, Selected, Standby, Unselected, is_unselected, same_party, Lacpdu, party_of, MuxState, Attached}
+use Rattle.lagbeside.proofs.Common.{sym, true, ℕ, ◌&&◌, ◌+◌, ◌-◌, ◌==◌, ◌∙◌, ◌∷◌, ◌≡◌, ◌≤◌, ◌⊎◌, cases_Bool, nat_tests, AllByRecursion, AggId, Key}
+use Rattle.lagbeside.proofs.Common.{Choice, Selected, Standby, Unselected, is_unselected, same_party, Lacpdu, party_of, MuxState, Attached}
 use Rattle.lagbeside.proofs.Common.{CollectingDistributing, Detached, Waiting, Machines, mux_rows, same_mux_state, default_partner, lacpdu_rows}
 use Rattle.lagbeside.proofs.Common.{receive_rows, RunsToRest, Starts, before_start, count_down, has_chosen, has_waited, is_detached_or_waiting}
 use Rattle.lagbeside.proofs.Common.{occupies, Reply, SystemPort, Call, Configure, ProcessesLacpdu, Receive, Restart, Set_link, Tick, Transmit}
-use Rattle.lagbeside.proofs.Common.{changed_party, choice_with_link, MuxIsSettled, Setting, IsSound, SystemState, stage_of, tick_count, Asides, Runs}
+use Rattle.lagbeside.proofs.Common.{changed_party, choice_with_link, MuxIsSettled, Setting, IsSound, SystemState, stage_of, tick_count, Asides}
 use Rattle.lagbeside.proofs.Common.{OnceTicked, Runs, NoneBegins, Service, begins_in}
 use Rattle.lagbeside.proofs.EachPort.{KeptByCall, KeptBySettling, OfEach, Step-each, Tick-each}
 use Rattle.lagbeside.proofs.Hearing.{no}
@@ -28,10 +28,10 @@ Beside n P m p = (m == n) ≡ false → P p
 detached_waits : {A : Type 0} → Detached ≡ Waiting → A
 detached_waits e = absurd cc
 
-attached_waits : {A : Type 0} → Attached ≡ Waiting → A
+pub attached_waits : {A : Type 0} → Attached ≡ Waiting → A
 attached_waits e = absurd cc
 
-distributing_waits : {A : Type 0} → CollectingDistributing ≡ Waiting → A
+pub distributing_waits : {A : Type 0} → CollectingDistributing ≡ Waiting → A
 distributing_waits e = absurd cc
 
 soft_rows : (agg : AggId) (t : ℕ) (ready : Bool) → RowsKeep (Soft agg t) (mux_rows ready)

@@ -1,9 +1,8 @@
 -- When an aggregator is Ready: each of its members that is not attached has waited (6.4.14.1).
-use Rattle.lagbeside.proofs.Common.{Bool, List, Some, [], ap, arith, cond, false, filter, refl, slice_get, suc, sym, true, zero, ℕ}
-use Rattle.lagbeside.proofs.Common.{◌&&◌, ◌||◌, ◌∙◌, ◌∷◌, ◌≡◌, ◌⊎◌, nat_tests, none-some, AllByRecursion, list_all, list_any}
-use Rattle.lagbeside.proofs.Common.{AggId, Key, Selected, itself, Waiting, PortView, is_aggregator, ports_that_chose, has_chosen, has_waited}
-use Rattle.lagbeside.proofs.Common.{is_detached_or_waiting, SystemPort, MuxIsSettled, occupied, ready_of, IsSound, SystemState, selection_view}
-use Rattle.lagbeside.proofs.Common.{stage_of, views, all-get}
+use Rattle.lagbeside.proofs.Common.{Bool, List, Some, [], ap, arith, cond, false, filter, refl, slice_get, suc, sym, true, zero, ℕ, ◌&&◌, ◌||◌, ◌∙◌}
+use Rattle.lagbeside.proofs.Common.{◌∷◌, ◌≡◌, ◌⊎◌, nat_tests, none-some, AllByRecursion, list_all, list_any, AggId, Key, Selected, itself, Waiting}
+use Rattle.lagbeside.proofs.Common.{PortView, is_aggregator, ports_that_chose, has_chosen, has_waited, is_detached_or_waiting, SystemPort}
+use Rattle.lagbeside.proofs.Common.{MuxIsSettled, occupied, ready_of, IsSound, SystemState, selection_view, stage_of, views, all-get}
 use Rattle.selection.specs.Ready.{is_ready}
 use Rattle.lagbeside.proofs.Hearing.{no}
 use Rattle.lagbeside.proofs.Selecting.{known_number}

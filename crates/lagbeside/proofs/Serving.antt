@@ -11,7 +11,7 @@ use Rattle.lagsystem.specs.declared.drive.Reply.TheVariants as reply
 use Rattle.lagbeside.proofs.EachSetting.{KeptBySetting, asides_each, asides_sound}
 use Rattle.lagbeside.proofs.EachPort.{KeptByCall, KeptBySettling, OfEach, Step-each, Tick-each, took}
 use Rattle.lagbeside.proofs.Hearing.{EnabledKeep, both, is_number, no, not_down, stays_up, times_keep}
-use Rattle.lagbeside.proofs.Knowing.{decoded, rests_still, takes_each}
+use Rattle.lagbeside.proofs.Knowing.{asleep, decoded, rests_still, starts_with, takes_each}
 use Rattle.lagbeside.proofs.OnePort.{AtPort, mux_leaves, periodic_leaves}
 
 -- SELECTED so, and served
@@ -40,7 +40,7 @@ both_not c h k = grind (arith, nat_tests)
 not_waiting : (m : MuxState) (g : Bool) (s : MuxState) → same_mux_state s Waiting ≡ false → (same_mux_state s m && g) ≡ true → m ≡ Waiting → ⊥
 not_waiting m g s f h e = no (sym (ap (λ b. b && g) f) ∙ subst (λ x. (same_mux_state s x && g) ≡ true) e h)
 
-and_right : (a b : Bool) → (a && b) ≡ true → b ≡ true
+pub and_right : (a b : Bool) → (a && b) ≡ true → b ≡ true
 and_right a b h = grind (arith, nat_tests)
 
 rises_rows : (may : Bool) (t : ℕ) (ready : Bool) → EnabledKeep (Rises-so may t) (mux_rows ready)
@@ -92,15 +92,6 @@ climbs_ticks u c may left t p q l h a =
     (((s.0, s.1, s.2, s.3, s.4, s.5, s.6, fewer), a.0.1), come_nearer may t p.wait_while p.mux a.1)
 
 -- an LACPDU that serves it
-
-starts_with : (short : Bool) → timeout_time short ≤ (if short then 30 else 900)
-starts_with true = omega arith
-starts_with false = omega arith
-
-asleep : (c b : Bool) → b ≡ true → (if b then c else true) ≡ true → (c && b) ≡ false → ⊥
-asleep true true e a k = no (sym k)
-asleep false true e a k = no a
-asleep c false e a k = no e
 
 pub served_first : (u : Service) (v : Lacpdu) (p q : Machines) → p.enabled ≡ true → p.party ≡ u.own → p.active ≡ u.active → p.short ≡ u.short
     → can_receive p ≡ true → Serves u v → ProcessesLacpdu v p q → IsServed u (timeout_time u.short) q

@@ -4,7 +4,7 @@ use Rattle.lagbeside.proofs.Common.{◌==◌, ◌||◌, ◌∷◌, ◌≡◌, �
 use Rattle.lagbeside.proofs.Common.{Slow, Machines, mux_rows, RunsPeriodic, is_silent, partner_short, periodic_rows, periodic_table}
 use Rattle.lagbeside.proofs.Common.{same_periodic_state, timer_expired, AtRest, Row, in_order, aged, count_down, is_due, SilentFor, IsTimed}
 use Rattle.lagbeside.proofs.Common.{most_periodic_timer}
-use Rattle.lagbeside.proofs.Hearing.{EnabledKeep, no, times_keep}
+use Rattle.lagbeside.proofs.Hearing.{EnabledKeep, no, times_keep, both}
 use Rattle.lagbeside.proofs.Timers.{RowsKeep}
 use Rattle.portmachines.proofs.Windows.{periodic-ages}
 
@@ -53,9 +53,6 @@ ordered : (P : Machines → Type 0) (earlier : Machines → Bool) (rows : List R
 ordered P earlier [] k = tt
 ordered P earlier (row ∷ rows) k = grind (arith, nat_tests, unordered, ordered P (λ p. earlier p || row.enabled p) rows k.1)
 
-clash : {A : Type 0} (b : Bool) → b ≡ true → b ≡ false → A
-clash b t f = grind (arith, nat_tests)
-
 from_none : (st : PeriodicState) (fast b : Bool) (most n : ℕ) → same_periodic_state NoPeriodic st ≡ true
     → (b ≡ true) ⊎ NextIn st fast most n → b ≡ true
 from_none NoPeriodic fast b most n e (inl t) = t
@@ -87,7 +84,7 @@ CalmNear fast most p = Calm fast p × Near fast most p
 
 table_near : (fast : Bool) (most : ℕ) → OrderedKeep (CalmNear fast most) (λ p. false) periodic_table
 table_near fast most = (
-  λ p f e a. absurd (clash (is_silent p) (and_parts (not (same_periodic_state NoPeriodic p.periodic)) (is_silent p) e).1 a.0.0),
+  λ p f e a. absurd (both (is_silent p) (and_parts (not (same_periodic_state NoPeriodic p.periodic)) (is_silent p) e).1 a.0.0),
   (
     λ p f e a. (
       a.0,
@@ -221,7 +218,7 @@ begins_in : (st : PeriodicState) (fast short expired : Bool) (n : ℕ) → Resti
     → n ≤ most_periodic_timer st → NextIn st fast (silence_of fast) n
 begins_in NoPeriodic fast short expired n r c l = absurd r
 begins_in PeriodicTx fast short expired n r c l = absurd r
-begins_in Slow true short expired n r c l = clash short (c refl) r.1
+begins_in Slow true short expired n r c l = both short (c refl) r.1
 begins_in Fast true short expired n r c l = omega (arith, l)
 begins_in st fast short expired n r c l = omega (arith, l)
 

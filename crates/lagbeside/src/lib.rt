@@ -150,8 +150,8 @@ pub fn a_served_port_stays_up<F: Fn(u16, usize) -> usize>()
 
 // promise: such a port carries after 20 ticks
 // contract: `a_served_port_comes_up` (`ComesUp`)
-// premises: the same; after the first of these ticks no other port of its aggregator begins to wait, by a call or a setting (`NoneBegins`);
-//    no port has more ticks of wait_while left than it starts with (`WaitsAreBounded`)
+// premises: the same; once the first of these ticks has gone, no other port of its aggregator begins to wait, by a call or a setting
+//    (`OnceTicked`, `NoneBegins`); no port has more ticks of wait_while left than it starts with (`WaitsAreBounded`)
 /// A port that is served and SELECTED is in COLLECTING_DISTRIBUTING after 20 ticks in which no other port began to wait in its
 /// aggregator (6.4.14, 6.4.15).
 pub fn a_served_port_comes_up<F: Fn(u16, usize) -> usize>()
@@ -160,15 +160,15 @@ pub fn a_served_port_comes_up<F: Fn(u16, usize) -> usize>()
 
 ghost use Rattle.lagbeside.specs.Joining.{NoneBeginsToWait};
 
-// promise: while the other ports of a key hear what they heard, none of them begins to wait in an aggregator, as `a_served_port_comes_up` asks:
-//    each hears the party that it has recorded, or nothing
+// promise: in each run in which the other ports of a key hear what they heard, none of them begins to wait in an aggregator, as
+//    `a_served_port_comes_up` asks of that run: each hears the party that it has recorded, or nothing
 // contract: `ports_that_hear_the_same_do_not_begin` (`NoneBeginsToWait`)
 // premises: at most 30 ticks, and `WaitsAreBounded`; each of them is SELECTED or STANDBY at first, and in EXPIRED only with more ticks left than
 //    come, or its link is down (`HasJoined`); `set_link` takes none of their links up, none of them is held or let go, no other port is configured,
 //    and the port itself is not held, let go or set to a mode (`SetsNoneFree`); no restart. Ports of other keys may hear anything
 /// Ports that hear the same do not begin to wait: in at most 30 ticks, with which EXPIRED begins, none of the other ports of a key that
 /// is in an aggregator, or whose link is down, begins to wait in one after the first tick, while each hears the party that it has
-/// recorded, or nothing, whatever ports of other keys hear (6.4.12 to 6.4.15).
+/// recorded, or nothing, whatever ports of other keys hear (6.4.12 to 6.4.15). So it is in each such run, at the states that it goes by.
 pub fn ports_that_hear_the_same_do_not_begin<F: Fn(u16, usize) -> usize>()
     ensures { (algorithm : F) → NoneBeginsToWait (F.post algorithm) }
 {}
@@ -195,10 +195,12 @@ pub fn the_only_port_of_a_key_comes_up<F: Fn(u16, usize) -> usize>()
 // promise: **a port does not carry unanswered**: while no LACPDU is in sync with it (it names another port, is OUT_OF_SYNC, or the link is not
 //    actively maintained), it carries on defaults alone
 // contract: `no_port_carries_unanswered` (`NeverAlone`)
-// premises: it is on defaults, or its partner is not synchronized, before; it is not configured, and no restart. Any settings come between,
-//    but `set_mode` to another LACP_Activity of the port: active, it is in sync with more (`LeavesActivity`)
+// premises: it is on defaults, or its partner is not synchronized, before; it is not configured, and no restart. Any settings come between;
+//    but `set_mode` makes it active only where no LACPDU would be in sync with it if it were active (`ActiveOnlyIf`): active, it is in sync
+//    with more
 /// A port that no LACPDU was in sync with distributes on defaults alone: off defaults it is not in COLLECTING_DISTRIBUTING
-/// (6.4.9, recordPDU; 6.4.15).
+/// (6.4.9, recordPDU; 6.4.15). It may be made passive at any time, and active where no LACPDU would be in sync with it
+/// if it were active.
 pub fn no_port_carries_unanswered<F: Fn(u16, usize) -> usize>()
     ensures { (algorithm : F) → NeverAlone (F.post algorithm) }
 {}
