@@ -2,13 +2,15 @@
 
 from __future__ import annotations
 
+import glob
 import json
+import os
 import re
 from decimal import Decimal
 from typing import Callable, Sequence
 
 from quotes import HEADER, LAGD, MEASURED, PEERS, README, Quote, Read, rounded_to
-from repository import Missing
+from repository import TOP, Missing
 
 ASSURANCE, TROUBLE, THEOREMS = "docs/ASSURANCE.md", "docs/TROUBLE.md", "docs/internals/THEOREMS.md"
 CONFORM, CONFORMANCE, COMMAND, USING = "docs/CONFORM.md", "docs/CONFORMANCE.md", "docs/COMMAND.md", "docs/USING.md"
@@ -169,6 +171,16 @@ def octets_of_conversations(pages: Read) -> list[str]:
     return [f"{256 * int(found(pages, HEADER, r'[(]size_t[)]([0-9]+) [*] [(]conversations[)]')[0]):,}"]
 
 
+def edits_of(pattern: str) -> Callable[[Read], list[str]]:
+    """How many edits the files of a pattern have: each begins with a line `edit:`, or is a file of its own."""
+
+    def figures(pages: Read) -> list[str]:
+        files = sorted(os.path.relpath(it, TOP) for it in glob.glob(os.path.join(TOP, pattern)))
+        return [str(len(files) if pattern.endswith(".edit") else sum(len(re.findall(r"^edit:", pages.page(it), re.M)) for it in files))]
+
+    return figures
+
+
 def last_status(pages: Read) -> list[str]:
     return [str(max(map(int, re.findall(r"NIW_PORT_STATUS_\w+ = (\d+)", pages.page(HEADER)))))]
 
@@ -197,6 +209,9 @@ QUOTES: tuple[Quote, ...] = (
     Quote(ASSURANCE, f"each end is asked in them until nothing is due{PROMISED}", rounds_and_seconds("freed")),
     Quote(ASSURANCE, f"a full aggregator whose links all agree{PROMISED}", rounds_and_seconds("up")),
     Quote(ASSURANCE, f"each link distributes and agrees{PROMISED}", beside_cut_offs),
+    Quote(ASSURANCE, "the wrong bodies and laws that tell most|{}|the prover", edits_of("crates/*/must-fail/*.edit")),
+    Quote(ASSURANCE, "|wrong bodies|{}|the prover", edits_of("tools/maintain/wrong-bodies.d/*.edits")),
+    Quote(ASSURANCE, "each with the body that meets it|{}|", edits_of("tools/maintain/wrong-definitions.d/*.edits")),
     Quote(ASSURANCE, "cut at every length; {} frames of up to 200 octets among ticks", hostile),
     Quote(THEOREMS, "- *{} | {}* means: after", lambda pages: list(map(str, bounds(pages, "up")))),
     Quote(THEOREMS, "means: after {} rounds or more if both ends of each healthy cable are active (clause `both`), after {} if one is",

@@ -1,8 +1,9 @@
-"""tools/check: which checks its words name."""
+"""tools/check: which checks its words name, which of them run at a time, and what it says at the end."""
 
 from __future__ import annotations
 
 import os
+from pathlib import Path
 
 import pytest
 
@@ -29,3 +30,29 @@ def test_words_of_a_check_stand_behind_its_name() -> None:
 def test_no_check_and_an_unknown_one_are_refused(words: list[str]) -> None:
     with pytest.raises(Missing):
         check.asked(words)
+
+
+def test_no_two_checks_that_prove_nor_two_that_measure_run_at_a_time() -> None:
+    toolchain, root, others = ([name for name, _ in it] for it in check.lanes(check.asked(["--all"])))
+    assert sorted([*toolchain, *root, *others]) == sorted(check.CHECKS)
+    assert all("toolchain" in check.CHECKS[it].wants for it in toolchain) and "machines" in toolchain
+    assert {"live", "carry", "peers", "hosts"} == set(root)
+    assert not any(word in check.CHECKS[it].wants for it in others for word in ("toolchain", "root"))
+
+
+def test_the_end_has_the_longest_first_and_tells_what_was_skipped() -> None:
+    ended = [check.Ended("pages", "passed", 6.0, "1 passed, 0 failed"), check.Ended("live", "FAILED", 600.0, ""), check.Ended("carry", "skipped", 0.1, "")]
+    assert check.summary(ended) == ["  10.0 min  FAILED   live", "   0.1 min  passed   pages", "   0.0 min  skipped  carry", "1 passed, 1 failed, 1 skipped"]
+    assert check.summary(ended[:1]) == ["1 passed, 0 failed"]
+
+
+@pytest.mark.parametrize("status, how", [(0, "passed"), (1, "FAILED"), (2, "skipped")])
+def test_a_status_says_how_a_check_ended(status: int, how: str, tmp_path: Path, monkeypatch: pytest.MonkeyPatch) -> None:
+    tool = tmp_path / "tool"
+    tool.write_text(f"#!/bin/sh\necho last line\nexit {status}\n")
+    tool.chmod(0o755)
+    monkeypatch.setattr(check, "TOOLS", str(tmp_path))
+    monkeypatch.setattr(check, "LOGS", str(tmp_path))
+    monkeypatch.setitem(check.CHECKS, "pages", check.Check("tool", "", ""))
+    ended = check.ends("pages", [])
+    assert (ended.how, ended.last) == (how, "last line")
