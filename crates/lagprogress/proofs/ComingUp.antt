@@ -4,11 +4,10 @@ use Rattle.lagprogress.proofs.Common.{ℕ, ◌&&◌, ◌+◌, ◌-◌, ◌||◌,
 use Rattle.lagprogress.proofs.Common.{pair_of, same_group, group-itself, Lacpdu, party_of, One, Side, Two, peer, CollectingDistributing, Machines}
 use Rattle.lagprogress.proofs.Common.{same_mux_state, SystemPort, MuxIsSettled, group_at, machines_of, all-get, Same, agreement_at, agreement_of}
 use Rattle.lagprogress.proofs.Common.{end_facts, first_agreement, is_stamp, same_groups, Algorithms, ItemValue, LinkState, WorldState}
-use Rattle.lagprogress.proofs.Common.{change_count_in, half, history_at, IsTimed, OfEach, AtPort, Sounds, all_leave, LeavesPorts, Distributes}
-use Rattle.lagprogress.proofs.Common.{Clearing, HostRounds, NoneIsLeft, OfPort}
-use Rattle.lagprogress.proofs.Knowing.{AtIt, Chain, Met, Signs, able_fresh, awake_peer, beside, fits_before, fits_fresh, knows_peer, mode, stays_met}
+use Rattle.lagprogress.proofs.Common.{change_count_in, half, history_at, IsTimed, AtPort, Sounds, all_leave, LeavesPorts, Distributes}
+use Rattle.lagprogress.proofs.Common.{Clearing, OfPort}
+use Rattle.lagprogress.proofs.Knowing.{stays_met, AtIt, Chain, Met, Signs, able_fresh, awake_peer, beside, fits_before, fits_fresh, knows_peer, mode}
 use Rattle.lagprogress.proofs.Knowing.{wait, wakes_now}
-use Rattle.lagprogress.proofs.HostKnowing.{FreshAt, host_chain, host_signs, knows_peer as host_knows}
 use Rattle.lagprogress.proofs.HostStamps.{stamped_between, stamped_tick}
 use Rattle.lagprogress.proofs.OneCable.{OnCable, cable}
 use Rattle.lagprogress.proofs.Stamps.{Present, Stamped}
@@ -17,11 +16,10 @@ use Rattle.lagprogress.proofs.Climbing.{PartnerInSync, Rising, distributes_now, 
 use Rattle.lagprogress.proofs.Climbing.{ticks_rising}
 use Rattle.lagprogress.proofs.EndFacts.{Learnt, Synced, activity}
 use Rattle.lagprogress.proofs.EachRound.{among_on}
-use Rattle.lagprogress.proofs.Quieting.{AllBeside, PlayedBeside, all_beside}
+use Rattle.lagprogress.proofs.Quieting.{AllBeside, PlayedBeside}
 use Rattle.lagprogress.proofs.HostRound.{holds_beside, host_holds}
 use Rattle.lagprogress.proofs.Linked.{EndPort, Fits, Link, at_end, each_map, end_here, end_with, peer_twice}
 use Rattle.lagprogress.proofs.OneRound.{Nothing, join, ticked}
-use Rattle.lagprogress.proofs.Starting.{emptied}
 use Rattle.lagtypes.proofs.GroupLemmas.{groups_from_pairs}
 use Rattle.std.proofs.Math.Bool.{and_comm}
 
@@ -228,51 +226,6 @@ module _ (at : Side → ℕ) (w : Side → Lacpdu) (z : Signs) where
         let climbed = among_on (LeavesPorts at) E gives Climbs start (climbs_first start g chosen) climbs_on 20 mid h in
         among_on (LeavesPorts at) E gives (Agrees e) next
         (turn climbed.fresh (λ s. ready s (subst (λ t. AtIt at w s (Rising t) mid) (omega arith) (climbed.rising s)))) agrees_on n new more
-
--- in rounds of hosts nothing is on the cable then
-
-abbrev pub Up : (Side → ℕ) → (Side → Lacpdu) → WorldState → Type 0
-Up at w j = (n : ℕ) × (11 ≤ n) × Agrees at w (host_signs at w) 0 n j
-
-pub host_turn : (at : Side → ℕ) (w : Side → Lacpdu) (j : WorldState) → FreshAt at w 1 j → ((s : Side) → AtIt at w s Synced j)
-    → Agrees at w (host_signs at w) 0 0 j
-host_turn at w j g ready =
-    let synced : (s : Side) → OfEach (AtPort (at s) (λ p. 2 ≤ 2 → Synced p)) (half s j).state.system_ports =
-    λ s. each_map (AtPort (at s) Synced) (AtPort (at s) (λ p. 2 ≤ 2 → Synced p)) (λ m p a f l. a f) (half s j).state.system_ports (ready s) in
-    let link = emptied at w 1 2 g.known One Nothing j g.rest synced g.link in
-    record {
-      fresh = record {
-        known = g.known;
-        next = g.next;
-        link = link;
-        rest = g.rest;
-        fits = g.fits;
-        later = g.later;
-        longer = g.longer;
-        ahead = g.ahead;
-        told = g.told;
-        took = g.took;
-      };
-      tells = λ s. elim (g.told s (let l = host_knows at w 1 j g (peer s) in omega (arith, l))) [
-        | inl owes ↦ inl (11, omega arith, omega arith, owed at w g.known j link s (let l = host_knows at w 1 j g s in omega (arith, l)) owes)
-        | inr heard ↦ inr heard
-      ];
-    }
-
-pub host_comes_up : (at : Side → ℕ) (w : Side → Lacpdu) → ((t : Side) → IsNamed (w t))
-    → ((s : Side) → (activity (w s) ≡ true) ⊎ (activity (w (peer s)) ≡ true)) → (gives : Algorithms) (n : ℕ) (start mid new : WorldState)
-    → FreshAt at w 1 start → ((s : Side) → AtIt at w s (λ p. is_selected p.choice ≡ true) start)
-    → ((s : Side) → AtIt at w s (Rising 0) mid → AtIt at w s Synced mid) → 11 ≤ n → HostRounds gives 20 start mid → HostRounds gives n mid new
-    → Up at w new
-host_comes_up at w named awake gives n start mid new g chosen ready enough h more = (
-  n,
-  enough,
-  comes_up at w (host_signs at w) NoneIsLeft gives 0 (host_chain at w gives) named awake n start mid mid new g chosen ready
-      (all_beside at NoneIsLeft gives 20 start mid h) (host_turn at w mid) (all_beside at NoneIsLeft gives n mid new more),
-)
-
-pub up_synced : (at : Side → ℕ) (w : Side → Lacpdu) (j : WorldState) → Up at w j → AreSynced at w j
-up_synced at w j up = synced_of at w (host_signs at w) 0 up.0 j up.1 up.2 (λ s rest took. took)
 
 -- a port at an end of a cable has a history as before
 pub hosts_kept : (E : Clearing) (gives : Algorithms) (n i : ℕ) (at : Side → ℕ) (fl : Side → List ItemValue) (old new : WorldState)

@@ -1,4 +1,12 @@
 -- How both ends of a cable come to distribute in late rounds.
+use Rattle.lagprogress.proofs.EachRound.{played_split}
+use Rattle.lagprogress.proofs.Common.{history_at, is_stamp, taken_in}
+use Rattle.lagprogress.proofs.ComingUp.{comes_up}
+use Rattle.lagprogress.proofs.Quieting.{all_beside}
+use Rattle.lagprogress.proofs.HostStamps.{Took-it}
+use Rattle.lagprogress.proofs.Climbing.{Rising}
+use Rattle.lagprogress.proofs.Stamps.{Present}
+use Rattle.lagprogress.proofs.LateKnowing.{Fresh, late_chain, signs_of}
 use Rattle.lagprogress.proofs.Common.{Bool, List, [], ap, arith, inl, inr, subst, sym, true, ℕ, ◌-◌, ◌∙◌, ◌∷◌, ◌≡◌, ◌≤◌, ◌⊎◌, AllByRecursion}
 use Rattle.lagprogress.proofs.Common.{is_selected, Lacpdu, One, Side, peer, Machines, is_synchronized, mux_rows, receive_rows, RunsToRest, count_down}
 use Rattle.lagprogress.proofs.Common.{Algorithms, ItemValue, WorldState, half, no, times_keep, AtPort, periodic_leaves, IsLateRound, LateRounds}
@@ -7,7 +15,6 @@ use Rattle.lagprogress.proofs.Claims.{IsNamed}
 use Rattle.lagprogress.proofs.Climbing.{PartnerInSync, keeps_selected, ticks_still}
 use Rattle.lagprogress.proofs.ComingUp.{Agrees, AreSynced, owed, synced_of}
 use Rattle.lagprogress.proofs.EndFacts.{Along, IsEnd, Synced, activity, synced_mux}
-use Rattle.lagprogress.proofs.HostHearing.{present_of}
 use Rattle.lagprogress.proofs.Knowing.{AtIt, beside}
 use Rattle.lagprogress.proofs.HostStamps.{same_items}
 use Rattle.lagprogress.proofs.LateHearing.{Whoever}
@@ -43,6 +50,11 @@ tells_which u v (x ∷ xs) H h = elim (tells_which u v xs (SaysIt u v x × (H �
   | inr (says, inl y) ↦ inr y
   | inr (says, inr b) ↦ inl (inl b)
 ]
+
+present_of : (gives : Algorithms) (at : Side → ℕ) (old new : WorldState) (t : Side) → Took-it gives 1 at (counts_of at old) (kept_of at old) t new
+    → Present at t new
+present_of gives at old new t m there = subst (λ n. is_stamp n (taken_in (history_at (half t new).histories (at t))) ≡ true) (sym (m.0.counts (peer t)))
+    (m.1 (sym (m.0.there t) ∙ there))
 
 module _ (at : Side → ℕ) (w : Side → Lacpdu) (k : Side → ℕ) (kept : Side → Bool) (named : (t : Side) → IsNamed (w t))
     (awake : (s : Side) → (activity (w s) ≡ true) ⊎ (activity (w (peer s)) ≡ true)) where
@@ -128,7 +140,26 @@ module _ (at : Side → ℕ) (w : Side → Lacpdu) (k : Side → ℕ) (kept : Si
       (as_beside at OldArrive gives mid next (subst (λ j. IsLateRound gives j next) r.1 r.2)))
 
 -- both ends are synchronized, and know that of each other
-pub late_synced : (gives : Algorithms) (at : Side → ℕ) (w : Side → Lacpdu) (n : ℕ) (old j : WorldState) → 12 ≤ n
-    → Agrees at w (late_signs at w (counts_of at old) (kept_of at old)) 1 n j → AreSynced at w j
-late_synced gives at w n old j l c = synced_of at w (late_signs at w (counts_of at old) (kept_of at old)) 1 n j l c
-    (λ s stamped took. present_of gives at old j s (stamped, took))
+
+abbrev pub Up : (Side → ℕ) → (Side → Lacpdu) → WorldState → WorldState → Type 0
+Up at w old j = (n : ℕ) × (12 ≤ n) × Agrees at w (signs_of old at w) 1 n j
+
+pub up_synced : (gives : Algorithms) (at : Side → ℕ) (w : Side → Lacpdu) (old j : WorldState) → Up at w old j → AreSynced at w j
+up_synced gives at w old j up =
+    synced_of at w (signs_of old at w) 1 up.0 j up.1 up.2 (λ s stamped took. present_of gives at old j s (stamped, took))
+
+-- from a round in which both are SELECTED, and 20 more
+pub comes_to_be_up : (gives : Algorithms) (at : Side → ℕ) (w : Side → Lacpdu) → ((t : Side) → IsNamed (w t))
+    → ((s : Side) → (activity (w s) ≡ true) ⊎ (activity (w (peer s)) ≡ true)) → (n : ℕ) (old mid top new : WorldState) → 13 ≤ n
+    → LateRounds gives 20 mid top → LateRounds gives n top new → Fresh at w old mid → ((s : Side) → AtIt at w s (λ p. is_selected p.choice ≡ true) mid)
+    → ((s : Side) → AtIt at w s (Rising 0) top → AtIt at w s Synced top) → Up at w old new
+comes_to_be_up gives at w named awake n old mid top new enough climb more g chosen ready =
+    let k = counts_of at old in
+    let kept = kept_of at old in
+    let next = played_split OldArrive gives (n - 1) 1 n top new (omega (arith, enough)) more in (
+      n - 1,
+      omega (arith, enough),
+      comes_up at w (late_signs at w k kept) OldArrive gives 1 (late_chain at w k kept gives) named awake (n - 1) mid top next.0 new g chosen ready
+          (all_beside at OldArrive gives 20 mid top climb) (late_turn at w k kept named awake gives top next.0 next.1)
+          (all_beside at OldArrive gives (n - 1) next.0 new next.2),
+    )

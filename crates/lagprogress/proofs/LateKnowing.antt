@@ -1,12 +1,13 @@
 -- How the ends of a cable come to know each other in late rounds.
+use Rattle.lagprogress.proofs.Knowing.{stays_met}
 use Rattle.lagprogress.proofs.Common.{Bool, arith, inl, inr, refl, subst, sym, true, ℕ, ◌+◌, ◌-◌, ◌≡◌, ◌≤◌, ◌⊎◌, Lacpdu, One, Side, peer, Algorithms}
 use Rattle.lagprogress.proofs.Common.{LinkState, WorldState, half, port_at, Sounds, silence_of, BothAreActive, EndsOfEachKnow, OneIsActive}
-use Rattle.lagprogress.proofs.Common.{LateRounds, OldArrive, late_known_if_both_active, late_known_if_one_is, EndKnows}
+use Rattle.lagprogress.proofs.Common.{LateRounds, OldArrive, known_if_both_active, known_if_one_is, EndKnows}
 use Rattle.lagprogress.proofs.Claims.{IsNamed, Wakeful}
 use Rattle.lagprogress.proofs.Climbing.{PartnerInSync}
 use Rattle.lagprogress.proofs.EndFacts.{Along, CanSound, activity}
 use Rattle.lagprogress.proofs.Knowing.{AtIt, Chain, Hears, Met, Signs, both_meet, fits_before, fits_fresh, knows_peer, met_knows, one_meets}
-use Rattle.lagprogress.proofs.Knowing.{some_silence, sounds_now, stays_met}
+use Rattle.lagprogress.proofs.Knowing.{some_silence, sounds_now}
 use Rattle.lagprogress.proofs.LateHearing.{Ahead, Flies, Hears as Heard, Said, Whoever, late_flies, late_nears, late_passes, late_stamped, late_told}
 use Rattle.lagprogress.proofs.LateHearing.{late_took}
 use Rattle.lagprogress.proofs.Lapsing.{Lapsed, Lasting, Phase, Tails, lasting_now, lasting_passes}
@@ -102,7 +103,11 @@ module _ (at : Side → ℕ) (w : Side → Lacpdu) (k : Side → ℕ) (kept : Si
     pub stays_late : (gives : Algorithms) (d : ℕ) (old new : WorldState) → 1 ≤ d → PlayedBeside at OldArrive gives old new → FreshAt d old → FreshAt d new
     stays_late gives d old new there h g = stays_met at w late_signs OldArrive gives 1 (late_chain gives) named awake d old new there h g
 
--- both ends know each other, with the change counts that LACPDUs bear
+-- with the change counts that LACPDUs bear since this world
+abbrev pub signs_of : WorldState → (Side → ℕ) → (Side → Lacpdu) → Signs
+signs_of old at w = late_signs at w (counts_of at old) (kept_of at old)
+
+-- both ends know each other
 abbrev pub Fresh : (Side → ℕ) → (Side → Lacpdu) → WorldState → WorldState → Type 0
 Fresh at w old j = FreshAt at w (counts_of at old) (kept_of at old) 1 j
 
@@ -122,15 +127,15 @@ module _ (gives : Algorithms) (at : Side → ℕ) (w : Side → Lacpdu) (named :
       (late_chain at w (counts_of at old) (kept_of at old) gives) named n old new (λ j r. first_late gives at w old j l r)
       (all_beside at OldArrive gives n old new h)
 
-pub active_ends_know_late : (gives : Algorithms) → EndsOfEachKnow LateRounds BothAreActive late_known_if_both_active gives
-active_ends_know_late gives n i l old new cabling steady healthy active enough rounds =
+pub active_ends_know : (gives : Algorithms) → EndsOfEachKnow LateRounds BothAreActive known_if_both_active gives
+active_ends_know gives n i l old new cabling steady healthy active enough rounds =
     let e : Ends l old = λ s. end_of (λ p. p.enabled ≡ true) (port_at s l) (half s old).state (healthy.up s) in
     let w = said_by l old e in
     late_fresh_knows l w old new (late_active_meet gives (λ s. port_at s l) w (named_at l old e steady) n old new
     (starts i l old e steady cabling healthy) rounds (λ s. active_at l old e s (active s)) enough)
 
-pub ends_know_late : (gives : Algorithms) → EndsOfEachKnow LateRounds OneIsActive late_known_if_one_is gives
-ends_know_late gives n i l old new cabling steady healthy (a, active) enough rounds =
+pub ends_know : (gives : Algorithms) → EndsOfEachKnow LateRounds OneIsActive known_if_one_is gives
+ends_know gives n i l old new cabling steady healthy (a, active) enough rounds =
     let e : Ends l old = λ s. end_of (λ p. p.enabled ≡ true) (port_at s l) (half s old).state (healthy.up s) in
     let w = said_by l old e in
     late_fresh_knows l w old new (late_one_meets gives (λ s. port_at s l) w (named_at l old e steady) n old new

@@ -1,4 +1,5 @@
 -- A world that events lead to from one that was made is a bundle, if its links are up as it wants them.
+use Rattle.lagprogress.proofs.Common.{LateRounds, nat_tests, or_first}
 use Rattle.lagprogress.proofs.Common.{Bool, List, None, Option, Some, [], ap, arith, false, if◌then◌else◌, map, refl, subst, suc, sym, true, zero, ℕ}
 use Rattle.lagprogress.proofs.Common.{◌++◌, ◌+◌, ◌-◌, ◌∙◌, ◌∷◌, ◌≡◌, none-some, SystemId, same_system, system-itself, One, Side, Two, WorldSetup}
 use Rattle.lagprogress.proofs.Common.{Config, config_value, Algorithms, AreFirst, LinkState, WorldState, half, start_sound, hosts_keep_headline, no}
@@ -10,7 +11,7 @@ use Rattle.lagscript.specs.declared.config.BadWorld.TheVariants.{SameSystem}
 use Rattle.cables.specs.declared.item.Item.{Item}
 use Rattle.lagscript.specs.Configs.{refusal_of_all}
 use Rattle.lagworld.specs.Sound.{IsSound}
-use Rattle.lagprogress.proofs.OneLink.{first_none}
+use Rattle.lagprogress.proofs.LateLoops.{host_rounds_are_late_rounds}
 use Rattle.lagprogress.proofs.Carrying.{each_reached_has_carriers_up}
 use Rattle.lagprogress.proofs.Unchanged.{events_keep}
 use Rattle.lagprogress.proofs.Reaching.{reached_steady}
@@ -18,6 +19,9 @@ use Rattle.lagprogress.proofs.HostSteady.{host_reached_steady}
 use Rattle.lagprogress.proofs.HostRound.{left}
 use Rattle.lagprogress.proofs.HostLoops.{draining_are_host}
 use Rattle.lagprogress.proofs.Played.{runs_append}
+
+first_none : {X : Type 0} (a b : Option X) → or_first a b ≡ None → (a ≡ None) × (b ≡ None)
+first_none a b e = grind (arith, nat_tests)
 
 when_none : {X : Type 0} (b : Bool) (x : X) → (if b then Some x else None) ≡ None → b ≡ false
 when_none true x e = absurd (none-some x (sym e))
@@ -90,17 +94,19 @@ module _ {C : Type 0} (items : C → List Item) (limit : C → Option ℕ) where
 
   -- in healthy rounds of hosts
 
-  pub distribute : (Holds : LinkState → WorldState → Type 0) (least : ℕ) (gives : Algorithms) → EachLinkComesUp HostRounds Holds least gives
+  pub distribute : (Holds : LinkState → WorldState → Type 0) (least : ℕ) (gives : Algorithms) → EachLinkComesUp LateRounds Holds least gives
       → (n : ℕ) (old new : WorldState) → (IsSteady old → HostRounds gives n old new)
       → LeadsTo items limit EachDistributes Holds least gives n old new
   distribute Holds least gives by n old new h r ready enough i l healthy =
-      let b = (is_bundle Holds gives old r ready).1 in by n i l old new b healthy enough (h b.steady)
+      let b = (is_bundle Holds gives old r ready).1 in
+      by n i l old new b healthy enough (host_rounds_are_late_rounds gives n old new b.cabling (h b.steady))
 
-  pub agree : (Holds : LinkState → WorldState → Type 0) (least : ℕ) (gives : Algorithms) → EachLinkAgrees HostRounds Holds least gives
+  pub agree : (Holds : LinkState → WorldState → Type 0) (least : ℕ) (gives : Algorithms) → EachLinkAgrees LateRounds Holds least gives
       → (n : ℕ) (old new : WorldState) → (IsSteady old → HostRounds gives n old new)
       → LeadsTo items limit EachAgrees Holds least gives n old new
   agree Holds least gives by n old new h r ready enough i l healthy =
-      let both = is_bundle Holds gives old r ready in by n i l old new both.0 both.1 healthy enough (h both.1.steady)
+      let both = is_bundle Holds gives old r ready in
+      by n i l old new both.0 both.1 healthy enough (host_rounds_are_late_rounds gives n old new both.1.cabling (h both.1.steady))
 
   -- that ask until nothing is due
 
@@ -116,8 +122,9 @@ module _ {C : Type 0} (items : C → List Item) (limit : C → Option ℕ) where
       let b = (is_bundle Holds gives old r ready).1 in
       let all = h b.steady s g k in
       let cut = draining_splits gives s g k 30 (n - 30) n old new (omega (arith, enough)) all in
-      by (n - 30) 30 old cut.0 new s g k b (omega (arith, enough)) (draining_are_host gives s g k (n - 30) old cut.0 cut.1) (omega arith) cut.2 left
-      (carriers_later gives old new r run s)
+      by (n - 30) 30 old cut.0 new s g k b (omega (arith, enough))
+      (host_rounds_are_late_rounds gives (n - 30) old cut.0 b.cabling (draining_are_host gives s g k (n - 30) old cut.0 cut.1)) (omega arith) cut.2
+      left (carriers_later gives old new r run s)
 
   -- and in healthy rounds
 

@@ -155,9 +155,6 @@ played_lasted E gives n old new steady h = record {
   sleeps = still_sleeps E gives n old new steady h;
 }
 
-pub lasted : (gives : Algorithms) (n : ℕ) (old new : WorldState) → IsSteady old → HostRounds gives n old new → Lasted old new
-lasted gives = played_lasted NoneIsLeft gives
-
 module _ (old new : WorldState) (steady : IsSteady old) (last : Lasted old new) (Holds : LinkState → WorldState → Type 0) (heard : AllHeard Holds old)
     (knows : (i : ℕ) (l : LinkState) → IsHealthyAt i l old → (s : Side) → EndKnows s l new) where
   -- what the ports of one key have recorded

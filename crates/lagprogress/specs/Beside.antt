@@ -9,7 +9,7 @@ use Rattle.lagworld.specs.Events.{Algorithms}
 use Rattle.lagworld.specs.Sound.{IsSound}
 use Rattle.lagworld.specs.State.{LinkState, WorldState, port_at}
 use Rattle.lagprogress.specs.Bundle.{IsBundle}
-use Rattle.lagprogress.specs.ComingUp.{Distributes}
+use Rattle.lagprogress.specs.Progress.{Distributes}
 use Rattle.lagprogress.specs.HostRounds.{IsBetweenTicks, PlayedAmong}
 use Rattle.lagprogress.specs.LateRounds.{LateRounds, OldArrive}
 use Rattle.lagprogress.specs.Rounds.{AtEnd, IsHealthyAt}

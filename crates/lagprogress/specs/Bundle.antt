@@ -17,8 +17,7 @@ use Rattle.lagworld.specs.Sound.{IsSound, IsStart}
 use Rattle.lagworld.specs.State.{LinkState, WorldState, half, port_at}
 use Rattle.lagsystem.specs.Sound.{NoneHeld}
 use Rattle.laghosts.specs.HostEvents.{HostEvent, HostRuns}
-use Rattle.lagprogress.specs.ComingUp.{Distributes}
-use Rattle.lagprogress.specs.Progress.{EndKnows}
+use Rattle.lagprogress.specs.Progress.{Distributes, EndKnows}
 use Rattle.lagprogress.specs.Rounds.{AtEnd, IsHealthyAt, Playing}
 use Rattle.lagbeside.specs.Selecting.{aggregators_with, ports_with}
 use Rattle.lagprogress.specs.Shared.{HasAggregators}

@@ -12,10 +12,10 @@ use Rattle.lagworld.specs.declared.reply.Reply.{Reply}
 use Rattle.lagworld.specs.Events.{Algorithms, WorldRuns}
 use Rattle.lagworld.specs.Making.{AreFirst}
 use Rattle.lagworld.specs.Sound.{IsStart}
-use Rattle.lagworld.specs.State.{LinkState, WorldState, half, port_at}
+use Rattle.lagworld.specs.State.{LinkState, WorldState, half}
 use Rattle.laghosts.specs.HostEvents.{HostEvent, HostRuns}
 use Rattle.lagprogress.specs.Bundle.{IsBundle}
-use Rattle.lagprogress.specs.Rounds.{IsHealthyAt, Rounds}
+use Rattle.lagprogress.specs.Rounds.{Rounds}
 
 -- the port that the conversation is held on: a marker is to be sent there, or its response is waited for
 abbrev pub held_on : Assignment → Option ℕ
@@ -59,14 +59,8 @@ HasPortUp n s = (k : ℕ) × (x : SystemPort) × (slice_get s.system_ports k ≡
 abbrev pub CarriersAreUp : SystemState → Type 0
 CarriersAreUp s = (g k p : ℕ) → IsConversation s.table g k → carrier_of (assignment_of s.table g k) ≡ Some p → HasPortUp p s
 
--- After so many healthy rounds of a bundle or more, whatever was before them, no conversation is held on an end of a healthy cable, if
--- its system has an identifier left in the end.
-abbrev pub NoneIsHeldOnEnds : (LinkState → WorldState → Type 0) → ℕ → Algorithms → Type 0
-NoneIsHeldOnEnds Holds least gives = (n i : ℕ) (l : LinkState) (old new : WorldState) (s : Side) → IsBundle Holds old
-    → IsHealthyAt i l old → least ≤ n → Rounds gives n old new → HasIdentifierLeft (half s new).state
-    → NoneIsHeldOn (port_at s l) (half s new).state
-
--- And no conversation of a system is held at all, if the links of the ports were up that carried one, or held one.
+-- After so many healthy rounds of a bundle or more, whatever was before them, no conversation of a system is held at all, if the links of the
+-- ports were up that carried one, or held one, and it has an identifier left in the end.
 abbrev pub NothingIsHeld : (LinkState → WorldState → Type 0) → ℕ → Algorithms → Type 0
 NothingIsHeld Holds least gives = (n : ℕ) (old new : WorldState) (s : Side) → IsBundle Holds old → CarriersAreUp (half s old).state
     → least ≤ n → Rounds gives n old new → HasIdentifierLeft (half s new).state → NoneIsHeld (half s new).state

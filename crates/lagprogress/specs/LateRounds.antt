@@ -6,7 +6,7 @@ use Rattle.lagworld.specs.Events.{Algorithms, side_of}
 use Rattle.laghosts.specs.HostEvents.{HostEvent, HostRuns, Plays}
 use Rattle.lagworld.specs.ModelWorld.{world_setup}
 use Rattle.lagworld.specs.State.{LinkState, WorldState, port_at, towards}
-use Rattle.lagprogress.specs.HostRounds.{AsksAfterTick, Clearing, IsHostRound, IsPlayed, PlayedRounds, TickOnce}
+use Rattle.lagprogress.specs.HostRounds.{AsksAfterTick, Clearing, HostRounds, IsHostRound, IsPlayed, PlayedRounds, TickOnce}
 use Rattle.lagprogress.specs.Rounds.{IsHealthyAt}
 use Rattle.lagprogress.specs.Steady.{IsSteady}
 
@@ -45,16 +45,7 @@ AskingIsLateRound gives = (events : List HostEvent) (old new : WorldState) → I
 abbrev pub HostRoundIsLateRound : Algorithms → Type 0
 HostRoundIsLateRound gives = (old new : WorldState) → IsCabling (world_setup old).cables → IsHostRound gives old new → IsLateRound gives old new
 
--- After so many of them, whatever was before them, the ends of healthy cables know each other, if both are active, and if one is;
--- and they distribute and agree.
-abbrev pub late_known_if_both_active : ℕ
-late_known_if_both_active = 323
-
-abbrev pub late_known_if_one_is : ℕ
-late_known_if_one_is = 624
-
-abbrev pub late_up_if_both_active : ℕ
-late_up_if_both_active = 356
-
-abbrev pub late_up_if_one_is : ℕ
-late_up_if_one_is = 657
+-- and so many of them are as many
+abbrev pub HostRoundsAreLateRounds : Algorithms → Type 0
+HostRoundsAreLateRounds gives = (n : ℕ) (old new : WorldState) → IsCabling (world_setup old).cables → HostRounds gives n old new
+    → LateRounds gives n old new
