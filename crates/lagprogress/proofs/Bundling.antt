@@ -4,7 +4,7 @@ use Rattle.lagprogress.proofs.LateComingUp.{Up, comes_to_be_up, up_synced}
 use Rattle.lagprogress.proofs.EachRound.{among_on, among_then, clears_less}
 use Rattle.lagprogress.proofs.ComingUp.{agrees_on}
 use Rattle.lagprogress.proofs.LateKnowing.{Fresh, knows_late, late_active_meet, late_chain, late_fresh_knows, late_one_meets, signs_of}
-use Rattle.lagprogress.proofs.Common.{EachLinkStaysAgreed, EachLinkStaysUp, HostEvent, LateRounds, LeavesPorts, OldArrive, RoundsBeside, Up}
+use Rattle.lagprogress.proofs.Common.{EachLinkStaysAgreed, EachLinkStaysUp, HostEvent, LateRounds, LeavesPorts, OldArrive, RoundsBeside}
 use Rattle.lagprogress.proofs.Common.{Bool, IsSome, List, None, Option, Some, [], ap, arith, inl, inr, is_some, length, map, refl, slice_get, subst}
 use Rattle.lagprogress.proofs.Common.{suc, sym, true, ℕ, ◌+◌, ◌-◌, ◌==◌, ◌∙◌, ◌∷◌, ◌≡◌, ◌≢◌, ◌≤◌, ◌⊎◌, cases_Bool, nat_tests, same_Some}
 use Rattle.lagprogress.proofs.Common.{AllByRecursion, AggId, Key, Choice, Standby, Party, is_selected, itself, Lacpdu, IsCabling, One, Side, Two}

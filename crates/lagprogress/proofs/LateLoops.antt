@@ -2,16 +2,12 @@
 use Rattle.lagprogress.proofs.Common.{Clearing, HostRounds, IsCabling, IsHostRound, NoneIsLeft, NothingInFlight, PlayedRounds, world_setup}
 use Rattle.lagprogress.proofs.Common.{Bool, List, [], ap, false, inl, inr, length, refl, subst, suc, sym, true, zero, ℕ, ◌++◌, ◌∙◌, ◌∷◌, ◌≡◌, One}
 use Rattle.lagprogress.proofs.Common.{Side, peer, Reply, Algorithms, ItemValue, WorldState, port_at, towards, HostEvent, IsTickOf, RunReplies}
-use Rattle.lagprogress.proofs.Common.{StepReplies, TickOnce, ArriveIn, AskingIsLateRound, HostRoundIsLateRound, HostRoundsAreLateRounds, OldArrive}
+use Rattle.lagprogress.proofs.Common.{StepReplies, TickOnce, ArriveIn, HostRoundIsLateRound, HostRoundsAreLateRounds, OldArrive}
 use Rattle.lagprogress.proofs.EachRound.{clears_less, joins_kept, played_join}
-use Rattle.lagprogress.proofs.HostLoops.{asking_is_one}
 use Rattle.lagprogress.proofs.LateFlow.{flows, gain_at, stays_there}
 use Rattle.lagprogress.proofs.OneCable.{OnCable, cable, sent_frame, ticks, towards_there}
 use Rattle.lagprogress.proofs.Quieting.{leaves}
 use Rattle.lagprogress.proofs.Starting.{healthy_cable}
-
-pub asking_is_late_round : (gives : Algorithms) → AskingIsLateRound gives
-asking_is_late_round gives = asking_is_one OldArrive gives
 
 -- a run in the end of which nothing is on the cable: what was on it has arrived
 

@@ -12,12 +12,13 @@ use Rattle.cables.specs.declared.item.Item.{Item}
 use Rattle.lagscript.specs.Configs.{refusal_of_all}
 use Rattle.lagworld.specs.Sound.{IsSound}
 use Rattle.lagprogress.proofs.LateLoops.{host_rounds_are_late_rounds}
-use Rattle.lagprogress.proofs.Carrying.{each_reached_has_carriers_up}
+use Rattle.lagprogress.proofs.Common.{Event, IsStart, Plays, Reply, WorldRuns}
+use Rattle.lagprogress.proofs.Carrying.{host_reached_has_carriers_up}
 use Rattle.lagprogress.proofs.Unchanged.{events_keep}
 use Rattle.lagprogress.proofs.Reaching.{reached_steady}
 use Rattle.lagprogress.proofs.HostSteady.{host_reached_steady}
 use Rattle.lagprogress.proofs.HostRound.{left}
-use Rattle.lagprogress.proofs.HostLoops.{draining_are_host}
+use Rattle.lagprogress.proofs.HostLoops.{draining_are_host, events_are_of_hosts}
 use Rattle.lagprogress.proofs.Played.{runs_append}
 
 first_none : {X : Type 0} (a b : Option X) → or_first a b ≡ None → (a ≡ None) × (b ≡ None)
@@ -82,6 +83,11 @@ draining_splits gives s g k (suc i) m zero old new e h = absurd (omega (arith, e
 draining_splits gives s g k (suc i) m (suc n) old new e h =
     let r = draining_splits gives s g k i m n old h.0 (omega (arith, e)) h.1 in (r.0, r.1, (h.0, r.2, h.2))
 
+reached_carriers : (gives : Algorithms) (configs : List Config) (es : List Event) (rs : List Reply) (start new : WorldState) → IsStart start
+    → AreFirst configs start → WorldRuns gives start es rs new → (s : Side) → CarriersAreUp (half s new).state
+reached_carriers gives configs es rs start new i h runs =
+    host_reached_has_carriers_up gives configs (map Plays es) start new i h (events_are_of_hosts gives es rs start new runs)
+
 -- as the contract of `World::new` says it
 module _ {C : Type 0} (items : C → List Item) (limit : C → Option ℕ) where
   is_bundle : (Holds : LinkState → WorldState → Type 0) (gives : Algorithms) (j : WorldState) → IsReached items limit gives j → IsReady Holds j
@@ -90,7 +96,7 @@ module _ {C : Type 0} (items : C → List Item) (limit : C → Option ℕ) where
       r.made.systems r.runs r.few ready.heard ready.aggregators ready.links
 
   carriers : (gives : Algorithms) (j : WorldState) → IsReached items limit gives j → (s : Side) → CarriersAreUp (half s j).state
-  carriers gives j r = each_reached_has_carriers_up gives r.config.systems r.events r.replies r.start j r.starts r.made.systems r.runs
+  carriers gives j r = reached_carriers gives r.config.systems r.events r.replies r.start j r.starts r.made.systems r.runs
 
   -- in healthy rounds of hosts
 
@@ -112,7 +118,7 @@ module _ {C : Type 0} (items : C → List Item) (limit : C → Option ℕ) where
 
   carriers_later : (gives : Algorithms) (old new : WorldState) → IsReached items limit gives old → RunsEvents gives old new → (s : Side)
       → CarriersAreUp (half s new).state
-  carriers_later gives old new r (es, run) = each_reached_has_carriers_up gives r.config.systems (r.events ++ es) (r.replies ++ run.replies) r.start
+  carriers_later gives old new r (es, run) = reached_carriers gives r.config.systems (r.events ++ es) (r.replies ++ run.replies) r.start
       new r.starts r.made.systems (runs_append gives r.events es r.replies run.replies r.start old new r.runs run.acts)
 
   pub free_by_hosts : (Holds : LinkState → WorldState → Type 0) (least : ℕ) (gives : Algorithms) → NothingIsHeldByHosts Holds least gives

@@ -5,22 +5,22 @@ use Rattle.lagprogress.proofs.LateKnowing.{fits_late, fits_now, signs_of}
 use Rattle.lagprogress.proofs.LateStart.{counts_of, kept_of}
 use Rattle.lagprogress.proofs.Common.{LateRounds, OldArrive}
 use Rattle.lagprogress.proofs.Common.{List, Some, [], ap, arith, map, refl, slice_get, subst, sym, true, ℕ, ◌++◌, ◌+◌, ◌∙◌, ◌∷◌}
-use Rattle.lagprogress.proofs.Common.{◌≡◌, ◌≤◌, Vec, AggId, Lacpdu, One, Side, peer, Machines, receive_rows, count_down, SystemPort, Data_frame}
-use Rattle.lagprogress.proofs.Common.{IsFrame, SystemState, all-get, Reply, Algorithms, WorldSteps, side_of, link_ends, ItemValue}
+use Rattle.lagprogress.proofs.Common.{◌≡◌, ◌≤◌, Vec, AggId, Lacpdu, One, Side, peer, Machines, receive_rows, count_down, Data_frame}
+use Rattle.lagprogress.proofs.Common.{IsFrame, SystemState, Reply, Algorithms, WorldSteps, side_of, link_ends, ItemValue}
 use Rattle.lagprogress.proofs.Common.{LinkState, WorldState, accepts_at, half, is_accepted, link_at, port_at, put_on_port, put_ends}
-use Rattle.lagprogress.proofs.Common.{OfEach, Step-each, first_each, AtPort, runs_keep, takes_keep, Arrives}
-use Rattle.lagprogress.proofs.Common.{DisabledAreUnsynchronized, EachFrameArrivesByHosts, EachReachedHasUnsynchronized, GetsPort}
+use Rattle.lagprogress.proofs.Common.{OfEach, AtPort, runs_keep, takes_keep, Arrives}
+use Rattle.lagprogress.proofs.Common.{DisabledAreUnsynchronized, EachFrameArrivesByHosts, GetsPort}
 use Rattle.lagprogress.proofs.Common.{SometimePlayed, TakesFrame, BothAreActive, EndsHealthyCable, IsBundle, OneIsActive}
 use Rattle.lagprogress.proofs.Common.{IsHostRound, NothingInFlight}
 use Rattle.lagprogress.proofs.Common.{up_if_both_active, up_if_one_is}
 use Rattle.lagprogress.proofs.ArrivingLemmas.{is_data, offer_gets_port}
 use Rattle.lagprogress.proofs.Bundling.{Meets, Nowhere, awake_of, both_active, one_active, said, ups_of, named_of}
-use Rattle.lagprogress.proofs.Carrying.{Lapses, LapsesAt, distributes_up, lapse_first, lapse_kept, lapse_settles, receive_lapses}
+use Rattle.lagprogress.proofs.Carrying.{Lapses, LapsesAt, distributes_up, lapse_settles, receive_lapses}
 use Rattle.lagprogress.proofs.Climbing.{PartnerInSync}
 use Rattle.lagprogress.proofs.EachRound.{EachAt, RoundKeeps, same_index, host_each}
 use Rattle.lagprogress.proofs.FlyingLemmas.{OnItsWay, in_run}
-use Rattle.lagprogress.proofs.Halves.{both_first, keeps_timely}
-use Rattle.lagprogress.proofs.Linked.{EndIs, IsGood, Link, place_kept, push_there, events_each}
+use Rattle.lagprogress.proofs.Halves.{keeps_timely}
+use Rattle.lagprogress.proofs.Linked.{EndIs, IsGood, Link, place_kept, push_there}
 use Rattle.lagprogress.proofs.OneCable.{OnCable, cable, placed, port_there, push, push_each, puts, takes_all, towards_there}
 use Rattle.lagprogress.proofs.OneRound.{join}
 use Rattle.lagprogress.proofs.ComingUp.{told_now}
@@ -44,13 +44,6 @@ lapses_on : (gives : Algorithms) (n : ℕ) (old new : WorldState) (s : Side) →
 lapses_on gives n old new s h a = played_on OldArrive gives (λ m j. EachAt LapsesAt s j) old a
     (λ m i j q b. host_each LapsesAt LapsesAt lapse_round lapse_round
     (λ k p r run c. runs_keep Lapses receive_rows receive_lapses (count_down p) r run c) s gives i j q b) n new h
-
-pub each_reached_has_unsynchronized : (gives : Algorithms) → EachReachedHasUnsynchronized gives
-each_reached_has_unsynchronized gives configs es rs start new s i h runs =
-    let st = (half s start).state in
-    let first = first_each LapsesAt lapse_settles lapse_first st (both_first configs start h s) in
-    λ k x there. all-get (λ (y : SystemPort). Lapses y.port) (half s new).state.system_ports k x there (events_each gives s (λ t. OfEach LapsesAt t.system_ports)
-    (λ a b call r. Step-each LapsesAt lapse_settles (gives s) a call r b (lapse_kept call r)) es rs start new runs first)
 
 -- the cable after an offer
 

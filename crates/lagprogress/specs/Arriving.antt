@@ -17,7 +17,7 @@ use Rattle.lagscript.specs.declared.event.Event.{Event}
 use Rattle.lagscript.specs.declared.event.Event.TheVariants as event
 use Rattle.lagworld.specs.declared.reply.Reply.{Reply}
 use Rattle.lagworld.specs.declared.reply.Reply.TheVariants as reply
-use Rattle.lagworld.specs.Events.{Algorithms, WorldRuns, WorldSteps, side_of}
+use Rattle.lagworld.specs.Events.{Algorithms, WorldSteps, side_of}
 use Rattle.lagworld.specs.Making.{AreFirst}
 use Rattle.lagworld.specs.Sound.{IsStart}
 use Rattle.lagworld.specs.State.{ItemValue, LinkState, WorldState, half, is_accepted, port_at, put_on_port, towards, with_towards}
@@ -118,12 +118,7 @@ abbrev pub DisabledAreUnsynchronized : SystemState → Type 0
 DisabledAreUnsynchronized s = (k : ℕ) (x : SystemPort) → slice_get s.system_ports k ≡ Some x → x.port.receive ≡ PortDisabled
     → partner_synchronized x.port ≡ false
 
--- so it is in both systems of each world that events lead to from a start
-abbrev pub EachReachedHasUnsynchronized : Algorithms → Type 0
-EachReachedHasUnsynchronized gives = (configs : List Config) (es : List Event) (rs : List Reply) (start new : WorldState) (s : Side)
-    → IsStart start → AreFirst configs start → WorldRuns gives start es rs new → DisabledAreUnsynchronized (half s new).state
-
--- so it is if the hosts call what they like, and set what they like
+-- so it is in both systems of each world that events, calls of hosts and settings lead to from a start
 abbrev pub EachHostReachedHasUnsynchronized : Algorithms → Type 0
 EachHostReachedHasUnsynchronized gives = (configs : List Config) (es : List HostEvent) (start new : WorldState) (s : Side)
     → IsStart start → AreFirst configs start → HostRuns gives start es new → DisabledAreUnsynchronized (half s new).state

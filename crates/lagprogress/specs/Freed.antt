@@ -7,9 +7,7 @@ use Rattle.lagmodel.specs.World.{Side}
 use Rattle.lagsystem.specs.declared.config.Config.{Config}
 use Rattle.lagsystem.specs.declared.system_ports.SystemPort.{SystemPort}
 use Rattle.lagsystem.specs.State.{SystemState}
-use Rattle.lagscript.specs.declared.event.Event.{Event}
-use Rattle.lagworld.specs.declared.reply.Reply.{Reply}
-use Rattle.lagworld.specs.Events.{Algorithms, WorldRuns}
+use Rattle.lagworld.specs.Events.{Algorithms}
 use Rattle.lagworld.specs.Making.{AreFirst}
 use Rattle.lagworld.specs.Sound.{IsStart}
 use Rattle.lagworld.specs.State.{LinkState, WorldState, half}
@@ -65,12 +63,7 @@ abbrev pub NothingIsHeld : (LinkState → WorldState → Type 0) → ℕ → Alg
 NothingIsHeld Holds least gives = (n : ℕ) (old new : WorldState) (s : Side) → IsBundle Holds old → CarriersAreUp (half s old).state
     → least ≤ n → Rounds gives n old new → HasIdentifierLeft (half s new).state → NoneIsHeld (half s new).state
 
--- So it is with both systems of each world that events lead to from a start.
-abbrev pub EachReachedHasCarriersUp : Algorithms → Type 0
-EachReachedHasCarriersUp gives = (configs : List Config) (es : List Event) (rs : List Reply) (start new : WorldState) → IsStart start
-    → AreFirst configs start → WorldRuns gives start es rs new → (s : Side) → CarriersAreUp (half s new).state
-
--- So it is if the hosts call what they like, and set what they like.
+-- So it is with both systems of each world that events, calls of hosts and settings lead to from a start.
 abbrev pub EachHostReachedHasCarriersUp : Algorithms → Type 0
 EachHostReachedHasCarriersUp gives = (configs : List Config) (es : List HostEvent) (start new : WorldState) → IsStart start
     → AreFirst configs start → HostRuns gives start es new → (s : Side) → CarriersAreUp (half s new).state

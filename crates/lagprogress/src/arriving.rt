@@ -20,13 +20,12 @@ pub fn frames_pass_cables<F: Fn(u16, usize) -> usize>()
     ensures delivered { (one two : F) → DeliverHandsUp (both_algorithms (F.post one) (F.post two)) }
 {}
 
-ghost use Rattle.lagprogress.specs.Arriving.{EachHostReachedHasUnsynchronized, EachReachedHasUnsynchronized};
+ghost use Rattle.lagprogress.specs.Arriving.{EachHostReachedHasUnsynchronized};
 
 /// The recorded partner of each port in PORT_DISABLED has Synchronization FALSE, in both systems of each world that events, or
 /// calls and settings of hosts, lead to from a start, as `each_frame_arrives_by_hosts` wants it (6.4.12).
 pub fn disabled_ports_have_unsynchronized_partners<F: Fn(u16, usize) -> usize>()
-    ensures events { (one two : F) → EachReachedHasUnsynchronized (both_algorithms (F.post one) (F.post two)) }
-    ensures hosts { (one two : F) → EachHostReachedHasUnsynchronized (both_algorithms (F.post one) (F.post two)) }
+    ensures { (one two : F) → EachHostReachedHasUnsynchronized (both_algorithms (F.post one) (F.post two)) }
 {}
 
 ghost use Rattle.lagprogress.specs.Arriving.{EachFrameArrivesByHosts};

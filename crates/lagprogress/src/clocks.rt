@@ -1,18 +1,27 @@
 //! Late rounds: hosts tick by clocks of their own, and their frames take up to a tick to arrive.
 
 ghost use Rattle.lagworld.specs.Sound.{both_algorithms};
-ghost use Rattle.lagprogress.specs.LateRounds.{AskingIsLateRound, HostRoundIsLateRound, HostRoundsAreLateRounds};
+ghost use Rattle.lagprogress.specs.Beside.{AskingIsRoundBeside};
+ghost use Rattle.lagprogress.specs.HostRounds.{AskingIsPlayed, IsBetweenTicks};
+ghost use Rattle.lagprogress.specs.LateRounds.{HostRoundIsLateRound, HostRoundsAreLateRounds, OldArrive};
 
 // promise: events and calls as in the first row are a late round (`IsLateRound`) if what was on each healthy cable before has arrived,
 //    whatever is on it in the end; each healthy round of hosts is one, and so many are as many
 // contract: `clocks_play_rounds` (`asking`, `host`, `hosts`)
-// premises: steady; the events acted, the calls kept their contracts; no port has two cables
+// premises: both systems are sound, with timers within bounds; the events acted, the calls kept their contracts; for `host` and `hosts` no port
+//    has two cables
+// promise: so are they beside a link, if settings come among them, of which none holds, lets go or sets a port at its ends, whatever ports are held
+// contract: `clocks_play_rounds` (`beside`: `RoundsBeside`)
+// premises: the same
 /// Which events are a late round: each system ticks once, and every other event or call is as `hosts_play_rounds` has it, in any order; each
 /// end of a healthy cable is asked at least once after the tick of its system; and what was on each healthy cable before has arrived,
-/// while frames may be on it in the end. The timers of both systems are within their bounds, and no port is held. So each healthy round of
-/// hosts is one, and what holds after so many late rounds holds after as many of hosts, and of `play_round` (6.4.16; profile).
+/// while frames may be on it in the end. Settings may come among them, too, for rounds beside the ends of a cable, as
+/// `each_link_stays_up_by_clocks` has them, if none holds, lets go or sets the mode of a port at these ends. The systems are sound, and their
+/// timers within their bounds; ports may be held. Each healthy round of hosts is a late one, and what holds after so many late rounds holds
+/// after as many of hosts, and of `play_round` (6.4.16; profile).
 pub fn clocks_play_rounds<F: Fn(u16, usize) -> usize>()
-    ensures asking { (one two : F) → AskingIsLateRound (both_algorithms (F.post one) (F.post two)) }
+    ensures asking { (one two : F) → AskingIsPlayed IsBetweenTicks OldArrive (both_algorithms (F.post one) (F.post two)) }
+    ensures beside { (one two : F) → AskingIsRoundBeside (both_algorithms (F.post one) (F.post two)) }
     ensures host { (one two : F) → HostRoundIsLateRound (both_algorithms (F.post one) (F.post two)) }
     ensures hosts { (one two : F) → HostRoundsAreLateRounds (both_algorithms (F.post one) (F.post two)) }
 {}
@@ -68,7 +77,7 @@ ghost use Rattle.lagprogress.specs.Beside.{EachLinkStaysAgreed, EachLinkStaysUp}
 // premises: those of `each_link_comes_up_by_clocks` and of `each_link_agrees_by_clocks` before the rounds; no setting holds, lets go or sets
 //    the port at an end of this link. Each end of a healthy cable is asked still, and what was on it arrives, as in each late round; whether
 //    other ports are held, or come up, is of no account
-// not said: which lists of calls are such rounds while a port is held; that a link stays up that came up while another port was held
+// not said: that a link stays up that came up while another port was held
 /// The links that come up as in `each_link_comes_up_by_clocks` stay up, and agree, in any number of late rounds behind them in which hosts
 /// also make settings: other ports are held, let go, or set to other modes, CollectorMaxDelay is set, and so is any limit of links that
 /// `set_max_links` takes. No setting is one of `hold_port` or `set_mode` for a port at an end of the link (6.4.2.3, 6.4.7, 6.4.8; profile).

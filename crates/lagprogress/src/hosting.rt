@@ -1,17 +1,13 @@
 //! Healthy rounds as hosts play them.
 
 ghost use Rattle.lagworld.specs.Sound.{both_algorithms};
-ghost use Rattle.lagprogress.specs.HostRounds.{AskingIsHostRound, EventsAreOfHosts, LoopIsHostRound, RoundIsHostRound, RoundsAreHostRounds};
+ghost use Rattle.lagprogress.specs.HostRounds.{AskingIsPlayed, EventsAreOfHosts, IsBetweenTicks, NoneIsLeft, RoundIsHostRound, RoundsAreHostRounds};
 
 // promise: events and calls are such a round in which each system ticks once, every other one is Emit, Deliver, Offer, Move or Force, or
 //    `offer_conversation`, `leave_conversation`, `probe`, `rest`, `force_port` or `set_max_delay`, each end of a healthy cable is asked after
 //    its system's tick, and nothing is on any cable in the end
 // contract: `hosts_play_rounds` (`asking`: `IsBetweenTicks`)
-// premises: steady; the events acted, the calls kept their contracts
-// promise: the loop of two hosts is such a round: each system ticks, then asks all its ports; items arrive, ports are asked again, and what
-//    stands in the row above is called
-// contract: `hosts_play_rounds` (`host_loop`: `IsHostLoop`)
-// premises: the same; nothing is on any cable in the end
+// premises: both systems are sound, with timers within bounds; the events acted, the calls kept their contracts
 // promise: a list of events is one of such events and calls, so each of these laws holds of events alone
 // contract: `hosts_play_rounds` (`events`)
 // premises: the events acted
@@ -25,9 +21,8 @@ ghost use Rattle.lagprogress.specs.HostRounds.{AskingIsHostRound, EventsAreOfHos
 /// are within their bounds, and no port is held. A list of events alone is such a list, so what follows from rounds of hosts follows, after
 /// as many, from rounds of events (6.4.16; profile).
 pub fn hosts_play_rounds<F: Fn(u16, usize) -> usize>()
-    ensures asking { (one two : F) → AskingIsHostRound (both_algorithms (F.post one) (F.post two)) }
+    ensures asking { (one two : F) → AskingIsPlayed IsBetweenTicks NoneIsLeft (both_algorithms (F.post one) (F.post two)) }
     ensures events { (one two : F) → EventsAreOfHosts (both_algorithms (F.post one) (F.post two)) }
-    ensures host_loop { (one two : F) → LoopIsHostRound (both_algorithms (F.post one) (F.post two)) }
     ensures round { (one two : F) → RoundIsHostRound (both_algorithms (F.post one) (F.post two)) }
     ensures rounds { (one two : F) → RoundsAreHostRounds (both_algorithms (F.post one) (F.post two)) }
 {}

@@ -108,12 +108,11 @@ pub fn held_conversations_are_freed<F: Fn(u16, usize) -> usize>()
     ensures one { (one two : F) → NothingIsHeld OneIsActive freed_if_one_is (both_algorithms (F.post one) (F.post two)) }
 {}
 
-ghost use Rattle.lagprogress.specs.Freed.{EachHostReachedHasCarriersUp, EachReachedHasCarriersUp};
+ghost use Rattle.lagprogress.specs.Freed.{EachHostReachedHasCarriersUp};
 
 /// The link of each port that carries a conversation, or on which one is held, is up, in both systems of each world that
 /// events, or calls and settings of hosts, lead to from a start, as `held_conversations_are_freed` wants it (6.4.12, 6.4.15;
 /// profile).
 pub fn carriers_are_up<F: Fn(u16, usize) -> usize>()
-    ensures events { (one two : F) → EachReachedHasCarriersUp (both_algorithms (F.post one) (F.post two)) }
-    ensures hosts { (one two : F) → EachHostReachedHasCarriersUp (both_algorithms (F.post one) (F.post two)) }
+    ensures { (one two : F) → EachHostReachedHasCarriersUp (both_algorithms (F.post one) (F.post two)) }
 {}
