@@ -1,5 +1,4 @@
 -- What is cut off does no harm: the other links come up beside it.
-use Rattle.lagprogress.proofs.Common.{NoneIsLeft, OldArrive, PlayedRounds}
 use Rattle.lagprogress.proofs.Common.{Some, ap, arith, false, inl, inr, refl, slice_get, subst, sym, true, ℕ, ◌-◌, ◌∙◌, ◌≡◌, cases_Bool, nat_tests}
 use Rattle.lagprogress.proofs.Common.{same_Some, Choice, Selected, Party, is_selected, same_system, exact_system, system-itself, Info, Side, peer}
 use Rattle.lagprogress.proofs.Common.{Defaulted, Machines, mux_rows, periodic_rows, receive_rows, RunsToRest, count_down, SystemPort, MuxIsSettled}
@@ -7,7 +6,7 @@ use Rattle.lagprogress.proofs.Common.{occupied, SystemState, all-get, found_plac
 use Rattle.lagprogress.proofs.Common.{WantsAggregator, IsTimed, KeptBySettling, EnabledKeep, no, not_down, times_keep, AtPort, at_number, mux_leaves}
 use Rattle.lagprogress.proofs.Common.{periodic_leaves, settling_leaves, finds_aggregator, runs_keep, EnoughAggregators, EnoughLinks, OneIsActive}
 use Rattle.lagprogress.proofs.Common.{EachLinkAgreesBesideCutOffs, EachLinkComesUpBesideCutOffs, IsBundleBesideCutOffs, IsCutOff}
-use Rattle.lagprogress.proofs.Common.{NoneIsHeldBesideCutOffsByHosts, HostRounds, IsHealthyAt, IsSteady}
+use Rattle.lagprogress.proofs.Common.{NoneIsHeldBesideCutOffsByHosts, HostRounds, NoneIsLeft, PlayedRounds, OldArrive, IsHealthyAt, IsSteady}
 use Rattle.lagprogress.proofs.Bundling.{MeetsBy, agree_of, distribute_of, never_stands, one_meet, one_wakes}
 use Rattle.lagprogress.proofs.Climbing.{Ripe, Rising, rising_first, rising_rows, state_not}
 use Rattle.lagprogress.proofs.CutOffLemmas.{Severed, WereDown, cut_round, cut_since, KeptUnheard, cut_off_is_defaulted_by_hosts}

@@ -1,23 +1,22 @@
 -- How the links of a bundle come up and agree.
-use Rattle.lagprogress.proofs.LateStart.{counts_of, kept_of}
-use Rattle.lagprogress.proofs.LateComingUp.{Up, comes_to_be_up, up_synced}
-use Rattle.lagprogress.proofs.EachRound.{among_on, among_then, clears_less}
-use Rattle.lagprogress.proofs.ComingUp.{agrees_on}
-use Rattle.lagprogress.proofs.LateKnowing.{Fresh, knows_late, late_active_meet, late_chain, late_fresh_knows, late_one_meets, signs_of}
-use Rattle.lagprogress.proofs.Common.{EachLinkStaysAgreed, EachLinkStaysUp, HostEvent, LateRounds, LeavesPorts, OldArrive, RoundsBeside}
 use Rattle.lagprogress.proofs.Common.{Bool, IsSome, List, None, Option, Some, [], ap, arith, inl, inr, is_some, length, map, refl, slice_get, subst}
 use Rattle.lagprogress.proofs.Common.{suc, sym, true, ℕ, ◌+◌, ◌-◌, ◌==◌, ◌∙◌, ◌∷◌, ◌≡◌, ◌≢◌, ◌≤◌, ◌⊎◌, cases_Bool, nat_tests, same_Some}
 use Rattle.lagprogress.proofs.Common.{AllByRecursion, AggId, Key, Choice, Standby, Party, is_selected, itself, Lacpdu, IsCabling, One, Side, Two}
 use Rattle.lagprogress.proofs.Common.{end_at, peer, ports_that_chose, has_chosen, SystemPort, MuxIsSettled, occupied, IsSound, SystemState, views}
 use Rattle.lagprogress.proofs.Common.{all-get, found_place, Same, agreement_at, Algorithms, link_ends, world_setup, IsWorldSound, LinkState}
-use Rattle.lagprogress.proofs.Common.{WorldState, half, history_at, port_at, towards, end_is, WantsAggregator, ports_with, IsTimed, count}
-use Rattle.lagprogress.proofs.Common.{count_more_of, counted, OfEach, AtPort, waits_for_room, AllHeard, BothAreActive, EachLinkAgrees}
-use Rattle.lagprogress.proofs.Common.{EachLinkComesUp, EndsHealthyCable, EnoughLinks, IsBundle, OneIsActive, SystemsDiffer, Distributes, Clearing}
-use Rattle.lagprogress.proofs.Common.{PlayedRounds, AtEnd, IsHealthyAt, up_if_both_active, up_if_one_is, IsSteady}
+use Rattle.lagprogress.proofs.Common.{WorldState, half, history_at, port_at, towards, end_is, HostEvent, WantsAggregator, ports_with, IsTimed, count}
+use Rattle.lagprogress.proofs.Common.{count_more_of, counted, OfEach, AtPort, waits_for_room, EachLinkStaysAgreed, EachLinkStaysUp, LeavesPorts}
+use Rattle.lagprogress.proofs.Common.{RoundsBeside, AllHeard, BothAreActive, EachLinkAgrees, EachLinkComesUp, EndsHealthyCable, EnoughLinks, IsBundle}
+use Rattle.lagprogress.proofs.Common.{OneIsActive, SystemsDiffer, Clearing, PlayedRounds, LateRounds, OldArrive, Distributes, AtEnd, IsHealthyAt}
+use Rattle.lagprogress.proofs.Common.{up_if_both_active, up_if_one_is, IsSteady}
+use Rattle.lagprogress.proofs.LateStart.{counts_of, kept_of}
+use Rattle.lagprogress.proofs.LateComingUp.{Up, comes_to_be_up, up_synced}
+use Rattle.lagprogress.proofs.EachRound.{among_on, among_then, clears_less, EachAt, RoundKeeps, same_index, joins_beside, host_each, played_on}
+use Rattle.lagprogress.proofs.EachRound.{played_split, played_steady}
+use Rattle.lagprogress.proofs.ComingUp.{agrees_on, AreSynced, Climbs, agrees_now, climbs_first, climbs_on, distributes, hosts_kept, Agrees}
+use Rattle.lagprogress.proofs.LateKnowing.{Fresh, knows_late, late_active_meet, late_chain, late_fresh_knows, late_one_meets, signs_of}
 use Rattle.lagprogress.proofs.Climbing.{Down, Ripe, Rising, climbed, down_settles, down_takes, down_ticks, rising_first}
-use Rattle.lagprogress.proofs.ComingUp.{AreSynced, Climbs, agrees_now, climbs_first, climbs_on, distributes, hosts_kept, Agrees}
 use Rattle.lagprogress.proofs.Starting.{active_at, awake_at, named_at, Ends, healthy_cable, said_by, starts}
-use Rattle.lagprogress.proofs.EachRound.{EachAt, RoundKeeps, same_index, joins_beside, host_each, played_on, played_split, played_steady}
 use Rattle.lagprogress.proofs.Halves.{timely}
 use Rattle.lagprogress.proofs.Quieting.{AllBeside, all_beside, as_beside}
 use Rattle.lagprogress.proofs.EndFacts.{Synced, activity}

@@ -16,8 +16,7 @@ use Rattle.lagprogress.proofs.Common.{Step-sound, first_sound, Algorithms, AreFi
 use Rattle.lagprogress.proofs.Common.{HostSteps, Leaves, Plays, Probes, Rests, Sets, KeptByCall, KeptBySettling, OfEach, Step-each, first_each, no}
 use Rattle.lagprogress.proofs.Common.{forces_port, AtPort, at_number, calls_each, same_place, settling_leaves, Turns, asks_turn, comes_turn}
 use Rattle.lagprogress.proofs.Common.{gives_turn, same_turns, settles_turn, ticks_turn, turns_by, turns_through, RowsKeep, fires_keep, runs_keep}
-use Rattle.lagprogress.proofs.Common.{setting_each, EachHostReachedHasUnsynchronized, EachHostReachedHasCarriersUp}
-use Rattle.lagprogress.proofs.Common.{HasPortUp, carrier_of, held_on}
+use Rattle.lagprogress.proofs.Common.{setting_each, EachHostReachedHasUnsynchronized, EachHostReachedHasCarriersUp, HasPortUp, carrier_of, held_on}
 use Rattle.lagsystem.specs.Offers.{Offers}
 use Rattle.distributor.proofs.TableLemmas.{first_free}
 use Rattle.lagsystem.proofs.Steps.{forced_to, moved_to}

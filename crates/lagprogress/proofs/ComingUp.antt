@@ -4,8 +4,8 @@ use Rattle.lagprogress.proofs.Common.{ℕ, ◌&&◌, ◌+◌, ◌-◌, ◌||◌,
 use Rattle.lagprogress.proofs.Common.{pair_of, same_group, group-itself, Lacpdu, party_of, One, Side, Two, peer, CollectingDistributing, Machines}
 use Rattle.lagprogress.proofs.Common.{same_mux_state, SystemPort, MuxIsSettled, group_at, machines_of, all-get, Same, agreement_at, agreement_of}
 use Rattle.lagprogress.proofs.Common.{end_facts, first_agreement, is_stamp, same_groups, Algorithms, ItemValue, LinkState, WorldState}
-use Rattle.lagprogress.proofs.Common.{change_count_in, half, history_at, IsTimed, AtPort, Sounds, all_leave, LeavesPorts, Distributes}
-use Rattle.lagprogress.proofs.Common.{Clearing, OfPort}
+use Rattle.lagprogress.proofs.Common.{change_count_in, half, history_at, IsTimed, AtPort, Sounds, all_leave, LeavesPorts, Clearing, Distributes}
+use Rattle.lagprogress.proofs.Common.{OfPort}
 use Rattle.lagprogress.proofs.Knowing.{stays_met, AtIt, Chain, Met, Signs, able_fresh, awake_peer, beside, fits_before, fits_fresh, knows_peer, mode}
 use Rattle.lagprogress.proofs.Knowing.{wait, wakes_now}
 use Rattle.lagprogress.proofs.HostStamps.{stamped_between, stamped_tick}

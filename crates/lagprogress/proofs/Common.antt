@@ -161,26 +161,24 @@ pub use Rattle.lagbeside.proofs.TableSteps.{turns_through}
 pub use Rattle.lagbeside.proofs.Timers.{RowsKeep, TimedAt, fires_keep, runs_keep, setting_each, setting_timed, takes_keep, timed_kept, timed_settles}
 pub use Rattle.lagbeside.proofs.Timers.{timed_starts}
 pub use Rattle.lagprogress.specs.Arriving.{Arrives, DeliverHandsUp, DisabledAreUnsynchronized, EachFrameArrivesByHosts}
-pub use Rattle.lagprogress.specs.Arriving.{EachHostReachedHasUnsynchronized, GetsPort, HandsUp, IsEventWhere}
-pub use Rattle.lagprogress.specs.Arriving.{IsHandedUp, OfferGetsPort, SometimePlayed, TakesFrame}
+pub use Rattle.lagprogress.specs.Arriving.{EachHostReachedHasUnsynchronized, GetsPort, HandsUp, IsEventWhere, IsHandedUp, OfferGetsPort}
+pub use Rattle.lagprogress.specs.Arriving.{SometimePlayed, TakesFrame}
 pub use Rattle.lagprogress.specs.Beside.{EachLinkStaysAgreed, EachLinkStaysUp, LeavesPorts, RoundsBeside}
 pub use Rattle.lagprogress.specs.Bundle.{AllHeard, BothAreActive, EachLinkAgrees, EachLinkComesUp, EndsHealthyCable, EndsOfEachKnow}
 pub use Rattle.lagprogress.specs.Bundle.{EnoughAggregators, EnoughLinks, HostReachedIsBundle, IsBundle, OneIsActive, ReachedIsApart, ReachedIsBundle}
 pub use Rattle.lagprogress.specs.Bundle.{SelectedPairsAgree, SelectedPairsComeUp, SystemsDiffer}
 pub use Rattle.lagprogress.specs.CutOff.{CutOffIsDefaulted, EachLinkAgreesBesideCutOffs, EachLinkComesUpBesideCutOffs, IsBundleBesideCutOffs}
 pub use Rattle.lagprogress.specs.CutOff.{IsCutOff}
-pub use Rattle.lagprogress.specs.Freed.{CarriersAreUp, EachHostReachedHasCarriersUp, HasIdentifierLeft, HasPortUp}
-pub use Rattle.lagprogress.specs.Freed.{IsNotHeld, IsNotHeldOn, NoneIsHeld, NoneIsHeldOn, NothingIsHeld, carrier_of, held_on}
+pub use Rattle.lagprogress.specs.Freed.{CarriersAreUp, EachHostReachedHasCarriersUp, HasIdentifierLeft, HasPortUp, IsNotHeldOn, NoneIsHeld}
+pub use Rattle.lagprogress.specs.Freed.{NoneIsHeldOn, NothingIsHeld, carrier_of, held_on}
 pub use Rattle.lagprogress.specs.HostFreed.{AskingInVainIsDraining, AsksInVain, AsksInVainAfterTick, DrainingRounds, IsDrainingRound, IsNoMoveOf}
 pub use Rattle.lagprogress.specs.HostFreed.{NoneIsHeldBesideCutOffsByHosts, NoneIsHeldOnEndsByHosts, NothingIsDue, NothingIsHeldByHosts}
 pub use Rattle.lagprogress.specs.HostFreed.{RoundIsDraining, sent_nothing}
 pub use Rattle.lagprogress.specs.HostRounds.{AfterTick, AskingIsPlayed, Asks, AsksAfterTick, AsksIn, AtSomeWorld, Clearing, EventsAreOfHosts}
-pub use Rattle.lagprogress.specs.HostRounds.{HostRounds, IsBetweenTicks, IsHostRound, IsPlayed, IsPlayedAmong, IsQuiet, IsTickOf}
-pub use Rattle.lagprogress.specs.HostRounds.{NoneIsLeft, PlayedAmong, PlayedRounds, RoundIsHostRound, RoundsAreHostRounds, RunReplies, StepReplies}
-pub use Rattle.lagprogress.specs.HostRounds.{TickOnce, TickOnceAmong}
+pub use Rattle.lagprogress.specs.HostRounds.{HostRounds, IsBetweenTicks, IsHostRound, IsPlayed, IsPlayedAmong, IsQuiet, IsTickOf, NoneIsLeft}
+pub use Rattle.lagprogress.specs.HostRounds.{PlayedAmong, PlayedRounds, RoundIsHostRound, RoundsAreHostRounds, RunReplies, StepReplies, TickOnce}
+pub use Rattle.lagprogress.specs.HostRounds.{TickOnceAmong}
 pub use Rattle.lagprogress.specs.LateRounds.{ArriveIn, HostRoundIsLateRound, HostRoundsAreLateRounds, IsArrivalAt, IsLateRound, LateRounds, OldArrive}
-pub use Rattle.lagprogress.specs.Limited.{CarriesOnAll, DownAreUnselected, EachLimitedLinkAgrees, EachReachedHasDownUnselected, EndsAgreed}
-pub use Rattle.lagprogress.specs.Limited.{IsLimitedBundle, StandsByOthers}
 pub use Rattle.lagprogress.specs.Passing.{DeliverProcessesLacpdu, EmitSendsLacpdu, EndIsUp, IsHeardOn, IsSentOn}
 pub use Rattle.lagprogress.specs.Played.{Delivers, EachAgrees, EachDistributes, HasTooManyCables, IsOutOfMemoryOrSpent, IsReached, IsReady, LeadsTo}
 pub use Rattle.lagprogress.specs.Played.{NamesNoCable, NothingStaysHeld, PlaysPart, RefusesDelivery, RunsAll, RunsPart, found_nothing}

@@ -1,5 +1,4 @@
 -- What healthy rounds keep of each port of a system, and of the cables.
-use Rattle.lagprogress.proofs.Linked.{each_side}
 use Rattle.lagprogress.proofs.Common.{Bool, List, Some, ap, arith, false, inl, inr, map, refl, slice_get, subst, suc, sym, true, zero, ℕ, ◌+◌, ◌∙◌}
 use Rattle.lagprogress.proofs.Common.{◌≡◌, nat_tests, Party, Lacpdu, One, Side, Two, end_at, peer, Machines, receive_rows, RunsToRest, after_sending}
 use Rattle.lagprogress.proofs.Common.{count_down, Table, SystemPort, ProcessesLacpdu, Receive, SystemState, with_system_ports, with_table, Reply}
@@ -7,12 +6,12 @@ use Rattle.lagprogress.proofs.Common.{Algorithms, WorldSteps, link_ends, ItemVal
 use Rattle.lagprogress.proofs.Common.{KeptBySettling, OfEach, Step-each, Tick-each, asked_each, AtPort, settling_leaves, runs_keep, takes_keep}
 use Rattle.lagprogress.proofs.Common.{LeavesPorts, Clearing, HostRounds, IsBetweenTicks, IsHostRound, IsPlayed, IsPlayedAmong, NoneIsLeft}
 use Rattle.lagprogress.proofs.Common.{PlayedAmong, PlayedRounds, IsRound, Rounds, IsSteady}
+use Rattle.lagprogress.proofs.Linked.{each_side, peer_twice}
 use Rattle.lagprogress.proofs.Quieting.{AllBeside, all_beside, calm_steady, calm_keeps, leaves_ends, runs_calm, quiet_ports}
 use Rattle.lagprogress.proofs.OneCable.{OnCable, cable, deliver_ends, emits, ticks}
 use Rattle.lagprogress.proofs.OneRound.{ticked}
 use Rattle.lagprogress.proofs.RoundEvents.{asked_half, came_half}
 use Rattle.lagprogress.proofs.HostRound.{KeptBeside, KeptBetween, MadeByTick, holds_beside, holds_on, of_side}
-use Rattle.lagprogress.proofs.Linked.{peer_twice}
 use Rattle.lagsystem.specs.declared.drive.Reply.TheVariants as answer
 use Rattle.lagscript.specs.declared.event.Event.TheVariants as event
 
@@ -145,14 +144,18 @@ module _ (May : HostEvent → Type 0) (E : Clearing) (gives : Algorithms) where
 pub clears_less : (E F : Clearing) → ((events : List HostEvent) (old new : WorldState) → E events old new → F events old new) → (gives : Algorithms)
     (n : ℕ) (old new : WorldState) → PlayedRounds E gives n old new → PlayedRounds F gives n old new
 clears_less E F less gives zero old new h = h
-clears_less E F less gives (suc n) old new h = (h.0, clears_less E F less gives n old h.0 h.1, record {
-  events = h.2.events;
-  replies = h.2.replies;
-  ticks = h.2.ticks;
-  acts = h.2.acts;
-  asked = h.2.asked;
-  empties = less h.2.events h.0 new h.2.empties;
-})
+clears_less E F less gives (suc n) old new h = (
+  h.0,
+  clears_less E F less gives n old h.0 h.1,
+  record {
+    events = h.2.events;
+    replies = h.2.replies;
+    ticks = h.2.ticks;
+    acts = h.2.acts;
+    asked = h.2.asked;
+    empties = less h.2.events h.0 new h.2.empties;
+  },
+)
 
 module _ (E : Clearing) (gives : Algorithms) where
   pub played_on : (S : ℕ → WorldState → Type 0) (start : WorldState) → S 0 start

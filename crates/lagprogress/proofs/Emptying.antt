@@ -1,22 +1,19 @@
 -- A port of a healthy cable is drained of a conversation that is held on it.
-use Rattle.lagprogress.proofs.Quieting.{as_beside}
-use Rattle.lagprogress.proofs.Common.{IsCabling, NoneIsLeft, OldArrive, world_setup}
-use Rattle.lagprogress.proofs.Linked.{each_side}
-use Rattle.lagprogress.proofs.Holding.{has_on}
-use Rattle.lagprogress.proofs.Holding.{Has}
 use Rattle.lagprogress.proofs.Common.{Bool, Err, IsSome, List, None, Ok, Option, Result, Some, [], ap, arith, cond, eqb, false, inl, inr, length, ltb}
 use Rattle.lagprogress.proofs.Common.{refl, subst, suc, sym, true, zero, ℕ, ◌&&◌, ◌+◌, ◌<◌, ◌==◌, ◌^◌, ◌∙◌, ◌∷◌, ◌≡◌, ◌≤◌, ◌⊎◌, cases_Bool, nat_tests}
-use Rattle.lagprogress.proofs.Common.{none-some, Vec, AggId, Choice, is_selected, Lacpdu, One, Side, peer, Machines, is_due, Assignment, after_tick}
-use Rattle.lagprogress.proofs.Common.{marker_due, IsConversation, Table, assignment_of, next_identifier, SystemFault, OffersIf, Offer, Receive, Step}
-use Rattle.lagprogress.proofs.Common.{Tick, Transmit, HostPromise, GivesOrRefuses, system_force_result, system_move_result, number_of_conversation}
-use Rattle.lagprogress.proofs.Common.{TransmitsAt, Set_max_delay, Settling, CallPromise, SystemState, machines_of, port_index, ports_table}
-use Rattle.lagprogress.proofs.Common.{settling_parts, found_place, Event, Reply, Algorithms, WorldSteps, side_of, ItemValue, WorldState, half}
-use Rattle.lagprogress.proofs.Common.{port_at, ForcesPort, HostEvent, HostSteps, Leaves, Offers, Plays, Probes, Sets, DrainingRounds, IsDrainingRound}
-use Rattle.lagprogress.proofs.Common.{IsNoMoveOf, AfterTick, AtSomeWorld, IsBetweenTicks, IsHostRound, IsQuiet, RunReplies, StepReplies, TickOnce}
-use Rattle.lagprogress.proofs.Common.{NothingInFlight, OfPort}
+use Rattle.lagprogress.proofs.Common.{none-some, Vec, AggId, Choice, is_selected, Lacpdu, IsCabling, One, Side, peer, Machines, is_due, Assignment}
+use Rattle.lagprogress.proofs.Common.{after_tick, marker_due, IsConversation, Table, assignment_of, next_identifier, SystemFault, OffersIf, Offer}
+use Rattle.lagprogress.proofs.Common.{Receive, Step, Tick, Transmit, HostPromise, GivesOrRefuses, system_force_result, system_move_result}
+use Rattle.lagprogress.proofs.Common.{number_of_conversation, TransmitsAt, Set_max_delay, Settling, CallPromise, SystemState, machines_of, port_index}
+use Rattle.lagprogress.proofs.Common.{ports_table, settling_parts, found_place, Event, Reply, Algorithms, WorldSteps, side_of, world_setup, ItemValue}
+use Rattle.lagprogress.proofs.Common.{WorldState, half, port_at, ForcesPort, HostEvent, HostSteps, Leaves, Offers, Plays, Probes, Sets}
+use Rattle.lagprogress.proofs.Common.{DrainingRounds, IsDrainingRound, IsNoMoveOf, AfterTick, AtSomeWorld, IsBetweenTicks, IsHostRound, IsQuiet}
+use Rattle.lagprogress.proofs.Common.{NoneIsLeft, RunReplies, StepReplies, TickOnce, OldArrive, NothingInFlight, OfPort}
+use Rattle.lagprogress.proofs.Quieting.{as_beside, IsCalm, calm_quiet, calm_timely, calm_keeps, leaves_link, leaves_quiet, quiet_cable, offered_half}
+use Rattle.lagprogress.proofs.Quieting.{moved_half, forced_half, Grown}
+use Rattle.lagprogress.proofs.Linked.{each_side, Fits, Link, asked_which, emit_any, peer_twice, EndPort, end_here, other_side}
+use Rattle.lagprogress.proofs.Holding.{has_on, Has, Fine, Flights, ticked_fine, IsMarker, asking, answering, offered_fine, forced_fine}
 use Rattle.lagprogress.proofs.Halves.{AreTimely}
-use Rattle.lagprogress.proofs.Quieting.{IsCalm, calm_quiet, calm_timely, calm_keeps, leaves_link, leaves_quiet, quiet_cable, offered_half, moved_half}
-use Rattle.lagprogress.proofs.Quieting.{forced_half, Grown}
 use Rattle.lagprogress.proofs.HostSteady.{aside, caller, delay_keeps, offers_half, leaves_half, rests_half, gives_next, forces_half, probes_half}
 use Rattle.lagprogress.proofs.HostSteady.{Probed}
 use Rattle.lagsystem.specs.declared.drive.HostCall.TheVariants as host
@@ -27,8 +24,6 @@ use Rattle.lagprogress.proofs.Climbing.{PartnerInSync, choice_along, partner_alo
 use Rattle.lagprogress.proofs.Delivering.{deliver_link}
 use Rattle.lagprogress.proofs.Draining.{after_tick_on, comes_fine, elsewhere_fine, peer_answers}
 use Rattle.lagprogress.proofs.EndFacts.{Along, activity, both_along}
-use Rattle.lagprogress.proofs.Holding.{Fine, Flights, ticked_fine, IsMarker, asking, answering, offered_fine, forced_fine}
-use Rattle.lagprogress.proofs.Linked.{Fits, Link, asked_which, emit_any, peer_twice, EndPort, end_here, other_side}
 use Rattle.lagprogress.proofs.OneCable.{Arrives, Asks, OnCable, Went, asks, cable, came_off, delivers, emits, ticks, towards_there, Beside, push}
 use Rattle.lagprogress.proofs.OneCable.{puts, port_there}
 use Rattle.lagprogress.proofs.OneRound.{join, one_of_both, ticked, Nothing}

@@ -1,35 +1,31 @@
 -- No conversation that is not moved stays held on a port of a healthy cable of a bundle.
+use Rattle.lagprogress.proofs.Common.{List, None, Option, Some, [], ap, arith, inl, inr, length, refl, subst, sym, ℕ, ◌++◌, ◌+◌, ◌-◌, ◌<◌, ◌∙◌, ◌∷◌}
+use Rattle.lagprogress.proofs.Common.{◌≡◌, ◌≤◌, ◌⊎◌, nat_tests, none-some, same_Some, AllByRecursion, all-append, IsCabling, One, Side, peer}
+use Rattle.lagprogress.proofs.Common.{value_of, Assignment, Flushing, On, Wanted, after_mark, after_release, after_tick, IsConversation}
+use Rattle.lagprogress.proofs.Common.{assignment_of, held_unless_on, SystemState, Event, Reply, Algorithms, WorldSteps, side_of, LinkState}
+use Rattle.lagprogress.proofs.Common.{WorldState, half, port_at, AtPort, Turning, Turns, asks_turn, comes_turn, same_turns, ticks_turn, turns_through}
+use Rattle.lagprogress.proofs.Common.{BothAreActive, IsBundle, OneIsActive, CarriersAreUp, HasIdentifierLeft, IsNotHeldOn, NoneIsHeld, NoneIsHeldOn}
+use Rattle.lagprogress.proofs.Common.{NothingIsHeld, carrier_of, held_on, DrainingRounds, NoneIsHeldOnEndsByHosts, NothingIsHeldByHosts, Clearing}
+use Rattle.lagprogress.proofs.Common.{HostRounds, IsBetweenTicks, NoneIsLeft, PlayedRounds, LateRounds, OldArrive, IsDeliver, IsHealthyAt, IsRound}
+use Rattle.lagprogress.proofs.Common.{Rounds, asks_all, freed_if_both_active, freed_if_one_is, ticks_of_both, up_if_both_active, up_if_one_is}
+use Rattle.lagprogress.proofs.Common.{IsSteady}
 use Rattle.lagprogress.proofs.LateKnowing.{signs_of}
-use Rattle.lagprogress.proofs.Lasting.{played_before}
+use Rattle.lagprogress.proofs.Lasting.{played_before, still_heard}
 use Rattle.lagprogress.proofs.LateLoops.{host_rounds_are_late_rounds}
 use Rattle.lagprogress.proofs.LateStart.{counts_of, kept_of}
-use Rattle.lagprogress.proofs.EachRound.{among_then, played_join, played_steady}
-use Rattle.lagprogress.proofs.Bundling.{MeetsBy}
-use Rattle.lagprogress.proofs.Common.{Clearing, IsBetweenTicks, IsCabling, LateRounds, OldArrive, PlayedRounds}
-use Rattle.lagprogress.proofs.Linked.{each_side}
-use Rattle.lagprogress.proofs.Common.{List, None, Option, Some, [], ap, arith, inl, inr, length, refl, subst, sym, ℕ, ◌++◌, ◌+◌, ◌-◌, ◌<◌}
-use Rattle.lagprogress.proofs.Common.{◌∙◌, ◌∷◌, ◌≡◌, ◌≤◌, ◌⊎◌, nat_tests, none-some, same_Some, AllByRecursion, all-append, One, Side, peer, value_of}
-use Rattle.lagprogress.proofs.Common.{Assignment, Flushing, On, Wanted, after_mark, after_release, after_tick, IsConversation, assignment_of}
-use Rattle.lagprogress.proofs.Common.{held_unless_on, SystemState, Event, Reply, Algorithms, WorldSteps, side_of, LinkState, WorldState, half}
-use Rattle.lagprogress.proofs.Common.{port_at, AtPort, Turning, Turns, asks_turn, comes_turn, same_turns, ticks_turn, turns_through, BothAreActive}
-use Rattle.lagprogress.proofs.Common.{IsBundle, OneIsActive, CarriersAreUp, HasIdentifierLeft, IsNotHeldOn, NoneIsHeld, NoneIsHeldOn}
-use Rattle.lagprogress.proofs.Common.{NothingIsHeld, carrier_of, held_on, DrainingRounds, NoneIsHeldOnEndsByHosts}
-use Rattle.lagprogress.proofs.Common.{NothingIsHeldByHosts, HostRounds, NoneIsLeft, IsDeliver, IsHealthyAt, IsRound, Rounds, asks_all}
-use Rattle.lagprogress.proofs.Common.{freed_if_both_active, freed_if_one_is, ticks_of_both, up_if_both_active, up_if_one_is, IsSteady}
+use Rattle.lagprogress.proofs.EachRound.{among_then, played_join, played_steady, splits, zero_on, hosts_steady, played_keep}
+use Rattle.lagprogress.proofs.Bundling.{MeetsBy, Nowhere, awake_of, both_active, one_active, said, ups_of, named_of}
+use Rattle.lagprogress.proofs.Linked.{each_side, each_both, each_map, at_end, end_here, runs_all}
 use Rattle.lagprogress.proofs.OneCable.{ticks}
 use Rattle.lagprogress.proofs.RoundEvents.{asked_half, came_half}
-use Rattle.lagprogress.proofs.Bundling.{Nowhere, awake_of, both_active, one_active, said, ups_of, named_of}
 use Rattle.lagprogress.proofs.Climbing.{PartnerInSync}
 use Rattle.lagprogress.proofs.ComingUp.{told_now}
-use Rattle.lagprogress.proofs.EachRound.{splits, zero_on, hosts_steady, played_keep}
 use Rattle.lagprogress.proofs.Emptying.{rounds_rest}
 use Rattle.lagprogress.proofs.Holding.{Fine}
-use Rattle.lagprogress.proofs.Linked.{each_both, each_map, at_end, end_here, runs_all}
 use Rattle.lagprogress.proofs.OneRound.{Nothing}
 use Rattle.lagprogress.proofs.HostRound.{left}
 use Rattle.lagprogress.proofs.HostLoops.{draining_are_host, rounds_are_host_rounds, rounds_are_draining}
 use Rattle.lagscript.specs.declared.event.Event.TheVariants as event
-use Rattle.lagprogress.proofs.Lasting.{still_heard}
 
 -- at first a marker may be wanted, and any response may be waited for
 fine_first : (p : ℕ) (a : Assignment) → Fine p 0 (Unit {0}) (λ id. ⊥) a
@@ -246,8 +242,11 @@ nothing_held_by_hosts Holds least gives by n m old mid new s g k b enough h late
   where
     -- some late rounds, and then rounds of hosts
     before : (r : ℕ) × LateRounds gives r old new
-    before = (m + n, among_then IsBetweenTicks OldArrive gives m n (m + n) old mid new refl h (host_rounds_are_late_rounds gives m mid new
-        (subst IsCabling (sym (played_join OldArrive gives n old mid h)) b.cabling) (draining_are_host gives s g k m mid new more)))
+    before = (
+      m + n,
+      among_then IsBetweenTicks OldArrive gives m n (m + n) old mid new refl h (host_rounds_are_late_rounds gives m mid new
+          (subst IsCabling (sym (played_join OldArrive gives n old mid h)) b.cabling) (draining_are_host gives s g k m mid new more)),
+    )
 
     by_port : (o : Option ℕ) → held_on (assignment_of (half s new).state.table g k) ≡ o → held_on (assignment_of (half s new).state.table g k) ≡ None
     by_port None e = e

@@ -1,27 +1,23 @@
 -- Selected stays what it is in the rounds of a world in which each end of a healthy cable knows its partner.
-use Rattle.lagprogress.proofs.EachRound.{played_on}
-use Rattle.lagprogress.proofs.LateStart.{counts_of, kept_of}
-use Rattle.lagprogress.proofs.Quieting.{as_beside}
-use Rattle.lagprogress.proofs.Common.{IsLateRound, LateRounds, OldArrive}
-use Rattle.lagprogress.proofs.LateKnowing.{Fresh, fits_late, fits_now, knows_late, stays_late}
-use Rattle.lagprogress.proofs.Linked.{each_side}
 use Rattle.lagprogress.proofs.Common.{Bool, Err, List, None, Ok, Option, Result, Some, ap, arith, false, inl, inr, refl, slice_get, subst, sym, true}
 use Rattle.lagprogress.proofs.Common.{ℕ, ◌-◌, ◌∙◌, ◌≡◌, ◌≤◌, cases_Bool, none-some, same_Some, AllByRecursion, Choice, Lacpdu, One, Side, Two, peer}
 use Rattle.lagprogress.proofs.Common.{Machines, receive_rows, RunsToRest, count_down, PortConfig, SystemFault, Received, SystemPort, Carries, IsFrame}
 use Rattle.lagprogress.proofs.Common.{OnlyPortChangesBy, ProcessesLacpdu, Receive, ReceivesAt, Step, ThenSettles, Tick, configured_numbers}
 use Rattle.lagprogress.proofs.Common.{none_enabled, CallPromise, SystemState, aggregators_value, port_index, port_numbers, processes_or_stays, rests}
 use Rattle.lagprogress.proofs.Common.{all-get, found_place, Reply, Algorithms, WorldSteps, LinkState, WorldState, half, port_at, towards, HostEvent}
-use Rattle.lagprogress.proofs.Common.{Plays, OfEach, asked_each, AtPort, AllHeard, EndsHealthyCable, IsQuiet, StepReplies}
-use Rattle.lagprogress.proofs.Common.{IsHealthyAt, IsSteady}
-use Rattle.lagprogress.proofs.Quieting.{IsCalm, calm_quiet, calm_steady, calm_keeps, leaves_link, leaves_quiet, quiet_ports}
+use Rattle.lagprogress.proofs.Common.{Plays, OfEach, asked_each, AtPort, AllHeard, EndsHealthyCable, IsQuiet, StepReplies, IsLateRound, LateRounds}
+use Rattle.lagprogress.proofs.Common.{OldArrive, IsHealthyAt, IsSteady}
+use Rattle.lagprogress.proofs.EachRound.{played_on, EachAt, asks_each, delivers_each, tick_keeps}
+use Rattle.lagprogress.proofs.LateStart.{counts_of, kept_of}
+use Rattle.lagprogress.proofs.Quieting.{as_beside, IsCalm, calm_quiet, calm_steady, calm_keeps, leaves_link, leaves_quiet, quiet_ports}
+use Rattle.lagprogress.proofs.LateKnowing.{Fresh, fits_late, fits_now, knows_late, stays_late}
+use Rattle.lagprogress.proofs.Linked.{each_side, EndIs, Fits, IsGood, Link, arrival, emit_any}
 use Rattle.lagprogress.proofs.Bundling.{Awake, said, Named, names}
 use Rattle.lagprogress.proofs.Choosing.{AllAsRead, AsRead, Chose, down_as_read, down_still, one_as_read, settles_choice, takes_as_read, zip_as_read}
 use Rattle.lagprogress.proofs.Climbing.{ticks_still}
 use Rattle.lagprogress.proofs.Delivering.{deliver_link}
-use Rattle.lagprogress.proofs.EachRound.{EachAt, asks_each, delivers_each, tick_keeps}
 use Rattle.lagprogress.proofs.EndFacts.{nothing_along}
 use Rattle.lagprogress.proofs.Halves.{keeps_steady}
-use Rattle.lagprogress.proofs.Linked.{EndIs, Fits, IsGood, Link, arrival, emit_any}
 use Rattle.lagprogress.proofs.OneCable.{Comes, alone, cable, towards_there, ticks}
 use Rattle.lagprogress.proofs.OneRound.{Nothing}
 use Rattle.lagprogress.proofs.RoundEvents.{asked_half, came_half}

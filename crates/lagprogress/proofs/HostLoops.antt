@@ -1,9 +1,4 @@
 -- Which runs are healthy rounds of hosts.
-use Rattle.lagprogress.proofs.HostRound.{side_among}
-use Rattle.lagprogress.proofs.HostSteady.{sets_up}
-use Rattle.lagprogress.proofs.Quieting.{calm_timely, place_stays}
-use Rattle.lagprogress.proofs.Common.{AskingIsPlayed, LeavesPorts, Sets, TickOnceAmong}
-use Rattle.lagprogress.proofs.Halves.{AreTimely, timely}
 use Rattle.lagprogress.proofs.Common.{Bool, Err, List, None, Ok, Option, Result, Some, [], ap, append_assoc, arith, cond, eqb, false, inl, inr, ltb}
 use Rattle.lagprogress.proofs.Common.{refl, slice_get, subst, suc, sym, true, zero, ℕ, ◌++◌, ◌+◌, ◌∙◌, ◌∷◌, ◌≡◌, cases_Bool, false≢true, nat_tests}
 use Rattle.lagprogress.proofs.Common.{none-some, same_Some, AllByRecursion, Pdu, pdu_in, One, Side, Two, peer, value_of, Machines, after_sending}
@@ -11,17 +6,20 @@ use Rattle.lagprogress.proofs.Common.{is_due, Assignment, Flushing, Wanted, afte
 use Rattle.lagprogress.proofs.Common.{count_conversations, next_identifier, SystemFault, SystemPort, Step, Transmit, SendsMarkerOf, TransmitsAt}
 use Rattle.lagprogress.proofs.Common.{TransmitsIf, SystemState, machines_of, port_index, all-get, found_place, ports_rise, Event, Reply}
 use Rattle.lagprogress.proofs.Common.{AfterTransmit, Algorithms, WorldEmits, WorldRuns, sent_reply, side_of, payload_in, HalfState, LinkState}
-use Rattle.lagprogress.proofs.Common.{WorldState, half, is_accepted, port_at, with_half, half_there, HostEvent, HostRuns, HostSteps, Plays, OfEach}
-use Rattle.lagprogress.proofs.Common.{Tick-each, placed, AtPort, at_number, AskingInVainIsDraining, AsksInVain, AsksInVainAfterTick, DrainingRounds}
-use Rattle.lagprogress.proofs.Common.{IsNoMoveOf, NothingIsDue, RoundIsDraining, sent_nothing, AfterTick, Asks, AsksAfterTick}
-use Rattle.lagprogress.proofs.Common.{AsksIn, AtSomeWorld, Clearing, EventsAreOfHosts, HostRounds, IsBetweenTicks, IsTickOf}
-use Rattle.lagprogress.proofs.Common.{RoundIsHostRound, RoundsAreHostRounds, RunReplies, StepReplies, TickOnce, AtEnd}
-use Rattle.lagprogress.proofs.Common.{IsDeliver, IsHealthyAt, OfPort, Rounds, asks_all, ticks_of_both, IsSteady}
+use Rattle.lagprogress.proofs.Common.{WorldState, half, is_accepted, port_at, with_half, half_there, HostEvent, HostRuns, HostSteps, Plays, Sets}
+use Rattle.lagprogress.proofs.Common.{OfEach, Tick-each, placed, AtPort, at_number, LeavesPorts, AskingInVainIsDraining, AsksInVain}
+use Rattle.lagprogress.proofs.Common.{AsksInVainAfterTick, DrainingRounds, IsNoMoveOf, NothingIsDue, RoundIsDraining, sent_nothing, AfterTick}
+use Rattle.lagprogress.proofs.Common.{AskingIsPlayed, Asks, AsksAfterTick, AsksIn, AtSomeWorld, Clearing, EventsAreOfHosts, HostRounds}
+use Rattle.lagprogress.proofs.Common.{IsBetweenTicks, IsTickOf, RoundIsHostRound, RoundsAreHostRounds, RunReplies, StepReplies, TickOnce}
+use Rattle.lagprogress.proofs.Common.{TickOnceAmong, AtEnd, IsDeliver, IsHealthyAt, OfPort, Rounds, asks_all, ticks_of_both, IsSteady}
+use Rattle.lagprogress.proofs.HostRound.{side_among, of_side, turned}
+use Rattle.lagprogress.proofs.HostSteady.{sets_up}
+use Rattle.lagprogress.proofs.Quieting.{calm_timely, place_stays}
+use Rattle.lagprogress.proofs.Halves.{AreTimely, timely}
 use Rattle.distributor.specs.Conversations.{sum_below}
 use Rattle.std.specs.Prelude.{map}
 use Rattle.lagprogress.proofs.EachRound.{each_between, EachAt, own_keeps, own_ticks, hosts_steady}
 use Rattle.lagworld.specs.declared.reply.Reply.TheVariants as reply
-use Rattle.lagprogress.proofs.HostRound.{of_side, turned}
 use Rattle.lagprogress.proofs.Linked.{each_side, found, machines_there}
 use Rattle.lagprogress.proofs.OneCable.{Emits, emits, ticks}
 use Rattle.lagprogress.proofs.OneRound.{IsAsk, all_ask, asks_twice, same_ports_then}

@@ -1,17 +1,16 @@
 -- What calls and settings of hosts leave of both systems.
-use Rattle.lagprogress.proofs.Common.{all-get, settling_leaves}
 use Rattle.lagprogress.proofs.Common.{Bool, Err, List, None, Ok, Option, Result, Some, [], ap, arith, false, inl, inr, refl, subst, sym, true, ℕ, ◌∙◌}
 use Rattle.lagprogress.proofs.Common.{◌∷◌, ◌≡◌, ◌≤◌, ◌⊎◌, nat_tests, none-some, same_Some, AggId, Choice, Lacpdu, One, Side, Two, peer, Machines}
 use Rattle.lagprogress.proofs.Common.{Assignment, Table, next_identifier, HostCall, HostReply, SystemFault, SystemPort, OffersIf, Call, Carries}
 use Rattle.lagprogress.proofs.Common.{IsFrame, choice_with_link, call_of, configured_numbers, HostPromise, GivesOrRefuses, ProbesAt, ProbesIf}
 use Rattle.lagprogress.proofs.Common.{SendsMarkerOf, Hold_port, Set_max_delay, Set_max_links, Set_mode, SetsPort, Setting, SettingPromise}
 use Rattle.lagprogress.proofs.Common.{SettingStep, in_mode, is_held_so, is_in_mode, with_held, IsSound, SystemState, port_index, with_table, IsOther}
-use Rattle.lagprogress.proofs.Common.{TableAlone, host_alone, all-set, found_place, setting_sound, Step-sound, Algorithms, transmitted_item}
+use Rattle.lagprogress.proofs.Common.{TableAlone, host_alone, all-get, all-set, found_place, setting_sound, Step-sound, Algorithms, transmitted_item}
 use Rattle.lagprogress.proofs.Common.{with_item_sent, forced_if_accepted, HalfState, ItemValue, LinkState, WorldState, half, put_on_port, with_half}
 use Rattle.lagprogress.proofs.Common.{start_sound, AfterNumberedOffer, AfterProbe, CountsHeldIfOk, ForcesPort, HalfTells, HostEvent, HostRuns}
 use Rattle.lagprogress.proofs.Common.{HostSteps, Leaves, Offers, Plays, Probes, Rests, Sets, numbered_item, hosts_keep_headline, PortsAreTimed}
-use Rattle.lagprogress.proofs.Common.{KeptBySettling, OfEach, settling_each, zip_kept, forces_port, AtPort, setting_timed, LeavesPorts}
-use Rattle.lagprogress.proofs.Common.{EachHostReachedIsSteady, EachHostRunKeepsSteady}
+use Rattle.lagprogress.proofs.Common.{KeptBySettling, OfEach, settling_each, zip_kept, forces_port, AtPort, settling_leaves, setting_timed}
+use Rattle.lagprogress.proofs.Common.{LeavesPorts, EachHostReachedIsSteady, EachHostRunKeepsSteady}
 use Rattle.slowpdu.specs.declared.pdu.Pdu.TheVariants as pdu
 use Rattle.lagsystem.specs.declared.drive.HostCall.TheVariants as host
 use Rattle.lagsystem.specs.declared.drive.HostReply.TheVariants as told

@@ -4,8 +4,7 @@ use Rattle.lagprogress.proofs.Common.{◌⊎◌, cases_Bool, same_Some, AllByRec
 use Rattle.lagprogress.proofs.Common.{receive_rows, AtRest, RunsToRest, after_sending, count_down, is_due, SystemPort, Carries, IsFrame}
 use Rattle.lagprogress.proofs.Common.{OnlyPortChangesBy, ProcessesLacpdu, ThenSettles, SystemState, machines_of, found_place, Reply, Algorithms}
 use Rattle.lagprogress.proofs.Common.{WorldSteps, side_of, ItemValue, WorldState, half, towards, HostEvent, Plays, timeout_time, KeptBySettling}
-use Rattle.lagprogress.proofs.Common.{OfEach, Tick-each, counts, AtPort, LeavesPorts, AfterTick, Clearing, StepReplies}
-use Rattle.lagprogress.proofs.Common.{OfPort}
+use Rattle.lagprogress.proofs.Common.{OfEach, Tick-each, counts, AtPort, LeavesPorts, AfterTick, Clearing, StepReplies, OfPort}
 use Rattle.slowpdu.specs.declared.pdu.Pdu.TheVariants as pdu
 use Rattle.lagsystem.specs.declared.drive.Reply.TheVariants as answer
 use Rattle.lagscript.specs.declared.event.Event.TheVariants as event
@@ -13,15 +12,14 @@ use Rattle.lagprogress.proofs.Claims.{IsNamed, Owes, Owing, Wakeful, owes_ticks,
 use Rattle.lagprogress.proofs.Climbing.{PartnerInSync, known_still, ticks_partner}
 use Rattle.lagprogress.proofs.Delivering.{Heard, arrived_ports, deliver_link, deliver_moves}
 use Rattle.lagprogress.proofs.EndFacts.{Along, IsEnd, Learnt, activity, nothing_along, short_timeout, ticks_end, wait_of}
-use Rattle.lagprogress.proofs.HostRound.{between, KeptBeside, MadeByTick, Stages, first_on, fits_in, healthy_link, holds_beside, known_in}
-use Rattle.lagprogress.proofs.HostRound.{learn_less, Whatever, all_whatever, learnt_along, left, none_ticked, side_beside, tick_one, ticks_learnt}
-use Rattle.lagprogress.proofs.HostRound.{two_other, two_there}
+use Rattle.lagprogress.proofs.HostRound.{between, KeptBeside, MadeByTick, Stages, first_on, fits_in, healthy_link, holds_beside, known_in, learn_less}
+use Rattle.lagprogress.proofs.HostRound.{Whatever, all_whatever, learnt_along, left, none_ticked, side_beside, tick_one, ticks_learnt, two_other}
+use Rattle.lagprogress.proofs.HostRound.{two_there}
 use Rattle.lagprogress.proofs.Linked.{asked_which, at_end, beside_link, emit_any, found, end_with, of_end, with_ports, EndIs, Fits, Flying, IsGood}
 use Rattle.lagprogress.proofs.Linked.{Link, each_both, each_map, each_side, end_here, gains_has, HasLacpdu, other_side, peer_twice, put_other}
 use Rattle.lagprogress.proofs.Linked.{put_there}
 use Rattle.lagprogress.proofs.OneCable.{Arrives, alone, cable, port_there, put, response, ticks, towards_there}
-use Rattle.lagprogress.proofs.OneRound.{Nothing, Passes, ask_idle, ask_peer, one_of_both, at_rest, forget, join}
-use Rattle.lagprogress.proofs.OneRound.{ticked}
+use Rattle.lagprogress.proofs.OneRound.{Nothing, Passes, ask_idle, ask_peer, one_of_both, at_rest, forget, join, ticked}
 use Rattle.lagprogress.proofs.Quieting.{LeavesEnds, PlayedBeside, ends_up, leaves_each, leaves_link}
 use Rattle.lagprogress.proofs.Telling.{Bears, SaysIt, Tells, arrive_peer, ask_on, came_to, deliver_on, due_on, left_by, sync_settles, tells_map}
 

@@ -1,17 +1,15 @@
 -- The ports of a key that are one group are in one aggregator.
-use Rattle.lagprogress.proofs.EachRound.{played_on}
-use Rattle.lagprogress.proofs.SharedLemmas.{played_lasted}
-use Rattle.lagprogress.proofs.Common.{OldArrive}
-use Rattle.lagprogress.proofs.Common.{false≢true}
-use Rattle.lagprogress.proofs.Common.{List, Some, ap, arith, refl, slice_get, subst, sym, true, ℕ, ◌∙◌, ◌≡◌, ◌≢◌, ◌≤◌, none-some, AggId}
+use Rattle.lagprogress.proofs.Common.{List, Some, ap, arith, refl, slice_get, subst, sym, true, ℕ, ◌∙◌, ◌≡◌, ◌≢◌, ◌≤◌, false≢true, none-some, AggId}
 use Rattle.lagprogress.proofs.Common.{Key, Choice, Selected, Unselected, is_selected, One, Side, Machines, group-test, HostCall, HostReply, Answer}
 use Rattle.lagprogress.proofs.Common.{SystemPort, Call, Step, call_of, HostPromise, HostRun, OccupantsAgree, occupied, IsSound, PortsAgree}
 use Rattle.lagprogress.proofs.Common.{SystemState, with_table, selection_view, first_unselected, TableAlone, agrees_beside, host_alone, all-get}
 use Rattle.lagprogress.proofs.Common.{found_place, ports_rise, Step-sound, agrees, Reply, Algorithms, LinkState, WorldState, half, port_at, HostEvent}
 use Rattle.lagprogress.proofs.Common.{Plays, AtPort, at_number, calls_each, BothAreActive, EachLinkComesUp, EndsOfEachKnow, IsBundle, OneIsActive}
-use Rattle.lagprogress.proofs.Common.{Distributes, LateRounds, StepReplies, IsHealthyAt, known_if_both_active, known_if_one_is, up_if_both_active}
-use Rattle.lagprogress.proofs.Common.{up_if_one_is, AreOneGroup, IsSteady, AreInOneAggregator, CallsKeepGroupsWhole, EachKeyIsInOneAggregator}
-use Rattle.lagprogress.proofs.Common.{FirstGroupsAreWhole, GroupsAreWhole, ReachedGroupsAreWhole}
+use Rattle.lagprogress.proofs.Common.{StepReplies, LateRounds, OldArrive, Distributes, IsHealthyAt, known_if_both_active, known_if_one_is}
+use Rattle.lagprogress.proofs.Common.{up_if_both_active, up_if_one_is, AreOneGroup, IsSteady, AreInOneAggregator, CallsKeepGroupsWhole}
+use Rattle.lagprogress.proofs.Common.{EachKeyIsInOneAggregator, FirstGroupsAreWhole, GroupsAreWhole, ReachedGroupsAreWhole}
+use Rattle.lagprogress.proofs.EachRound.{played_on}
+use Rattle.lagprogress.proofs.SharedLemmas.{played_lasted, Lasted, one_group}
 use Rattle.lagprogress.proofs.Quieting.{IsCalm, calm_steady, runs_calm, quiet_ports}
 use Rattle.lagprogress.proofs.Halves.{each_is_calls, both_first, start_steady}
 use Rattle.lagsystem.specs.declared.drive.HostCall.TheVariants as host
@@ -23,7 +21,6 @@ use Rattle.lagprogress.proofs.Grouping.{InOne, first_in_one, in_one_of, step_in_
 use Rattle.lagprogress.proofs.LateKnowing.{active_ends_know, ends_know}
 use Rattle.lagprogress.proofs.Lasting.{still_heard}
 use Rattle.lagprogress.proofs.Linked.{events_each}
-use Rattle.lagprogress.proofs.SharedLemmas.{Lasted, one_group}
 use Rattle.lagprogress.proofs.Starting.{end_of}
 
 -- calls of a host

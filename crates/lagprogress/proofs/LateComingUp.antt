@@ -1,29 +1,23 @@
 -- How both ends of a cable come to distribute in late rounds.
-use Rattle.lagprogress.proofs.EachRound.{played_split}
-use Rattle.lagprogress.proofs.Common.{history_at, is_stamp, taken_in}
-use Rattle.lagprogress.proofs.ComingUp.{comes_up}
-use Rattle.lagprogress.proofs.Quieting.{all_beside}
-use Rattle.lagprogress.proofs.HostStamps.{Took-it}
-use Rattle.lagprogress.proofs.Climbing.{Rising}
-use Rattle.lagprogress.proofs.Stamps.{Present}
-use Rattle.lagprogress.proofs.LateKnowing.{Fresh, late_chain, signs_of}
 use Rattle.lagprogress.proofs.Common.{Bool, List, [], ap, arith, inl, inr, subst, sym, true, ℕ, ◌-◌, ◌∙◌, ◌∷◌, ◌≡◌, ◌≤◌, ◌⊎◌, AllByRecursion}
 use Rattle.lagprogress.proofs.Common.{is_selected, Lacpdu, One, Side, peer, Machines, is_synchronized, mux_rows, receive_rows, RunsToRest, count_down}
-use Rattle.lagprogress.proofs.Common.{Algorithms, ItemValue, WorldState, half, no, times_keep, AtPort, periodic_leaves, IsLateRound, LateRounds}
-use Rattle.lagprogress.proofs.Common.{OldArrive}
+use Rattle.lagprogress.proofs.Common.{is_stamp, Algorithms, ItemValue, WorldState, half, history_at, taken_in, no, times_keep, AtPort}
+use Rattle.lagprogress.proofs.Common.{periodic_leaves, IsLateRound, LateRounds, OldArrive}
+use Rattle.lagprogress.proofs.EachRound.{played_split}
+use Rattle.lagprogress.proofs.ComingUp.{comes_up, Agrees, AreSynced, owed, synced_of}
+use Rattle.lagprogress.proofs.Quieting.{all_beside, PlayedBeside, as_beside}
+use Rattle.lagprogress.proofs.HostStamps.{Took-it, same_items}
+use Rattle.lagprogress.proofs.Climbing.{Rising, PartnerInSync, keeps_selected, ticks_still}
+use Rattle.lagprogress.proofs.Stamps.{Present}
+use Rattle.lagprogress.proofs.LateKnowing.{Fresh, late_chain, signs_of, FreshAt, late_signs, fits_late, fits_now, knows_late, stays_late}
 use Rattle.lagprogress.proofs.Claims.{IsNamed}
-use Rattle.lagprogress.proofs.Climbing.{PartnerInSync, keeps_selected, ticks_still}
-use Rattle.lagprogress.proofs.ComingUp.{Agrees, AreSynced, owed, synced_of}
 use Rattle.lagprogress.proofs.EndFacts.{Along, IsEnd, Synced, activity, synced_mux}
 use Rattle.lagprogress.proofs.Knowing.{AtIt, beside}
-use Rattle.lagprogress.proofs.HostStamps.{same_items}
 use Rattle.lagprogress.proofs.LateHearing.{Whoever}
-use Rattle.lagprogress.proofs.LateKnowing.{FreshAt, late_signs, fits_late, fits_now, knows_late, stays_late}
 use Rattle.lagprogress.proofs.LateFlow.{Past}
 use Rattle.lagprogress.proofs.LateStart.{counts_of, flush, kept_of}
 use Rattle.lagprogress.proofs.Linked.{Flying, IsGood, Link, each_map, peer_twice}
 use Rattle.lagprogress.proofs.OneRound.{Nothing, join, ticked}
-use Rattle.lagprogress.proofs.Quieting.{PlayedBeside, as_beside}
 use Rattle.lagprogress.proofs.Starting.{raised}
 use Rattle.lagprogress.proofs.Telling.{Bears, SaysIt, Tells, tells_map}
 

@@ -1,13 +1,12 @@
 -- How the ends of a cable come to know each other in late rounds.
-use Rattle.lagprogress.proofs.Knowing.{stays_met}
 use Rattle.lagprogress.proofs.Common.{Bool, arith, inl, inr, refl, subst, sym, true, ℕ, ◌+◌, ◌-◌, ◌≡◌, ◌≤◌, ◌⊎◌, Lacpdu, One, Side, peer, Algorithms}
 use Rattle.lagprogress.proofs.Common.{LinkState, WorldState, half, port_at, Sounds, silence_of, BothAreActive, EndsOfEachKnow, OneIsActive}
-use Rattle.lagprogress.proofs.Common.{LateRounds, OldArrive, known_if_both_active, known_if_one_is, EndKnows}
+use Rattle.lagprogress.proofs.Common.{LateRounds, OldArrive, EndKnows, known_if_both_active, known_if_one_is}
+use Rattle.lagprogress.proofs.Knowing.{stays_met, AtIt, Chain, Hears, Met, Signs, both_meet, fits_before, fits_fresh, knows_peer, met_knows}
+use Rattle.lagprogress.proofs.Knowing.{one_meets, some_silence, sounds_now}
 use Rattle.lagprogress.proofs.Claims.{IsNamed, Wakeful}
 use Rattle.lagprogress.proofs.Climbing.{PartnerInSync}
 use Rattle.lagprogress.proofs.EndFacts.{Along, CanSound, activity}
-use Rattle.lagprogress.proofs.Knowing.{AtIt, Chain, Hears, Met, Signs, both_meet, fits_before, fits_fresh, knows_peer, met_knows, one_meets}
-use Rattle.lagprogress.proofs.Knowing.{some_silence, sounds_now}
 use Rattle.lagprogress.proofs.LateHearing.{Ahead, Flies, Hears as Heard, Said, Whoever, late_flies, late_nears, late_passes, late_stamped, late_told}
 use Rattle.lagprogress.proofs.LateHearing.{late_took}
 use Rattle.lagprogress.proofs.Lapsing.{Lapsed, Lasting, Phase, Tails, lasting_now, lasting_passes}

@@ -1,8 +1,8 @@
 -- Which events are a late round.
-use Rattle.lagprogress.proofs.Common.{Clearing, HostRounds, IsCabling, IsHostRound, NoneIsLeft, NothingInFlight, PlayedRounds, world_setup}
-use Rattle.lagprogress.proofs.Common.{Bool, List, [], ap, false, inl, inr, length, refl, subst, suc, sym, true, zero, ℕ, ◌++◌, ◌∙◌, ◌∷◌, ◌≡◌, One}
-use Rattle.lagprogress.proofs.Common.{Side, peer, Reply, Algorithms, ItemValue, WorldState, port_at, towards, HostEvent, IsTickOf, RunReplies}
-use Rattle.lagprogress.proofs.Common.{StepReplies, TickOnce, ArriveIn, HostRoundIsLateRound, HostRoundsAreLateRounds, OldArrive}
+use Rattle.lagprogress.proofs.Common.{Bool, List, [], ap, false, inl, inr, length, refl, subst, suc, sym, true, zero, ℕ, ◌++◌, ◌∙◌, ◌∷◌, ◌≡◌}
+use Rattle.lagprogress.proofs.Common.{IsCabling, One, Side, peer, Reply, Algorithms, world_setup, ItemValue, WorldState, port_at, towards, HostEvent}
+use Rattle.lagprogress.proofs.Common.{Clearing, HostRounds, IsHostRound, IsTickOf, NoneIsLeft, PlayedRounds, RunReplies, StepReplies, TickOnce}
+use Rattle.lagprogress.proofs.Common.{ArriveIn, HostRoundIsLateRound, HostRoundsAreLateRounds, OldArrive, NothingInFlight}
 use Rattle.lagprogress.proofs.EachRound.{clears_less, joins_kept, played_join}
 use Rattle.lagprogress.proofs.LateFlow.{flows, gain_at, stays_there}
 use Rattle.lagprogress.proofs.OneCable.{OnCable, cable, sent_frame, ticks, towards_there}
@@ -85,14 +85,18 @@ Emptied events old new = OldArrive events old new × NothingInFlight new
 pub rounds_emptied : (gives : Algorithms) (n : ℕ) (old new : WorldState) → IsCabling (world_setup old).cables → HostRounds gives n old new
     → PlayedRounds Emptied gives n old new
 rounds_emptied gives zero old new cabling h = h
-rounds_emptied gives (suc n) old new cabling h = (h.0, rounds_emptied gives n old h.0 cabling h.1, record {
-  events = h.2.events;
-  replies = h.2.replies;
-  ticks = h.2.ticks;
-  acts = h.2.acts;
-  asked = h.2.asked;
-  empties = (old_arrive gives h.0 new (subst IsCabling (sym (played_join NoneIsLeft gives n old h.0 h.1)) cabling) h.2, h.2.empties);
-})
+rounds_emptied gives (suc n) old new cabling h = (
+  h.0,
+  rounds_emptied gives n old h.0 cabling h.1,
+  record {
+    events = h.2.events;
+    replies = h.2.replies;
+    ticks = h.2.ticks;
+    acts = h.2.acts;
+    asked = h.2.asked;
+    empties = (old_arrive gives h.0 new (subst IsCabling (sym (played_join NoneIsLeft gives n old h.0 h.1)) cabling) h.2, h.2.empties);
+  },
+)
 
 pub host_rounds_are_late_rounds : (gives : Algorithms) → HostRoundsAreLateRounds gives
 host_rounds_are_late_rounds gives n old new cabling h =

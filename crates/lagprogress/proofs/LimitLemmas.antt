@@ -1,9 +1,4 @@
 -- How the links of a bundle agree where one system has a limit of links.
-use Rattle.lagprogress.proofs.SharedLemmas.{played_lasted}
-use Rattle.lagprogress.proofs.EachRound.{played_join, played_on, played_steady}
-use Rattle.lagprogress.proofs.Lasting.{played_alike, played_before}
-use Rattle.lagprogress.proofs.Common.{OldArrive}
-use Rattle.lagprogress.proofs.Linked.{each_side}
 use Rattle.lagprogress.proofs.Common.{Bool, Err, IsSome, None, Ok, Option, Some, ap, arith, false, if◌then◌else◌, inl, inr, refl, slice_get, subst}
 use Rattle.lagprogress.proofs.Common.{suc, sym, true, ℕ, ◌∙◌, ◌≡◌, ◌⊎◌, cases_Bool, AggId, SystemId, Choice, Selected, Standby, Unselected, Party}
 use Rattle.lagprogress.proofs.Common.{is_selected, same_party, Lacpdu, party_of, One, Side, Two, end_at, peer, Setup, Machines, selected}
@@ -13,19 +8,19 @@ use Rattle.lagprogress.proofs.Common.{changed_party, choice_with_link, SystemSta
 use Rattle.lagprogress.proofs.Common.{agreement_at, Algorithms, IsWorldSound, LinkState, WorldState, half, port_at, end_is, StandsByFull}
 use Rattle.lagprogress.proofs.Common.{WantsAggregator, KeptByCall, KeptBySettling, OfEach, Step-each, first_each, place_each, settling_each, no}
 use Rattle.lagprogress.proofs.Common.{AtPort, at_number, mux_leaves, periodic_leaves, RowsKeep, runs_keep, takes_keep, BothAreActive, OneIsActive}
-use Rattle.lagprogress.proofs.Common.{LateRounds, CarriesOnAll, DownAreUnselected, EachLimitedLinkAgrees, EachReachedHasDownUnselected}
-use Rattle.lagprogress.proofs.Common.{EndsAgreed, IsLimitedBundle, StandsByOthers, EndKnows, Knows, AtEnd, IsHealthyAt, OfPort, up_if_both_active}
-use Rattle.lagprogress.proofs.Common.{up_if_one_is}
+use Rattle.lagprogress.proofs.Common.{LateRounds, OldArrive, EndKnows, Knows, AtEnd, IsHealthyAt, OfPort, up_if_both_active, up_if_one_is}
+use Rattle.lagprogress.proofs.SharedLemmas.{played_lasted, shared_finds}
+use Rattle.lagprogress.proofs.EachRound.{played_join, played_on, played_steady, EachAt, RoundKeeps, host_each, played_keep}
+use Rattle.lagprogress.proofs.Lasting.{played_alike, played_before, all_by_place, ends_at, own_system, still_heard, still_links, Alike}
+use Rattle.lagprogress.proofs.Linked.{each_side, events_each, machines_there}
+use Rattle.lagprogress.specs.Limited.{CarriesOnAll, DownAreUnselected, EachLimitedLinkAgrees, EachReachedHasDownUnselected, EndsAgreed}
+use Rattle.lagprogress.specs.Limited.{IsLimitedBundle, StandsByOthers}
 use Rattle.lagprogress.proofs.Bundling.{never_stands, heard_holds}
-use Rattle.lagprogress.proofs.EachRound.{EachAt, RoundKeeps, host_each, played_keep}
 use Rattle.lagprogress.proofs.Halves.{both_first}
-use Rattle.lagprogress.proofs.Linked.{events_each, machines_there}
 use Rattle.lagprogress.proofs.Starting.{end_of}
-use Rattle.lagprogress.proofs.SharedLemmas.{shared_finds}
 use Rattle.lagprogress.proofs.LateKnowing.{active_ends_know, ends_know}
 use Rattle.lagprogress.proofs.Pairing.{active_selected_pairs_agree, selected_pairs_agree}
 use Rattle.lagsystem.specs.declared.drive.Reply.TheVariants as reply
-use Rattle.lagprogress.proofs.Lasting.{all_by_place, ends_at, own_system, still_heard, still_links, Alike}
 
 -- a port whose link is down stays UNSELECTED
 

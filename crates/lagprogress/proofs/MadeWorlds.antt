@@ -1,18 +1,17 @@
 -- A world that events lead to from one that was made is a bundle, if its links are up as it wants them.
-use Rattle.lagprogress.proofs.Common.{LateRounds, nat_tests, or_first}
 use Rattle.lagprogress.proofs.Common.{Bool, List, None, Option, Some, [], ap, arith, false, if◌then◌else◌, map, refl, subst, suc, sym, true, zero, ℕ}
-use Rattle.lagprogress.proofs.Common.{◌++◌, ◌+◌, ◌-◌, ◌∙◌, ◌∷◌, ◌≡◌, none-some, SystemId, same_system, system-itself, One, Side, Two, WorldSetup}
-use Rattle.lagprogress.proofs.Common.{Config, config_value, Algorithms, AreFirst, LinkState, WorldState, half, start_sound, hosts_keep_headline, no}
-use Rattle.lagprogress.proofs.Common.{EachLinkAgrees, EachLinkComesUp, HostReachedIsBundle, IsBundle, ReachedIsApart, ReachedIsBundle, SystemsDiffer}
-use Rattle.lagprogress.proofs.Common.{CarriersAreUp, NothingIsHeld, DrainingRounds, NothingIsHeldByHosts, HostRounds, EachAgrees, EachDistributes}
-use Rattle.lagprogress.proofs.Common.{IsReached, IsReady, LeadsTo, NothingStaysHeld, Rounds, IsSteady}
+use Rattle.lagprogress.proofs.Common.{◌++◌, ◌+◌, ◌-◌, ◌∙◌, ◌∷◌, ◌≡◌, nat_tests, none-some, SystemId, same_system, system-itself, One, Side, Two}
+use Rattle.lagprogress.proofs.Common.{WorldSetup, Config, config_value, or_first, Event, Reply, Algorithms, WorldRuns, AreFirst, IsStart, LinkState}
+use Rattle.lagprogress.proofs.Common.{WorldState, half, start_sound, Plays, hosts_keep_headline, no, EachLinkAgrees, EachLinkComesUp}
+use Rattle.lagprogress.proofs.Common.{HostReachedIsBundle, IsBundle, ReachedIsApart, ReachedIsBundle, SystemsDiffer, CarriersAreUp, NothingIsHeld}
+use Rattle.lagprogress.proofs.Common.{DrainingRounds, NothingIsHeldByHosts, HostRounds, LateRounds, EachAgrees, EachDistributes, IsReached, IsReady}
+use Rattle.lagprogress.proofs.Common.{LeadsTo, NothingStaysHeld, Rounds, IsSteady}
 use Rattle.lagprogress.proofs.Looping.{RunsEvents}
 use Rattle.lagscript.specs.declared.config.BadWorld.TheVariants.{SameSystem}
 use Rattle.cables.specs.declared.item.Item.{Item}
 use Rattle.lagscript.specs.Configs.{refusal_of_all}
 use Rattle.lagworld.specs.Sound.{IsSound}
 use Rattle.lagprogress.proofs.LateLoops.{host_rounds_are_late_rounds}
-use Rattle.lagprogress.proofs.Common.{Event, IsStart, Plays, Reply, WorldRuns}
 use Rattle.lagprogress.proofs.Carrying.{host_reached_has_carriers_up}
 use Rattle.lagprogress.proofs.Unchanged.{events_keep}
 use Rattle.lagprogress.proofs.Reaching.{reached_steady}

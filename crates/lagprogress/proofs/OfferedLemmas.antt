@@ -1,23 +1,19 @@
 -- A frame that a bundle is offered after its links came up arrives within one round.
-use Rattle.lagprogress.proofs.EachRound.{played_join, played_on, played_steady}
-use Rattle.lagprogress.proofs.Lasting.{played_before}
+use Rattle.lagprogress.proofs.Common.{List, Some, [], ap, arith, map, refl, slice_get, subst, sym, true, ℕ, ◌++◌, ◌+◌, ◌∙◌, ◌∷◌, ◌≡◌, ◌≤◌, Vec, AggId}
+use Rattle.lagprogress.proofs.Common.{Lacpdu, One, Side, peer, Machines, receive_rows, count_down, Data_frame, IsFrame, SystemState, Reply}
+use Rattle.lagprogress.proofs.Common.{Algorithms, WorldSteps, side_of, link_ends, ItemValue, LinkState, WorldState, accepts_at, half, is_accepted}
+use Rattle.lagprogress.proofs.Common.{link_at, port_at, put_on_port, put_ends, OfEach, AtPort, runs_keep, takes_keep, Arrives}
+use Rattle.lagprogress.proofs.Common.{DisabledAreUnsynchronized, EachFrameArrivesByHosts, GetsPort, SometimePlayed, TakesFrame, BothAreActive}
+use Rattle.lagprogress.proofs.Common.{EndsHealthyCable, IsBundle, OneIsActive, IsHostRound, LateRounds, OldArrive, NothingInFlight, up_if_both_active}
+use Rattle.lagprogress.proofs.Common.{up_if_one_is}
+use Rattle.lagprogress.proofs.EachRound.{played_join, played_on, played_steady, EachAt, RoundKeeps, same_index, host_each}
+use Rattle.lagprogress.proofs.Lasting.{played_before, all_by_place, still_heard}
 use Rattle.lagprogress.proofs.LateKnowing.{fits_late, fits_now, signs_of}
 use Rattle.lagprogress.proofs.LateStart.{counts_of, kept_of}
-use Rattle.lagprogress.proofs.Common.{LateRounds, OldArrive}
-use Rattle.lagprogress.proofs.Common.{List, Some, [], ap, arith, map, refl, slice_get, subst, sym, true, ℕ, ◌++◌, ◌+◌, ◌∙◌, ◌∷◌}
-use Rattle.lagprogress.proofs.Common.{◌≡◌, ◌≤◌, Vec, AggId, Lacpdu, One, Side, peer, Machines, receive_rows, count_down, Data_frame}
-use Rattle.lagprogress.proofs.Common.{IsFrame, SystemState, Reply, Algorithms, WorldSteps, side_of, link_ends, ItemValue}
-use Rattle.lagprogress.proofs.Common.{LinkState, WorldState, accepts_at, half, is_accepted, link_at, port_at, put_on_port, put_ends}
-use Rattle.lagprogress.proofs.Common.{OfEach, AtPort, runs_keep, takes_keep, Arrives}
-use Rattle.lagprogress.proofs.Common.{DisabledAreUnsynchronized, EachFrameArrivesByHosts, GetsPort}
-use Rattle.lagprogress.proofs.Common.{SometimePlayed, TakesFrame, BothAreActive, EndsHealthyCable, IsBundle, OneIsActive}
-use Rattle.lagprogress.proofs.Common.{IsHostRound, NothingInFlight}
-use Rattle.lagprogress.proofs.Common.{up_if_both_active, up_if_one_is}
 use Rattle.lagprogress.proofs.ArrivingLemmas.{is_data, offer_gets_port}
 use Rattle.lagprogress.proofs.Bundling.{Meets, Nowhere, awake_of, both_active, one_active, said, ups_of, named_of}
 use Rattle.lagprogress.proofs.Carrying.{Lapses, LapsesAt, distributes_up, lapse_settles, receive_lapses}
 use Rattle.lagprogress.proofs.Climbing.{PartnerInSync}
-use Rattle.lagprogress.proofs.EachRound.{EachAt, RoundKeeps, same_index, host_each}
 use Rattle.lagprogress.proofs.FlyingLemmas.{OnItsWay, in_run}
 use Rattle.lagprogress.proofs.Halves.{keeps_timely}
 use Rattle.lagprogress.proofs.Linked.{EndIs, IsGood, Link, place_kept, push_there}
@@ -26,7 +22,6 @@ use Rattle.lagprogress.proofs.OneRound.{join}
 use Rattle.lagprogress.proofs.ComingUp.{told_now}
 use Rattle.lagscript.specs.declared.event.Event.TheVariants as event
 use Rattle.lagworld.specs.declared.reply.Reply.TheVariants as reply
-use Rattle.lagprogress.proofs.Lasting.{all_by_place, still_heard}
 
 -- the partner of a port in PORT_DISABLED is not synchronized
 

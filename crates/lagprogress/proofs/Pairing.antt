@@ -1,22 +1,19 @@
 -- Cables of which both ends are SELECTED agree, however few aggregators and links there are.
-use Rattle.lagprogress.proofs.EachRound.{played_on, played_split, played_steady}
-use Rattle.lagprogress.proofs.Lasting.{played_alike, played_before}
-use Rattle.lagprogress.proofs.LateStart.{counts_of, kept_of}
-use Rattle.lagprogress.proofs.LateComingUp.{comes_to_be_up, up_synced}
-use Rattle.lagprogress.proofs.Common.{OldArrive}
-use Rattle.lagprogress.proofs.LateKnowing.{Fresh, late_chain, late_signs, stays_late}
-use Rattle.lagprogress.proofs.ComingUp.{AreSynced}
 use Rattle.lagprogress.proofs.Common.{List, Some, ap, arith, inl, inr, refl, slice_get, subst, suc, sym, true, ℕ, ◌+◌, ◌-◌, ◌∙◌, ◌≡◌, ◌≤◌, ◌⊎◌}
 use Rattle.lagprogress.proofs.Common.{cases_Bool, AllByRecursion, is_selected, Lacpdu, IsCabling, One, Side, peer, selected, PortConfig, SystemPort}
 use Rattle.lagprogress.proofs.Common.{MuxIsSettled, all-get, ports_rise, Same, agreement_at, Algorithms, world_setup, IsWorldSound, LinkState}
 use Rattle.lagprogress.proofs.Common.{WorldState, half, port_at, IsTimed, no, AtPort, at_number, AllHeard, BothAreActive, OneIsActive}
-use Rattle.lagprogress.proofs.Common.{SelectedPairsAgree, SelectedPairsComeUp, Distributes, LateRounds, AtEnd, IsHealthyAt, OfPort}
+use Rattle.lagprogress.proofs.Common.{SelectedPairsAgree, SelectedPairsComeUp, LateRounds, OldArrive, Distributes, AtEnd, IsHealthyAt, OfPort}
 use Rattle.lagprogress.proofs.Common.{up_if_both_active, up_if_one_is, IsSteady}
+use Rattle.lagprogress.proofs.EachRound.{played_on, played_split, played_steady, EachAt, RoundKeeps, host_each, played_keep}
+use Rattle.lagprogress.proofs.Lasting.{played_alike, played_before, all_by_place, ends_at, old_port}
+use Rattle.lagprogress.proofs.LateStart.{counts_of, kept_of}
+use Rattle.lagprogress.proofs.LateComingUp.{comes_to_be_up, up_synced}
+use Rattle.lagprogress.proofs.LateKnowing.{Fresh, late_chain, late_signs, stays_late}
+use Rattle.lagprogress.proofs.ComingUp.{AreSynced, climb_on, distributes, rises_first}
 use Rattle.lagprogress.proofs.Bundling.{agree_up, both_meet, both_wake, heard_holds, one_meet, one_wakes, Named, names}
 use Rattle.lagprogress.proofs.Choosing.{Chose}
 use Rattle.lagprogress.proofs.Climbing.{Down, Ripe, Rising, climbed, down_settles, down_takes, down_ticks, rising_first}
-use Rattle.lagprogress.proofs.ComingUp.{climb_on, distributes, rises_first}
-use Rattle.lagprogress.proofs.EachRound.{EachAt, RoundKeeps, host_each, played_keep}
 use Rattle.lagprogress.proofs.EndFacts.{Synced, activity}
 use Rattle.lagprogress.proofs.Frozen.{AllChose, AllFresh, Stands, choice_rounds, on_cable}
 use Rattle.lagprogress.proofs.OneRound.{Nothing}
@@ -26,7 +23,6 @@ use Rattle.lagprogress.proofs.Halves.{timely}
 use Rattle.lagprogress.proofs.Starting.{said_by}
 use Rattle.lagprogress.proofs.Claims.{IsNamed}
 use Rattle.lagprogress.proofs.Linked.{at_end, end_here, end_with}
-use Rattle.lagprogress.proofs.Lasting.{all_by_place, ends_at, old_port}
 
 -- one end climbs
 

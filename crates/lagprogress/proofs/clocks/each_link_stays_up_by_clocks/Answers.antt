@@ -1,5 +1,4 @@
-use Rattle.lagprogress.proofs.Bundling.{each_active_link_stays_agreed, each_active_link_stays_up, each_link_stays_agreed}
-use Rattle.lagprogress.proofs.Bundling.{each_link_stays_up}
+use Rattle.lagprogress.proofs.Bundling.{each_active_link_stays_agreed, each_active_link_stays_up, each_link_stays_agreed, each_link_stays_up}
 use Rattle.lagprogress.proofs.clocks.each_link_stays_up_by_clocks.Goals as goal
 
 pub returns-clause-up_both : goal.returns-clause-up_both

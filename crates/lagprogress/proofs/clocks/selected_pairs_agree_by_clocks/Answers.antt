@@ -1,5 +1,4 @@
-use Rattle.lagprogress.proofs.Pairing.{active_selected_pairs_agree, active_selected_pairs_come_up, selected_pairs_agree}
-use Rattle.lagprogress.proofs.Pairing.{selected_pairs_come_up}
+use Rattle.lagprogress.proofs.Pairing.{active_selected_pairs_agree, active_selected_pairs_come_up, selected_pairs_agree, selected_pairs_come_up}
 use Rattle.lagprogress.proofs.clocks.selected_pairs_agree_by_clocks.Goals as goal
 
 pub returns-clause-up_both : goal.returns-clause-up_both

@@ -1,7 +1,6 @@
 use Rattle.lagprogress.proofs.Common.{arith, refl, subst, ℕ, ◌∙◌, ◌≡◌, ◌≤◌, One, Side, Algorithms, WorldState, BothAreActive, OneIsActive}
 use Rattle.lagprogress.proofs.Common.{DrainingRounds, HostRounds, PlaysHostRounds, up_if_both_active, up_if_one_is, IsSteady}
-use Rattle.lagprogress.proofs.Bundling.{each_active_link_agrees, each_active_link_comes_up, each_link_agrees}
-use Rattle.lagprogress.proofs.Bundling.{each_link_comes_up}
+use Rattle.lagprogress.proofs.Bundling.{each_active_link_agrees, each_active_link_comes_up, each_link_agrees, each_link_comes_up}
 use Rattle.lagprogress.proofs.Freeing.{none_is_held_where_active_by_hosts, nothing_is_held_by_hosts}
 use Rattle.lagprogress.proofs.HostLoops.{draining_are_host}
 use Rattle.lagprogress.proofs.Looping.{one_draining_round_more, one_round_more, round_runs, runs_none}

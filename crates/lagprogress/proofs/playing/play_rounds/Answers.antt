@@ -1,7 +1,6 @@
 use Rattle.lagprogress.proofs.Common.{arith, subst, ℕ, ◌∙◌, ◌≡◌, ◌≤◌, Algorithms, WorldState, BothAreActive, OneIsActive, Rounds}
 use Rattle.lagprogress.proofs.Common.{freed_if_both_active, freed_if_one_is, up_if_both_active, up_if_one_is}
-use Rattle.lagprogress.proofs.Bundling.{each_active_link_agrees, each_active_link_comes_up, each_link_agrees}
-use Rattle.lagprogress.proofs.Bundling.{each_link_comes_up}
+use Rattle.lagprogress.proofs.Bundling.{each_active_link_agrees, each_active_link_comes_up, each_link_agrees, each_link_comes_up}
 use Rattle.lagprogress.proofs.Freeing.{none_is_held_where_active, nothing_is_held}
 use Rattle.lagprogress.proofs.HostLoops.{rounds_are_host_rounds}
 use Rattle.lagprogress.proofs.MadeWorlds.{agree, distribute, free}
