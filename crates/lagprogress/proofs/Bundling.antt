@@ -14,14 +14,13 @@ use Rattle.lagprogress.proofs.LateComingUp.{Up, comes_to_be_up, up_synced}
 use Rattle.lagprogress.proofs.EachRound.{among_on, among_then, clears_less, EachAt, RoundKeeps, same_index, joins_beside, host_each, played_on}
 use Rattle.lagprogress.proofs.EachRound.{played_split, played_steady}
 use Rattle.lagprogress.proofs.ComingUp.{agrees_on, AreSynced, Climbs, agrees_now, climbs_first, climbs_on, distributes, hosts_kept, Agrees}
-use Rattle.lagprogress.proofs.LateKnowing.{Fresh, knows_late, late_active_meet, late_chain, late_fresh_knows, late_one_meets, signs_of}
+use Rattle.lagprogress.proofs.Knowing.{Fresh, knows_late, late_active_meet, late_fresh_knows, late_one_meets, AtIt}
 use Rattle.lagprogress.proofs.Climbing.{Down, Ripe, Rising, climbed, down_settles, down_takes, down_ticks, rising_first}
 use Rattle.lagprogress.proofs.Starting.{active_at, awake_at, named_at, Ends, healthy_cable, said_by, starts}
 use Rattle.lagprogress.proofs.Halves.{timely}
 use Rattle.lagprogress.proofs.Quieting.{AllBeside, all_beside, as_beside}
 use Rattle.lagprogress.proofs.EndFacts.{Synced, activity}
 use Rattle.lagprogress.proofs.Linked.{many, at_end, end_here, end_with, EndPort}
-use Rattle.lagprogress.proofs.Knowing.{AtIt}
 use Rattle.lagprogress.proofs.OneRound.{Nothing}
 use Rattle.lagprogress.proofs.SharedLemmas.{Finds, shared_finds, played_lasted}
 use Rattle.lagprogress.proofs.Lasting.{IsAsBefore, all_by_place, ends_at, old_port, own_system, still_links, played_before}
@@ -231,13 +230,14 @@ module _ (E : Clearing) (Holds : LinkState → WorldState → Type 0) (Other : S
         (is_chosen at w g.known s mid middle (m.finds mid late s) (still_links s old mid k (m.links s))
         (systems i l y s) (let known = knows_late at w (counts_of at old) (kept_of at old) 1 mid g s in omega (arith, known)) e)
 
-    climb : (i : ℕ) (l : LinkState) (y : IsHealthyAt i l old) → Climbs (λ t. port_at t l) (said old i l y) (signs_of old (λ t. port_at t l) (said old i l y)) 20 top
+    climb : (i : ℕ) (l : LinkState) (y : IsHealthyAt i l old) → Climbs (λ t. port_at t l) (said old i l y) (counts_of (λ t. port_at t l) old) (kept_of (λ t. port_at t l) old) 20 top
     climb i l y =
         let at : Side → ℕ = λ t. port_at t l in
         let w = said old i l y in
-        let z = signs_of old at w in
-        played_on OldArrive gives (Climbs at w z) mid (climbs_first at w z mid (met i l y mid (are_late first old mid h)) (chosen i l y))
-        (λ n a b r. climbs_on at w z OldArrive gives 1 (late_chain at w (counts_of at old) (kept_of at old) gives) (named_of i l y) (awake_of i l y) n a b
+        let counts = counts_of at old in
+        let kept = kept_of at old in
+        played_on OldArrive gives (Climbs at w counts kept) mid (climbs_first at w counts kept mid (met i l y mid (are_late first old mid h)) (chosen i l y))
+        (λ n a b r. climbs_on at w counts kept gives (named_of i l y) (awake_of i l y) n a b
         (as_beside at OldArrive gives a b r)) 20 top (are_late 20 mid top more)
 
     -- and have risen, as the SELECTED ports have whose links are down
@@ -371,14 +371,15 @@ module _ (Holds : LinkState → WorldState → Type 0) (first : ℕ) (gives : Al
   stays =
       let at : Side → ℕ = λ s. port_at s l in
       let w = said old i l y in
-      let z = signs_of old at w in
+      let counts = counts_of at old in
+      let kept = kept_of at old in
       let k = ups_of OldArrive Holds Nowhere first gives old b i l y n mid enough h in
       up_synced gives at w old new (
         k.0 + m,
         (let few = k.1 in omega (arith, few)),
-        among_on (LeavesPorts at) OldArrive gives (λ a j. Agrees at w z 1 (k.0 + a) j) mid (subst (λ a. Agrees at w z 1 a mid) (omega arith) k.2)
-            (λ a f j r c. subst (λ q. Agrees at w z 1 q j) (omega arith)
-            (agrees_on at w z OldArrive gives 1 (late_chain at w (counts_of at old) (kept_of at old) gives)
+        among_on (LeavesPorts at) OldArrive gives (λ a j. Agrees at w counts kept (k.0 + a) j) mid (subst (λ a. Agrees at w counts kept a mid) (omega arith) k.2)
+            (λ a f j r c. subst (λ q. Agrees at w counts kept q j) (omega arith)
+            (agrees_on at w counts kept gives
             (named_of OldArrive Holds Nowhere first gives old b i l y) (awake_of OldArrive Holds Nowhere first gives old b i l y)
             (k.0 + a) f j r c)) m new more,
       )

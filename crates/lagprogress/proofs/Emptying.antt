@@ -27,8 +27,7 @@ use Rattle.lagprogress.proofs.EndFacts.{Along, activity, both_along}
 use Rattle.lagprogress.proofs.OneCable.{Arrives, Asks, OnCable, Went, asks, cable, came_off, delivers, emits, ticks, towards_there, Beside, push}
 use Rattle.lagprogress.proofs.OneCable.{puts, port_there}
 use Rattle.lagprogress.proofs.OneRound.{join, one_of_both, ticked, Nothing}
-use Rattle.lagprogress.proofs.Knowing.{AtIt, beside, awake_peer}
-use Rattle.lagprogress.proofs.LateKnowing.{FreshAt, fits_late, knows_late, stays_late, fits_now}
+use Rattle.lagprogress.proofs.Knowing.{Met, AtIt, beside, awake_peer, fits_fresh, knows_late, stays_met, fits_before}
 use Rattle.lagprogress.proofs.LateLoops.{host_round_is_late_round}
 use Rattle.lagprogress.proofs.EachRound.{played_join}
 use Rattle.lagprogress.proofs.Claims.{IsNamed}
@@ -551,7 +550,7 @@ module _ (at : Side → ℕ) (w : Side → Lacpdu) (named : (t : Side) → IsNam
   -- at the end of a round
   pub record Rests (m : ℕ) (W : Type 0) (j : WorldState) : Type 0 where
     pub cabling : IsCabling (world_setup j).cables
-    pub fresh : FreshAt at w counts kept 2 j
+    pub fresh : Met at w counts kept 2 j
     pub steady : AtIt at w s Y j
     pub same : IsFixed j
     pub fine : FineIn m W (λ id. ⊥) (half s j).state.table
@@ -580,7 +579,7 @@ module _ (at : Side → ℕ) (w : Side → Lacpdu) (named : (t : Side) → IsNam
       → Rests m W old → Rests (m + 1) ⊥ new
   round_rests m W old new q one_left rests = record {
     cabling = subst IsCabling (sym (played_join NoneIsLeft gives 1 old new (old, refl, h))) rests.cabling;
-    fresh = stays_late at w counts kept named awake gives 2 old new (omega arith)
+    fresh = stays_met at w counts kept gives named awake 2 old new (omega arith)
         (as_beside at OldArrive gives old new (host_round_is_late_round gives old new rests.cabling h)) g;
     steady = beside at w 2 (kn false false) s Y new end.link;
     same = end.same;
@@ -591,7 +590,7 @@ module _ (at : Side → ℕ) (w : Side → Lacpdu) (named : (t : Side) → IsNam
       h : IsHostRound gives old new
       h = q.round
 
-      g : FreshAt at w counts kept 2 old
+      g : Met at w counts kept 2 old
       g = rests.fresh
 
       kn : Bool → Bool → Side → ℕ
@@ -601,10 +600,10 @@ module _ (at : Side → ℕ) (w : Side → Lacpdu) (named : (t : Side) → IsNam
       long t = knows_late at w counts kept 2 old g t
 
       fits : (a b : Bool) → Fits 2 w (kn a b)
-      fits = fits_in 2 w g.known s (fits_now at w counts kept named awake 2 old g (omega arith)) (fits_late at w counts kept named awake 2 old g (omega arith))
+      fits = fits_in 2 w g.known s (fits_before at w counts kept named awake 2 old g (omega arith)) (fits_fresh at w counts kept named awake 2 old g (omega arith))
 
       then : Fits 2 w (ticked g.known)
-      then = fits_late at w counts kept named awake 2 old g (omega arith)
+      then = fits_fresh at w counts kept named awake 2 old g (omega arith)
 
       some : (a : Bool) (n : ℕ) → 2 ≤ n → 1 ≤ left a n
       some true n l = omega (arith, l)

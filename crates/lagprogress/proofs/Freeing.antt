@@ -9,7 +9,6 @@ use Rattle.lagprogress.proofs.Common.{NothingIsHeld, carrier_of, held_on, Draini
 use Rattle.lagprogress.proofs.Common.{HostRounds, IsBetweenTicks, NoneIsLeft, PlayedRounds, LateRounds, OldArrive, IsDeliver, IsHealthyAt, IsRound}
 use Rattle.lagprogress.proofs.Common.{Rounds, asks_all, freed_if_both_active, freed_if_one_is, ticks_of_both, up_if_both_active, up_if_one_is}
 use Rattle.lagprogress.proofs.Common.{IsSteady}
-use Rattle.lagprogress.proofs.LateKnowing.{signs_of}
 use Rattle.lagprogress.proofs.Lasting.{played_before, still_heard}
 use Rattle.lagprogress.proofs.LateLoops.{host_rounds_are_late_rounds}
 use Rattle.lagprogress.proofs.LateStart.{counts_of, kept_of}
@@ -71,7 +70,7 @@ module _ (E : Clearing) (Holds : LinkState → WorldState → Type 0) (Other : S
       let chosen = (e.is.2 (omega arith)).0 in
       let st = (half s mid).state in
       let choice = at_end at w 2 g.known s mid e g.link.steady (λ p. p.choice ≡ c) refl in
-      let heard = told_now at w (signs_of old at w) 1 up.0 mid up.1 up.2 s in
+      let heard = told_now at w (counts_of at old) (kept_of at old) up.0 mid up.1 up.2 s in
       let steady = each_map (λ q p. AtPort (at s) PartnerInSync q p × AtPort (at s) (λ p. p.choice ≡ c) q p)
       (AtPort (at s) (λ p. PartnerInSync p × (p.choice ≡ c))) (λ q p a f. (a.0 f, a.1 f)) st.system_ports
       (each_both (AtPort (at s) PartnerInSync) (AtPort (at s) (λ p. p.choice ≡ c)) st.system_ports heard choice) in

@@ -10,7 +10,7 @@ use Rattle.lagprogress.proofs.Common.{OldArrive, IsHealthyAt, IsSteady}
 use Rattle.lagprogress.proofs.EachRound.{played_on, EachAt, asks_each, delivers_each, tick_keeps}
 use Rattle.lagprogress.proofs.LateStart.{counts_of, kept_of}
 use Rattle.lagprogress.proofs.Quieting.{as_beside, IsCalm, calm_quiet, calm_steady, calm_keeps, leaves_link, leaves_quiet, quiet_ports}
-use Rattle.lagprogress.proofs.LateKnowing.{Fresh, fits_late, fits_now, knows_late, stays_late}
+use Rattle.lagprogress.proofs.Knowing.{Fresh, fits_fresh, fits_before, knows_late, stays_met}
 use Rattle.lagprogress.proofs.Linked.{each_side, EndIs, Fits, IsGood, Link, arrival, emit_any}
 use Rattle.lagprogress.proofs.Bundling.{Awake, said, Named, names}
 use Rattle.lagprogress.proofs.Choosing.{AllAsRead, AsRead, Chose, down_as_read, down_still, one_as_read, settles_choice, takes_as_read, zip_as_read}
@@ -278,8 +278,8 @@ module _ (Holds : LinkState → WorldState → Type 0) (gives : Algorithms) (old
         fits a b x l y = let at : Side → ℕ = λ t. port_at t l in
             let w = said old x l y in
             let g = fresh x l y in (
-              fits_in 1 w g.known One (fits_now at w (counts_of at old) (kept_of at old) (named start x l y) (wakes x l y) 1 i g (omega arith))
-                  (fits_late at w (counts_of at old) (kept_of at old) (named start x l y) (wakes x l y) 1 i g (omega arith)) a b,
+              fits_in 1 w g.known One (fits_before at w (counts_of at old) (kept_of at old) (named start x l y) (wakes x l y) 1 i g (omega arith))
+                  (fits_fresh at w (counts_of at old) (kept_of at old) (named start x l y) (wakes x l y) 1 i g (omega arith)) a b,
               each_side (λ t. 1 ≤ kn a b x l y t) One (some_left a (g.known One) (long x l y One)) (some_left b (g.known Two) (long x l y Two)),
             )
 
@@ -289,7 +289,7 @@ module _ (Holds : LinkState → WorldState → Type 0) (gives : Algorithms) (old
     choice_rounds n from j fresh s chose h = played_on OldArrive gives (λ m k. AllFresh k × Stands k × AllChose from k) from (fresh, s, chose)
         (λ m a b q d. (let e = choice_round from a b q d.0 d.1 d.2 in (
           λ x l y. (let at : Side → ℕ = λ t. port_at t l in
-              stays_late at (said old x l y) (counts_of at old) (kept_of at old) (named start x l y) (wakes x l y) gives 1 a b (omega arith)
+              stays_met at (said old x l y) (counts_of at old) (kept_of at old) gives (named start x l y) (wakes x l y) 1 a b (omega arith)
               (as_beside at OldArrive gives a b q) (d.0 x l y)),
           e.0,
           e.1,

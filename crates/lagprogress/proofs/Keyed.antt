@@ -18,7 +18,7 @@ use Rattle.lagsystem.proofs.OccupantSteps.{Step-placed}
 use Rattle.std.specs.Prelude.{[], ◌∷◌}
 use Rattle.lagprogress.proofs.Bundling.{heard_holds, each_active_link_comes_up, each_link_comes_up}
 use Rattle.lagprogress.proofs.Grouping.{InOne, first_in_one, in_one_of, step_in_one, whole_of}
-use Rattle.lagprogress.proofs.LateKnowing.{active_ends_know, ends_know}
+use Rattle.lagprogress.proofs.Knowing.{active_ends_know, ends_know}
 use Rattle.lagprogress.proofs.Lasting.{still_heard}
 use Rattle.lagprogress.proofs.Linked.{events_each}
 use Rattle.lagprogress.proofs.Starting.{end_of}

@@ -9,10 +9,9 @@ use Rattle.lagprogress.proofs.Quieting.{all_beside, PlayedBeside, as_beside}
 use Rattle.lagprogress.proofs.HostStamps.{Took-it, same_items}
 use Rattle.lagprogress.proofs.Climbing.{Rising, PartnerInSync, keeps_selected, ticks_still}
 use Rattle.lagprogress.proofs.Stamps.{Present}
-use Rattle.lagprogress.proofs.LateKnowing.{Fresh, late_chain, signs_of, FreshAt, late_signs, fits_late, fits_now, knows_late, stays_late}
+use Rattle.lagprogress.proofs.Knowing.{Met, Fresh, fits_fresh, fits_before, knows_late, stays_met, AtIt, beside}
 use Rattle.lagprogress.proofs.Claims.{IsNamed}
 use Rattle.lagprogress.proofs.EndFacts.{Along, IsEnd, Synced, activity, synced_mux}
-use Rattle.lagprogress.proofs.Knowing.{AtIt, beside}
 use Rattle.lagprogress.proofs.LateHearing.{Whoever}
 use Rattle.lagprogress.proofs.LateFlow.{Past}
 use Rattle.lagprogress.proofs.LateStart.{counts_of, flush, kept_of}
@@ -54,23 +53,23 @@ module _ (at : Side → ℕ) (w : Side → Lacpdu) (k : Side → ℕ) (kept : Si
     (awake : (s : Side) → (activity (w s) ≡ true) ⊎ (activity (w (peer s)) ≡ true)) where
   -- a round after both are synchronized: all that is on the cable says so
 
-  synced_round : (gives : Algorithms) (old new : WorldState) (g : FreshAt at w k kept 1 old) → ((s : Side) → AtIt at w s Synced old)
+  synced_round : (gives : Algorithms) (old new : WorldState) (g : Met at w k kept 1 old) → ((s : Side) → AtIt at w s Synced old)
       → PlayedBeside at OldArrive gives old new → (t : Side)
       → Link 1 at w (ticked g.known) (peer t) Synced new × (x : ℕ) × Past t x at (IsGood 2 w t) 0 new
   synced_round gives old new g synced h t =
       let x = peer t in
       let l = knows_late at w k kept 1 old g x in
-      flush gives 1 2 at w g.known t Synced (fits_now at w k kept named awake 1 old g (omega arith))
-      (fits_late at w k kept named awake 1 old g (omega arith))
+      flush gives 1 2 at w g.known t Synced (fits_before at w k kept named awake 1 old g (omega arith))
+      (fits_fresh at w k kept named awake 1 old g (omega arith))
       (synced_along (w x) (w (peer x)) (g.known x) 1 (omega arith) (omega (arith, l)))
       (synced_along (w x) (w (peer x)) (ticked g.known x) 1 (omega arith) (omega (arith, l)))
       (λ p q r rest a y. ticks_synced 1 (w x) (w (peer x)) (g.known x) p q (omega (arith, l)) r a y)
       (λ p y. y) (λ p y f. y) (λ f. omega (arith, l)) old new (join 1 at w g.known One x Synced old g.link (synced x)) h
 
-  raises : (gives : Algorithms) (old new : WorldState) (g : FreshAt at w k kept 1 old) → ((s : Side) → AtIt at w s Synced old)
-      → PlayedBeside at OldArrive gives old new → FreshAt at w k kept 2 new
+  raises : (gives : Algorithms) (old new : WorldState) (g : Met at w k kept 1 old) → ((s : Side) → AtIt at w s Synced old)
+      → PlayedBeside at OldArrive gives old new → Met at w k kept 2 new
   raises gives old new g synced h =
-      let f = stays_late at w k kept named awake gives 1 old new (omega arith) h g in
+      let f = stays_met at w k kept gives named awake 1 old new (omega arith) h g in
       let r = synced_round gives old new g synced h in
       let now : (s : Side) → AtIt at w s Synced new = λ s. subst (λ u. AtIt at w u Synced new) (peer_twice s)
       (beside at w 1 (ticked g.known) (peer (peer s)) Synced new (r (peer s)).0) in
@@ -90,7 +89,7 @@ module _ (at : Side → ℕ) (w : Side → Lacpdu) (k : Side → ℕ) (kept : Si
         took = f.took;
       }
 
-  agrees_first : (j : WorldState) → FreshAt at w k kept 2 j → Agrees at w (late_signs at w k kept) 1 0 j
+  agrees_first : (j : WorldState) → Met at w k kept 2 j → Agrees at w k kept 0 j
   agrees_first j g = record {
     fresh = g;
     tells = λ s. elim (g.told s (let l = knows_late at w k kept 2 j g (peer s) in omega (arith, l))) [
@@ -128,19 +127,19 @@ module _ (at : Side → ℕ) (w : Side → Lacpdu) (k : Side → ℕ) (kept : Si
   }
 
   -- in one round more all that is on the cable says so
-  pub late_turn : (gives : Algorithms) (mid next : WorldState) → LateRounds gives 1 mid next → FreshAt at w k kept 1 mid
-      → ((s : Side) → AtIt at w s Synced mid) → Agrees at w (late_signs at w k kept) 1 0 next
+  pub late_turn : (gives : Algorithms) (mid next : WorldState) → LateRounds gives 1 mid next → Met at w k kept 1 mid
+      → ((s : Side) → AtIt at w s Synced mid) → Agrees at w k kept 0 next
   late_turn gives mid next r met synced = agrees_first next (raises gives mid next met synced
       (as_beside at OldArrive gives mid next (subst (λ j. IsLateRound gives j next) r.1 r.2)))
 
 -- both ends are synchronized, and know that of each other
 
 abbrev pub Up : (Side → ℕ) → (Side → Lacpdu) → WorldState → WorldState → Type 0
-Up at w old j = (n : ℕ) × (12 ≤ n) × Agrees at w (signs_of old at w) 1 n j
+Up at w old j = (n : ℕ) × (12 ≤ n) × Agrees at w (counts_of at old) (kept_of at old) n j
 
 pub up_synced : (gives : Algorithms) (at : Side → ℕ) (w : Side → Lacpdu) (old j : WorldState) → Up at w old j → AreSynced at w j
 up_synced gives at w old j up =
-    synced_of at w (signs_of old at w) 1 up.0 j up.1 up.2 (λ s stamped took. present_of gives at old j s (stamped, took))
+    synced_of at w (counts_of at old) (kept_of at old) up.0 j up.1 up.2 (λ s stamped took. present_of gives at old j s (stamped, took))
 
 -- from a round in which both are SELECTED, and 20 more
 pub comes_to_be_up : (gives : Algorithms) (at : Side → ℕ) (w : Side → Lacpdu) → ((t : Side) → IsNamed (w t))
@@ -153,7 +152,7 @@ comes_to_be_up gives at w named awake n old mid top new enough climb more g chos
     let next = played_split OldArrive gives (n - 1) 1 n top new (omega (arith, enough)) more in (
       n - 1,
       omega (arith, enough),
-      comes_up at w (late_signs at w k kept) OldArrive gives 1 (late_chain at w k kept gives) named awake (n - 1) mid top next.0 new g chosen ready
+      comes_up at w k kept gives named awake (n - 1) mid top next.0 new g chosen ready
           (all_beside at OldArrive gives 20 mid top climb) (late_turn at w k kept named awake gives top next.0 next.1)
           (all_beside at OldArrive gives (n - 1) next.0 new next.2),
     )

@@ -24,7 +24,6 @@ mod LateFlow
 mod LateArriving
 mod LateHearing
 mod LateStart
-mod LateKnowing
 mod LateComingUp
 mod ComingUp
 mod Stamps

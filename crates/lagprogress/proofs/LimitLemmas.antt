@@ -18,7 +18,7 @@ use Rattle.lagprogress.specs.Limited.{IsLimitedBundle, StandsByOthers}
 use Rattle.lagprogress.proofs.Bundling.{never_stands, heard_holds}
 use Rattle.lagprogress.proofs.Halves.{both_first}
 use Rattle.lagprogress.proofs.Starting.{end_of}
-use Rattle.lagprogress.proofs.LateKnowing.{active_ends_know, ends_know}
+use Rattle.lagprogress.proofs.Knowing.{active_ends_know, ends_know}
 use Rattle.lagprogress.proofs.Pairing.{active_selected_pairs_agree, selected_pairs_agree}
 use Rattle.lagsystem.specs.declared.drive.Reply.TheVariants as reply
 

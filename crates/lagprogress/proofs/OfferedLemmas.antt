@@ -8,7 +8,7 @@ use Rattle.lagprogress.proofs.Common.{EndsHealthyCable, IsBundle, OneIsActive, I
 use Rattle.lagprogress.proofs.Common.{up_if_one_is}
 use Rattle.lagprogress.proofs.EachRound.{played_join, played_on, played_steady, EachAt, RoundKeeps, same_index, host_each}
 use Rattle.lagprogress.proofs.Lasting.{played_before, all_by_place, still_heard}
-use Rattle.lagprogress.proofs.LateKnowing.{fits_late, fits_now, signs_of}
+use Rattle.lagprogress.proofs.Knowing.{fits_fresh, fits_before}
 use Rattle.lagprogress.proofs.LateStart.{counts_of, kept_of}
 use Rattle.lagprogress.proofs.ArrivingLemmas.{is_data, offer_gets_port}
 use Rattle.lagprogress.proofs.Bundling.{Meets, Nowhere, awake_of, both_active, one_active, said, ups_of, named_of}
@@ -97,7 +97,7 @@ module _ (Holds : LinkState → WorldState → Type 0) (first : ℕ) (gives : Al
       let awake = awake_of OldArrive Holds Nowhere first gives old m i l y in
       let top = ups_of OldArrive Holds Nowhere first gives old m i l y n mid enough h in
       let fresh = top.2.fresh in
-      let heard = told_now at w (signs_of old at w) 1 top.0 mid top.1 top.2 (peer s) in
+      let heard = told_now at w (counts_of at old) (kept_of at old) top.0 mid top.1 top.2 (peer s) in
       let start = join 2 at w fresh.known One (peer s) PartnerInSync mid fresh.link heard in
       let plain = subst (λ o. IsFrame o Data_frame) (sym g.frame) (is_data octets.items takes.may.1) in
       let o = offer_link gives number s 2 at w fresh.known (peer s) PartnerInSync agg octets r mid sent g (sym it.joins) plain step start in
@@ -122,8 +122,8 @@ module _ (Holds : LinkState → WorldState → Type 0) (first : ℕ) (gives : Al
         frame = g.frame;
         flies = towards_there (peer s) at fl ∙ alone;
         up = in_run gives s i l w fresh.known g.item old awake y.there
-            (fits_now at w (counts_of at old) (kept_of at old) named awake 2 mid fresh (omega arith))
-            (fits_late at w (counts_of at old) (kept_of at old) named awake 2 mid fresh (omega arith)) plain
+            (fits_before at w (counts_of at old) (kept_of at old) named awake 2 mid fresh (omega arith))
+            (fits_fresh at w (counts_of at old) (kept_of at old) named awake 2 mid fresh (omega arith)) plain
             q.events q.replies sent new q.ticks q.acts q.empties o.0 way;
       }
 

@@ -9,7 +9,7 @@ use Rattle.lagprogress.proofs.EachRound.{played_on, played_split, played_steady,
 use Rattle.lagprogress.proofs.Lasting.{played_alike, played_before, all_by_place, ends_at, old_port}
 use Rattle.lagprogress.proofs.LateStart.{counts_of, kept_of}
 use Rattle.lagprogress.proofs.LateComingUp.{comes_to_be_up, up_synced}
-use Rattle.lagprogress.proofs.LateKnowing.{Fresh, late_chain, late_signs, stays_late}
+use Rattle.lagprogress.proofs.Knowing.{Fresh, stays_met, AtIt}
 use Rattle.lagprogress.proofs.ComingUp.{AreSynced, climb_on, distributes, rises_first}
 use Rattle.lagprogress.proofs.Bundling.{agree_up, both_meet, both_wake, heard_holds, one_meet, one_wakes, Named, names}
 use Rattle.lagprogress.proofs.Choosing.{Chose}
@@ -17,7 +17,6 @@ use Rattle.lagprogress.proofs.Climbing.{Down, Ripe, Rising, climbed, down_settle
 use Rattle.lagprogress.proofs.EndFacts.{Synced, activity}
 use Rattle.lagprogress.proofs.Frozen.{AllChose, AllFresh, Stands, choice_rounds, on_cable}
 use Rattle.lagprogress.proofs.OneRound.{Nothing}
-use Rattle.lagprogress.proofs.Knowing.{AtIt}
 use Rattle.lagprogress.proofs.Quieting.{all_beside, as_beside}
 use Rattle.lagprogress.proofs.Halves.{timely}
 use Rattle.lagprogress.proofs.Starting.{said_by}
@@ -35,8 +34,8 @@ climb_one at w old named awake s gives mid top g chosen h =
     let kept = kept_of at old in
     (played_on OldArrive gives (λ n j. Fresh at w old j × AtIt at w s (Rising (20 - n)) j) mid (g, rises_first at w g.known mid g.link s chosen)
     (λ n i j r f. (
-      stays_late at w k kept named awake gives 1 i j (omega arith) (as_beside at OldArrive gives i j r) f.0,
-      climb_on at w (late_signs at w k kept) OldArrive gives 1 (late_chain at w k kept gives) named awake s n i j f.0
+      stays_met at w k kept gives named awake 1 i j (omega arith) (as_beside at OldArrive gives i j r) f.0,
+      climb_on at w k kept gives named awake s n i j f.0
           (as_beside at OldArrive gives i j r) f.1,
     )) 20 top h).1
 

@@ -1,4 +1,4 @@
-use Rattle.lagprogress.proofs.LateKnowing.{active_ends_know, ends_know}
+use Rattle.lagprogress.proofs.Knowing.{active_ends_know, ends_know}
 use Rattle.lagprogress.proofs.clocks.ends_come_to_know_by_clocks.Goals as goal
 
 pub returns-clause-both : goal.returns-clause-both
