@@ -1,11 +1,10 @@
 -- The ends of a cable in the world before the rounds.
 use Rattle.lagprogress.proofs.Common.{List, Some, [], ap, arith, option_map, slice_get, subst, sym, true, ℕ, ◌<◌, ◌∙◌, ◌∷◌, ◌≡◌, ◌≤◌, ◌⊎◌, nat_tests}
-use Rattle.lagprogress.proofs.Common.{AllByRecursion, Party, StateBits, encode_then_decode, Lacpdu, IsCabling, One, Side, peer, find_at}
-use Rattle.lagprogress.proofs.Common.{CollectingDistributing, Machines, is_synchronized, same_mux_state, actor_of, pdu_of, SystemPort, model_port_of}
-use Rattle.lagprogress.proofs.Common.{number_of_port, IsSound, SystemState, machines_of, port_index, named, are_numbered, found_place, ports_rise}
-use Rattle.lagprogress.proofs.Common.{world_setup, ItemValue, LinkState, WorldState, half, port_at, towards, OfEach, AtPort, at_number, higher, AtEnd}
-use Rattle.lagprogress.proofs.Common.{IsHealthyAt, OfPort, IsSteady}
-use Rattle.lagprogress.proofs.EndFacts.{Says, Synced, activity}
+use Rattle.lagprogress.proofs.Common.{AllByRecursion, Party, StateBits, Lacpdu, IsCabling, One, Side, peer, find_at, Machines, actor_of, pdu_of}
+use Rattle.lagprogress.proofs.Common.{SystemPort, model_port_of, number_of_port, IsSound, SystemState, machines_of, port_index, named, are_numbered}
+use Rattle.lagprogress.proofs.Common.{found_place, ports_rise, world_setup, ItemValue, LinkState, WorldState, half, port_at, towards, OfEach, AtPort}
+use Rattle.lagprogress.proofs.Common.{at_number, higher, AtEnd, IsHealthyAt, OfPort, IsSteady}
+use Rattle.lagprogress.proofs.EndFacts.{said_bits, Says, Synced, activity}
 use Rattle.lagprogress.proofs.Halves.{timely}
 use Rattle.lagprogress.proofs.Linked.{EndIs, IsGood, Link, each_side, peer_twice, both_at, machines_there}
 use Rattle.lagprogress.proofs.OneCable.{OnCable, as_cable}
@@ -21,16 +20,7 @@ end_of P n s h = grind (arith, nat_tests)
 
 pub own_says : (p : Machines) → Says (pdu_of p 0) p
 own_says p =
-    let bits = encode_then_decode (record {
-      activity = p.active;
-      timeout = p.short;
-      aggregation = p.party.aggregatable;
-      synchronization = is_synchronized p.mux;
-      collecting = same_mux_state CollectingDistributing p.mux;
-      distributing = same_mux_state CollectingDistributing p.mux;
-      defaulted = p.defaulted;
-      expired = p.expired;
-    }) in
+    let bits = said_bits p in
     (sym (ap (named (actor_of p)) bits), sym (ap (λ (b : StateBits). b.activity) bits), sym (ap (λ (b : StateBits). b.timeout) bits))
 
 -- what the LACPDUs of the port at an end say

@@ -1,4 +1,4 @@
--- What holds after so many rounds (100 ms each), healthy ones or those of hosts, of a world with any cables, and any ports and aggregators (profile).
+-- What holds after so many rounds (100 ms each) of a world with any cables, and any ports and aggregators (profile).
 use Rattle.std.specs.Prelude.{◌≡◌, ◌≢◌, ◌≤◌, ℕ, suc, true, List, None, Some, slice_get}
 use Rattle.lagmodel.specs.World.{IsCabling, Side, One, Two}
 use Rattle.portmachines.specs.Mux.{selected}
