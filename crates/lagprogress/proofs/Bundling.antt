@@ -230,7 +230,8 @@ module _ (E : Clearing) (Holds : LinkState → WorldState → Type 0) (Other : S
         (is_chosen at w g.known s mid middle (m.finds mid late s) (still_links s old mid k (m.links s))
         (systems i l y s) (let known = knows_late at w (counts_of at old) (kept_of at old) 1 mid g s in omega (arith, known)) e)
 
-    climb : (i : ℕ) (l : LinkState) (y : IsHealthyAt i l old) → Climbs (λ t. port_at t l) (said old i l y) (counts_of (λ t. port_at t l) old) (kept_of (λ t. port_at t l) old) 20 top
+    climb : (i : ℕ) (l : LinkState) (y : IsHealthyAt i l old)
+        → Climbs (λ t. port_at t l) (said old i l y) (counts_of (λ t. port_at t l) old) (kept_of (λ t. port_at t l) old) 20 top
     climb i l y =
         let at : Side → ℕ = λ t. port_at t l in
         let w = said old i l y in
@@ -377,7 +378,8 @@ module _ (Holds : LinkState → WorldState → Type 0) (first : ℕ) (gives : Al
       up_synced gives at w old new (
         k.0 + m,
         (let few = k.1 in omega (arith, few)),
-        among_on (LeavesPorts at) OldArrive gives (λ a j. Agrees at w counts kept (k.0 + a) j) mid (subst (λ a. Agrees at w counts kept a mid) (omega arith) k.2)
+        among_on (LeavesPorts at) OldArrive gives (λ a j. Agrees at w counts kept (k.0 + a) j) mid
+            (subst (λ a. Agrees at w counts kept a mid) (omega arith) k.2)
             (λ a f j r c. subst (λ q. Agrees at w counts kept q j) (omega arith)
             (agrees_on at w counts kept gives
             (named_of OldArrive Holds Nowhere first gives old b i l y) (awake_of OldArrive Holds Nowhere first gives old b i l y)

@@ -164,7 +164,8 @@ module _ (at : Side → ℕ) (w : Side → Lacpdu) (counts : Side → ℕ) (kept
   ])
 
   -- both are synchronized, and know that of each other
-  pub synced_of : (n : ℕ) (j : WorldState) → 12 ≤ n → Agrees n j → ((s : Side) → Stamped 1 at counts kept j → Took at counts kept s j → Present at s j) → AreSynced at w j
+  pub synced_of : (n : ℕ) (j : WorldState) → 12 ≤ n → Agrees n j
+      → ((s : Side) → Stamped 1 at counts kept j → Took at counts kept s j → Present at s j) → AreSynced at w j
   synced_of n j l c present =
       let g = c.fresh in
       let knows : (s : Side) → 1 ≤ g.known s = λ s. (let m = knows_peer at w counts kept 2 0 0 j g (omega arith) s in omega (arith, m)) in
@@ -194,7 +195,8 @@ module _ (at : Side → ℕ) (w : Side → Lacpdu) (counts : Side → ℕ) (kept
         let g = c.fresh in
         record {
           fresh = stays_met at w counts kept gives named awake 2 old new (omega arith) h g;
-          tells = λ s. tells g (fits_before at w counts kept named awake 2 old g (omega arith)) (fits_fresh at w counts kept named awake 2 old g (omega arith)) s
+          tells = λ s. tells g (fits_before at w counts kept named awake 2 old g (omega arith))
+              (fits_fresh at w counts kept named awake 2 old g (omega arith)) s
               (c.tells s);
         }
       where

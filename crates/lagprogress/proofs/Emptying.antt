@@ -600,7 +600,8 @@ module _ (at : Side → ℕ) (w : Side → Lacpdu) (named : (t : Side) → IsNam
       long t = knows_late at w counts kept 2 old g t
 
       fits : (a b : Bool) → Fits 2 w (kn a b)
-      fits = fits_in 2 w g.known s (fits_before at w counts kept named awake 2 old g (omega arith)) (fits_fresh at w counts kept named awake 2 old g (omega arith))
+      fits = fits_in 2 w g.known s (fits_before at w counts kept named awake 2 old g (omega arith))
+          (fits_fresh at w counts kept named awake 2 old g (omega arith))
 
       then : Fits 2 w (ticked g.known)
       then = fits_fresh at w counts kept named awake 2 old g (omega arith)

@@ -440,7 +440,8 @@ round_is_draining gives t g k old new steady h = record {
         let two = Plays (event.Tick 2 1) in
         let es = map Plays (asks_all old.links ++ h.delivers) in
         let turned = of_side s (map Plays events) turns in
-        let first = stays gives s (port_at s l) IsBetweenTicks come_between true true one (two ∷ es) r old run.0 turned run.1 (stays_first gives s i l old (timely old steady) y) in
+        let first = stays gives s (port_at s l) IsBetweenTicks come_between true true one (two ∷ es) r old run.0 turned run.1
+        (stays_first gives s i l old (timely old steady) y) in
         let more = rest_of gives s (port_at s l) IsBetweenTicks come_between true true one (two ∷ es) turned in
         let second = stays gives s (port_at s l) IsBetweenTicks come_between more.0 more.1 two es q run.0 run.2.0 more.2 run.2.1 first in
         by_side s (at_some s i l y rs run.2.0 run.2.2 second)

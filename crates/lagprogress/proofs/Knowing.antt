@@ -352,11 +352,11 @@ module _ (at : Side → ℕ) (w : Side → Lacpdu) (counts : Side → ℕ) (kept
     -- both ends are active and have Long Timeout
 
     abbrev Lasts : ℕ → WorldState → Type 0
-    Lasts n j = Going 1 (311) n j
+    Lasts n j = Going 1 311 n j
 
     lasts : ((t : Side) → IsNamed (w t)) → (n : ℕ) (old new : WorldState) → ((s : Side) → activity (w s) ≡ true)
         → ((s : Side) → mode at w s ≡ false) → Round old new → Lasts n old → Lasts (n + 1) new
-    lasts named n old new active long h g = goes named 1 (311) n old new g (omega arith) (fits_first at w g.known g.fits)
+    lasts named n old new active long h g = goes named 1 311 n old new g (omega arith) (fits_first at w g.known g.fits)
         (fits_ticked at w g.known g.fits)
         (λ s. ((inl (active s), λ i. absurd (no (sym (long s) ∙ i))), (inl (active s), λ i. absurd (no (sym (long s) ∙ i))))) h
 
@@ -370,7 +370,7 @@ module _ (at : Side → ℕ) (w : Side → Lacpdu) (counts : Side → ℕ) (kept
       fits = λ s. omega arith;
       later = λ s. omega arith;
       longer = λ s. inr (omega arith);
-      ahead = λ s. subst (λ b. Ahead at w s b (310) j) (sym (long s))
+      ahead = λ s. subst (λ b. Ahead at w s b 310 j) (sym (long s))
           (ahead_now 1 (λ _. 0) s false j (inl (active s), λ i. absurd (no i)) l);
       told = λ s i. absurd (omega (arith, i));
       took = λ s i. absurd (omega (arith, i));
@@ -421,7 +421,7 @@ module _ (at : Side → ℕ) (w : Side → Lacpdu) (counts : Side → ℕ) (kept
         × Rest j × Ahead at w (peer s) (mode at w (peer s)) m j × Wakes at w s j × Told s j × Took at counts kept (peer s) j
 
     abbrev Comes : Side → ℕ → WorldState → Type 0
-    Comes s n j = Calls s n j ⊎ (Answers s (311) n j ⊎ Met 1 j)
+    Comes s n j = Calls s n j ⊎ (Answers s 311 n j ⊎ Met 1 j)
 
     module _ (named : (t : Side) → IsNamed (w t)) (s : Side) (awake : (u : Side) → (activity (w u) ≡ true) ⊎ (activity (w (peer u)) ≡ true))
         (room : gap (mode at w s) + gap (mode at w (peer s)) + 2 ≤ wait at w (peer s)) where
@@ -540,15 +540,15 @@ module _ (at : Side → ℕ) (w : Side → Lacpdu) (counts : Side → ℕ) (kept
       comes : (n : ℕ) (old new : WorldState) → Round old new → Comes s n old → Comes s (n + 1) new
       comes n old new h (inl c) = elim (calls_on s active n old new h c) [
         | inl m ↦ inl m
-        | inr q ↦ inr (inl (hears named s some_awake room (311) (n + 1) new (let l = c.2 in let o = c.1 in omega (arith, l, o)) q
+        | inr q ↦ inr (inl (hears named s some_awake room 311 (n + 1) new (let l = c.2 in let o = c.1 in omega (arith, l, o)) q
             (late_stamped gives at counts kept old new h c.4)))
       ]
-      comes n old new h (inr (inl a)) = inr (answers named s some_awake room (311) n old new h a)
+      comes n old new h (inr (inl a)) = inr (answers named s some_awake room 311 n old new h a)
       comes n old new h (inr (inr f)) = inr (inr (stays_met named some_awake 1 old new (omega arith) h f))
 
       came : (n : ℕ) (j : WorldState) → 311 + gap (mode at w (peer s)) ≤ n → Comes s n j → Met 1 j
       came n j l (inl c) = let m = c.1 in let o = c.2 in absurd (omega (arith, l, m, o))
-      came n j l (inr (inl a)) = answered named s some_awake room (311) n j l a
+      came n j l (inr (inl a)) = answered named s some_awake room 311 n j l a
       came n j l (inr (inr f)) = f
 
     -- one end is active
@@ -558,7 +558,7 @@ module _ (at : Side → ℕ) (w : Side → Lacpdu) (counts : Side → ℕ) (kept
     Waits s n j = (m : ℕ) × (1 ≤ m) × (n + m ≤ 612) × Link 1 at w (λ _. 0) One Nothing j × Rest j × Wakes at w s j × Awaited s m j
 
     abbrev Slowly : Side → ℕ → WorldState → Type 0
-    Slowly s n j = Calls (peer s) n j ⊎ (Waits s n j ⊎ (Answers s (612) n j ⊎ Met 1 j))
+    Slowly s n j = Calls (peer s) n j ⊎ (Waits s n j ⊎ (Answers s 612 n j ⊎ Met 1 j))
 
     left_some : (b : Bool) → 1 ≤ timeout_time b - 1
     left_some true = omega arith
@@ -607,15 +607,16 @@ module _ (at : Side → ℕ) (w : Side → Lacpdu) (counts : Side → ℕ) (kept
                   q.1,
                   q.2,
                 )))
-            | inr q ↦ inr (inr (inl (hears named s awake_one room (612) (n + 1) new (omega (arith, soon, some)) q (late_stamped gives at counts kept old new h rest))))
+            | inr q ↦ inr (inr (inl (hears named s awake_one room 612 (n + 1) new (omega (arith, soon, some)) q
+                (late_stamped gives at counts kept old new h rest))))
           ]
-      slowly n old new h (inr (inr (inl a))) = inr (inr (answers named s awake_one room (612) n old new h a))
+      slowly n old new h (inr (inr (inl a))) = inr (inr (answers named s awake_one room 612 n old new h a))
       slowly n old new h (inr (inr (inr f))) = inr (inr (inr (stays_met named awake_one 1 old new (omega arith) h f)))
 
       ended : (n : ℕ) (j : WorldState) → 612 + gap (mode at w (peer s)) ≤ n → Slowly s n j → Met 1 j
       ended n j l (inl c) = let m = c.1 in let o = c.2 in absurd (omega (arith, l, m, o))
       ended n j l (inr (inl c)) = let m = c.1 in let o = c.2 in absurd (omega (arith, l, m, o))
-      ended n j l (inr (inr (inl a))) = answered named s awake_one room (612) n j l a
+      ended n j l (inr (inr (inl a))) = answered named s awake_one room 612 n j l a
       ended n j l (inr (inr (inr f))) = f
 
     -- so many rounds
@@ -647,7 +648,7 @@ module _ (at : Side → ℕ) (w : Side → Lacpdu) (counts : Side → ℕ) (kept
           (subst (λ b. 311 + gap b ≤ n) (sym quick) (omega (arith, enough)))
 
       meets_long : ((s : Side) → activity (w s) ≡ true) → ((s : Side) → mode at w s ≡ false) → 323 ≤ n → Met 1 new
-      meets_long active long enough = settled 1 (311) n new (omega (arith, enough)) (along (λ m j. Lasts m j) old
+      meets_long active long enough = settled 1 311 n new (omega (arith, enough)) (along (λ m j. Lasts m j) old
           (λ j r. let f = first j r in lasts_first j active long f.0 f.1) (λ m i j r c. lasts named m i j active long r c) n new
           (omega (arith, enough)) h)
 

@@ -174,7 +174,8 @@ module _ (Holds : LinkState → WorldState → Type 0) (t : Side) (gives : Algor
       let st = (half s new).state in
       let e = known i l y s in
       let found = machines_there (port_at s l) st e.place e.port e.index e.there in
-      elim (shared_finds old new b.steady (played_lasted OldArrive gives n old new b.steady h) Holds b.heard knows b.aggregators s e.place e.port e.there e.wants) [
+      elim (shared_finds old new b.steady (played_lasted OldArrive gives n old new b.steady h) Holds b.heard knows b.aggregators
+      s e.place e.port e.there e.wants) [
         | inl k ↦ inl (subst (OfPort (λ p. selected p ≡ true)) (sym found) k)
         | inr k ↦ inr (subst (OfPort (StandsByFull st)) (sym found) k)
       ]

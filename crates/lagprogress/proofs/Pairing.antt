@@ -131,7 +131,8 @@ module _ (Holds : LinkState → WorldState → Type 0) (first : ℕ) (gives : Al
                   let chosen = subst (λ n. EachAt (AtPort n (λ p. is_selected p.choice ≡ true)) s mid) (sym o.joins)
                   (at_number (λ p. is_selected p.choice ≡ true) 0 st.system_ports k x.0 (ports_rise st (stands.steady s).0.ports) x.1 was) in
                   (all-get (λ (q : SystemPort). AtPort (port_at s o.link) (Rising 0) q.number q.port) (half s top).state.system_ports k y there
-                  (climb_one at w old (named o.index o.link o.healthy) (wake o.index o.link o.healthy) s gives mid top (fresh o.index o.link o.healthy) chosen more)
+                  (climb_one at w old (named o.index o.link o.healthy) (wake o.index o.link o.healthy) s gives mid top
+                  (fresh o.index o.link o.healthy) chosen more)
                   (x.2 ∙ sym o.joins)).1)
               | inr gone ↦ (let mux = (all-get (MuxIsSettled st.keys st.system_ports) st.system_ports k x.0 x.1 (stands.steady s).0.quiet.0).mux in
                   let timed = all-get (λ (z : SystemPort). IsTimed z.port) st.system_ports k x.0 x.1 (stands.steady s).1 in

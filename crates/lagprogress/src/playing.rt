@@ -148,9 +148,10 @@ fn deliver_all<C: Cable, F: Fn(u16, usize) -> usize + Drop>(
 //    as `Spent`, or after both ticks and where there is a cable as `NoMemory`
 // contract: `play_round` (`refused`, `part`), `play_rounds` (`stopped`)
 /// Plays one healthy round of a world: both systems tick, both ends of each cable are asked twice, since an LACPDU goes before a
-/// marker, and what is on the cables is delivered until nothing is. Where it is not refused, this is a healthy round, as `hosts_play_rounds` has it, from whatever state the world was in. `NoMemory` or `Spent` if `World::step` refuses an event of the round so; then
-/// the events before it have been played, and no other. So `NoMemory` comes after both ticks, and only where there is a cable.
-/// `NoCable`, before any event, if there are more than 65,535 cables, since no event can name the others (profile).
+/// marker, and what is on the cables is delivered until nothing is. Where it is not refused, this is a healthy round, as
+/// `hosts_play_rounds` has it, from whatever state the world was in. `NoMemory` or `Spent` if `World::step` refuses an event of the
+/// round so; then the events before it have been played, and no other. So `NoMemory` comes after both ticks, and only where there is
+/// a cable. `NoCable`, before any event, if there are more than 65,535 cables, since no event can name the others (profile).
 pub fn play_round<C: Cable, F: Fn(u16, usize) -> usize + Drop>(
     world: &mut World<C, F>,
 ) -> Result<(), WorldFault>

@@ -73,7 +73,8 @@ returns-clause-rounds g c =
     all_played _ c.args.count c.loop-done.done _ _ c.loop-done-test.false c.loop-done.invariant.within c.loop-done.invariant.played
 
 pub returns-clause-distributes_both : goal.returns-clause-distributes_both
-returns-clause-distributes_both g c = distribute g.C.Cable.items g.C.Cable.limit BothAreActive up_if_both_active _ (each_active_link_comes_up _) c.args.count _ _
+returns-clause-distributes_both g c = distribute g.C.Cable.items g.C.Cable.limit BothAreActive up_if_both_active _ (each_active_link_comes_up _)
+    c.args.count _ _
     (all_played _ c.args.count c.loop-done.done _ _ c.loop-done-test.false c.loop-done.invariant.within c.loop-done.invariant.played)
 
 pub returns-clause-agrees_both : goal.returns-clause-agrees_both

@@ -40,7 +40,8 @@ all_played : (gives : Algorithms) (count done : ℕ) (old new : WorldState) → 
 all_played gives count done old new l m h = let all : done ≡ count = omega (arith, l, m) in subst (λ n. Rounds gives n old new) all h
 
 pub returns-clause-distributes_both : goal.returns-clause-distributes_both
-returns-clause-distributes_both g c = distribute g.C.Cable.items g.C.Cable.limit BothAreActive up_if_both_active _ (each_active_link_comes_up _) c.args.count _ _
+returns-clause-distributes_both g c = distribute g.C.Cable.items g.C.Cable.limit BothAreActive up_if_both_active _ (each_active_link_comes_up _)
+    c.args.count _ _
     (λ steady. rounds_are_host_rounds _ c.args.count _ _ steady
     (all_played _ c.args.count c.loop-done.done _ _ c.loop-done-test.false c.loop-done.invariant.within c.loop-done.invariant.played))
 
