@@ -123,7 +123,7 @@ fn crossed_cables_agree_in_356_healthy_rounds(rt: HostRuntime) -> Result<(), Fai
 }
 
 #[test]
-fn crossed_cables_with_a_passive_end_agree_in_652(rt: HostRuntime) -> Result<(), Fail> {
+fn crossed_cables_with_a_passive_end_agree_in_657(rt: HostRuntime) -> Result<(), Fail> {
     comes_up(&rt, rt.alloc(), HALF_PASSIVE, 657)?;
     Ok(())
 }
