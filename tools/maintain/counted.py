@@ -15,7 +15,7 @@ from repository import TOP, Missing
 ASSURANCE, TROUBLE, THEOREMS = "docs/ASSURANCE.md", "docs/TROUBLE.md", "docs/internals/THEOREMS.md"
 CONFORM, CONFORMANCE, COMMAND, USING = "docs/CONFORM.md", "docs/CONFORMANCE.md", "docs/COMMAND.md", "docs/USING.md"
 CONTRIBUTING, EXAMPLES = "CONTRIBUTING.md", "examples/README.md"
-ROUNDS, LATE_ROUNDS, CUT_OFF = (f"crates/lagprogress/specs/{it}.antt" for it in ("Rounds", "LateRounds", "CutOff"))
+ROUNDS, CUT_OFF = (f"crates/lagprogress/specs/{it}.antt" for it in ("Rounds", "CutOff"))
 PRINTED = "tools/maintain/live.d/examples.py"
 WORDS = "none one two three four five six seven eight nine ten eleven twelve".split()
 
@@ -45,8 +45,7 @@ def seconds(rounds: int) -> str:
 
 def bounds(pages: Read, what: str) -> list[int]:
     """After how many rounds something holds, if both ends of cables are active, and if one is: by the definitions of lagprogress."""
-    path = LATE_ROUNDS if what.startswith("late_") else ROUNDS
-    return [int(found(pages, path, rf"^{what}_if_{which} = (\d+)$")[0]) for which in ("both_active", "one_is")]
+    return [int(found(pages, ROUNDS, rf"^{what}_if_{which} = (\d+)$")[0]) for which in ("both_active", "one_is")]
 
 
 def peers_tried(pages: Read) -> list[str]:
@@ -57,9 +56,8 @@ def rounds_and_seconds(what: str) -> Callable[[Read], list[str]]:
     return lambda pages: [text for it in bounds(pages, what) for text in (str(it), seconds(it))]
 
 
-def late_rounds(pages: Read) -> list[str]:
-    known, up = bounds(pages, "late_known"), bounds(pages, "late_up")
-    return [*map(str, (*known, *up)), *map(seconds, up)]
+def until_up(pages: Read) -> list[str]:
+    return [*map(seconds, bounds(pages, "up"))]
 
 
 def beside_cut_offs(pages: Read) -> list[str]:
@@ -191,7 +189,7 @@ PROMISED = "|{} rounds, {} s|{} rounds, {} s|"
 
 QUOTES: tuple[Quote, ...] = (
     Quote(README, "`out/bin/two_ends` prints `both ends distribute after {} ticks of {} ms`", UNTIL_BOTH),
-    Quote(README, "within {} s if both ends of each cable are active, and within {} s if one is", lambda pages: late_rounds(pages)[-2:]),
+    Quote(README, "within {} s if both ends of each cable are active, and within {} s if one is", until_up),
     Quote(README, "[{} software peers](docs/PEERS.md)", peers_tried),
     Quote(ASSURANCE, "beside {} other implementations, `tools/maintain/peers`", peers_tried),
     Quote(PEERS, "All {} peers are software", peers_tried),
@@ -203,7 +201,6 @@ QUOTES: tuple[Quote, ...] = (
     Quote(CONTRIBUTING, "`shows(&rt, &split, {}, &[({}, {})])`: by {} s frame {} shows rule {}, and nothing else", shown_rule),
     Quote(ASSURANCE, "with one conversation, two links, two moves and {} frames,",
           figures_of("tools/maintain/carry.d/models.py", r"^FRAMES, MORE = (\d+), \d+$", lambda it: word(int(it)))),
-    Quote(ASSURANCE, "two rows hold of these after {} and {}, and after {} and {}: {} s and {} s (`ends_come_to_know_by_clocks`", late_rounds),
     Quote(ASSURANCE, f"of each whole cable know each other{PROMISED}", rounds_and_seconds("known")),
     Quote(ASSURANCE, f"distributes at both ends, which name the same group{PROMISED}", rounds_and_seconds("up")),
     Quote(ASSURANCE, f"each end is asked in them until nothing is due{PROMISED}", rounds_and_seconds("freed")),
@@ -224,7 +221,7 @@ QUOTES: tuple[Quote, ...] = (
     Quote(TROUBLE, "one or both active|both distribute|{} s; with both active {} s until the first LACPDU, {} s of waiting|", coming_up),
     Quote(TROUBLE, "a break ends that both hosts noticed (`set_link`)|both distribute|{} s|", coming_back),
     Quote(TROUBLE, "and the ends ran on defaults meanwhile|both distribute|{} s: a port on defaults", after_one_round_more),
-    Quote(TROUBLE, "|at most {} s, or {} s if one end is active: bounds, not the least", lambda pages: late_rounds(pages)[-2:]),
+    Quote(TROUBLE, "|at most {} s, or {} s if one end is active: bounds, not the least", until_up),
     Quote(COMMAND, '{"record":"counts","packets":{},"slow":{},"ends":{},"findings":{},"beyond":{}}', counts_of_records),
     Quote(COMMAND, "Lines {} to {} send {} frames of conversation 48 on port 1, line {} asks for the move, and line {} is refused while the"
           " frames are held. The marker of line {} goes behind the frames; its response (line {}) frees the conversation,"

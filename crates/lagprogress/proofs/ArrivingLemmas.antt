@@ -1,12 +1,13 @@
 -- How a data frame gets a port, and how it is handed up at the other end of its cable.
-use Rattle.lagprogress.proofs.Common.{Err, List, None, Ok, Result, Some, ap, arith, refl, slice_get, subst, suc, sym, true, ℕ, ◌∙◌, ◌≡◌, and_parts}
+use Rattle.lagprogress.proofs.Common.{Err, List, None, Ok, Result, Some, ap, arith, refl, slice_get, subst, sym, true, ℕ, ◌∙◌, ◌≡◌, and_parts}
 use Rattle.lagprogress.proofs.Common.{nat_tests, none-some, same_Some, AggId, One, Side, Two, value_of, Assignment, Flushing, Free, On, Wanted}
 use Rattle.lagprogress.proofs.Common.{DistFault, Assigns, MaySend, is_among, SystemFault, Received, Up, SystemPort, Data_frame, IsFrame, Offer}
 use Rattle.lagprogress.proofs.Common.{ReceivesAt, Step, MayBeOffered, RefusesOffer, assignment_of_frame, collecting, distributing}
 use Rattle.lagprogress.proofs.Common.{number_of_conversation, IsSound, SystemState, port_index, effect_one, Reply, AfterOffer, AfterReceive}
-use Rattle.lagprogress.proofs.Common.{Algorithms, DeliversFrom, OnLink, WorldOffers, WorldReceives, offered_item, side_of, with_frame_counted}
-use Rattle.lagprogress.proofs.Common.{with_link_at, HalfState, ItemValue, LinkState, WorldState, half, port_at, towards, with_half, with_towards}
-use Rattle.lagprogress.proofs.Common.{half_there, DeliverHandsUp, GetsPort, IsHandedUp, OfferGetsPort, TakesFrame, held_on, EndIsUp}
+use Rattle.lagprogress.proofs.Common.{Algorithms, WorldOffers, WorldReceives, offered_item, side_of, with_frame_counted, with_link_at, HalfState}
+use Rattle.lagprogress.proofs.Common.{ItemValue, LinkState, WorldState, half, port_at, with_half, with_towards, half_there, DeliverHandsUp, GetsPort}
+use Rattle.lagprogress.proofs.Common.{IsHandedUp, OfferGetsPort, TakesFrame, held_on, EndIsUp}
+use Rattle.lagprogress.proofs.Passing.{first_delivered}
 use Rattle.lagsystem.specs.declared.drive.Reply.TheVariants as answer
 use Rattle.lagsystem.proofs.Conversing.{assigned_may}
 use Rattle.lagsystem.proofs.OfferLemmas.{refused_by}
@@ -107,13 +108,6 @@ handed gives s i k l x agg item rest r old new end plain collects (Ok o, mid, h,
 
 pub deliver_hands_up : (gives : Algorithms) → DeliverHandsUp gives
 deliver_hands_up gives n s i k l x agg item rest r old new is there first end plain collects h =
-    let v = value_of (side_of n) _ h.0 in
-    let same : v.0 ≡ s = same_Some v.0 s (sym v.1 ∙ is) in
-    let now = record new { acted = old.acted } in
-    let e = subst (λ t. OnLink (suc i) (λ i l. DeliversFrom gives t i l (towards t l) old r now) old.links) same v.2 in
-    let c = value_of (slice_get old.links i) _ e in
-    let it : c.0 ≡ l = same_Some c.0 l (sym c.1 ∙ there) in
-    let d1 = subst (λ m. DeliversFrom gives s i m (towards s m) old r now) it c.2 in
-    let d2 = subst (λ xs. DeliversFrom gives s i l xs old r now) first d1 in
-    let up = handed gives s i k l x agg item rest r old now end plain collects d2 in
+    let up = handed gives s i k l x agg item rest r old (record new { acted = old.acted }) end plain collects
+    (first_delivered gives n s i l item rest r old new is there first h) in
     record { up = up.up; left = up.left; same = λ t. up.same t }

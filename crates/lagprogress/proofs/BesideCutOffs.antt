@@ -6,15 +6,16 @@ use Rattle.lagprogress.proofs.Common.{occupied, SystemState, all-get, found_plac
 use Rattle.lagprogress.proofs.Common.{WantsAggregator, IsTimed, KeptBySettling, EnabledKeep, no, not_down, times_keep, AtPort, at_number, mux_leaves}
 use Rattle.lagprogress.proofs.Common.{periodic_leaves, settling_leaves, finds_aggregator, runs_keep, EnoughAggregators, EnoughLinks, OneIsActive}
 use Rattle.lagprogress.proofs.Common.{EachLinkAgreesBesideCutOffs, EachLinkComesUpBesideCutOffs, IsBundleBesideCutOffs, IsCutOff}
-use Rattle.lagprogress.proofs.Common.{NoneIsHeldBesideCutOffs, NoneIsHeldBesideCutOffsByHosts, HostRounds, IsHealthyAt, IsSteady}
-use Rattle.lagprogress.proofs.Bundling.{Meets, agree_of, distribute_of, never_stands, one_meet, one_wakes}
+use Rattle.lagprogress.proofs.Common.{NoneIsHeldBesideCutOffsByHosts, HostRounds, NoneIsLeft, PlayedRounds, OldArrive, IsHealthyAt, IsSteady}
+use Rattle.lagprogress.proofs.Bundling.{MeetsBy, agree_of, distribute_of, never_stands, one_meet, one_wakes}
 use Rattle.lagprogress.proofs.Climbing.{Ripe, Rising, rising_first, rising_rows, state_not}
 use Rattle.lagprogress.proofs.CutOffLemmas.{Severed, WereDown, cut_round, cut_since, KeptUnheard, cut_off_is_defaulted_by_hosts}
-use Rattle.lagprogress.proofs.EachRound.{EachAt, hosts_on, hosts_steady}
-use Rattle.lagprogress.proofs.Freeing.{freed_by, freed_of}
+use Rattle.lagprogress.proofs.EachRound.{EachAt, clears_less, hosts_on, hosts_steady, played_steady}
+use Rattle.lagprogress.proofs.LateLoops.{Emptied, rounds_emptied}
+use Rattle.lagprogress.proofs.Freeing.{freed_by}
 use Rattle.lagprogress.proofs.SharedLemmas.{enough_finds, none_held}
 use Rattle.lagprogress.proofs.HostRound.{left}
-use Rattle.lagprogress.proofs.Lasting.{as_before, ends_at, old_port, still_aggregators, still_links}
+use Rattle.lagprogress.proofs.Lasting.{as_before, played_before, ends_at, old_port, still_aggregators, still_links}
 
 -- a port that hears nothing and is DEFAULTED stays as it is
 
@@ -134,6 +135,9 @@ module _ (gives : Algorithms) (old : WorldState) (b : IsBundleBesideCutOffs old)
         no (sym (far e.0 e.1 e.3 (found_place (port_at (peer s) l) (half (peer s) old).state.system_ports e.0 e.1 e.2 e.3)) ∙ e.4))
   ]
 
+  are_hosts : (n : ℕ) (i j : WorldState) → PlayedRounds Emptied gives n i j → HostRounds gives n i j
+  are_hosts n i j h = clears_less Emptied NoneIsLeft (λ events i j clears. clears.1) gives n i j h
+
   idle : (mid top : WorldState) → HostRounds gives 931 old mid → HostRounds gives 20 mid top → (s : Side) (k : ℕ) (z y : SystemPort)
       → slice_get (half s old).state.system_ports k ≡ Some z → z.port.enabled ≡ true → IsCutOff s z.number old
       → slice_get (half s top).state.system_ports k ≡ Some y → Ripe 0 y.port
@@ -150,34 +154,31 @@ module _ (gives : Algorithms) (old : WorldState) (b : IsBundleBesideCutOffs old)
       (cut_off_is_defaulted_by_hosts gives 931 k s z x.0 old mid b.steady there up cut (omega arith) h x.1)
       (WereDown (peer s) old) (subst (λ n. Severed 1 s n (WereDown (peer s) old) mid) (sym number) (cut_since gives 931 k s z old mid b.steady there up cut (omega arith) h)) more y now x.2
 
-  beside : Meets OneIsActive (λ s n. IsCutOff s n old) 931 gives old
+  beside : MeetsBy Emptied OneIsActive (λ s n. IsCutOff s n old) 931 gives old
   beside = record {
     steady = b.steady;
     cabling = b.cabling;
     differ = b.differ;
     heard = b.heard;
-    finds = λ mid h s. enough_finds s mid (hosts_steady gives 931 old mid b.steady h)
-        (still_aggregators s old mid (as_before gives 931 old mid b.steady h s) (b.aggregators s));
+    late = λ events i j clears. clears.0;
+    finds = λ mid h s. enough_finds s mid (played_steady OldArrive gives 931 old mid b.steady h)
+        (still_aggregators s old mid (played_before OldArrive gives 931 old mid b.steady h s) (b.aggregators s));
     links = b.links;
     never = never;
-    idle = idle;
+    idle = λ mid top h more s k z y there up cut now. idle mid top (are_hosts 931 old mid h) (are_hosts 20 mid top more) s k z y there up cut now;
     meets = one_meet gives 931 old b.cabling b.steady (omega arith);
     wakes = one_wakes old;
   }
 
 pub each_link_comes_up_beside_by_hosts : (gives : Algorithms) → EachLinkComesUpBesideCutOffs HostRounds gives
-each_link_comes_up_beside_by_hosts gives n i l old new b y enough h =
-    distribute_of OneIsActive (λ s n. IsCutOff s n old) 931 gives old (beside gives old b) i l y n new (omega (arith, enough)) h
+each_link_comes_up_beside_by_hosts gives n i l old new b y enough h = distribute_of Emptied OneIsActive (λ s n. IsCutOff s n old) 931 gives old
+    (beside gives old b) i l y n new (omega (arith, enough)) (rounds_emptied gives n old new b.cabling h)
 
 pub each_link_agrees_beside_by_hosts : (gives : Algorithms) → EachLinkAgreesBesideCutOffs HostRounds gives
-each_link_agrees_beside_by_hosts gives n i l old new sound b y enough h =
-    agree_of OneIsActive (λ s n. IsCutOff s n old) 931 gives old (beside gives old b) sound i l y n new (omega (arith, enough)) h
-
-pub none_is_held_beside : (gives : Algorithms) → NoneIsHeldBesideCutOffs gives
-none_is_held_beside gives n i l old new s b y enough h left =
-    freed_of OneIsActive (λ s n. IsCutOff s n old) 931 gives old (beside gives old b) i l y n new s (omega (arith, enough)) h left
+each_link_agrees_beside_by_hosts gives n i l old new sound b y enough h = agree_of Emptied OneIsActive (λ s n. IsCutOff s n old) 931 gives old
+    (beside gives old b) sound i l y n new (omega (arith, enough)) (rounds_emptied gives n old new b.cabling h)
 
 pub none_is_held_beside_by_hosts : (gives : Algorithms) → NoneIsHeldBesideCutOffsByHosts gives
 none_is_held_beside_by_hosts gives n m i l old mid new s g k b y enough h late more left =
-    freed_by OneIsActive (λ s n. IsCutOff s n old) 931 gives old (beside gives old b) i l y n m mid new s g k (omega (arith, enough)) h late more
-    left
+    freed_by Emptied OneIsActive (λ s n. IsCutOff s n old) 931 gives old (beside gives old b) i l y n m mid new s g k (omega (arith, enough))
+    (rounds_emptied gives n old mid b.cabling h) late more left

@@ -4,21 +4,23 @@ use Rattle.lagprogress.proofs.Common.{suc, sym, true, ℕ, ◌+◌, ◌-◌, ◌
 use Rattle.lagprogress.proofs.Common.{AllByRecursion, AggId, Key, Choice, Standby, Party, is_selected, itself, Lacpdu, IsCabling, One, Side, Two}
 use Rattle.lagprogress.proofs.Common.{end_at, peer, ports_that_chose, has_chosen, SystemPort, MuxIsSettled, occupied, IsSound, SystemState, views}
 use Rattle.lagprogress.proofs.Common.{all-get, found_place, Same, agreement_at, Algorithms, link_ends, world_setup, IsWorldSound, LinkState}
-use Rattle.lagprogress.proofs.Common.{WorldState, half, history_at, port_at, towards, end_is, WantsAggregator, ports_with, IsTimed, count}
-use Rattle.lagprogress.proofs.Common.{count_more_of, counted, OfEach, AtPort, waits_for_room, AllHeard, BothAreActive, EachLinkAgrees}
-use Rattle.lagprogress.proofs.Common.{EachLinkComesUp, EndsHealthyCable, EnoughLinks, IsBundle, OneIsActive, SystemsDiffer, Distributes, Clearing}
-use Rattle.lagprogress.proofs.Common.{HostRounds, NoneIsLeft, PlayedRounds, AtEnd, IsHealthyAt, up_if_both_active, up_if_one_is, IsSteady}
+use Rattle.lagprogress.proofs.Common.{WorldState, half, history_at, port_at, towards, end_is, HostEvent, WantsAggregator, ports_with, IsTimed, count}
+use Rattle.lagprogress.proofs.Common.{count_more_of, counted, OfEach, AtPort, waits_for_room, EachLinkStaysAgreed, EachLinkStaysUp, LeavesPorts}
+use Rattle.lagprogress.proofs.Common.{RoundsBeside, AllHeard, BothAreActive, EachLinkAgrees, EachLinkComesUp, EndsHealthyCable, EnoughLinks, IsBundle}
+use Rattle.lagprogress.proofs.Common.{OneIsActive, SystemsDiffer, Clearing, PlayedRounds, LateRounds, OldArrive, Distributes, AtEnd, IsHealthyAt}
+use Rattle.lagprogress.proofs.Common.{up_if_both_active, up_if_one_is, IsSteady}
+use Rattle.lagprogress.proofs.LateStart.{counts_of, kept_of}
+use Rattle.lagprogress.proofs.LateComingUp.{Up, comes_to_be_up, up_synced}
+use Rattle.lagprogress.proofs.EachRound.{among_on, among_then, clears_less, EachAt, RoundKeeps, same_index, joins_beside, host_each, played_on}
+use Rattle.lagprogress.proofs.EachRound.{played_split, played_steady}
+use Rattle.lagprogress.proofs.ComingUp.{agrees_on, AreSynced, Climbs, agrees_now, climbs_first, climbs_on, distributes, hosts_kept, Agrees}
+use Rattle.lagprogress.proofs.Knowing.{Fresh, knows_late, late_active_meet, late_fresh_knows, late_one_meets, AtIt}
 use Rattle.lagprogress.proofs.Climbing.{Down, Ripe, Rising, climbed, down_settles, down_takes, down_ticks, rising_first}
-use Rattle.lagprogress.proofs.ComingUp.{AreSynced, Climbs, Up, agrees_now, climbs_first, climbs_on, distributes, hosts_kept, up_synced, Agrees}
-use Rattle.lagprogress.proofs.ComingUp.{comes_up, host_turn}
 use Rattle.lagprogress.proofs.Starting.{active_at, awake_at, named_at, Ends, healthy_cable, said_by, starts}
-use Rattle.lagprogress.proofs.EachRound.{EachAt, RoundKeeps, same_index, joins_beside, host_each, played_on, played_split, played_steady}
 use Rattle.lagprogress.proofs.Halves.{timely}
 use Rattle.lagprogress.proofs.Quieting.{AllBeside, all_beside, as_beside}
 use Rattle.lagprogress.proofs.EndFacts.{Synced, activity}
 use Rattle.lagprogress.proofs.Linked.{many, at_end, end_here, end_with, EndPort}
-use Rattle.lagprogress.proofs.Knowing.{AtIt, Chain, Met, Signs, knows_peer, met_knows}
-use Rattle.lagprogress.proofs.HostKnowing.{host_chain, host_signs, one_meets, Fresh, active_meet}
 use Rattle.lagprogress.proofs.OneRound.{Nothing}
 use Rattle.lagprogress.proofs.SharedLemmas.{Finds, shared_finds, played_lasted}
 use Rattle.lagprogress.proofs.Lasting.{IsAsBefore, all_by_place, ends_at, old_port, own_system, still_links, played_before}
@@ -157,28 +159,29 @@ agree_up E gives n i l old new sound rounds h up = agrees_now (λ s. port_at s l
     some_is None h = absurd (let e = h in cc)
     some_is (Some x) h = refl
 
--- A bundle, by rounds of a kind, but that a port whose link is up may be another in place of an end of a healthy cable. In so many rounds the ends of
--- each healthy cable know each other, and one of them is active; the others end none, and have risen in 20 rounds more if they are
--- SELECTED.
-pub record MeetsBy (E : Clearing) (signs : (Side → ℕ) → (Side → Lacpdu) → Signs) (Holds : LinkState → WorldState → Type 0) (Other : Side → ℕ → Type 0) (first : ℕ) (gives : Algorithms) (old : WorldState)
-    : Type 0 where
+-- A bundle, by late rounds of a kind, but that a port whose link is up may be another in place of an end of a healthy cable. In so many
+-- rounds the ends of each healthy cable know each other, and one of them is active; the others end none, and have risen in 20 rounds more if
+-- they are SELECTED.
+pub record MeetsBy (E : Clearing) (Holds : LinkState → WorldState → Type 0) (Other : Side → ℕ → Type 0) (first : ℕ) (gives : Algorithms)
+    (old : WorldState) : Type 0 where
   pub steady : IsSteady old
   pub cabling : IsCabling (world_setup old).cables
   pub differ : SystemsDiffer old
   pub heard : (s : Side) (k : ℕ) (x : SystemPort) → slice_get (half s old).state.system_ports k ≡ Some x → x.port.enabled ≡ true
       → EndsHealthyCable Holds s x.number old ⊎ Other s x.number
-  pub finds : (mid : WorldState) → PlayedRounds E gives first old mid → (s : Side) → Finds s mid
+  pub late : (events : List HostEvent) (i j : WorldState) → E events i j → OldArrive events i j
+  pub finds : (mid : WorldState) → LateRounds gives first old mid → (s : Side) → Finds s mid
   pub links : (s : Side) → EnoughLinks (half s old).state
   pub never : (s : Side) (i : ℕ) (l : LinkState) → IsHealthyAt i l old → Other s (port_at s l) → ⊥
   pub idle : (mid top : WorldState) → PlayedRounds E gives first old mid → PlayedRounds E gives 20 mid top → (s : Side) (k : ℕ) (z y : SystemPort)
       → slice_get (half s old).state.system_ports k ≡ Some z → z.port.enabled ≡ true → Other s z.number
       → slice_get (half s top).state.system_ports k ≡ Some y → Ripe 0 y.port
-  pub meets : (i : ℕ) (l : LinkState) (h : IsHealthyAt i l old) → Holds l old → (mid : WorldState) → PlayedRounds E gives first old mid
-      → Met (λ s. port_at s l) (said old i l h) (signs (λ s. port_at s l) (said old i l h)) 1 mid
+  pub meets : (i : ℕ) (l : LinkState) (h : IsHealthyAt i l old) → Holds l old → (mid : WorldState) → LateRounds gives first old mid
+      → Fresh (λ s. port_at s l) (said old i l h) old mid
   pub wakes : (i : ℕ) (l : LinkState) (h : IsHealthyAt i l old) → Holds l old → Awake old i l h
 
-module _ (E : Clearing) (signs : (Side → ℕ) → (Side → Lacpdu) → Signs) (Holds : LinkState → WorldState → Type 0) (Other : Side → ℕ → Type 0)
-    (first : ℕ) (gives : Algorithms) (old : WorldState) (m : MeetsBy E signs Holds Other first gives old) where
+module _ (E : Clearing) (Holds : LinkState → WorldState → Type 0) (Other : Side → ℕ → Type 0) (first : ℕ) (gives : Algorithms) (old : WorldState)
+    (m : MeetsBy E Holds Other first gives old) where
   -- of each healthy cable it holds
   holds_of : (i : ℕ) (l : LinkState) → IsHealthyAt i l old → Holds l old
   holds_of i l h =
@@ -189,19 +192,24 @@ module _ (E : Clearing) (signs : (Side → ℕ) → (Side → Lacpdu) → Signs)
             (subst (Other One) (found_place (port_at One l) (half One old).state.system_ports e.0 e.1 e.2 e.3) o))
       ])
 
-  pub awake_by : (i : ℕ) (l : LinkState) (h : IsHealthyAt i l old) → Awake old i l h
-  awake_by i l h = m.wakes i l h (holds_of i l h)
+  pub awake_of : (i : ℕ) (l : LinkState) (h : IsHealthyAt i l old) → Awake old i l h
+  awake_of i l h = m.wakes i l h (holds_of i l h)
 
-  met : (i : ℕ) (l : LinkState) (h : IsHealthyAt i l old) (mid : WorldState) → PlayedRounds E gives first old mid
-      → Met (λ s. port_at s l) (said old i l h) (signs (λ s. port_at s l) (said old i l h)) 1 mid
+  pub named_of : (i : ℕ) (l : LinkState) (h : IsHealthyAt i l old) → Named old i l h
+  named_of = names old m.steady
+
+  met : (i : ℕ) (l : LinkState) (h : IsHealthyAt i l old) (mid : WorldState) → LateRounds gives first old mid
+      → Fresh (λ s. port_at s l) (said old i l h) old mid
   met i l h = m.meets i l h (holds_of i l h)
 
   systems : (i : ℕ) (l : LinkState) (h : IsHealthyAt i l old) → (s : Side)
       → (said old i l h (peer s)).actor.system ≢ (said old i l h s).actor.system
   systems = apart_ends old m.steady m.differ
 
-  module _ (e : ℕ) (chain : (at : Side → ℕ) (w : Side → Lacpdu) → Chain at w (signs at w) E gives e) (mid top : WorldState)
-      (h : PlayedRounds E gives first old mid) (more : PlayedRounds E gives 20 mid top) where
+  are_late : (n : ℕ) (i j : WorldState) → PlayedRounds E gives n i j → LateRounds gives n i j
+  are_late n i j h = clears_less E OldArrive m.late gives n i j h
+
+  module _ (mid top : WorldState) (h : PlayedRounds E gives first old mid) (more : PlayedRounds E gives 20 mid top) where
     middle : IsSteady mid
     middle = played_steady E gives first old mid m.steady h
 
@@ -214,21 +222,24 @@ module _ (E : Clearing) (signs : (Side → ℕ) → (Side → Lacpdu) → Signs)
     chosen i l y s =
         let at : Side → ℕ = λ t. port_at t l in
         let w = said old i l y in
-        let g = met i l y mid h in
+        let late = are_late first old mid h in
+        let g = met i l y mid late in
         let e = end_here at w 1 g.known One Nothing mid g.link s in
         let k = played_before E gives first old mid m.steady h s in
         at_end at w 1 g.known s mid e (timely mid middle) (λ p. is_selected p.choice ≡ true)
-        (is_chosen at w g.known s mid middle (m.finds mid h s) (still_links s old mid k (m.links s))
-        (systems i l y s) (let known = knows_peer at w (signs at w) 1 0 0 mid g (omega arith) s in omega (arith, known)) e)
+        (is_chosen at w g.known s mid middle (m.finds mid late s) (still_links s old mid k (m.links s))
+        (systems i l y s) (let known = knows_late at w (counts_of at old) (kept_of at old) 1 mid g s in omega (arith, known)) e)
 
     climb : (i : ℕ) (l : LinkState) (y : IsHealthyAt i l old)
-        → Climbs (λ t. port_at t l) (said old i l y) (signs (λ t. port_at t l) (said old i l y)) 20 top
+        → Climbs (λ t. port_at t l) (said old i l y) (counts_of (λ t. port_at t l) old) (kept_of (λ t. port_at t l) old) 20 top
     climb i l y =
         let at : Side → ℕ = λ t. port_at t l in
         let w = said old i l y in
-        played_on E gives (Climbs at w (signs at w)) mid (climbs_first at w (signs at w) mid (met i l y mid h) (chosen i l y))
-        (λ n a b r. climbs_on at w (signs at w) E gives e (chain at w) (names old m.steady i l y) (awake_by i l y) n a b (as_beside at E gives a b r))
-        20 top more
+        let counts = counts_of at old in
+        let kept = kept_of at old in
+        played_on OldArrive gives (Climbs at w counts kept) mid (climbs_first at w counts kept mid (met i l y mid (are_late first old mid h)) (chosen i l y))
+        (λ n a b r. climbs_on at w counts kept gives (named_of i l y) (awake_of i l y) n a b
+        (as_beside at OldArrive gives a b r)) 20 top (are_late 20 mid top more)
 
     -- and have risen, as the SELECTED ports have whose links are down
     ripe : (s : Side) → AllByRecursion (λ (y : SystemPort). Ripe 0 y.port) (half s top).state.system_ports
@@ -273,44 +284,49 @@ module _ (E : Clearing) (signs : (Side → ℕ) → (Side → Lacpdu) → Signs)
         (climbed (half s top).state e.index e.port (above s).0 e.there (ripe s) (end_with at w 1 g.known s top e (Rising 0) a))
 
   -- so in so many rounds more both ends come to agree
-  pub agrees_by : (e : ℕ) (chain : (at : Side → ℕ) (w : Side → Lacpdu) → Chain at w (signs at w) E gives e)
-      → ((at : Side → ℕ) (w : Side → Lacpdu) → ((t : Side) → IsNamed (w t))
-      → ((s : Side) → (activity (w s) ≡ true) ⊎ (activity (w (peer s)) ≡ true)) → (mid next : WorldState) → PlayedRounds E gives e mid next
-      → Met at w (signs at w) 1 mid → ((s : Side) → AtIt at w s Synced mid) → Agrees at w (signs at w) e 0 next)
-      → (i : ℕ) (l : LinkState) (y : IsHealthyAt i l old) (n : ℕ) (new : WorldState) → first + 31 + e + e ≤ n → PlayedRounds E gives n old new
-      → (k : ℕ) × (11 + e ≤ k) × Agrees (λ s. port_at s l) (said old i l y) (signs (λ s. port_at s l) (said old i l y)) e k new
-  agrees_by e chain turn i l y n new enough h =
-      let at : Side → ℕ = λ s. port_at s l in
-      let w = said old i l y in
-      let named = names old m.steady i l y in
+
+  pub ups_of : (i : ℕ) (l : LinkState) (y : IsHealthyAt i l old) (n : ℕ) (new : WorldState) → first + 33 ≤ n → PlayedRounds E gives n old new
+      → Up (λ s. port_at s l) (said old i l y) old new
+  ups_of i l y n new enough h =
       let cut = played_split E gives (n - first) first n old new (omega (arith, enough)) h in
       let up = played_split E gives (n - first - 20) 20 (n - first) cut.0 new (omega (arith, enough)) cut.2 in
-      let next = played_split E gives (n - first - 20 - e) e (n - first - 20) up.0 new (omega (arith, enough)) up.2 in (
-        n - first - 20 - e,
-        omega (arith, enough),
-        comes_up at w (signs at w) E gives e (chain at w) named (awake_by i l y) (n - first - 20 - e) cut.0 up.0 next.0 new (met i l y cut.0 cut.1)
-            (chosen e chain cut.0 up.0 cut.1 up.1 i l y) (ready e chain cut.0 up.0 cut.1 up.1 i l y) (all_beside at E gives 20 cut.0 up.0 up.1)
-            (turn at w named (awake_by i l y) up.0 next.0 next.1) (all_beside at E gives (n - first - 20 - e) next.0 new next.2),
-      )
+      comes_to_be_up gives (λ s. port_at s l) (said old i l y) (named_of i l y) (awake_of i l y) (n - first - 20) old cut.0 up.0 new
+      (omega (arith, enough)) (are_late 20 cut.0 up.0 up.1) (are_late (n - first - 20) up.0 new up.2) (met i l y cut.0 (are_late first old cut.0 cut.1))
+      (chosen cut.0 up.0 cut.1 up.1 i l y) (ready cut.0 up.0 cut.1 up.1 i l y)
+
+  are_synced : (i : ℕ) (l : LinkState) (y : IsHealthyAt i l old) (n : ℕ) (new : WorldState) → first + 33 ≤ n → PlayedRounds E gives n old new
+      → AreSynced (λ s. port_at s l) (said old i l y) new
+  are_synced i l y n new enough h = up_synced gives (λ s. port_at s l) (said old i l y) old new (ups_of i l y n new enough h)
+
+  pub distribute_of : (i : ℕ) (l : LinkState) (y : IsHealthyAt i l old) (n : ℕ) (new : WorldState) → first + 33 ≤ n → PlayedRounds E gives n old new
+      → (s : Side) → AtEnd Distributes s l new
+  distribute_of i l y n new enough h = distributes (λ s. port_at s l) (said old i l y) new (are_synced i l y n new enough h)
+
+  pub agree_of : IsWorldSound old → (i : ℕ) (l : LinkState) (y : IsHealthyAt i l old) (n : ℕ) (new : WorldState) → first + 33 ≤ n
+      → PlayedRounds E gives n old new → agreement_at new (suc i) ≡ Some Same
+  agree_of sound i l y n new enough h =
+      agree_up E gives n i l old new sound (all_beside (λ s. port_at s l) E gives n old new h) y (are_synced i l y n new enough h)
 
 -- where each port whose link is up ends a healthy cable
 
 abbrev pub Nowhere : Side → ℕ → Type 0
 Nowhere s n = ⊥
 
-pub alone : (E : Clearing) (signs : (Side → ℕ) → (Side → Lacpdu) → Signs) (Holds : LinkState → WorldState → Type 0) (first : ℕ) (gives : Algorithms)
-    (old : WorldState) → IsBundle Holds old
-    → ((i : ℕ) (l : LinkState) (h : IsHealthyAt i l old) → Holds l old → (mid : WorldState) → PlayedRounds E gives first old mid
-    → Met (λ s. port_at s l) (said old i l h) (signs (λ s. port_at s l) (said old i l h)) 1 mid)
-    → ((i : ℕ) (l : LinkState) (h : IsHealthyAt i l old) → Holds l old → Awake old i l h) → MeetsBy E signs Holds Nowhere first gives old
-alone E signs Holds first gives old b meets wakes = record {
+abbrev pub Meets : (LinkState → WorldState → Type 0) → ℕ → Algorithms → WorldState → Type 0
+Meets Holds first gives old = MeetsBy OldArrive Holds Nowhere first gives old
+
+alone : (Holds : LinkState → WorldState → Type 0) (first : ℕ) (gives : Algorithms) (old : WorldState) → IsBundle Holds old
+    → ((i : ℕ) (l : LinkState) (h : IsHealthyAt i l old) → Holds l old → (mid : WorldState) → LateRounds gives first old mid
+    → Fresh (λ s. port_at s l) (said old i l h) old mid)
+    → ((i : ℕ) (l : LinkState) (h : IsHealthyAt i l old) → Holds l old → Awake old i l h) → Meets Holds first gives old
+alone Holds first gives old b meets wakes = record {
   steady = b.steady;
   cabling = b.cabling;
   differ = b.differ;
   heard = λ s k x e up. inl (b.heard s k x e up);
-  finds = λ mid h. shared_finds old mid b.steady (played_lasted E gives first old mid b.steady h) Holds b.heard
-      (λ i l y s. met_knows (λ t. port_at t l) (said old i l y) (signs (λ t. port_at t l) (said old i l y)) l (λ t. refl) mid
-      (meets i l y (heard_holds Holds old b.cabling b.heard i l y) mid h) s) b.aggregators;
+  late = λ events i j clears. clears;
+  finds = λ mid h. shared_finds old mid b.steady (played_lasted OldArrive gives first old mid b.steady h) Holds b.heard
+      (λ i l y s. late_fresh_knows l (said old i l y) old mid (meets i l y (heard_holds Holds old b.cabling b.heard i l y) mid h) s) b.aggregators;
   links = b.links;
   never = λ s i l h o. o;
   idle = λ mid top h more s k z y there up o now. absurd o;
@@ -318,81 +334,97 @@ alone E signs Holds first gives old b meets wakes = record {
   wakes = wakes;
 }
 
--- in rounds of hosts
-
-abbrev pub Meets : (LinkState → WorldState → Type 0) → (Side → ℕ → Type 0) → ℕ → Algorithms → WorldState → Type 0
-Meets Holds Other first gives old = MeetsBy NoneIsLeft (λ at w. host_signs at w) Holds Other first gives old
-
-module _ (Holds : LinkState → WorldState → Type 0) (Other : Side → ℕ → Type 0) (first : ℕ) (gives : Algorithms) (old : WorldState)
-    (m : Meets Holds Other first gives old) where
-  pub awake_of : (i : ℕ) (l : LinkState) (h : IsHealthyAt i l old) → Awake old i l h
-  awake_of = awake_by NoneIsLeft (λ at w. host_signs at w) Holds Other first gives old m
-
-  pub named_of : (i : ℕ) (l : LinkState) (h : IsHealthyAt i l old) → Named old i l h
-  named_of = names old m.steady
-
-  pub ups_of : (i : ℕ) (l : LinkState) (y : IsHealthyAt i l old) (n : ℕ) (new : WorldState) → first + 31 ≤ n → HostRounds gives n old new
-      → Up (λ s. port_at s l) (said old i l y) new
-  ups_of i l y n new enough h = agrees_by NoneIsLeft (λ at w. host_signs at w) Holds Other first gives old m 0 (λ at w. host_chain at w gives)
-      (λ at w named awake mid next r g ready. subst (λ j. Agrees at w (host_signs at w) 0 0 j) (sym r) (host_turn at w mid g ready)) i l y n new
-      (omega (arith, enough)) h
-
-  pub distribute_of : (i : ℕ) (l : LinkState) (y : IsHealthyAt i l old) (n : ℕ) (new : WorldState) → first + 31 ≤ n → HostRounds gives n old new
-      → (s : Side) → AtEnd Distributes s l new
-  distribute_of i l y n new enough h =
-      distributes (λ s. port_at s l) (said old i l y) new (up_synced (λ s. port_at s l) (said old i l y) new (ups_of i l y n new enough h))
-
-  pub agree_of : IsWorldSound old → (i : ℕ) (l : LinkState) (y : IsHealthyAt i l old) (n : ℕ) (new : WorldState) → first + 31 ≤ n
-      → HostRounds gives n old new → agreement_at new (suc i) ≡ Some Same
-  agree_of sound i l y n new enough h = agree_up NoneIsLeft gives n i l old new sound (all_beside (λ s. port_at s l) NoneIsLeft gives n old new h) y
-      (up_synced (λ s. port_at s l) (said old i l y) new (ups_of i l y n new enough h))
-
--- where one end of each healthy cable is active
+-- where one end of each healthy cable is active, and where both are
 
 pub one_wakes : (old : WorldState) (i : ℕ) (l : LinkState) (h : IsHealthyAt i l old) → OneIsActive l old → Awake old i l h
 one_wakes old i l h a = awake_at (said old i l h) a.0 (active_at l old (ends_at i l old h) a.0 a.1)
 
-pub one_meet : (gives : Algorithms) (first : ℕ) (old : WorldState) → IsCabling (world_setup old).cables → IsSteady old → 621 ≤ first
-    → (i : ℕ) (l : LinkState) (h : IsHealthyAt i l old) → OneIsActive l old → (mid : WorldState) → HostRounds gives first old mid
-    → Fresh (λ s. port_at s l) (said old i l h) mid
-one_meet gives first old cabling steady many i l h a mid r =
-    let e = ends_at i l old h in
-    one_meets gives (λ s. port_at s l) (said old i l h) a.0 first old mid (named_at l old e steady) (active_at l old e a.0 a.1) many
-    (starts i l old e steady cabling h) r
-
-pub one_active : (gives : Algorithms) (old : WorldState) → IsBundle OneIsActive old → Meets OneIsActive Nowhere 621 gives old
-one_active gives old b = alone NoneIsLeft (λ at w. host_signs at w) OneIsActive 621 gives old b (one_meet gives 621 old b.cabling b.steady (omega arith)) (one_wakes old)
-
--- where both are
-
 pub both_wake : (old : WorldState) (i : ℕ) (l : LinkState) (h : IsHealthyAt i l old) → BothAreActive l old → Awake old i l h
 both_wake old i l h a s = inl (active_at l old (ends_at i l old h) s (a s))
 
+pub one_meet : (gives : Algorithms) (first : ℕ) (old : WorldState) → IsCabling (world_setup old).cables → IsSteady old → 624 ≤ first
+    → (i : ℕ) (l : LinkState) (h : IsHealthyAt i l old) → OneIsActive l old → (mid : WorldState) → LateRounds gives first old mid
+    → Fresh (λ s. port_at s l) (said old i l h) old mid
+one_meet gives first old cabling steady many i l h a mid r =
+    let e = ends_at i l old h in
+    late_one_meets gives (λ s. port_at s l) (said old i l h) (named_at l old e steady) first old mid (starts i l old e steady cabling h) r
+    a.0 (active_at l old e a.0 a.1) many
+
 pub both_meet : (gives : Algorithms) (old : WorldState) → IsCabling (world_setup old).cables → IsSteady old
-    → (i : ℕ) (l : LinkState) (h : IsHealthyAt i l old) → BothAreActive l old → (mid : WorldState) → HostRounds gives 321 old mid
-    → Fresh (λ s. port_at s l) (said old i l h) mid
+    → (i : ℕ) (l : LinkState) (h : IsHealthyAt i l old) → BothAreActive l old → (mid : WorldState) → LateRounds gives 323 old mid
+    → Fresh (λ s. port_at s l) (said old i l h) old mid
 both_meet gives old cabling steady i l h a mid r =
     let e = ends_at i l old h in
-    active_meet gives (λ s. port_at s l) (said old i l h) 321 old mid (named_at l old e steady) (λ s. active_at l old e s (a s)) (omega arith)
-    (starts i l old e steady cabling h) r
+    late_active_meet gives (λ s. port_at s l) (said old i l h) (named_at l old e steady) 323 old mid (starts i l old e steady cabling h) r
+    (λ s. active_at l old e s (a s)) (omega arith)
 
-pub both_active : (gives : Algorithms) (old : WorldState) → IsBundle BothAreActive old → Meets BothAreActive Nowhere 321 gives old
-both_active gives old b = alone NoneIsLeft (λ at w. host_signs at w) BothAreActive 321 gives old b (both_meet gives old b.cabling b.steady) (both_wake old)
+pub one_active : (gives : Algorithms) (old : WorldState) → IsBundle OneIsActive old → Meets OneIsActive 624 gives old
+one_active gives old b = alone OneIsActive 624 gives old b (one_meet gives 624 old b.cabling b.steady (omega arith)) (one_wakes old)
 
--- the laws of a bundle, by rounds of hosts
+pub both_active : (gives : Algorithms) (old : WorldState) → IsBundle BothAreActive old → Meets BothAreActive 323 gives old
+both_active gives old b = alone BothAreActive 323 gives old b (both_meet gives old b.cabling b.steady) (both_wake old)
 
-pub each_link_comes_up_by_hosts : (gives : Algorithms) → EachLinkComesUp HostRounds OneIsActive up_if_one_is gives
-each_link_comes_up_by_hosts gives n i l old new b y enough h =
-    distribute_of OneIsActive Nowhere 621 gives old (one_active gives old b) i l y n new (omega (arith, enough)) h
+-- so many rounds beside its ends on
+module _ (Holds : LinkState → WorldState → Type 0) (first : ℕ) (gives : Algorithms) (old : WorldState) (b : Meets Holds first gives old) (i : ℕ)
+    (l : LinkState) (y : IsHealthyAt i l old) (n m : ℕ) (mid new : WorldState) (enough : first + 33 ≤ n) (h : LateRounds gives n old mid)
+    (more : RoundsBeside l gives m mid new) where
+  stays : AreSynced (λ s. port_at s l) (said old i l y) new
+  stays =
+      let at : Side → ℕ = λ s. port_at s l in
+      let w = said old i l y in
+      let counts = counts_of at old in
+      let kept = kept_of at old in
+      let k = ups_of OldArrive Holds Nowhere first gives old b i l y n mid enough h in
+      up_synced gives at w old new (
+        k.0 + m,
+        (let few = k.1 in omega (arith, few)),
+        among_on (LeavesPorts at) OldArrive gives (λ a j. Agrees at w counts kept (k.0 + a) j) mid
+            (subst (λ a. Agrees at w counts kept a mid) (omega arith) k.2)
+            (λ a f j r c. subst (λ q. Agrees at w counts kept q j) (omega arith)
+            (agrees_on at w counts kept gives
+            (named_of OldArrive Holds Nowhere first gives old b i l y) (awake_of OldArrive Holds Nowhere first gives old b i l y)
+            (k.0 + a) f j r c)) m new more,
+      )
 
-pub each_active_link_comes_up_by_hosts : (gives : Algorithms) → EachLinkComesUp HostRounds BothAreActive up_if_both_active gives
-each_active_link_comes_up_by_hosts gives n i l old new b y enough h =
-    distribute_of BothAreActive Nowhere 321 gives old (both_active gives old b) i l y n new (omega (arith, enough)) h
+  stays_up : (s : Side) → AtEnd Distributes s l new
+  stays_up = distributes (λ s. port_at s l) (said old i l y) new stays
 
-pub each_link_agrees_by_hosts : (gives : Algorithms) → EachLinkAgrees HostRounds OneIsActive up_if_one_is gives
-each_link_agrees_by_hosts gives n i l old new sound b y enough h =
-    agree_of OneIsActive Nowhere 621 gives old (one_active gives old b) sound i l y n new (omega (arith, enough)) h
+  stays_agreed : IsWorldSound old → agreement_at new (suc i) ≡ Some Same
+  stays_agreed sound =
+      let at : Side → ℕ = λ s. port_at s l in
+      agree_up OldArrive gives (m + n) i l old new sound (among_then (LeavesPorts at) OldArrive gives m n (m + n) old mid new refl
+      (all_beside at OldArrive gives n old mid h) more) y stays
 
-pub each_active_link_agrees_by_hosts : (gives : Algorithms) → EachLinkAgrees HostRounds BothAreActive up_if_both_active gives
-each_active_link_agrees_by_hosts gives n i l old new sound b y enough h =
-    agree_of BothAreActive Nowhere 321 gives old (both_active gives old b) sound i l y n new (omega (arith, enough)) h
+-- the laws of a bundle
+
+pub each_link_comes_up : (gives : Algorithms) → EachLinkComesUp LateRounds OneIsActive up_if_one_is gives
+each_link_comes_up gives n i l old new b y enough h =
+    distribute_of OldArrive OneIsActive Nowhere 624 gives old (one_active gives old b) i l y n new (omega (arith, enough)) h
+
+pub each_active_link_comes_up : (gives : Algorithms) → EachLinkComesUp LateRounds BothAreActive up_if_both_active gives
+each_active_link_comes_up gives n i l old new b y enough h =
+    distribute_of OldArrive BothAreActive Nowhere 323 gives old (both_active gives old b) i l y n new (omega (arith, enough)) h
+
+pub each_link_agrees : (gives : Algorithms) → EachLinkAgrees LateRounds OneIsActive up_if_one_is gives
+each_link_agrees gives n i l old new sound b y enough h =
+    agree_of OldArrive OneIsActive Nowhere 624 gives old (one_active gives old b) sound i l y n new (omega (arith, enough)) h
+
+pub each_active_link_agrees : (gives : Algorithms) → EachLinkAgrees LateRounds BothAreActive up_if_both_active gives
+each_active_link_agrees gives n i l old new sound b y enough h =
+    agree_of OldArrive BothAreActive Nowhere 323 gives old (both_active gives old b) sound i l y n new (omega (arith, enough)) h
+
+pub each_link_stays_up : (gives : Algorithms) → EachLinkStaysUp OneIsActive up_if_one_is gives
+each_link_stays_up gives n m i l old mid new b y enough h more =
+    stays_up OneIsActive 624 gives old (one_active gives old b) i l y n m mid new (omega (arith, enough)) h more
+
+pub each_active_link_stays_up : (gives : Algorithms) → EachLinkStaysUp BothAreActive up_if_both_active gives
+each_active_link_stays_up gives n m i l old mid new b y enough h more =
+    stays_up BothAreActive 323 gives old (both_active gives old b) i l y n m mid new (omega (arith, enough)) h more
+
+pub each_link_stays_agreed : (gives : Algorithms) → EachLinkStaysAgreed OneIsActive up_if_one_is gives
+each_link_stays_agreed gives n m i l old mid new sound b y enough h more =
+    stays_agreed OneIsActive 624 gives old (one_active gives old b) i l y n m mid new (omega (arith, enough)) h more sound
+
+pub each_active_link_stays_agreed : (gives : Algorithms) → EachLinkStaysAgreed BothAreActive up_if_both_active gives
+each_active_link_stays_agreed gives n m i l old mid new sound b y enough h more =
+    stays_agreed BothAreActive 323 gives old (both_active gives old b) i l y n m mid new (omega (arith, enough)) h more sound

@@ -16,8 +16,7 @@ use Rattle.lagprogress.proofs.Common.{Step-sound, first_sound, Algorithms, AreFi
 use Rattle.lagprogress.proofs.Common.{HostSteps, Leaves, Plays, Probes, Rests, Sets, KeptByCall, KeptBySettling, OfEach, Step-each, first_each, no}
 use Rattle.lagprogress.proofs.Common.{forces_port, AtPort, at_number, calls_each, same_place, settling_leaves, Turns, asks_turn, comes_turn}
 use Rattle.lagprogress.proofs.Common.{gives_turn, same_turns, settles_turn, ticks_turn, turns_by, turns_through, RowsKeep, fires_keep, runs_keep}
-use Rattle.lagprogress.proofs.Common.{setting_each, EachHostReachedHasUnsynchronized, EachHostReachedHasCarriersUp, EachReachedHasCarriersUp}
-use Rattle.lagprogress.proofs.Common.{HasPortUp, carrier_of, held_on}
+use Rattle.lagprogress.proofs.Common.{setting_each, EachHostReachedHasUnsynchronized, EachHostReachedHasCarriersUp, HasPortUp, carrier_of, held_on}
 use Rattle.lagsystem.specs.Offers.{Offers}
 use Rattle.distributor.proofs.TableLemmas.{first_free}
 use Rattle.lagsystem.proofs.Steps.{forced_to, moved_to}
@@ -32,7 +31,7 @@ use Rattle.lagsystem.specs.declared.drive.Reply.TheVariants as reply
 use Rattle.lagprogress.proofs.Answering.{among_port}
 use Rattle.lagprogress.proofs.Freeing.{Stays, held_carries, stays}
 use Rattle.lagprogress.proofs.Halves.{both_first, each_is_calls}
-use Rattle.lagprogress.proofs.Linked.{many, events_each, each_side}
+use Rattle.lagprogress.proofs.Linked.{many, each_side}
 use Rattle.lagprogress.proofs.HostSteady.{IsBeside, aside, forces_half, host_sound, leaves_half, offers_half, probes_half, rests_half, setting_both}
 
 -- the partner of a port in PORT_DISABLED is not synchronized
@@ -428,11 +427,6 @@ start_keeps configs start i h s =
       first_each LapsesAt lapse_settles lapse_first st first,
       λ g k p e. absurd (none-some p (sym (ap carrier_of (first_is_free st first g k)) ∙ e)),
     )
-
-pub each_reached_has_carriers_up : (gives : Algorithms) → EachReachedHasCarriersUp gives
-each_reached_has_carriers_up gives configs es rs start new i h runs s =
-    let end = events_each gives s Keeps (call_keeps (gives s)) es rs start new runs (start_keeps configs start i h s) in
-    λ g k p is e. end.2 g k p e
 
 pub host_reached_has_carriers_up : (gives : Algorithms) → EachHostReachedHasCarriersUp gives
 host_reached_has_carriers_up gives configs es start new i h runs s =

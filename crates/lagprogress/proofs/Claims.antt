@@ -1,15 +1,14 @@
 -- What a port owes its partner once it is synchronized: an LACPDU that says so.
 use Rattle.lagprogress.proofs.Common.{Bool, ap, false, if◌then◌else◌, inl, inr, not, refl, subst, sym, true, ℕ, ◌||◌, ◌∙◌, ◌≡◌, ◌≢◌, ◌≤◌, ◌⊎◌}
 use Rattle.lagprogress.proofs.Common.{cases_Bool, Unselected, StateBits, is_selected, same_party, bits_of, with_synchronization, with_timeout}
-use Rattle.lagprogress.proofs.Common.{exact_party, party_itself, encode_then_decode, Info, Lacpdu, party_of, CollectingDistributing, Machines}
-use Rattle.lagprogress.proofs.Common.{is_synchronized, mux_rows, partner_synchronized, same_mux_state, RunsPeriodic, is_silent, partner_short}
-use Rattle.lagprogress.proofs.Common.{periodic_rows, timer_expired, default_partner, is_maintained, lacpdu_rows, receive_rows}
-use Rattle.lagprogress.proofs.Common.{recorded_synchronization, RunsToRest, count_down, pdu_of, ProcessesLacpdu, can_receive, can_receive_in, named}
-use Rattle.lagprogress.proofs.Common.{KeptBySettling, no, decoded, AtPort, mux_leaves, periodic_leaves, not_silent, unclear, RowsKeep, fires_keep}
-use Rattle.lagprogress.proofs.Common.{runs_keep}
-use Rattle.lagprogress.proofs.EndFacts.{Along, CanSound, IsEnd, SameActor, Says, Synced, activity, all_true, awake_fires, end_settles, first_true}
-use Rattle.lagprogress.proofs.EndFacts.{maintained}
+use Rattle.lagprogress.proofs.Common.{exact_party, party_itself, encode_then_decode, Info, Lacpdu, party_of, Machines, is_synchronized, mux_rows}
+use Rattle.lagprogress.proofs.Common.{partner_synchronized, RunsPeriodic, is_silent, partner_short, periodic_rows, timer_expired, default_partner}
+use Rattle.lagprogress.proofs.Common.{is_maintained, lacpdu_rows, receive_rows, recorded_synchronization, RunsToRest, count_down, pdu_of}
+use Rattle.lagprogress.proofs.Common.{ProcessesLacpdu, can_receive, can_receive_in, named, KeptBySettling, no, decoded, AtPort, mux_leaves}
+use Rattle.lagprogress.proofs.Common.{periodic_leaves, not_silent, unclear, RowsKeep, fires_keep, runs_keep}
 use Rattle.lagbeside.proofs.Sounding.{rests}
+use Rattle.lagprogress.proofs.EndFacts.{said_bits, Along, CanSound, IsEnd, SameActor, Says, Synced, activity, all_true, awake_fires, end_settles}
+use Rattle.lagprogress.proofs.EndFacts.{first_true, maintained}
 use Rattle.lagprogress.proofs.Lapsing.{expired_active}
 
 -- SELECTED, in ATTACHED or COLLECTING_DISTRIBUTING, and the actor of the LACPDU is recorded as the partner
@@ -208,16 +207,7 @@ SaysSynced u v x = ((bits_of x.actor.state).synchronization ≡ true) × (party_
 
 pub claim_said : (v u : Lacpdu) (dl : ℕ) (p : Machines) → Wakeful v u p → Claims u p → SaysSynced u v (pdu_of p dl)
 claim_said v u dl p wakes claim =
-    let bits = encode_then_decode (record {
-      activity = p.active;
-      timeout = p.short;
-      aggregation = p.party.aggregatable;
-      synchronization = is_synchronized p.mux;
-      collecting = same_mux_state CollectingDistributing p.mux;
-      distributing = same_mux_state CollectingDistributing p.mux;
-      defaulted = p.defaulted;
-      expired = p.expired;
-    }) in (
+    let bits = said_bits p in (
       ap (λ (b : StateBits). b.synchronization) bits ∙ claim.0.1,
       claim.1,
       elim wakes [ inl on ↦ inl on | inr r ↦ inr (r.0, r.1 claim.1) ],

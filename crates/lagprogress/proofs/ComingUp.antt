@@ -4,24 +4,23 @@ use Rattle.lagprogress.proofs.Common.{ℕ, ◌&&◌, ◌+◌, ◌-◌, ◌||◌,
 use Rattle.lagprogress.proofs.Common.{pair_of, same_group, group-itself, Lacpdu, party_of, One, Side, Two, peer, CollectingDistributing, Machines}
 use Rattle.lagprogress.proofs.Common.{same_mux_state, SystemPort, MuxIsSettled, group_at, machines_of, all-get, Same, agreement_at, agreement_of}
 use Rattle.lagprogress.proofs.Common.{end_facts, first_agreement, is_stamp, same_groups, Algorithms, ItemValue, LinkState, WorldState}
-use Rattle.lagprogress.proofs.Common.{change_count_in, half, history_at, IsTimed, OfEach, AtPort, Sounds, all_leave, LeavesPorts, Distributes}
-use Rattle.lagprogress.proofs.Common.{Clearing, HostRounds, NoneIsLeft, OfPort}
-use Rattle.lagprogress.proofs.Knowing.{AtIt, Chain, Met, Signs, able_fresh, awake_peer, beside, fits_before, fits_fresh, knows_peer, mode, stays_met}
-use Rattle.lagprogress.proofs.Knowing.{wait, wakes_now}
-use Rattle.lagprogress.proofs.HostKnowing.{FreshAt, host_chain, host_signs, knows_peer as host_knows}
+use Rattle.lagprogress.proofs.Common.{change_count_in, half, history_at, IsTimed, AtPort, Sounds, all_leave, LeavesPorts, Clearing, OldArrive}
+use Rattle.lagprogress.proofs.Common.{Distributes, OfPort}
+use Rattle.lagprogress.proofs.Stamps.{Took, Present, Stamped}
+use Rattle.lagprogress.proofs.LateHearing.{Ahead}
+use Rattle.lagprogress.proofs.Knowing.{nears, stays_met, AtIt, Met, able_fresh, awake_peer, beside, fits_before, fits_fresh, knows_peer, mode, wait}
+use Rattle.lagprogress.proofs.Knowing.{wakes_now}
 use Rattle.lagprogress.proofs.HostStamps.{stamped_between, stamped_tick}
 use Rattle.lagprogress.proofs.OneCable.{OnCable, cable}
-use Rattle.lagprogress.proofs.Stamps.{Present, Stamped}
 use Rattle.lagprogress.proofs.Claims.{IsNamed, Owes}
 use Rattle.lagprogress.proofs.Climbing.{PartnerInSync, Rising, distributes_now, partner_along, rising_along, rising_first, ticks_partner}
 use Rattle.lagprogress.proofs.Climbing.{ticks_rising}
 use Rattle.lagprogress.proofs.EndFacts.{Learnt, Synced, activity}
 use Rattle.lagprogress.proofs.EachRound.{among_on}
-use Rattle.lagprogress.proofs.Quieting.{AllBeside, PlayedBeside, all_beside}
+use Rattle.lagprogress.proofs.Quieting.{AllBeside, PlayedBeside}
 use Rattle.lagprogress.proofs.HostRound.{holds_beside, host_holds}
 use Rattle.lagprogress.proofs.Linked.{EndPort, Fits, Link, at_end, each_map, end_here, end_with, peer_twice}
 use Rattle.lagprogress.proofs.OneRound.{Nothing, join, ticked}
-use Rattle.lagprogress.proofs.Starting.{emptied}
 use Rattle.lagtypes.proofs.GroupLemmas.{groups_from_pairs}
 use Rattle.std.proofs.Math.Bool.{and_comm}
 
@@ -118,8 +117,8 @@ module _ (at : Side → ℕ) (w : Side → Lacpdu) (c : Side → ℕ) where
       at_end at w 1 c s j e l.steady (Rising 20) (rising_first e.port.port mux timed
       (end_with at w 1 c s j e (λ p. is_selected p.choice ≡ true) chosen))
 
-  pub rises_on : {E : Clearing} (s : Side) (gives : Algorithms) (n : ℕ) (old new : WorldState) → Fits 1 w c → Fits 1 w (ticked c) → 2 ≤ c s
-      → Link 1 at w c One Nothing old → PlayedBeside at E gives old new → AtIt at w s (Rising (20 - n)) old → AtIt at w s (Rising (20 - (n + 1))) new
+  pub rises_on : (s : Side) (gives : Algorithms) (n : ℕ) (old new : WorldState) → Fits 1 w c → Fits 1 w (ticked c) → 2 ≤ c s
+      → Link 1 at w c One Nothing old → PlayedBeside at OldArrive gives old new → AtIt at w s (Rising (20 - n)) old → AtIt at w s (Rising (20 - (n + 1))) new
   rises_on s gives n old new fits then l link h rising = subst (λ t. AtIt at w s (Rising t) new) (omega arith)
       (beside at w 1 (ticked c) s (Rising (20 - n - 1)) new
       (host_holds gives s 1 at w c (Rising (20 - n)) (Rising (20 - n - 1)) old new fits then
@@ -140,68 +139,70 @@ owed at w c j l s heard owes =
       all_leave true e.port.port.ages timed.3,
     )
 
-module _ (at : Side → ℕ) (w : Side → Lacpdu) (z : Signs) where
+module _ (at : Side → ℕ) (w : Side → Lacpdu) (counts : Side → ℕ) (kept : Side → Bool) where
   -- both climb
   pub record Climbs (n : ℕ) (j : WorldState) : Type 0 where
-    pub fresh : Met at w z 1 j
+    pub fresh : Met at w counts kept 1 j
     pub rising : (s : Side) → AtIt at w s (Rising (20 - n)) j
 
-  pub climbs_first : (j : WorldState) → Met at w z 1 j → ((s : Side) → AtIt at w s (λ p. is_selected p.choice ≡ true) j) → Climbs 0 j
+  pub climbs_first : (j : WorldState) → Met at w counts kept 1 j → ((s : Side) → AtIt at w s (λ p. is_selected p.choice ≡ true) j) → Climbs 0 j
   climbs_first j g chosen = record { fresh = g; rising = λ s. rises_first at w g.known j g.link s (chosen s) }
 
   -- Then each end hears that the other is in sync, since it is told, or an LACPDU that says so is on its way, or is owed.
 
-  abbrev pub Tellings : ℕ → Side → ℕ → WorldState → Type 0
-  Tellings e s n j = ((m : ℕ) × (1 ≤ m) × (n + m ≤ 11 + e) × z.Ahead s (mode at w s) m j) ⊎ AtIt at w (peer s) PartnerInSync j
+  abbrev pub Tellings : Side → ℕ → WorldState → Type 0
+  Tellings s n j = ((m : ℕ) × (1 ≤ m) × (n + m ≤ 12) × Ahead at w s (mode at w s) m j) ⊎ AtIt at w (peer s) PartnerInSync j
 
-  pub record Agrees (e n : ℕ) (j : WorldState) : Type 0 where
-    pub fresh : Met at w z 2 j
-    pub tells : (s : Side) → Tellings e s n j
+  pub record Agrees (n : ℕ) (j : WorldState) : Type 0 where
+    pub fresh : Met at w counts kept 2 j
+    pub tells : (s : Side) → Tellings s n j
 
-  pub told_now : (e n : ℕ) (j : WorldState) → 11 + e ≤ n → Agrees e n j → (t : Side) → AtIt at w t PartnerInSync j
-  told_now e n j l c t = subst (λ u. AtIt at w u PartnerInSync j) (peer_twice t) (elim (c.tells (peer t)) [
+  pub told_now : (n : ℕ) (j : WorldState) → 12 ≤ n → Agrees n j → (t : Side) → AtIt at w t PartnerInSync j
+  told_now n j l c t = subst (λ u. AtIt at w u PartnerInSync j) (peer_twice t) (elim (c.tells (peer t)) [
     | inl (m, some, soon, y) ↦ absurd (omega (arith, l, some, soon))
     | inr y ↦ y
   ])
 
   -- both are synchronized, and know that of each other
-  pub synced_of : (e n : ℕ) (j : WorldState) → 11 + e ≤ n → Agrees e n j → ((s : Side) → z.Rest j → z.Took s j → Present at s j) → AreSynced at w j
-  synced_of e n j l c present =
+  pub synced_of : (n : ℕ) (j : WorldState) → 12 ≤ n → Agrees n j
+      → ((s : Side) → Stamped 1 at counts kept j → Took at counts kept s j → Present at s j) → AreSynced at w j
+  synced_of n j l c present =
       let g = c.fresh in
-      let knows : (s : Side) → 1 ≤ g.known s = λ s. (let m = knows_peer at w z 2 0 0 j g (omega arith) s in omega (arith, m)) in
+      let knows : (s : Side) → 1 ≤ g.known s = λ s. (let m = knows_peer at w counts kept 2 0 0 j g (omega arith) s in omega (arith, m)) in
       record {
         known = g.known;
         link = g.link;
         knows = knows;
-        heard = told_now e n j l c;
+        heard = told_now n j l c;
         present = λ s. present s g.rest (g.took s (knows s));
       }
 
-  module _ (E : Clearing) (gives : Algorithms) (e : ℕ) (k : Chain at w z E gives e) (named : (t : Side) → IsNamed (w t))
+  module _ (gives : Algorithms) (named : (t : Side) → IsNamed (w t))
       (awake : (s : Side) → (activity (w s) ≡ true) ⊎ (activity (w (peer s)) ≡ true)) where
-    pub climb_on : (s : Side) (n : ℕ) (old new : WorldState) (g : Met at w z 1 old) → PlayedBeside at E gives old new
+    pub climb_on : (s : Side) (n : ℕ) (old new : WorldState) (g : Met at w counts kept 1 old) → PlayedBeside at OldArrive gives old new
         → AtIt at w s (Rising (20 - n)) old → AtIt at w s (Rising (20 - (n + 1))) new
-    climb_on s n old new g h rising = rises_on at w g.known s gives n old new (fits_before at w z named awake 1 old g (omega arith))
-        (fits_fresh at w z named awake 1 old g (omega arith)) (knows_peer at w z 1 0 0 old g (omega arith) s) g.link h rising
+    climb_on s n old new g h rising = rises_on at w g.known s gives n old new (fits_before at w counts kept named awake 1 old g (omega arith))
+        (fits_fresh at w counts kept named awake 1 old g (omega arith)) (knows_peer at w counts kept 1 0 0 old g (omega arith) s) g.link h rising
 
-    pub climbs_on : (n : ℕ) (old new : WorldState) → PlayedBeside at E gives old new → Climbs n old → Climbs (n + 1) new
+    pub climbs_on : (n : ℕ) (old new : WorldState) → PlayedBeside at OldArrive gives old new → Climbs n old → Climbs (n + 1) new
     climbs_on n old new h c = record {
-      fresh = stays_met at w z E gives e k named awake 1 old new (omega arith) h c.fresh;
+      fresh = stays_met at w counts kept gives named awake 1 old new (omega arith) h c.fresh;
       rising = λ s. climb_on s n old new c.fresh h (c.rising s);
     }
 
-    pub agrees_on : (n : ℕ) (old new : WorldState) → PlayedBeside at E gives old new → Agrees e n old → Agrees e (n + 1) new
+    pub agrees_on : (n : ℕ) (old new : WorldState) → PlayedBeside at OldArrive gives old new → Agrees n old → Agrees (n + 1) new
     agrees_on n old new h c =
         let g = c.fresh in
         record {
-          fresh = stays_met at w z E gives e k named awake 2 old new (omega arith) h g;
-          tells = λ s. tells g (fits_before at w z named awake 2 old g (omega arith)) (fits_fresh at w z named awake 2 old g (omega arith)) s
+          fresh = stays_met at w counts kept gives named awake 2 old new (omega arith) h g;
+          tells = λ s. tells g (fits_before at w counts kept named awake 2 old g (omega arith))
+              (fits_fresh at w counts kept named awake 2 old g (omega arith)) s
               (c.tells s);
         }
       where
-        tells : (g : Met at w z 2 old) → Fits 2 w g.known → Fits 2 w (ticked g.known) → (s : Side) → Tellings e s n old → Tellings e s (n + 1) new
-        tells g fits then s (inl (m, some, soon, y)) = let can = able_fresh at w z named awake 2 old g s in
-            elim (k.nears 2 s (omega arith) (inr (named (peer s))) g.known fits then (mode at w s) m old new can.1 can.0 g.link
+        tells : (g : Met at w counts kept 2 old) → Fits 2 w g.known → Fits 2 w (ticked g.known) → (s : Side) → Tellings s n old → Tellings s (n + 1) new
+        tells g fits then s (inl (m, some, soon, y)) = let can = able_fresh at w counts kept named awake 2 old g s in
+            elim (nears at w counts kept gives 2 s (omega arith) (inr (named (peer s))) g.known fits then (mode at w s) m old new can.1 can.0 g.link
             (wakes_now at w 2 g.known One Nothing s (mode at w s) old can.0 g.link) g.rest y h) [
               | inl q ↦ (let l = q.0 in inl (m - 1, l, omega (arith, soon, l), q.1))
               | inr q ↦ inr (each_map (AtPort (at (peer s)) (Learnt 2 (w (peer (peer s))) (wait at w (peer s))))
@@ -210,7 +211,7 @@ module _ (at : Side → ℕ) (w : Side → Lacpdu) (z : Signs) where
             ]
         tells g fits then s (inr y) =
             let t = peer s in
-            let l = knows_peer at w z 2 0 0 old g (omega arith) t in
+            let l = knows_peer at w counts kept 2 0 0 old g (omega arith) t in
             inr (beside at w 2 (ticked g.known) t PartnerInSync new
             (host_holds gives t 2 at w g.known PartnerInSync PartnerInSync old new fits then
             (partner_along (w t) (w (peer t)) (g.known t) 2 (omega arith) (awake_peer w awake t))
@@ -220,59 +221,14 @@ module _ (at : Side → ℕ) (w : Side → Lacpdu) (z : Signs) where
 
     -- from a round in which both ends are SELECTED, in 20 rounds to one in which both are synchronized, and on from one in which all that is
     -- on the cable says so
-    pub comes_up : (n : ℕ) (start mid next new : WorldState) → Met at w z 1 start
+    pub comes_up : (n : ℕ) (start mid next new : WorldState) → Met at w counts kept 1 start
         → ((s : Side) → AtIt at w s (λ p. is_selected p.choice ≡ true) start) → ((s : Side) → AtIt at w s (Rising 0) mid → AtIt at w s Synced mid)
-        → AllBeside at E gives 20 start mid → (Met at w z 1 mid → ((s : Side) → AtIt at w s Synced mid) → Agrees e 0 next)
-        → AllBeside at E gives n next new → Agrees e n new
+        → AllBeside at OldArrive gives 20 start mid → (Met at w counts kept 1 mid → ((s : Side) → AtIt at w s Synced mid) → Agrees 0 next)
+        → AllBeside at OldArrive gives n next new → Agrees n new
     comes_up n start mid next new g chosen ready h turn more =
-        let climbed = among_on (LeavesPorts at) E gives Climbs start (climbs_first start g chosen) climbs_on 20 mid h in
-        among_on (LeavesPorts at) E gives (Agrees e) next
+        let climbed = among_on (LeavesPorts at) OldArrive gives Climbs start (climbs_first start g chosen) climbs_on 20 mid h in
+        among_on (LeavesPorts at) OldArrive gives Agrees next
         (turn climbed.fresh (λ s. ready s (subst (λ t. AtIt at w s (Rising t) mid) (omega arith) (climbed.rising s)))) agrees_on n new more
-
--- in rounds of hosts nothing is on the cable then
-
-abbrev pub Up : (Side → ℕ) → (Side → Lacpdu) → WorldState → Type 0
-Up at w j = (n : ℕ) × (11 ≤ n) × Agrees at w (host_signs at w) 0 n j
-
-pub host_turn : (at : Side → ℕ) (w : Side → Lacpdu) (j : WorldState) → FreshAt at w 1 j → ((s : Side) → AtIt at w s Synced j)
-    → Agrees at w (host_signs at w) 0 0 j
-host_turn at w j g ready =
-    let synced : (s : Side) → OfEach (AtPort (at s) (λ p. 2 ≤ 2 → Synced p)) (half s j).state.system_ports =
-    λ s. each_map (AtPort (at s) Synced) (AtPort (at s) (λ p. 2 ≤ 2 → Synced p)) (λ m p a f l. a f) (half s j).state.system_ports (ready s) in
-    let link = emptied at w 1 2 g.known One Nothing j g.rest synced g.link in
-    record {
-      fresh = record {
-        known = g.known;
-        next = g.next;
-        link = link;
-        rest = g.rest;
-        fits = g.fits;
-        later = g.later;
-        longer = g.longer;
-        ahead = g.ahead;
-        told = g.told;
-        took = g.took;
-      };
-      tells = λ s. elim (g.told s (let l = host_knows at w 1 j g (peer s) in omega (arith, l))) [
-        | inl owes ↦ inl (11, omega arith, omega arith, owed at w g.known j link s (let l = host_knows at w 1 j g s in omega (arith, l)) owes)
-        | inr heard ↦ inr heard
-      ];
-    }
-
-pub host_comes_up : (at : Side → ℕ) (w : Side → Lacpdu) → ((t : Side) → IsNamed (w t))
-    → ((s : Side) → (activity (w s) ≡ true) ⊎ (activity (w (peer s)) ≡ true)) → (gives : Algorithms) (n : ℕ) (start mid new : WorldState)
-    → FreshAt at w 1 start → ((s : Side) → AtIt at w s (λ p. is_selected p.choice ≡ true) start)
-    → ((s : Side) → AtIt at w s (Rising 0) mid → AtIt at w s Synced mid) → 11 ≤ n → HostRounds gives 20 start mid → HostRounds gives n mid new
-    → Up at w new
-host_comes_up at w named awake gives n start mid new g chosen ready enough h more = (
-  n,
-  enough,
-  comes_up at w (host_signs at w) NoneIsLeft gives 0 (host_chain at w gives) named awake n start mid mid new g chosen ready
-      (all_beside at NoneIsLeft gives 20 start mid h) (host_turn at w mid) (all_beside at NoneIsLeft gives n mid new more),
-)
-
-pub up_synced : (at : Side → ℕ) (w : Side → Lacpdu) (j : WorldState) → Up at w j → AreSynced at w j
-up_synced at w j up = synced_of at w (host_signs at w) 0 up.0 j up.1 up.2 (λ s rest took. took)
 
 -- a port at an end of a cable has a history as before
 pub hosts_kept : (E : Clearing) (gives : Algorithms) (n i : ℕ) (at : Side → ℕ) (fl : Side → List ItemValue) (old new : WorldState)

@@ -160,36 +160,32 @@ pub use Rattle.lagbeside.proofs.TableSteps.{Turning, Turns, asks_turn, comes_tur
 pub use Rattle.lagbeside.proofs.TableSteps.{turns_through}
 pub use Rattle.lagbeside.proofs.Timers.{RowsKeep, TimedAt, fires_keep, runs_keep, setting_each, setting_timed, takes_keep, timed_kept, timed_settles}
 pub use Rattle.lagbeside.proofs.Timers.{timed_starts}
-pub use Rattle.lagprogress.specs.Arriving.{Arrives, DeliverHandsUp, DisabledAreUnsynchronized, EachFrameArrives, EachFrameArrivesByHosts}
-pub use Rattle.lagprogress.specs.Arriving.{EachHostReachedHasUnsynchronized, EachReachedHasUnsynchronized, GetsPort, HandsUp, IsEventWhere}
-pub use Rattle.lagprogress.specs.Arriving.{IsHandedUp, OfferGetsPort, Sometime, SometimePlayed, TakesFrame}
+pub use Rattle.lagprogress.specs.Arriving.{Arrives, DeliverHandsUp, DisabledAreUnsynchronized, EachFrameArrivesByHosts}
+pub use Rattle.lagprogress.specs.Arriving.{EachHostReachedHasUnsynchronized, GetsPort, HandsUp, IsEventWhere, IsHandedUp, OfferGetsPort}
+pub use Rattle.lagprogress.specs.Arriving.{SometimePlayed, TakesFrame}
 pub use Rattle.lagprogress.specs.Beside.{EachLinkStaysAgreed, EachLinkStaysUp, LeavesPorts, RoundsBeside}
 pub use Rattle.lagprogress.specs.Bundle.{AllHeard, BothAreActive, EachLinkAgrees, EachLinkComesUp, EndsHealthyCable, EndsOfEachKnow}
 pub use Rattle.lagprogress.specs.Bundle.{EnoughAggregators, EnoughLinks, HostReachedIsBundle, IsBundle, OneIsActive, ReachedIsApart, ReachedIsBundle}
 pub use Rattle.lagprogress.specs.Bundle.{SelectedPairsAgree, SelectedPairsComeUp, SystemsDiffer}
-pub use Rattle.lagprogress.specs.ComingUp.{ActiveLinkComesUp, AreApart, Distributes, HasRoom, LinkComesUp}
 pub use Rattle.lagprogress.specs.CutOff.{CutOffIsDefaulted, EachLinkAgreesBesideCutOffs, EachLinkComesUpBesideCutOffs, IsBundleBesideCutOffs}
-pub use Rattle.lagprogress.specs.CutOff.{IsCutOff, NoneIsHeldBesideCutOffs}
-pub use Rattle.lagprogress.specs.Freed.{CarriersAreUp, EachHostReachedHasCarriersUp, EachReachedHasCarriersUp, HasIdentifierLeft, HasPortUp}
-pub use Rattle.lagprogress.specs.Freed.{IsNotHeld, IsNotHeldOn, NoneIsHeld, NoneIsHeldOn, NoneIsHeldOnEnds, NothingIsHeld, carrier_of, held_on}
+pub use Rattle.lagprogress.specs.CutOff.{IsCutOff}
+pub use Rattle.lagprogress.specs.Freed.{CarriersAreUp, EachHostReachedHasCarriersUp, HasIdentifierLeft, HasPortUp, IsNotHeldOn, NoneIsHeld}
+pub use Rattle.lagprogress.specs.Freed.{NoneIsHeldOn, NothingIsHeld, carrier_of, held_on}
 pub use Rattle.lagprogress.specs.HostFreed.{AskingInVainIsDraining, AsksInVain, AsksInVainAfterTick, DrainingRounds, IsDrainingRound, IsNoMoveOf}
 pub use Rattle.lagprogress.specs.HostFreed.{NoneIsHeldBesideCutOffsByHosts, NoneIsHeldOnEndsByHosts, NothingIsDue, NothingIsHeldByHosts}
 pub use Rattle.lagprogress.specs.HostFreed.{RoundIsDraining, sent_nothing}
-pub use Rattle.lagprogress.specs.HostRounds.{AfterTick, AskingIsHostRound, Asks, AsksAfterTick, AsksIn, AtSomeWorld, Clearing, EventsAreOfHosts}
-pub use Rattle.lagprogress.specs.HostRounds.{HostRounds, IsBetweenTicks, IsHostRound, IsPlayed, IsPlayedAmong, IsQuiet, IsTickOf, LoopIsHostRound}
-pub use Rattle.lagprogress.specs.HostRounds.{NoneIsLeft, PlayedAmong, PlayedRounds, RoundIsHostRound, RoundsAreHostRounds, RunReplies, StepReplies}
-pub use Rattle.lagprogress.specs.HostRounds.{TickOnce, TickOnceAmong}
-pub use Rattle.lagprogress.specs.LateRounds.{ArriveIn, AskingIsLateRound, HostRoundIsLateRound, IsArrivalAt, IsLateRound, LateRounds, OldArrive}
-pub use Rattle.lagprogress.specs.LateRounds.{late_known_if_both_active, late_known_if_one_is, late_up_if_both_active, late_up_if_one_is}
-pub use Rattle.lagprogress.specs.Limited.{CarriesOnAll, DownAreUnselected, EachLimitedLinkAgrees, EachReachedHasDownUnselected, EndsAgreed}
-pub use Rattle.lagprogress.specs.Limited.{IsLimitedBundle, StandsByOthers}
+pub use Rattle.lagprogress.specs.HostRounds.{AfterTick, AskingIsPlayed, Asks, AsksAfterTick, AsksIn, AtSomeWorld, Clearing, EventsAreOfHosts}
+pub use Rattle.lagprogress.specs.HostRounds.{HostRounds, IsBetweenTicks, IsHostRound, IsPlayed, IsPlayedAmong, IsQuiet, IsTickOf, NoneIsLeft}
+pub use Rattle.lagprogress.specs.HostRounds.{PlayedAmong, PlayedRounds, RoundIsHostRound, RoundsAreHostRounds, RunReplies, StepReplies, TickOnce}
+pub use Rattle.lagprogress.specs.HostRounds.{TickOnceAmong}
+pub use Rattle.lagprogress.specs.LateRounds.{ArriveIn, HostRoundIsLateRound, HostRoundsAreLateRounds, IsArrivalAt, IsLateRound, LateRounds, OldArrive}
 pub use Rattle.lagprogress.specs.Passing.{DeliverProcessesLacpdu, EmitSendsLacpdu, EndIsUp, IsHeardOn, IsSentOn}
 pub use Rattle.lagprogress.specs.Played.{Delivers, EachAgrees, EachDistributes, HasTooManyCables, IsOutOfMemoryOrSpent, IsReached, IsReady, LeadsTo}
 pub use Rattle.lagprogress.specs.Played.{NamesNoCable, NothingStaysHeld, PlaysPart, RefusesDelivery, RunsAll, RunsPart, found_nothing}
 pub use Rattle.lagprogress.specs.PlayedByHosts.{AsksEnds, AsksOrDelivers, AsksPort, DeliversAndAsks, EmptiesCables, PlaysBetween, PlaysHostPart}
 pub use Rattle.lagprogress.specs.PlayedByHosts.{PlaysHostRound, PlaysHostRounds, StopsBetween}
-pub use Rattle.lagprogress.specs.Progress.{ActiveEndsComeToKnow, EndKnows, EndsComeToKnow, Knows}
-pub use Rattle.lagprogress.specs.Rounds.{AtEnd, IsDeliver, IsHealthy, IsHealthyAt, IsRound, NothingInFlight, OfPort, Rounds, asks_all, asks_ends}
+pub use Rattle.lagprogress.specs.Progress.{Distributes, EndKnows, Knows}
+pub use Rattle.lagprogress.specs.Rounds.{AtEnd, IsDeliver, IsHealthyAt, IsRound, NothingInFlight, OfPort, Rounds, asks_all, asks_ends}
 pub use Rattle.lagprogress.specs.Rounds.{freed_if_both_active, freed_if_one_is, known_if_both_active, known_if_one_is, ticks_of_both}
 pub use Rattle.lagprogress.specs.Rounds.{up_if_both_active, up_if_one_is}
 pub use Rattle.lagprogress.specs.Shared.{AreOneGroup, DownWereLinkedTo, HasAggregators, LeadToKey}

@@ -6,12 +6,12 @@ use Rattle.lagprogress.proofs.Common.{Algorithms, WorldSteps, link_ends, ItemVal
 use Rattle.lagprogress.proofs.Common.{KeptBySettling, OfEach, Step-each, Tick-each, asked_each, AtPort, settling_leaves, runs_keep, takes_keep}
 use Rattle.lagprogress.proofs.Common.{LeavesPorts, Clearing, HostRounds, IsBetweenTicks, IsHostRound, IsPlayed, IsPlayedAmong, NoneIsLeft}
 use Rattle.lagprogress.proofs.Common.{PlayedAmong, PlayedRounds, IsRound, Rounds, IsSteady}
+use Rattle.lagprogress.proofs.Linked.{each_side, peer_twice}
 use Rattle.lagprogress.proofs.Quieting.{AllBeside, all_beside, calm_steady, calm_keeps, leaves_ends, runs_calm, quiet_ports}
 use Rattle.lagprogress.proofs.OneCable.{OnCable, cable, deliver_ends, emits, ticks}
 use Rattle.lagprogress.proofs.OneRound.{ticked}
 use Rattle.lagprogress.proofs.RoundEvents.{asked_half, came_half}
 use Rattle.lagprogress.proofs.HostRound.{KeptBeside, KeptBetween, MadeByTick, holds_beside, holds_on, of_side}
-use Rattle.lagprogress.proofs.Linked.{peer_twice, each_side}
 use Rattle.lagsystem.specs.declared.drive.Reply.TheVariants as answer
 use Rattle.lagscript.specs.declared.event.Event.TheVariants as event
 
@@ -140,6 +140,23 @@ module _ (May : HostEvent → Type 0) (E : Clearing) (gives : Algorithms) where
   among_then (suc m) n zero old mid new e h more = absurd (omega (arith, e))
   among_then (suc m) n (suc k) old mid new e h more = (more.0, among_then m n k old mid more.0 (omega (arith, e)) h more.1, more.2)
 
+-- what clears the cables so far, clears them less far
+pub clears_less : (E F : Clearing) → ((events : List HostEvent) (old new : WorldState) → E events old new → F events old new) → (gives : Algorithms)
+    (n : ℕ) (old new : WorldState) → PlayedRounds E gives n old new → PlayedRounds F gives n old new
+clears_less E F less gives zero old new h = h
+clears_less E F less gives (suc n) old new h = (
+  h.0,
+  clears_less E F less gives n old h.0 h.1,
+  record {
+    events = h.2.events;
+    replies = h.2.replies;
+    ticks = h.2.ticks;
+    acts = h.2.acts;
+    asked = h.2.asked;
+    empties = less h.2.events h.0 new h.2.empties;
+  },
+)
+
 module _ (E : Clearing) (gives : Algorithms) where
   pub played_on : (S : ℕ → WorldState → Type 0) (start : WorldState) → S 0 start
       → ((n : ℕ) (old new : WorldState) → IsPlayed E gives old new → S n old → S (n + 1) new)
@@ -185,9 +202,6 @@ hosts_split gives = played_split NoneIsLeft gives
 
 pub hosts_steady : (gives : Algorithms) (n : ℕ) (old new : WorldState) → IsSteady old → HostRounds gives n old new → IsSteady new
 hosts_steady gives = played_steady NoneIsLeft gives
-
-pub hosts_join : (gives : Algorithms) (n : ℕ) (old new : WorldState) → HostRounds gives n old new → map link_ends new.links ≡ map link_ends old.links
-hosts_join gives = played_join NoneIsLeft gives
 
 pub zero_on : (gives : Algorithms) (S : ℕ → WorldState → Type 0) (start : WorldState) → S 0 start
     → ((n : ℕ) (old new : WorldState) → IsRound gives old new → S n old → S (n + 1) new)

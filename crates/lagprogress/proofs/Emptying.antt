@@ -1,17 +1,19 @@
 -- A port of a healthy cable is drained of a conversation that is held on it.
 use Rattle.lagprogress.proofs.Common.{Bool, Err, IsSome, List, None, Ok, Option, Result, Some, [], ap, arith, cond, eqb, false, inl, inr, length, ltb}
 use Rattle.lagprogress.proofs.Common.{refl, subst, suc, sym, true, zero, ℕ, ◌&&◌, ◌+◌, ◌<◌, ◌==◌, ◌^◌, ◌∙◌, ◌∷◌, ◌≡◌, ◌≤◌, ◌⊎◌, cases_Bool, nat_tests}
-use Rattle.lagprogress.proofs.Common.{none-some, Vec, AggId, Choice, is_selected, Lacpdu, One, Side, peer, Machines, is_due, Assignment, after_tick}
-use Rattle.lagprogress.proofs.Common.{marker_due, IsConversation, Table, assignment_of, next_identifier, SystemFault, OffersIf, Offer, Receive, Step}
-use Rattle.lagprogress.proofs.Common.{Tick, Transmit, HostPromise, GivesOrRefuses, system_force_result, system_move_result, number_of_conversation}
-use Rattle.lagprogress.proofs.Common.{TransmitsAt, Set_max_delay, Settling, CallPromise, SystemState, machines_of, port_index, ports_table}
-use Rattle.lagprogress.proofs.Common.{settling_parts, found_place, Event, Reply, Algorithms, WorldSteps, side_of, ItemValue, WorldState, half}
-use Rattle.lagprogress.proofs.Common.{port_at, ForcesPort, HostEvent, HostSteps, Leaves, Offers, Plays, Probes, Sets, DrainingRounds, IsDrainingRound}
-use Rattle.lagprogress.proofs.Common.{IsNoMoveOf, AfterTick, AtSomeWorld, IsBetweenTicks, IsHostRound, IsQuiet, RunReplies, StepReplies, TickOnce}
-use Rattle.lagprogress.proofs.Common.{NothingInFlight, OfPort}
+use Rattle.lagprogress.proofs.Common.{none-some, Vec, AggId, Choice, is_selected, Lacpdu, IsCabling, One, Side, peer, Machines, is_due, Assignment}
+use Rattle.lagprogress.proofs.Common.{after_tick, marker_due, IsConversation, Table, assignment_of, next_identifier, SystemFault, OffersIf, Offer}
+use Rattle.lagprogress.proofs.Common.{Receive, Step, Tick, Transmit, HostPromise, GivesOrRefuses, system_force_result, system_move_result}
+use Rattle.lagprogress.proofs.Common.{number_of_conversation, TransmitsAt, Set_max_delay, Settling, CallPromise, SystemState, machines_of, port_index}
+use Rattle.lagprogress.proofs.Common.{ports_table, settling_parts, found_place, Event, Reply, Algorithms, WorldSteps, side_of, world_setup, ItemValue}
+use Rattle.lagprogress.proofs.Common.{WorldState, half, port_at, ForcesPort, HostEvent, HostSteps, Leaves, Offers, Plays, Probes, Sets}
+use Rattle.lagprogress.proofs.Common.{DrainingRounds, IsDrainingRound, IsNoMoveOf, AfterTick, AtSomeWorld, IsBetweenTicks, IsHostRound, IsQuiet}
+use Rattle.lagprogress.proofs.Common.{NoneIsLeft, RunReplies, StepReplies, TickOnce, OldArrive, NothingInFlight, OfPort}
+use Rattle.lagprogress.proofs.Quieting.{as_beside, IsCalm, calm_quiet, calm_timely, calm_keeps, leaves_link, leaves_quiet, quiet_cable, offered_half}
+use Rattle.lagprogress.proofs.Quieting.{moved_half, forced_half, Grown}
+use Rattle.lagprogress.proofs.Linked.{each_side, Fits, Link, asked_which, emit_any, peer_twice, EndPort, end_here, other_side}
+use Rattle.lagprogress.proofs.Holding.{has_on, Has, Fine, Flights, ticked_fine, IsMarker, asking, answering, offered_fine, forced_fine}
 use Rattle.lagprogress.proofs.Halves.{AreTimely}
-use Rattle.lagprogress.proofs.Quieting.{IsCalm, calm_quiet, calm_timely, calm_keeps, leaves_link, leaves_quiet, quiet_cable, offered_half, moved_half}
-use Rattle.lagprogress.proofs.Quieting.{forced_half, Grown}
 use Rattle.lagprogress.proofs.HostSteady.{aside, caller, delay_keeps, offers_half, leaves_half, rests_half, gives_next, forces_half, probes_half}
 use Rattle.lagprogress.proofs.HostSteady.{Probed}
 use Rattle.lagsystem.specs.declared.drive.HostCall.TheVariants as host
@@ -22,13 +24,12 @@ use Rattle.lagprogress.proofs.Climbing.{PartnerInSync, choice_along, partner_alo
 use Rattle.lagprogress.proofs.Delivering.{deliver_link}
 use Rattle.lagprogress.proofs.Draining.{after_tick_on, comes_fine, elsewhere_fine, peer_answers}
 use Rattle.lagprogress.proofs.EndFacts.{Along, activity, both_along}
-use Rattle.lagprogress.proofs.Holding.{Fine, Flights, Has, ticked_fine, IsMarker, asking, answering, has_on, offered_fine, forced_fine}
-use Rattle.lagprogress.proofs.Linked.{Fits, Link, asked_which, each_side, emit_any, peer_twice, EndPort, end_here, other_side}
 use Rattle.lagprogress.proofs.OneCable.{Arrives, Asks, OnCable, Went, asks, cable, came_off, delivers, emits, ticks, towards_there, Beside, push}
 use Rattle.lagprogress.proofs.OneCable.{puts, port_there}
 use Rattle.lagprogress.proofs.OneRound.{join, one_of_both, ticked, Nothing}
-use Rattle.lagprogress.proofs.Knowing.{AtIt, beside, awake_peer}
-use Rattle.lagprogress.proofs.HostKnowing.{FreshAt, fits_fresh, knows_peer, stays_fresh, fits_before}
+use Rattle.lagprogress.proofs.Knowing.{Met, AtIt, beside, awake_peer, fits_fresh, knows_late, stays_met, fits_before}
+use Rattle.lagprogress.proofs.LateLoops.{host_round_is_late_round}
+use Rattle.lagprogress.proofs.EachRound.{played_join}
 use Rattle.lagprogress.proofs.Claims.{IsNamed}
 use Rattle.lagprogress.proofs.HostRound.{left, fits_in, known_in, peer_holds, own_holds, none_ticked, Stages, of_side, MadeByTick, first_on}
 use Rattle.lagprogress.proofs.HostRound.{healthy_link, KeptWhere}
@@ -206,7 +207,7 @@ moved_elsewhere group moved agg conv (Ok state) a old new other h = h.1.0.states
 moved_elsewhere group moved agg conv (Err fault) a old new other h = ap (λ (t : SystemState). assignment_of t.table agg conv) h.1
 
 module _ (at : Side → ℕ) (w : Side → Lacpdu) (named : (t : Side) → IsNamed (w t)) (awake : (s : Side) → (activity (w s) ≡ true) ⊎ (activity (w (peer s)) ≡ true)) (s : Side)
-    (mac : List ℕ) (agg conv : ℕ) (c : Choice) (chosen : is_selected c ≡ true) (gives : Algorithms) where
+    (mac : List ℕ) (agg conv : ℕ) (c : Choice) (chosen : is_selected c ≡ true) (gives : Algorithms) (counts : Side → ℕ) (kept : Side → Bool) where
   abbrev pub Y : Machines → Type 0
   Y p = Steady at w s mac agg conv c p
 
@@ -548,7 +549,8 @@ module _ (at : Side → ℕ) (w : Side → Lacpdu) (named : (t : Side) → IsNam
 
   -- at the end of a round
   pub record Rests (m : ℕ) (W : Type 0) (j : WorldState) : Type 0 where
-    pub fresh : FreshAt at w 2 j
+    pub cabling : IsCabling (world_setup j).cables
+    pub fresh : Met at w counts kept 2 j
     pub steady : AtIt at w s Y j
     pub same : IsFixed j
     pub fine : FineIn m W (λ id. ⊥) (half s j).state.table
@@ -576,7 +578,9 @@ module _ (at : Side → ℕ) (w : Side → Lacpdu) (named : (t : Side) → IsNam
   round_rests : (m : ℕ) (W : Type 0) (old new : WorldState) → IsDrainingRound s agg conv gives old new → IsSome (next_identifier (half s new).state.table)
       → Rests m W old → Rests (m + 1) ⊥ new
   round_rests m W old new q one_left rests = record {
-    fresh = stays_fresh at w named awake gives 2 old new (omega arith) h g;
+    cabling = subst IsCabling (sym (played_join NoneIsLeft gives 1 old new (old, refl, h))) rests.cabling;
+    fresh = stays_met at w counts kept gives named awake 2 old new (omega arith)
+        (as_beside at OldArrive gives old new (host_round_is_late_round gives old new rests.cabling h)) g;
     steady = beside at w 2 (kn false false) s Y new end.link;
     same = end.same;
     fine = fine_in_map at w s mac agg conv (m + 1) ⊥ ⊥ (Flights s (at s) mac end.flying) (λ id. ⊥) (half s new).state.table (λ x. x)
@@ -586,20 +590,21 @@ module _ (at : Side → ℕ) (w : Side → Lacpdu) (named : (t : Side) → IsNam
       h : IsHostRound gives old new
       h = q.round
 
-      g : FreshAt at w 2 old
+      g : Met at w counts kept 2 old
       g = rests.fresh
 
       kn : Bool → Bool → Side → ℕ
       kn = known_in g.known s
 
       long : (t : Side) → 2 ≤ g.known t
-      long t = knows_peer at w 2 old g t
+      long t = knows_late at w counts kept 2 old g t
 
       fits : (a b : Bool) → Fits 2 w (kn a b)
-      fits = fits_in 2 w g.known s (fits_before at w named awake 2 old g (omega arith)) (fits_fresh at w named awake 2 old g (omega arith))
+      fits = fits_in 2 w g.known s (fits_before at w counts kept named awake 2 old g (omega arith))
+          (fits_fresh at w counts kept named awake 2 old g (omega arith))
 
       then : Fits 2 w (ticked g.known)
-      then = fits_fresh at w named awake 2 old g (omega arith)
+      then = fits_fresh at w counts kept named awake 2 old g (omega arith)
 
       some : (a : Bool) (n : ℕ) → 2 ≤ n → 1 ≤ left a n
       some true n l = omega (arith, l)

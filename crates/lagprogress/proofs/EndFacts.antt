@@ -1,14 +1,27 @@
 -- What ticks, receipts and settlings leave of a port at an end of a cable whose other end sends LACPDUs of one kind.
 use Rattle.lagprogress.proofs.Common.{Bool, ap, arith, false, if◌then◌else◌, inl, inr, not, refl, subst, sym, true, ℕ, ◌&&◌, ◌-◌, ◌==◌, ◌||◌, ◌∙◌}
-use Rattle.lagprogress.proofs.Common.{◌≡◌, ◌≤◌, ◌⊎◌, nat_tests, Choice, Unselected, StateBits, is_selected, same_party, bits_of, party_itself, Lacpdu}
-use Rattle.lagprogress.proofs.Common.{party_of, MuxState, Detached, Waiting, Expired, Machines, is_synchronized, mux_rows, partner_synchronized}
-use Rattle.lagprogress.proofs.Common.{same_mux_state, RunsPeriodic, periodic_rows, is_maintained, lacpdu_rows, receive_rows, recorded_synchronization}
-use Rattle.lagprogress.proofs.Common.{same_receive_state, AtRest, RunsToRest, count_down, ProcessesLacpdu, can_receive, can_receive_in, HasRecorded}
-use Rattle.lagprogress.proofs.Common.{timeout_time, KeptBySettling, EnabledKeep, no, not_down, times_keep, Known, counts, decoded, receive_known}
-use Rattle.lagprogress.proofs.Common.{recorded, AtPort, mux_leaves, periodic_leaves, Calm, Sounds, counts_sounds, mux_sounds, not_silent}
-use Rattle.lagprogress.proofs.Common.{periodic_runs, RowsKeep, runs_keep, takes_keep}
-use Rattle.lagbeside.proofs.Heartbeat.{raised}
+use Rattle.lagprogress.proofs.Common.{◌≡◌, ◌≤◌, ◌⊎◌, nat_tests, Choice, Unselected, StateBits, is_selected, same_party, bits_of, party_itself}
+use Rattle.lagprogress.proofs.Common.{encode_then_decode, Lacpdu, party_of, MuxState, CollectingDistributing, Detached, Waiting, Expired, Machines}
+use Rattle.lagprogress.proofs.Common.{is_synchronized, mux_rows, partner_synchronized, same_mux_state, RunsPeriodic, periodic_rows, is_maintained}
+use Rattle.lagprogress.proofs.Common.{lacpdu_rows, receive_rows, recorded_synchronization, same_receive_state, AtRest, RunsToRest, count_down, pdu_of}
+use Rattle.lagprogress.proofs.Common.{ProcessesLacpdu, can_receive, can_receive_in, HasRecorded, timeout_time, KeptBySettling, EnabledKeep, no}
+use Rattle.lagprogress.proofs.Common.{not_down, times_keep, Known, counts, decoded, receive_known, recorded, AtPort, mux_leaves, periodic_leaves}
+use Rattle.lagprogress.proofs.Common.{Calm, Sounds, counts_sounds, mux_sounds, not_silent, periodic_runs, RowsKeep, runs_keep, takes_keep}
 use Rattle.lagbeside.proofs.Knowing.{receives}
+use Rattle.lagbeside.proofs.Heartbeat.{raised}
+
+-- the bits of an LACPDU that a port sends
+pub said_bits : (p : Machines) → bits_of (pdu_of p 0).actor.state ≡ record {
+  activity = p.active;
+  timeout = p.short;
+  aggregation = p.party.aggregatable;
+  synchronization = is_synchronized p.mux;
+  collecting = same_mux_state CollectingDistributing p.mux;
+  distributing = same_mux_state CollectingDistributing p.mux;
+  defaulted = p.defaulted;
+  expired = p.expired;
+}
+said_bits p = encode_then_decode _
 
 -- Activity and Timeout of the actor of an LACPDU
 abbrev pub activity : Lacpdu → Bool

@@ -1,28 +1,30 @@
 -- No conversation that is not moved stays held on a port of a healthy cable of a bundle.
-use Rattle.lagprogress.proofs.HostKnowing.{host_signs}
-use Rattle.lagprogress.proofs.Common.{List, None, Option, Some, [], ap, arith, inl, inr, length, refl, subst, suc, sym, zero, ℕ, ◌++◌, ◌+◌, ◌-◌, ◌<◌}
-use Rattle.lagprogress.proofs.Common.{◌∙◌, ◌∷◌, ◌≡◌, ◌≤◌, ◌⊎◌, nat_tests, none-some, same_Some, AllByRecursion, all-append, One, Side, peer, value_of}
-use Rattle.lagprogress.proofs.Common.{Assignment, Flushing, On, Wanted, after_mark, after_release, after_tick, IsConversation, assignment_of}
-use Rattle.lagprogress.proofs.Common.{held_unless_on, SystemState, Event, Reply, Algorithms, WorldSteps, side_of, LinkState, WorldState, half}
-use Rattle.lagprogress.proofs.Common.{port_at, AtPort, Turning, Turns, asks_turn, comes_turn, same_turns, ticks_turn, turns_through, BothAreActive}
-use Rattle.lagprogress.proofs.Common.{IsBundle, OneIsActive, CarriersAreUp, HasIdentifierLeft, IsNotHeld, IsNotHeldOn, NoneIsHeld, NoneIsHeldOn}
-use Rattle.lagprogress.proofs.Common.{NoneIsHeldOnEnds, NothingIsHeld, carrier_of, held_on, DrainingRounds, NoneIsHeldOnEndsByHosts}
-use Rattle.lagprogress.proofs.Common.{NothingIsHeldByHosts, HostRounds, NoneIsLeft, IsDeliver, IsHealthyAt, IsRound, Rounds, asks_all}
-use Rattle.lagprogress.proofs.Common.{freed_if_both_active, freed_if_one_is, ticks_of_both, up_if_both_active, up_if_one_is, IsSteady}
+use Rattle.lagprogress.proofs.Common.{List, None, Option, Some, [], ap, arith, inl, inr, length, refl, subst, sym, ℕ, ◌++◌, ◌+◌, ◌-◌, ◌<◌, ◌∙◌, ◌∷◌}
+use Rattle.lagprogress.proofs.Common.{◌≡◌, ◌≤◌, ◌⊎◌, nat_tests, none-some, same_Some, AllByRecursion, all-append, IsCabling, One, Side, peer}
+use Rattle.lagprogress.proofs.Common.{value_of, Assignment, Flushing, On, Wanted, after_mark, after_release, after_tick, IsConversation}
+use Rattle.lagprogress.proofs.Common.{assignment_of, held_unless_on, SystemState, Event, Reply, Algorithms, WorldSteps, side_of, LinkState}
+use Rattle.lagprogress.proofs.Common.{WorldState, half, port_at, AtPort, Turning, Turns, asks_turn, comes_turn, same_turns, ticks_turn, turns_through}
+use Rattle.lagprogress.proofs.Common.{BothAreActive, IsBundle, OneIsActive, CarriersAreUp, HasIdentifierLeft, IsNotHeldOn, NoneIsHeld, NoneIsHeldOn}
+use Rattle.lagprogress.proofs.Common.{NothingIsHeld, carrier_of, held_on, DrainingRounds, NoneIsHeldOnEndsByHosts, NothingIsHeldByHosts, Clearing}
+use Rattle.lagprogress.proofs.Common.{HostRounds, IsBetweenTicks, NoneIsLeft, PlayedRounds, LateRounds, OldArrive, IsDeliver, IsHealthyAt, IsRound}
+use Rattle.lagprogress.proofs.Common.{Rounds, asks_all, freed_if_both_active, freed_if_one_is, ticks_of_both, up_if_both_active, up_if_one_is}
+use Rattle.lagprogress.proofs.Common.{IsSteady}
+use Rattle.lagprogress.proofs.Lasting.{played_before, still_heard}
+use Rattle.lagprogress.proofs.LateLoops.{host_rounds_are_late_rounds}
+use Rattle.lagprogress.proofs.LateStart.{counts_of, kept_of}
+use Rattle.lagprogress.proofs.EachRound.{among_then, played_join, played_steady, splits, zero_on, hosts_steady, played_keep}
+use Rattle.lagprogress.proofs.Bundling.{MeetsBy, Nowhere, awake_of, both_active, one_active, said, ups_of, named_of}
+use Rattle.lagprogress.proofs.Linked.{each_side, each_both, each_map, at_end, end_here, runs_all}
 use Rattle.lagprogress.proofs.OneCable.{ticks}
 use Rattle.lagprogress.proofs.RoundEvents.{asked_half, came_half}
-use Rattle.lagprogress.proofs.Bundling.{Meets, Nowhere, awake_of, both_active, one_active, said, ups_of, named_of}
 use Rattle.lagprogress.proofs.Climbing.{PartnerInSync}
-use Rattle.lagprogress.proofs.ComingUp.{Up, told_now}
-use Rattle.lagprogress.proofs.EachRound.{splits, zero_on, hosts_steady, played_keep}
+use Rattle.lagprogress.proofs.ComingUp.{told_now}
 use Rattle.lagprogress.proofs.Emptying.{rounds_rest}
 use Rattle.lagprogress.proofs.Holding.{Fine}
-use Rattle.lagprogress.proofs.Linked.{each_both, each_map, at_end, end_here, runs_all, each_side}
 use Rattle.lagprogress.proofs.OneRound.{Nothing}
 use Rattle.lagprogress.proofs.HostRound.{left}
 use Rattle.lagprogress.proofs.HostLoops.{draining_are_host, rounds_are_host_rounds, rounds_are_draining}
 use Rattle.lagscript.specs.declared.event.Event.TheVariants as event
-use Rattle.lagprogress.proofs.Lasting.{as_before, still_heard}
 
 -- at first a marker may be wanted, and any response may be waited for
 fine_first : (p : ℕ) (a : Assignment) → Fine p 0 (Unit {0}) (λ id. ⊥) a
@@ -53,65 +55,54 @@ was_there gives n old new s g k steady h is =
     (later s).0.conversations ∙ (cols ∙ sym (steady s).0.conversations) in
     (is.0, subst (λ x. g ≤ x) rows is.1, subst (λ x. k < x) each is.2)
 
-module _ (Holds : LinkState → WorldState → Type 0) (Other : Side → ℕ → Type 0) (first : ℕ) (gives : Algorithms) (old : WorldState)
-    (b : Meets Holds Other first gives old) where
-  pub freed_by : (i : ℕ) (l : LinkState) (y : IsHealthyAt i l old) (n m : ℕ) (mid new : WorldState) (s : Side) (g k : ℕ) → first + 31 ≤ n
-      → HostRounds gives n old mid → 30 ≤ m → DrainingRounds s g k gives m mid new → HasIdentifierLeft (half s new).state
+module _ (E : Clearing) (Holds : LinkState → WorldState → Type 0) (Other : Side → ℕ → Type 0) (first : ℕ) (gives : Algorithms) (old : WorldState)
+    (b : MeetsBy E Holds Other first gives old) where
+  pub freed_by : (i : ℕ) (l : LinkState) (y : IsHealthyAt i l old) (n m : ℕ) (mid new : WorldState) (s : Side) (g k : ℕ) → first + 33 ≤ n
+      → PlayedRounds E gives n old mid → 30 ≤ m → DrainingRounds s g k gives m mid new → HasIdentifierLeft (half s new).state
       → IsNotHeldOn (port_at s l) g k (half s new).state
-  freed_by i l y n m mid new s q r enough h late more left is =
-      from mid (hosts_steady gives n old mid b.steady h) (ups_of Holds Other first gives old b i l y n mid enough h) m late more
-    where
-      from : (j : WorldState) → IsSteady j → Up (λ t. port_at t l) (said old i l y) j
-          → (k : ℕ) → 30 ≤ k → DrainingRounds s q r gives k j new
-          → held_on (assignment_of (half s new).state.table q r) ≡ Some (port_at s l) → ⊥
-      from j stable up k late rounds held =
-          let w = said old i l y in
-          let named = named_of Holds Other first gives old b i l y in
-          let awake = awake_of Holds Other first gives old b i l y in
-          let g = up.2.fresh in
-          let e = end_here (λ t. port_at t l) w 2 g.known One Nothing j g.link s in
-          let c = e.port.port.choice in
-          let chosen = (e.is.2 (omega arith)).0 in
-          let st = (half s j).state in
-          let choice = at_end (λ t. port_at t l) w 2 g.known s j e g.link.steady (λ p. p.choice ≡ c) refl in
-          let heard = told_now (λ t. port_at t l) w (host_signs (λ t. port_at t l) w) 0 up.0 j up.1 up.2 s in
-          let steady = each_map (λ q p. AtPort (port_at s l) PartnerInSync q p × AtPort (port_at s l) (λ p. p.choice ≡ c) q p)
-          (AtPort (port_at s l) (λ p. PartnerInSync p × (p.choice ≡ c))) (λ q p a f. (a.0 f, a.1 f)) st.system_ports
-          (each_both (AtPort (port_at s l) PartnerInSync) (AtPort (port_at s l) (λ p. p.choice ≡ c)) st.system_ports heard choice) in
-          let was = was_there gives k j new s q r stable (draining_are_host gives s q r k j new rounds) is in
-          let rests = rounds_rest (λ t. port_at t l) w named awake s st.system.mac q r c chosen gives k j new (omega (arith, late)) left (record {
-            fresh = g;
-            steady = steady;
-            same = record { own = refl; there = was };
-            fine = fine_first (port_at s l) (assignment_of st.table q r);
-          }) rounds in
-          fine_last (port_at s l) k late (assignment_of (half s new).state.table q r) rests.fine held
-
-  -- and in healthy rounds
-  pub freed_of : (i : ℕ) (l : LinkState) (y : IsHealthyAt i l old) (n : ℕ) (new : WorldState) (s : Side) → first + 61 ≤ n
-      → Rounds gives n old new → HasIdentifierLeft (half s new).state → NoneIsHeldOn (port_at s l) (half s new).state
-  freed_of i l y n new s enough h left q r =
-      let m = first + 31 in
-      let cut = splits gives (n - m) m n old new (omega (arith, enough)) h in
-      let hosts = rounds_are_host_rounds gives m old cut.0 b.steady cut.1 in
-      freed_by i l y m (n - m) cut.0 new s q r (omega arith) hosts (omega (arith, enough))
-      (rounds_are_draining gives s q r (n - m) cut.0 new (hosts_steady gives m old cut.0 b.steady hosts) cut.2) left
+  freed_by i l y n m mid new s q r enough h late rounds left is held =
+      let at : Side → ℕ = λ t. port_at t l in
+      let w = said old i l y in
+      let up = ups_of E Holds Other first gives old b i l y n mid enough h in
+      let g = up.2.fresh in
+      let e = end_here at w 2 g.known One Nothing mid g.link s in
+      let c = e.port.port.choice in
+      let chosen = (e.is.2 (omega arith)).0 in
+      let st = (half s mid).state in
+      let choice = at_end at w 2 g.known s mid e g.link.steady (λ p. p.choice ≡ c) refl in
+      let heard = told_now at w (counts_of at old) (kept_of at old) up.0 mid up.1 up.2 s in
+      let steady = each_map (λ q p. AtPort (at s) PartnerInSync q p × AtPort (at s) (λ p. p.choice ≡ c) q p)
+      (AtPort (at s) (λ p. PartnerInSync p × (p.choice ≡ c))) (λ q p a f. (a.0 f, a.1 f)) st.system_ports
+      (each_both (AtPort (at s) PartnerInSync) (AtPort (at s) (λ p. p.choice ≡ c)) st.system_ports heard choice) in
+      let was = was_there gives m mid new s q r (played_steady E gives n old mid b.steady h) (draining_are_host gives s q r m mid new rounds) is in
+      let rests = rounds_rest at w (named_of E Holds Other first gives old b i l y) (awake_of E Holds Other first gives old b i l y) s st.system.mac q r
+      c chosen gives (counts_of at old) (kept_of at old) m mid new (omega (arith, late)) left (record {
+        cabling = subst IsCabling (sym (played_join E gives n old mid h)) b.cabling;
+        fresh = g;
+        steady = steady;
+        same = record { own = refl; there = was };
+        fine = fine_first (at s) (assignment_of st.table q r);
+      }) rounds in
+      fine_last (at s) m late (assignment_of (half s new).state.table q r) rests.fine held
 
 pub none_is_held_on_ends_by_hosts : (gives : Algorithms) → NoneIsHeldOnEndsByHosts OneIsActive up_if_one_is gives
-none_is_held_on_ends_by_hosts gives n m i l old mid new s g k b y enough h late more left =
-    freed_by OneIsActive Nowhere 621 gives old (one_active gives old b) i l y n m mid new s g k (omega (arith, enough)) h late more left
+none_is_held_on_ends_by_hosts gives n m i l old mid new s g k b y enough h late more left = freed_by OldArrive OneIsActive Nowhere 624 gives old
+    (one_active gives old b) i l y n m mid new s g k (omega (arith, enough)) h late more left
 
 pub none_is_held_on_active_ends_by_hosts : (gives : Algorithms) → NoneIsHeldOnEndsByHosts BothAreActive up_if_both_active gives
-none_is_held_on_active_ends_by_hosts gives n m i l old mid new s g k b y enough h late more left =
-    freed_by BothAreActive Nowhere 321 gives old (both_active gives old b) i l y n m mid new s g k (omega (arith, enough)) h late more left
+none_is_held_on_active_ends_by_hosts gives n m i l old mid new s g k b y enough h late more left = freed_by OldArrive BothAreActive Nowhere 323 gives old
+    (both_active gives old b) i l y n m mid new s g k (omega (arith, enough)) h late more left
 
-pub none_is_held_on_ends : (gives : Algorithms) → NoneIsHeldOnEnds OneIsActive freed_if_one_is gives
-none_is_held_on_ends gives n i l old new s b y enough h left =
-    freed_of OneIsActive Nowhere 621 gives old (one_active gives old b) i l y n new s (omega (arith, enough)) h left
-
-pub none_is_held_on_active_ends : (gives : Algorithms) → NoneIsHeldOnEnds BothAreActive freed_if_both_active gives
-none_is_held_on_active_ends gives n i l old new s b y enough h left =
-    freed_of BothAreActive Nowhere 321 gives old (both_active gives old b) i l y n new s (omega (arith, enough)) h left
+-- and in healthy rounds, which are such rounds
+none_held : (Holds : LinkState → WorldState → Type 0) (least : ℕ) (gives : Algorithms) → NoneIsHeldOnEndsByHosts Holds least gives → (n i : ℕ)
+    (l : LinkState) (old new : WorldState) (s : Side) → IsBundle Holds old → IsHealthyAt i l old → least + 30 ≤ n → Rounds gives n old new
+    → HasIdentifierLeft (half s new).state → NoneIsHeldOn (port_at s l) (half s new).state
+none_held Holds least gives by n i l old new s b y enough h left q r =
+    let cut = splits gives (n - least) least n old new (omega (arith, enough)) h in
+    let hosts = rounds_are_host_rounds gives least old cut.0 b.steady cut.1 in
+    by least (n - least) i l old cut.0 new s q r b y (omega arith) (host_rounds_are_late_rounds gives least old cut.0 b.cabling hosts)
+    (omega (arith, enough))
+    (rounds_are_draining gives s q r (n - least) cut.0 new (hosts_steady gives least old cut.0 b.steady hosts) cut.2) left
 
 -- what carries a conversation in a round
 
@@ -235,40 +226,38 @@ nothing_held Holds gives n old new s b carriers h none g k is = by_port (held_on
 
 pub nothing_is_held : (gives : Algorithms) → NothingIsHeld OneIsActive freed_if_one_is gives
 nothing_is_held gives n old new s b carriers enough h left = nothing_held OneIsActive gives n old new s b carriers h
-    (λ i l y. none_is_held_on_ends gives n i l old new s b y enough h left)
+    (λ i l y. none_held OneIsActive up_if_one_is gives (none_is_held_on_ends_by_hosts gives) n i l old new s b y enough h left)
 
 pub none_is_held_where_active : (gives : Algorithms) → NothingIsHeld BothAreActive freed_if_both_active gives
 none_is_held_where_active gives n old new s b carriers enough h left = nothing_held BothAreActive gives n old new s b carriers h
-    (λ i l y. none_is_held_on_active_ends gives n i l old new s b y enough h left)
+    (λ i l y. none_held BothAreActive up_if_both_active gives (none_is_held_on_active_ends_by_hosts gives) n i l old new s b y enough h left)
 
 -- so it is by rounds of hosts
 
-hosts_then : (gives : Algorithms) (n m : ℕ) (old mid new : WorldState) → HostRounds gives n old mid → HostRounds gives m mid new
-    → (k : ℕ) × HostRounds gives k old new
-hosts_then gives n zero old mid new h more = (n, subst (HostRounds gives n old) (sym more) h)
-hosts_then gives n (suc m) old mid new h more = let r = hosts_then gives n m old mid more.0 h more.1 in (suc r.0, (more.0, r.1, more.2))
-
-nothing_held_by_hosts : (Holds : LinkState → WorldState → Type 0) (gives : Algorithms) (n : ℕ) (old new : WorldState) (s : Side) (g k : ℕ)
-    → IsBundle Holds old → HostRounds gives n old new → CarriersAreUp (half s new).state
-    → ((i : ℕ) (l : LinkState) → IsHealthyAt i l old → IsNotHeldOn (port_at s l) g k (half s new).state) → IsNotHeld g k (half s new).state
-nothing_held_by_hosts Holds gives n old new s g k b h carriers none is = by_port (held_on (assignment_of (half s new).state.table g k)) refl
+nothing_held_by_hosts : (Holds : LinkState → WorldState → Type 0) (least : ℕ) (gives : Algorithms) → NoneIsHeldOnEndsByHosts Holds least gives
+    → NothingIsHeldByHosts Holds least gives
+nothing_held_by_hosts Holds least gives by n m old mid new s g k b enough h late more left carriers is =
+    by_port (held_on (assignment_of (half s new).state.table g k)) refl
   where
+    -- some late rounds, and then rounds of hosts
+    before : (r : ℕ) × LateRounds gives r old new
+    before = (
+      m + n,
+      among_then IsBetweenTicks OldArrive gives m n (m + n) old mid new refl h (host_rounds_are_late_rounds gives m mid new
+          (subst IsCabling (sym (played_join OldArrive gives n old mid h)) b.cabling) (draining_are_host gives s g k m mid new more)),
+    )
+
     by_port : (o : Option ℕ) → held_on (assignment_of (half s new).state.table g k) ≡ o → held_on (assignment_of (half s new).state.table g k) ≡ None
     by_port None e = e
     by_port (Some p) e =
         let up = carriers g k p is (held_carries (assignment_of (half s new).state.table g k) p e) in
-        let it = still_heard Holds s old new (as_before gives n old new b.steady h s) b.heard up.0 up.1 up.2 up.4 in
+        let it = still_heard Holds s old new (played_before OldArrive gives before.0 old new b.steady before.1 s) b.heard up.0 up.1 up.2 up.4 in
         let number : port_at s it.link ≡ p = it.joins ∙ up.3 in
-        absurd (none it.index it.link it.healthy is (e ∙ ap (λ (q : ℕ). Some q) (sym number)))
+        absurd (by n m it.index it.link old mid new s g k b it.healthy enough h late more left is (e ∙ ap (λ (q : ℕ). Some q) (sym number)))
 
 pub nothing_is_held_by_hosts : (gives : Algorithms) → NothingIsHeldByHosts OneIsActive up_if_one_is gives
-nothing_is_held_by_hosts gives n m old mid new s g k b enough h late more left carriers =
-    let all = hosts_then gives n m old mid new h (draining_are_host gives s g k m mid new more) in
-    nothing_held_by_hosts OneIsActive gives all.0 old new s g k b all.1 carriers
-    (λ i l y. none_is_held_on_ends_by_hosts gives n m i l old mid new s g k b y enough h late more left)
+nothing_is_held_by_hosts gives = nothing_held_by_hosts OneIsActive up_if_one_is gives (none_is_held_on_ends_by_hosts gives)
 
 pub none_is_held_where_active_by_hosts : (gives : Algorithms) → NothingIsHeldByHosts BothAreActive up_if_both_active gives
-none_is_held_where_active_by_hosts gives n m old mid new s g k b enough h late more left carriers =
-    let all = hosts_then gives n m old mid new h (draining_are_host gives s g k m mid new more) in
-    nothing_held_by_hosts BothAreActive gives all.0 old new s g k b all.1 carriers
-    (λ i l y. none_is_held_on_active_ends_by_hosts gives n m i l old mid new s g k b y enough h late more left)
+none_is_held_where_active_by_hosts gives =
+    nothing_held_by_hosts BothAreActive up_if_both_active gives (none_is_held_on_active_ends_by_hosts gives)

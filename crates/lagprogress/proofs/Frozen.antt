@@ -5,21 +5,22 @@ use Rattle.lagprogress.proofs.Common.{Machines, receive_rows, RunsToRest, count_
 use Rattle.lagprogress.proofs.Common.{OnlyPortChangesBy, ProcessesLacpdu, Receive, ReceivesAt, Step, ThenSettles, Tick, configured_numbers}
 use Rattle.lagprogress.proofs.Common.{none_enabled, CallPromise, SystemState, aggregators_value, port_index, port_numbers, processes_or_stays, rests}
 use Rattle.lagprogress.proofs.Common.{all-get, found_place, Reply, Algorithms, WorldSteps, LinkState, WorldState, half, port_at, towards, HostEvent}
-use Rattle.lagprogress.proofs.Common.{Plays, OfEach, asked_each, AtPort, AllHeard, EndsHealthyCable, HostRounds, IsHostRound, IsQuiet, StepReplies}
-use Rattle.lagprogress.proofs.Common.{IsHealthyAt, IsSteady}
-use Rattle.lagprogress.proofs.Quieting.{IsCalm, calm_quiet, calm_steady, calm_keeps, leaves_link, leaves_quiet, quiet_ports}
+use Rattle.lagprogress.proofs.Common.{Plays, OfEach, asked_each, AtPort, AllHeard, EndsHealthyCable, IsQuiet, StepReplies, IsLateRound, LateRounds}
+use Rattle.lagprogress.proofs.Common.{OldArrive, IsHealthyAt, IsSteady}
+use Rattle.lagprogress.proofs.EachRound.{played_on, EachAt, asks_each, delivers_each, tick_keeps}
+use Rattle.lagprogress.proofs.LateStart.{counts_of, kept_of}
+use Rattle.lagprogress.proofs.Quieting.{as_beside, IsCalm, calm_quiet, calm_steady, calm_keeps, leaves_link, leaves_quiet, quiet_ports}
+use Rattle.lagprogress.proofs.Knowing.{Fresh, fits_fresh, fits_before, knows_late, stays_met}
+use Rattle.lagprogress.proofs.Linked.{each_side, EndIs, Fits, IsGood, Link, arrival, emit_any}
 use Rattle.lagprogress.proofs.Bundling.{Awake, said, Named, names}
 use Rattle.lagprogress.proofs.Choosing.{AllAsRead, AsRead, Chose, down_as_read, down_still, one_as_read, settles_choice, takes_as_read, zip_as_read}
 use Rattle.lagprogress.proofs.Climbing.{ticks_still}
 use Rattle.lagprogress.proofs.Delivering.{deliver_link}
-use Rattle.lagprogress.proofs.EachRound.{EachAt, asks_each, delivers_each, hosts_on, tick_keeps}
 use Rattle.lagprogress.proofs.EndFacts.{nothing_along}
 use Rattle.lagprogress.proofs.Halves.{keeps_steady}
-use Rattle.lagprogress.proofs.Linked.{EndIs, Fits, IsGood, Link, arrival, emit_any, each_side}
 use Rattle.lagprogress.proofs.OneCable.{Comes, alone, cable, towards_there, ticks}
 use Rattle.lagprogress.proofs.OneRound.{Nothing}
 use Rattle.lagprogress.proofs.RoundEvents.{asked_half, came_half}
-use Rattle.lagprogress.proofs.HostKnowing.{Fresh, fits_fresh, knows_peer, stays_fresh, fits_before}
 use Rattle.lagprogress.proofs.HostRound.{KeptBetween, MadeByTick, fits_in, holds_on, known_in, left, none_ticked, of_side, tick_one}
 use Rattle.slowpdu.specs.declared.pdu.Pdu.TheVariants as pdu
 use Rattle.lagsystem.specs.declared.drive.Reply.TheVariants as answer
@@ -33,7 +34,7 @@ module _ (Holds : LinkState → WorldState → Type 0) (gives : Algorithms) (old
   OfCables X = (i : ℕ) (l : LinkState) (y : IsHealthyAt i l old) → X i l y
 
   abbrev pub AllFresh : WorldState → Type 0
-  AllFresh j = OfCables (λ i l y. Fresh (λ t. port_at t l) (said old i l y) j)
+  AllFresh j = OfCables (λ i l y. Fresh (λ t. port_at t l) (said old i l y) old j)
 
   abbrev Known : Type 0
   Known = OfCables (λ i l y. Side → ℕ)
@@ -250,7 +251,7 @@ module _ (Holds : LinkState → WorldState → Type 0) (gives : Algorithms) (old
               (λ a. subst (λ (z : SystemState). OfEach (Chose x.number x.port.choice) z.system_ports) (sym k.peers) a) u (d.chose u m x e);
         }
 
-    choice_round : (from i j : WorldState) → IsHostRound gives i j → AllFresh i → Stands i → AllChose from i
+    choice_round : (from i j : WorldState) → IsLateRound gives i j → AllFresh i → Stands i → AllChose from i
         → Stands j × AllChose from j
     choice_round from i j h fresh s chose =
         let end = holds_on gives One (λ a b. Mid (kn a b) from) (λ a b. between (kn a b) from (fits a b))
@@ -267,7 +268,7 @@ module _ (Holds : LinkState → WorldState → Type 0) (gives : Algorithms) (old
         link x l y = (fresh x l y).link
 
         long : OfCables (λ x l y. (t : Side) → 2 ≤ (fresh x l y).known t)
-        long x l y t = knows_peer (λ u. port_at u l) (said old x l y) 1 i (fresh x l y) t
+        long x l y t = (let at : Side → ℕ = λ u. port_at u l in knows_late at (said old x l y) (counts_of at old) (kept_of at old) 1 i (fresh x l y) t)
 
         some_left : (a : Bool) (n : ℕ) → 2 ≤ n → 1 ≤ left a n
         some_left true n l = omega (arith, l)
@@ -277,17 +278,19 @@ module _ (Holds : LinkState → WorldState → Type 0) (gives : Algorithms) (old
         fits a b x l y = let at : Side → ℕ = λ t. port_at t l in
             let w = said old x l y in
             let g = fresh x l y in (
-              fits_in 1 w g.known One (fits_before at w (named start x l y) (wakes x l y) 1 i g (omega arith))
-                  (fits_fresh at w (named start x l y) (wakes x l y) 1 i g (omega arith)) a b,
+              fits_in 1 w g.known One (fits_before at w (counts_of at old) (kept_of at old) (named start x l y) (wakes x l y) 1 i g (omega arith))
+                  (fits_fresh at w (counts_of at old) (kept_of at old) (named start x l y) (wakes x l y) 1 i g (omega arith)) a b,
               each_side (λ t. 1 ≤ kn a b x l y t) One (some_left a (g.known One) (long x l y One)) (some_left b (g.known Two) (long x l y Two)),
             )
 
     -- so many rounds
-    pub choice_rounds : (n : ℕ) (from j : WorldState) → AllFresh from → Stands from → AllChose from from → HostRounds gives n from j
+    pub choice_rounds : (n : ℕ) (from j : WorldState) → AllFresh from → Stands from → AllChose from from → LateRounds gives n from j
         → AllFresh j × Stands j × AllChose from j
-    choice_rounds n from j fresh s chose h = hosts_on gives (λ m k. AllFresh k × Stands k × AllChose from k) from (fresh, s, chose)
+    choice_rounds n from j fresh s chose h = played_on OldArrive gives (λ m k. AllFresh k × Stands k × AllChose from k) from (fresh, s, chose)
         (λ m a b q d. (let e = choice_round from a b q d.0 d.1 d.2 in (
-          λ x l y. stays_fresh (λ t. port_at t l) (said old x l y) (named start x l y) (wakes x l y) gives 1 a b (omega arith) q (d.0 x l y),
+          λ x l y. (let at : Side → ℕ = λ t. port_at t l in
+              stays_met at (said old x l y) (counts_of at old) (kept_of at old) gives (named start x l y) (wakes x l y) 1 a b (omega arith)
+              (as_beside at OldArrive gives a b q) (d.0 x l y)),
           e.0,
           e.1,
         ))) n j h

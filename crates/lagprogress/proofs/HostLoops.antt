@@ -6,18 +6,20 @@ use Rattle.lagprogress.proofs.Common.{is_due, Assignment, Flushing, Wanted, afte
 use Rattle.lagprogress.proofs.Common.{count_conversations, next_identifier, SystemFault, SystemPort, Step, Transmit, SendsMarkerOf, TransmitsAt}
 use Rattle.lagprogress.proofs.Common.{TransmitsIf, SystemState, machines_of, port_index, all-get, found_place, ports_rise, Event, Reply}
 use Rattle.lagprogress.proofs.Common.{AfterTransmit, Algorithms, WorldEmits, WorldRuns, sent_reply, side_of, payload_in, HalfState, LinkState}
-use Rattle.lagprogress.proofs.Common.{WorldState, half, is_accepted, port_at, with_half, half_there, HostEvent, HostRuns, HostSteps, Plays, OfEach}
-use Rattle.lagprogress.proofs.Common.{Tick-each, placed, AtPort, at_number, AskingInVainIsDraining, AsksInVain, AsksInVainAfterTick, DrainingRounds}
-use Rattle.lagprogress.proofs.Common.{IsNoMoveOf, NothingIsDue, RoundIsDraining, sent_nothing, AfterTick, AskingIsHostRound, Asks, AsksAfterTick}
-use Rattle.lagprogress.proofs.Common.{AsksIn, AtSomeWorld, Clearing, EventsAreOfHosts, HostRounds, IsBetweenTicks, IsPlayed, IsTickOf}
-use Rattle.lagprogress.proofs.Common.{LoopIsHostRound, NoneIsLeft, RoundIsHostRound, RoundsAreHostRounds, RunReplies, StepReplies, TickOnce, AtEnd}
-use Rattle.lagprogress.proofs.Common.{IsDeliver, IsHealthyAt, OfPort, Rounds, asks_all, ticks_of_both, IsSteady}
+use Rattle.lagprogress.proofs.Common.{WorldState, half, is_accepted, port_at, with_half, half_there, HostEvent, HostRuns, HostSteps, Plays, Sets}
+use Rattle.lagprogress.proofs.Common.{OfEach, Tick-each, placed, AtPort, at_number, LeavesPorts, AskingInVainIsDraining, AsksInVain}
+use Rattle.lagprogress.proofs.Common.{AsksInVainAfterTick, DrainingRounds, IsNoMoveOf, NothingIsDue, RoundIsDraining, sent_nothing, AfterTick}
+use Rattle.lagprogress.proofs.Common.{AskingIsPlayed, Asks, AsksAfterTick, AsksIn, AtSomeWorld, Clearing, EventsAreOfHosts, HostRounds}
+use Rattle.lagprogress.proofs.Common.{IsBetweenTicks, IsTickOf, RoundIsHostRound, RoundsAreHostRounds, RunReplies, StepReplies, TickOnce}
+use Rattle.lagprogress.proofs.Common.{TickOnceAmong, AtEnd, IsDeliver, IsHealthyAt, OfPort, Rounds, asks_all, ticks_of_both, IsSteady}
+use Rattle.lagprogress.proofs.HostRound.{side_among, of_side, turned}
+use Rattle.lagprogress.proofs.HostSteady.{sets_up}
+use Rattle.lagprogress.proofs.Quieting.{calm_timely, place_stays}
+use Rattle.lagprogress.proofs.Halves.{AreTimely, timely}
 use Rattle.distributor.specs.Conversations.{sum_below}
-use Rattle.lagprogress.proofs.Quieting.{IsCalm, calm_between, calm_tick, calm_steady, calm_place}
 use Rattle.std.specs.Prelude.{map}
 use Rattle.lagprogress.proofs.EachRound.{each_between, EachAt, own_keeps, own_ticks, hosts_steady}
 use Rattle.lagworld.specs.declared.reply.Reply.TheVariants as reply
-use Rattle.lagprogress.proofs.HostRound.{of_side, turned}
 use Rattle.lagprogress.proofs.Linked.{each_side, found, machines_there}
 use Rattle.lagprogress.proofs.OneCable.{Emits, emits, ticks}
 use Rattle.lagprogress.proofs.OneRound.{IsAsk, all_ask, asks_twice, same_ports_then}
@@ -92,6 +94,19 @@ asked_marks gives n k z (Ok o) old new place there up not h =
     by_marker (Some id) e mac m = no_marker_due n new.table (λ g c. subst (λ x. wants_marker n x ≡ false) (sym (m.4.states g c))
         (marked_wants n id (assignment_of old.table g c)))
 
+-- what may come between ticks, so that a port stays and its link stays up: what hosts do there, and any setting
+abbrev pub MayCome : HostEvent → Type 0
+MayCome (Sets s setting) = Unit {0}
+MayCome e = IsBetweenTicks e
+
+pub come_between : (e : HostEvent) → IsBetweenTicks e → MayCome e
+come_between (Sets s setting) b = tt
+come_between e b = b
+
+pub come_beside : (at : Side → ℕ) (e : HostEvent) → LeavesPorts at e → MayCome e
+come_beside at (Sets s setting) b = tt
+come_beside at e b = b
+
 module _ (gives : Algorithms) (s : Side) (p : ℕ) where
   abbrev Up : Machines → Type 0
   Up q = q.enabled ≡ true
@@ -101,39 +116,27 @@ module _ (gives : Algorithms) (s : Side) (p : ℕ) where
 
   -- the port is there, and its link is up
   record Stays (j : WorldState) : Type 0 where
-    steady : IsSteady j
+    steady : AreTimely j
     index : ℕ
     place : port_index p (half s j).state.system_ports ≡ Some index
     up : EachAt (AtPort p Up) s j
 
-  kept : (e : HostEvent) (r : Reply) (i j : WorldState) → IsCalm e → StepReplies gives i e r j → EachAt (AtPort p Up) s j → Stays i → Stays j
-  kept e r i j c h up x =
-      let steady = calm_steady gives e r i j c h x.steady in
-      record { steady = steady; index = x.index; place = calm_place gives e r i j c h x.steady steady s p ∙ x.place; up = up }
+  kept : (e : HostEvent) (r : Reply) (i j : WorldState) → StepReplies gives i e r j → EachAt (AtPort p Up) s j → Stays i → Stays j
+  kept e r i j h up x =
+      let steady = calm_timely gives e r i j h x.steady in
+      record { steady = steady; index = x.index; place = place_stays gives e r i j h x.steady steady s p ∙ x.place; up = up }
 
-  between : (e : HostEvent) (r : Reply) (i j : WorldState) → IsBetweenTicks e → StepReplies gives i e r j → Stays i → Stays j
-  between e r i j b h x =
-      kept e r i j (calm_between e b) h (each_between (AtPort p Up) (own_keeps (λ party up. up ≡ true) p) s gives e r i j b h x.up) x
+  between : (e : HostEvent) (r : Reply) (i j : WorldState) → MayCome e → StepReplies gives i e r j → Stays i → Stays j
+  between (Sets t setting) r i j b h x = kept (Sets t setting) r i j h (sets_up gives t setting i j h s p x.up) x
+  between e r i j b h x = kept e r i j h (each_between (AtPort p Up) (own_keeps (λ party up. up ≡ true) p) s gives e r i j b h x.up) x
 
   ticked : (t : Side) (e : HostEvent) (r : Reply) (i j : WorldState) → IsTickOf t e → StepReplies gives i e r j → Stays i → Stays j
   ticked t e r i j (n, named, is) h x =
       let k = ticks gives n t r i j named (subst (λ f. StepReplies gives i f r j) is h) in
-      kept e r i j (calm_tick t e (n, named, is)) h (each_side (λ u. EachAt (AtPort p Up) u i → EachAt (AtPort p Up) u j) t
+      kept e r i j h (each_side (λ u. EachAt (AtPort p Up) u i → EachAt (AtPort p Up) u j) t
       (λ a. Tick-each (AtPort p Up) (AtPort p Up) (own_keeps (λ party up. up ≡ true) p).settles (own_ticks (λ party up. up ≡ true) p)
       (gives t) (half t i).state answer.Tick (half t j).state k.step a)
       (λ a. subst (λ (y : SystemState). OfEach (AtPort p Up) y.system_ports) (sym k.peers) a) s x.up) x
-
-  -- each event of a round
-  stays : (a b : Bool) (e : HostEvent) (es : List HostEvent) (r : Reply) (i j : WorldState) → TickOnce s a b (e ∷ es) → StepReplies gives i e r j
-      → Stays i → Stays j
-  stays a b e es r i j (inl h) step x = ticked s e r i j h.0 step x
-  stays a b e es r i j (inr (inl h)) step x = ticked (peer s) e r i j h.0 step x
-  stays a b e es r i j (inr (inr h)) step x = between e r i j h.0 step x
-
-  rest_of : (a b : Bool) (e : HostEvent) (es : List HostEvent) → TickOnce s a b (e ∷ es) → (c : Bool) × (d : Bool) × TickOnce s c d es
-  rest_of a b e es (inl h) = (false, b, h.2)
-  rest_of a b e es (inr (inl h)) = (a, false, h.2)
-  rest_of a b e es (inr (inr h)) = (a, b, h.1)
 
   asked : (e : HostEvent) (r : Reply) (i j : WorldState) → Asks s p e → StepReplies gives i e r j → Stays i → NoneDue j
   asked e r i j (n, named, is) h x =
@@ -145,10 +148,9 @@ module _ (gives : Algorithms) (s : Side) (p : ℕ) where
       let up = all-get (λ (y : SystemPort). AtPort p Up y.number y.port) st.system_ports x.index z.0 z.1 x.up
       (found_place p st.system_ports x.index z.0 x.place z.1) in
       let now = asked_none (gives s) p x.index z.0 k.a st (half s j).state x.place z.1 up k.promise.step in
-      let calm : IsCalm e = subst IsCalm (sym is) tt in
-      let steady = calm_steady gives e r i j calm h x.steady in
+      let steady = calm_timely gives e r i j h x.steady in
       subst (OfPort (λ q. is_due q ≡ false)) (sym (machines_there p (half s j).state x.index now.0
-      (calm_place gives e r i j calm h x.steady steady s p ∙ x.place) now.1)) now.2
+      (place_stays gives e r i j h x.steady steady s p ∙ x.place) now.1)) now.2
 
   -- neither an LACPDU nor a marker
   abbrev Drained : WorldState → Type 0
@@ -223,68 +225,81 @@ module _ (gives : Algorithms) (s : Side) (p : ℕ) where
   at_first P (e ∷ es) (r ∷ rs) i j run y = inl y
   at_first P es rs i j run y = absurd run
 
-  some_on : (es : List HostEvent) (rs : List Reply) (i j : WorldState) (a b : Bool) → TickOnce s a b es → (run : RunReplies gives i es rs j)
-      → AsksIn s p es → Stays i → AtSomeWorld NoneDue gives es rs i j run
-  some_on [] rs i j a b h run q x = absurd q
-  some_on (e ∷ es) [] i j a b h run q x = absurd run
-  some_on (e ∷ es) (r ∷ rs) i j a b h run (inl q) x = inr (at_first NoneDue es rs run.0 j run.2 (asked e r i run.0 q run.1 x))
-  some_on (e ∷ es) (r ∷ rs) i j a b h run (inr q) x =
-      let o = rest_of a b e es h in inr (some_on es rs run.0 j o.0 o.1 o.2 run.2 q (stays a b e es r i run.0 h run.1 x))
+  module _ (May : HostEvent → Type 0) (wide : (e : HostEvent) → May e → MayCome e) where
+    -- each event of a round
+    stays : (a b : Bool) (e : HostEvent) (es : List HostEvent) (r : Reply) (i j : WorldState) → TickOnceAmong May s a b (e ∷ es) → StepReplies gives i e r j
+        → Stays i → Stays j
+    stays a b e es r i j (inl h) step x = ticked s e r i j h.0 step x
+    stays a b e es r i j (inr (inl h)) step x = ticked (peer s) e r i j h.0 step x
+    stays a b e es r i j (inr (inr h)) step x = between e r i j (wide e h.0) step x
 
-  after_on : (es : List HostEvent) (rs : List Reply) (i j : WorldState) (a b : Bool) → TickOnce s a b es → (run : RunReplies gives i es rs j)
-      → AsksAfterTick s p es → Stays i → AfterTick s NoneDue gives es rs i j run
-  after_on [] rs i j a b h run q x = q
-  after_on (e ∷ es) [] i j a b h run q x = absurd run
-  after_on (e ∷ es) (r ∷ rs) i j a b h run (inl q) x = let o = rest_of a b e es h in
-      inl (q.0, some_on es rs run.0 j o.0 o.1 o.2 run.2 q.1 (stays a b e es r i run.0 h run.1 x))
-  after_on (e ∷ es) (r ∷ rs) i j a b h run (inr q) x = let o = rest_of a b e es h in
-      inr (after_on es rs run.0 j o.0 o.1 o.2 run.2 q (stays a b e es r i run.0 h run.1 x))
+    rest_of : (a b : Bool) (e : HostEvent) (es : List HostEvent) → TickOnceAmong May s a b (e ∷ es) → (c : Bool) × (d : Bool) × TickOnceAmong May s c d es
+    rest_of a b e es (inl h) = (false, b, h.2)
+    rest_of a b e es (inr (inl h)) = (a, false, h.2)
+    rest_of a b e es (inr (inr h)) = (a, b, h.1)
 
-  -- if it is asked until it sends nothing
-  vain_on : (es : List HostEvent) (rs : List Reply) (i j : WorldState) (a b : Bool) → TickOnce s a b es → (run : RunReplies gives i es rs j)
-      → AsksInVain s p es rs → Stays i → AtSomeWorld Drained gives es rs i j run
-  vain_on [] rs i j a b h run q x = absurd q
-  vain_on (e ∷ es) [] i j a b h run q x = absurd q
-  vain_on (e ∷ es) (r ∷ rs) i j a b h run (inl q) x = inr (at_first Drained es rs run.0 j run.2 (vain_now e r i run.0 q.0 q.1 run.1 x))
-  vain_on (e ∷ es) (r ∷ rs) i j a b h run (inr q) x =
-      let o = rest_of a b e es h in inr (vain_on es rs run.0 j o.0 o.1 o.2 run.2 q (stays a b e es r i run.0 h run.1 x))
+    some_on : (es : List HostEvent) (rs : List Reply) (i j : WorldState) (a b : Bool) → TickOnceAmong May s a b es → (run : RunReplies gives i es rs j)
+        → AsksIn s p es → Stays i → AtSomeWorld NoneDue gives es rs i j run
+    some_on [] rs i j a b h run q x = absurd q
+    some_on (e ∷ es) [] i j a b h run q x = absurd run
+    some_on (e ∷ es) (r ∷ rs) i j a b h run (inl q) x = inr (at_first NoneDue es rs run.0 j run.2 (asked e r i run.0 q run.1 x))
+    some_on (e ∷ es) (r ∷ rs) i j a b h run (inr q) x =
+        let o = rest_of a b e es h in inr (some_on es rs run.0 j o.0 o.1 o.2 run.2 q (stays a b e es r i run.0 h run.1 x))
 
-  vain_after : (es : List HostEvent) (rs : List Reply) (i j : WorldState) (a b : Bool) → TickOnce s a b es → (run : RunReplies gives i es rs j)
-      → AsksInVainAfterTick s p es rs → Stays i → AfterTick s Drained gives es rs i j run
-  vain_after [] rs i j a b h run q x = q
-  vain_after (e ∷ es) [] i j a b h run q x = absurd run
-  vain_after (e ∷ es) (r ∷ rs) i j a b h run (inl q) x = let o = rest_of a b e es h in
-      inl (q.0, vain_on es rs run.0 j o.0 o.1 o.2 run.2 q.1 (stays a b e es r i run.0 h run.1 x))
-  vain_after (e ∷ es) (r ∷ rs) i j a b h run (inr q) x = let o = rest_of a b e es h in
-      inr (vain_after es rs run.0 j o.0 o.1 o.2 run.2 q (stays a b e es r i run.0 h run.1 x))
+    after_on : (es : List HostEvent) (rs : List Reply) (i j : WorldState) (a b : Bool) → TickOnceAmong May s a b es → (run : RunReplies gives i es rs j)
+        → AsksAfterTick s p es → Stays i → AfterTick s NoneDue gives es rs i j run
+    after_on [] rs i j a b h run q x = q
+    after_on (e ∷ es) [] i j a b h run q x = absurd run
+    after_on (e ∷ es) (r ∷ rs) i j a b h run (inl q) x = let o = rest_of a b e es h in
+        inl (q.0, some_on es rs run.0 j o.0 o.1 o.2 run.2 q.1 (stays a b e es r i run.0 h run.1 x))
+    after_on (e ∷ es) (r ∷ rs) i j a b h run (inr q) x = let o = rest_of a b e es h in
+        inr (after_on es rs run.0 j o.0 o.1 o.2 run.2 q (stays a b e es r i run.0 h run.1 x))
 
-  -- if it is asked twice in turn
-  twice_on : (n : ℕ) → side_of n ≡ Some s → (before later : List HostEvent) (rs : List Reply) (i j : WorldState) (a b : Bool)
-      → TickOnce s a b (before ++ (Plays (event.Emit n p) ∷ Plays (event.Emit n p) ∷ later))
-      → (run : RunReplies gives i (before ++ (Plays (event.Emit n p) ∷ Plays (event.Emit n p) ∷ later)) rs j) → Stays i
-      → AtSomeWorld Drained gives (before ++ (Plays (event.Emit n p) ∷ Plays (event.Emit n p) ∷ later)) rs i j run
-  twice_on n named [] later [] i j a b h run x = absurd run
-  twice_on n named [] later (r ∷ []) i j a b h run x = absurd run.2
-  twice_on n named [] later (r ∷ q ∷ rs) i j a b h run x =
-      let e = Plays (event.Emit n p) in
-      let o = rest_of a b e (e ∷ later) h in
-      let then = stays a b e (e ∷ later) r i run.0 h run.1 x in
-      inr (inr (at_first Drained later rs run.2.0 j run.2.2
-      (drained_now e q run.0 run.2.0 (n, named, refl) run.2.1 then (asked e r i run.0 (n, named, refl) run.1 x))))
-  twice_on n named (f ∷ before) later [] i j a b h run x = absurd run
-  twice_on n named (f ∷ before) later (r ∷ rs) i j a b h run x =
-      let es = before ++ (Plays (event.Emit n p) ∷ Plays (event.Emit n p) ∷ later) in
-      let o = rest_of a b f es h in
-      inr (twice_on n named before later rs run.0 j o.0 o.1 o.2 run.2 (stays a b f es r i run.0 h run.1 x))
+    -- if it is asked until it sends nothing
+    vain_on : (es : List HostEvent) (rs : List Reply) (i j : WorldState) (a b : Bool) → TickOnceAmong May s a b es → (run : RunReplies gives i es rs j)
+        → AsksInVain s p es rs → Stays i → AtSomeWorld Drained gives es rs i j run
+    vain_on [] rs i j a b h run q x = absurd q
+    vain_on (e ∷ es) [] i j a b h run q x = absurd q
+    vain_on (e ∷ es) (r ∷ rs) i j a b h run (inl q) x = inr (at_first Drained es rs run.0 j run.2 (vain_now e r i run.0 q.0 q.1 run.1 x))
+    vain_on (e ∷ es) (r ∷ rs) i j a b h run (inr q) x =
+        let o = rest_of a b e es h in inr (vain_on es rs run.0 j o.0 o.1 o.2 run.2 q (stays a b e es r i run.0 h run.1 x))
 
-  twice_in : (n : ℕ) → side_of n ≡ Some s → (before later es : List HostEvent) → es ≡ before ++ (Plays (event.Emit n p) ∷ Plays (event.Emit n p) ∷ later)
-      → (rs : List Reply) (i j : WorldState) (a b : Bool) → TickOnce s a b es → (run : RunReplies gives i es rs j) → Stays i
-      → AtSomeWorld Drained gives es rs i j run
-  twice_in n named before later es e = subst (λ fs. (rs : List Reply) (i j : WorldState) (a b : Bool) → TickOnce s a b fs
-      → (run : RunReplies gives i fs rs j) → Stays i → AtSomeWorld Drained gives fs rs i j run) (sym e) (twice_on n named before later)
+    vain_after : (es : List HostEvent) (rs : List Reply) (i j : WorldState) (a b : Bool) → TickOnceAmong May s a b es → (run : RunReplies gives i es rs j)
+        → AsksInVainAfterTick s p es rs → Stays i → AfterTick s Drained gives es rs i j run
+    vain_after [] rs i j a b h run q x = q
+    vain_after (e ∷ es) [] i j a b h run q x = absurd run
+    vain_after (e ∷ es) (r ∷ rs) i j a b h run (inl q) x = let o = rest_of a b e es h in
+        inl (q.0, vain_on es rs run.0 j o.0 o.1 o.2 run.2 q.1 (stays a b e es r i run.0 h run.1 x))
+    vain_after (e ∷ es) (r ∷ rs) i j a b h run (inr q) x = let o = rest_of a b e es h in
+        inr (vain_after es rs run.0 j o.0 o.1 o.2 run.2 q (stays a b e es r i run.0 h run.1 x))
+
+    -- if it is asked twice in turn
+    twice_on : (n : ℕ) → side_of n ≡ Some s → (before later : List HostEvent) (rs : List Reply) (i j : WorldState) (a b : Bool)
+        → TickOnceAmong May s a b (before ++ (Plays (event.Emit n p) ∷ Plays (event.Emit n p) ∷ later))
+        → (run : RunReplies gives i (before ++ (Plays (event.Emit n p) ∷ Plays (event.Emit n p) ∷ later)) rs j) → Stays i
+        → AtSomeWorld Drained gives (before ++ (Plays (event.Emit n p) ∷ Plays (event.Emit n p) ∷ later)) rs i j run
+    twice_on n named [] later [] i j a b h run x = absurd run
+    twice_on n named [] later (r ∷ []) i j a b h run x = absurd run.2
+    twice_on n named [] later (r ∷ q ∷ rs) i j a b h run x =
+        let e = Plays (event.Emit n p) in
+        let o = rest_of a b e (e ∷ later) h in
+        let then = stays a b e (e ∷ later) r i run.0 h run.1 x in
+        inr (inr (at_first Drained later rs run.2.0 j run.2.2
+        (drained_now e q run.0 run.2.0 (n, named, refl) run.2.1 then (asked e r i run.0 (n, named, refl) run.1 x))))
+    twice_on n named (f ∷ before) later [] i j a b h run x = absurd run
+    twice_on n named (f ∷ before) later (r ∷ rs) i j a b h run x =
+        let es = before ++ (Plays (event.Emit n p) ∷ Plays (event.Emit n p) ∷ later) in
+        let o = rest_of a b f es h in
+        inr (twice_on n named before later rs run.0 j o.0 o.1 o.2 run.2 (stays a b f es r i run.0 h run.1 x))
+
+    twice_in : (n : ℕ) → side_of n ≡ Some s → (before later es : List HostEvent) → es ≡ before ++ (Plays (event.Emit n p) ∷ Plays (event.Emit n p) ∷ later)
+        → (rs : List Reply) (i j : WorldState) (a b : Bool) → TickOnceAmong May s a b es → (run : RunReplies gives i es rs j) → Stays i
+        → AtSomeWorld Drained gives es rs i j run
+    twice_in n named before later es e = subst (λ fs. (rs : List Reply) (i j : WorldState) (a b : Bool) → TickOnceAmong May s a b fs
+        → (run : RunReplies gives i fs rs j) → Stays i → AtSomeWorld Drained gives fs rs i j run) (sym e) (twice_on n named before later)
 
 -- the port at an end of a healthy cable is there, and its link is up
-stays_first : (gives : Algorithms) (s : Side) (i : ℕ) (l : LinkState) (old : WorldState) → IsSteady old → IsHealthyAt i l old
+stays_first : (gives : Algorithms) (s : Side) (i : ℕ) (l : LinkState) (old : WorldState) → AreTimely old → IsHealthyAt i l old
     → Stays gives s (port_at s l) old
 stays_first gives s i l old steady y =
     let e = ends_at i l old y s in
@@ -296,19 +311,6 @@ stays_first gives s i l old steady y =
       up = subst (λ n. OfEach (AtPort n (λ q. q.enabled ≡ true)) st.system_ports) (found_place (port_at s l) st.system_ports e.0 e.1 e.2 e.3)
           (at_number (λ q. q.enabled ≡ true) 0 st.system_ports e.0 e.1 (ports_rise st (steady s).0.ports) e.3 e.4);
     }
-
-pub asking_is_played : (E : Clearing) (gives : Algorithms) (events : List HostEvent) (replies : List Reply) (old new : WorldState) → IsSteady old
-    → TickOnce One true true events → RunReplies gives old events replies new
-    → ((s : Side) (i : ℕ) (l : LinkState) → IsHealthyAt i l old → AsksAfterTick s (port_at s l) events) → E events old new → IsPlayed E gives old new
-asking_is_played E gives events replies old new steady turns run asks empty = record {
-  events = events;
-  replies = replies;
-  ticks = turns;
-  acts = run;
-  asked = λ s i l y. after_on gives s (port_at s l) events replies old new true true (of_side s events turns) run (asks s i l y)
-      (stays_first gives s i l old steady y);
-  empties = empty;
-}
 
 -- a run of hosts has replies
 pub with_replies : (gives : Algorithms) (es : List HostEvent) (old new : WorldState) → HostRuns gives old es new
@@ -333,16 +335,19 @@ as_played gives [] [] old new h = h
 as_played gives (e ∷ es) (r ∷ rs) old new h = (h.0, h.1, as_played gives es rs h.0 new h.2)
 as_played gives es rs old new h = absurd h
 
-pub asking_is_one : (E : Clearing) (gives : Algorithms) (events : List HostEvent) (old new : WorldState) → IsSteady old
-    → TickOnce One true true events → HostRuns gives old events new
-    → ((s : Side) (i : ℕ) (l : LinkState) → IsHealthyAt i l old → AsksAfterTick s (port_at s l) events) → E events old new → IsPlayed E gives old new
-asking_is_one E gives events old new steady turns run =
-    let x = with_replies gives events old new run in asking_is_played E gives events x.0 old new steady turns x.1
+pub asking_is_played : (May : HostEvent → Type 0) → ((e : HostEvent) → May e → MayCome e) → (E : Clearing) (gives : Algorithms)
+    → AskingIsPlayed May E gives
+asking_is_played May wide E gives events old new timely turns acts asks clears = let x = with_replies gives events old new acts in record {
+  events = events;
+  replies = x.0;
+  ticks = turns;
+  acts = x.1;
+  asked = λ s i l y. after_on gives s (port_at s l) May wide events x.0 old new true true (side_among May s events turns) x.1 (asks s i l y)
+      (stays_first gives s i l old timely y);
+  empties = clears;
+}
 
-pub asking_is_host_round : (gives : Algorithms) → AskingIsHostRound gives
-asking_is_host_round gives = asking_is_one NoneIsLeft gives
-
--- a healthy round is one
+-- a healthy round is a round of hosts
 
 between_all : (es : List Event) (fs : List Event) → AllByRecursion IsAsk es → AllByRecursion IsDeliver fs
     → TickOnce One false false (map Plays (es ++ fs))
@@ -361,45 +366,9 @@ of_side_after : (s : Side) (es : List HostEvent) → TickOnce One false false es
 of_side_after One es h = h
 of_side_after Two es h = turned IsBetweenTicks es false false h
 
-pub asks_behind : (s : Side) (p : ℕ) (es fs : List HostEvent) → AsksIn s p fs → AsksIn s p (es ++ fs)
-asks_behind s p [] fs h = h
-asks_behind s p (e ∷ es) fs h = inr (asks_behind s p es fs h)
-
-pub asks_before : (s : Side) (p : ℕ) (es fs : List HostEvent) → AsksIn s p es → AsksIn s p (es ++ fs)
-asks_before s p [] fs h = absurd h
-asks_before s p (e ∷ es) fs (inl h) = inl h
-asks_before s p (e ∷ es) fs (inr h) = inr (asks_before s p es fs h)
-
 plays_append : (es fs : List Event) → map Plays (es ++ fs) ≡ map Plays es ++ map Plays fs
 plays_append [] fs = refl
 plays_append (e ∷ es) fs = ap (λ xs. Plays e ∷ xs) (plays_append es fs)
-
-pub round_is_host_round : (gives : Algorithms) → RoundIsHostRound gives
-round_is_host_round gives old new steady h =
-    let es = ticks_of_both ++ (asks_all old.links ++ h.delivers) in
-    asking_is_played NoneIsLeft gives (map Plays es) h.replies old new steady
-    (round_ticks old.links h.delivers h.arrives) (as_played gives es h.replies old new h.acts) asks h.empties
-  where
-    one : IsTickOf One (Plays (event.Tick 1 1))
-    one = (1, refl, refl)
-
-    two : IsTickOf Two (Plays (event.Tick 2 1))
-    two = (2, refl, refl)
-
-    asks : (s : Side) (i : ℕ) (l : LinkState) → IsHealthyAt i l old
-        → AsksAfterTick s (port_at s l) (map Plays (ticks_of_both ++ (asks_all old.links ++ h.delivers)))
-    asks s i l y = each_side (λ t. AsksAfterTick t (port_at t l) (map Plays (ticks_of_both ++ (asks_all old.links ++ h.delivers)))) One
-        (inl (one, inr (there One))) (inr (inl (two, there Two))) s
-      where
-        there : (t : Side) → AsksIn t (port_at t l) (map Plays (asks_all old.links ++ h.delivers))
-        there t =
-            let o = asks_twice t i old.links l y.there in
-            let e = event.Emit o.number (port_at t l) in
-            subst (AsksIn t (port_at t l)) (sym (plays_append (asks_all old.links) h.delivers))
-            (asks_before t (port_at t l) (map Plays (asks_all old.links)) (map Plays h.delivers)
-            (subst (λ es. AsksIn t (port_at t l) (map Plays es)) (sym o.is)
-            (subst (AsksIn t (port_at t l)) (sym (plays_append o.before (e ∷ e ∷ o.later)))
-            (asks_behind t (port_at t l) (map Plays o.before) (map Plays (e ∷ e ∷ o.later)) (inl (o.number, o.named, refl))))))
 
 -- and each end has nothing due once it is asked twice
 
@@ -455,7 +424,7 @@ round_is_draining gives t g k old new steady h = record {
     at_some s i l y rs mid run x =
         let o = asks_twice s i old.links l y.there in
         let e = event.Emit o.number (port_at s l) in
-        twice_in gives s (port_at s l) o.number o.named (map Plays o.before) (map Plays (o.later ++ h.delivers))
+        twice_in gives s (port_at s l) IsBetweenTicks come_between o.number o.named (map Plays o.before) (map Plays (o.later ++ h.delivers))
         (map Plays (asks_all old.links ++ h.delivers))
         (ap (map Plays) (ap (λ es. es ++ h.delivers) o.is ∙ append_assoc o.before (e ∷ e ∷ o.later) h.delivers)
         ∙ plays_append o.before (e ∷ e ∷ (o.later ++ h.delivers))) rs mid new false false
@@ -471,9 +440,10 @@ round_is_draining gives t g k old new steady h = record {
         let two = Plays (event.Tick 2 1) in
         let es = map Plays (asks_all old.links ++ h.delivers) in
         let turned = of_side s (map Plays events) turns in
-        let first = stays gives s (port_at s l) true true one (two ∷ es) r old run.0 turned run.1 (stays_first gives s i l old steady y) in
-        let more = rest_of gives s (port_at s l) true true one (two ∷ es) turned in
-        let second = stays gives s (port_at s l) more.0 more.1 two es q run.0 run.2.0 more.2 run.2.1 first in
+        let first = stays gives s (port_at s l) IsBetweenTicks come_between true true one (two ∷ es) r old run.0 turned run.1
+        (stays_first gives s i l old (timely old steady) y) in
+        let more = rest_of gives s (port_at s l) IsBetweenTicks come_between true true one (two ∷ es) turned in
+        let second = stays gives s (port_at s l) IsBetweenTicks come_between more.0 more.1 two es q run.0 run.2.0 more.2 run.2.1 first in
         by_side s (at_some s i l y rs run.2.0 run.2.2 second)
       where
         by_side : (s : Side) → AtSomeWorld (NothingIsDue s l) gives (map Plays (asks_all old.links ++ h.delivers)) rs run.2.0 new run.2.2
@@ -484,6 +454,9 @@ round_is_draining gives t g k old new steady h = record {
     drained : (s : Side) (i : ℕ) (l : LinkState) → IsHealthyAt i l old
         → AfterTick s (NothingIsDue s l) gives (map Plays events) h.replies old new run
     drained s i l y = after s i l y h.replies run
+
+pub round_is_host_round : (gives : Algorithms) → RoundIsHostRound gives
+round_is_host_round gives old new steady h = (round_is_draining gives One 0 0 old new steady h).round
 
 pub rounds_are_host_rounds : (gives : Algorithms) → RoundsAreHostRounds gives
 rounds_are_host_rounds gives zero old new steady h = h
@@ -519,8 +492,8 @@ asking_in_vain_is_draining gives t g k events replies old new steady turns still
 }
   where
     drained : (s : Side) (i : ℕ) (l : LinkState) → IsHealthyAt i l old → AfterTick s (NothingIsDue s l) gives events replies old new run
-    drained s i l y = vain_after gives s (port_at s l) events replies old new true true (of_side s events turns) run (asks s i l y)
-        (stays_first gives s i l old steady y)
+    drained s i l y = vain_after gives s (port_at s l) IsBetweenTicks come_between events replies old new true true (of_side s events turns) run (asks s i l y)
+        (stays_first gives s i l old (timely old steady) y)
 
 -- as where both systems tick first
 
@@ -539,63 +512,6 @@ vain_after_ticks gives s p (r ∷ []) es rs old ticked run h = absurd run.2
 vain_after_ticks gives One p (r ∷ q ∷ []) es rs old ticked run h = inl ((1, refl, refl), inr h)
 vain_after_ticks gives Two p (r ∷ q ∷ []) es rs old ticked run h = inr (inl ((2, refl, refl), h))
 vain_after_ticks gives s p (r ∷ q ∷ x ∷ ts) es rs old ticked run h = absurd run.2.2
-
--- the loop of two hosts is one
-
-between_then : (es fs : List HostEvent) (a b : Bool) → AllByRecursion IsBetweenTicks es → TickOnce One a b fs → TickOnce One a b (es ++ fs)
-between_then [] fs a b h k = k
-between_then (e ∷ es) fs a b h k = inr (inr (h.0, between_then es fs a b h.1 k))
-
-asks_later : (s : Side) (p : ℕ) (es fs : List HostEvent) → AsksAfterTick s p fs → AsksAfterTick s p (es ++ fs)
-asks_later s p [] fs h = h
-asks_later s p (e ∷ es) fs h = inr (asks_later s p es fs h)
-
-none_after : TickOnce One false false []
-none_after = (refl, refl)
-
-pub loop_is_host_round : (gives : Algorithms) → LoopIsHostRound gives
-loop_is_host_round gives old new steady h = asking_is_host_round gives (Plays (event.Tick 1 1) ∷ (h.first ++ rest)) old new steady
-    (inl (
-      one,
-      refl,
-      between_then h.first rest false true h.between_first
-          (inr (inl (
-            two,
-            refl,
-            between_then h.second h.later false false h.between_second
-                (subst (TickOnce One false false) (append_nil h.later) (between_then h.later [] false false h.between_later none_after)),
-          ))),
-    ))
-    h.acts asks h.empties
-  where
-    rest : List HostEvent
-    rest = Plays (event.Tick 2 1) ∷ (h.second ++ h.later)
-
-    one : IsTickOf One (Plays (event.Tick 1 1))
-    one = (1, refl, refl)
-
-    two : IsTickOf Two (Plays (event.Tick 2 1))
-    two = (2, refl, refl)
-
-    append_nil : (es : List HostEvent) → es ++ [] ≡ es
-    append_nil [] = refl
-    append_nil (e ∷ es) = ap (λ xs. e ∷ xs) (append_nil es)
-
-    asks : (s : Side) (i : ℕ) (l : LinkState) → IsHealthyAt i l old → AsksAfterTick s (port_at s l) (Plays (event.Tick 1 1) ∷ (h.first ++ rest))
-    asks s i l y = each_side (λ t. AsksAfterTick t (port_at t l) (Plays (event.Tick 1 1) ∷ (h.first ++ rest))) One
-        (let e = ends_at i l old y One in
-        inl (
-          one,
-          asks_before One (port_at One l) h.first rest (subst (λ n. AsksIn One n h.first)
-              (found_place (port_at One l) old.one.state.system_ports e.0 e.1 e.2 e.3) (h.asks_one e.0 e.1 e.3)),
-        ))
-        (let e = ends_at i l old y Two in
-        inr (asks_later Two (port_at Two l) h.first rest (inl (
-          two,
-          asks_before Two (port_at Two l) h.second h.later
-              (subst (λ n. AsksIn Two n h.second) (found_place (port_at Two l) old.two.state.system_ports e.0 e.1 e.2 e.3) (h.asks_two e.0 e.1 e.3)),
-        ))))
-        s
 
 -- draining rounds are rounds of hosts
 

@@ -5,12 +5,12 @@ use Rattle.lagprogress.proofs.Common.{Assignment, Table, next_identifier, HostCa
 use Rattle.lagprogress.proofs.Common.{IsFrame, choice_with_link, call_of, configured_numbers, HostPromise, GivesOrRefuses, ProbesAt, ProbesIf}
 use Rattle.lagprogress.proofs.Common.{SendsMarkerOf, Hold_port, Set_max_delay, Set_max_links, Set_mode, SetsPort, Setting, SettingPromise}
 use Rattle.lagprogress.proofs.Common.{SettingStep, in_mode, is_held_so, is_in_mode, with_held, IsSound, SystemState, port_index, with_table, IsOther}
-use Rattle.lagprogress.proofs.Common.{TableAlone, host_alone, all-set, found_place, setting_sound, Step-sound, Algorithms, transmitted_item}
+use Rattle.lagprogress.proofs.Common.{TableAlone, host_alone, all-get, all-set, found_place, setting_sound, Step-sound, Algorithms, transmitted_item}
 use Rattle.lagprogress.proofs.Common.{with_item_sent, forced_if_accepted, HalfState, ItemValue, LinkState, WorldState, half, put_on_port, with_half}
 use Rattle.lagprogress.proofs.Common.{start_sound, AfterNumberedOffer, AfterProbe, CountsHeldIfOk, ForcesPort, HalfTells, HostEvent, HostRuns}
 use Rattle.lagprogress.proofs.Common.{HostSteps, Leaves, Offers, Plays, Probes, Rests, Sets, numbered_item, hosts_keep_headline, PortsAreTimed}
-use Rattle.lagprogress.proofs.Common.{KeptBySettling, OfEach, settling_each, zip_kept, forces_port, AtPort, setting_timed, LeavesPorts}
-use Rattle.lagprogress.proofs.Common.{EachHostReachedIsSteady, EachHostRunKeepsSteady}
+use Rattle.lagprogress.proofs.Common.{KeptBySettling, OfEach, settling_each, zip_kept, forces_port, AtPort, settling_leaves, setting_timed}
+use Rattle.lagprogress.proofs.Common.{LeavesPorts, EachHostReachedIsSteady, EachHostRunKeepsSteady}
 use Rattle.slowpdu.specs.declared.pdu.Pdu.TheVariants as pdu
 use Rattle.lagsystem.specs.declared.drive.HostCall.TheVariants as host
 use Rattle.lagsystem.specs.declared.drive.HostReply.TheVariants as told
@@ -353,19 +353,32 @@ delay_quietly gives s delay old new x = delay_beside s x.1 old new
     (ap (λ (y : SystemState). y.system_ports) (delayed s delay x.0 (half s old).state x.1.state x.2.answers))
     (ap (λ (k : HalfState). k.histories) x.2.same) x.3
 
--- a setting of another port
+-- a setting of another port, or one that what holds of the port withstands
 
-set_beside : (n m : ℕ) (P : Machines → Type 0) → KeptBySettling (AtPort n P) → (m ≡ n → ⊥) → (already : SystemPort → Bool)
-    (change : SystemPort → SystemPort) → ((x : SystemPort) → (change x).number ≡ x.number) → (o : Option ℕ) (old new : SystemState)
+abbrev Withstands : ℕ → (Machines → Type 0) → Setting → Type 0
+Withstands p P (Hold_port n held) = n ≡ p → (x : SystemPort) → P x.port → P (with_held held x).port
+Withstands p P (Set_mode n active short) = n ≡ p → (x : SystemPort) → P x.port → P (in_mode active short x).port
+Withstands p P setting = Unit {0}
+
+left_alone : (at : Side → ℕ) (s : Side) (P : Machines → Type 0) (setting : Setting) → LeavesPorts at (Sets s setting)
+    → Withstands (at s) P setting
+left_alone at s P (Hold_port n held) other = λ e. absurd (other e)
+left_alone at s P (Set_mode n active short) other = λ e. absurd (other e)
+left_alone at s P setting other = tt
+
+set_beside : (n m : ℕ) (P : Machines → Type 0) → KeptBySettling (AtPort n P) → (already : SystemPort → Bool)
+    (change : SystemPort → SystemPort) → (m ≡ n → (x : SystemPort) → P x.port → P (change x).port)
+    → ((x : SystemPort) → (change x).number ≡ x.number) → (o : Option ℕ) (old new : SystemState)
     → port_index m old.system_ports ≡ o → SetsPort already change o old new → OfEach (AtPort n P) old.system_ports
     → OfEach (AtPort n P) new.system_ports
-set_beside n m P k other already change same None old new e h a = absurd h
-set_beside n m P k other already change same (Some i) old new e h a = elim h [
+set_beside n m P k already change stands same None old new e h a = absurd h
+set_beside n m P k already change stands same (Some i) old new e h a = elim h [
   | inl is ↦ subst (λ (s : SystemState). OfEach (AtPort n P) s.system_ports) (sym is.1) a
   | inr settled ↦ (let b = settled.1.0 in
       settling_each (AtPort n P) k settled.0 new settled.2 (subst (OfEach (AtPort n P)) (sym b.3)
       (all-set (λ (x : SystemPort). AtPort n P x.number x.port) old.system_ports i (change b.0) a
-      (λ f. absurd (other (sym (found_place m old.system_ports i b.0 e b.1) ∙ (sym (same b.0) ∙ f)))))))
+      (λ f. let number = sym (same b.0) ∙ f in stands (sym (found_place m old.system_ports i b.0 e b.1) ∙ number) b.0
+      (all-get (λ (x : SystemPort). AtPort n P x.number x.port) old.system_ports i b.0 b.1 a number)))))
 ]
 
 -- a limit of links leaves what is chosen of a port whose link is up
@@ -379,27 +392,33 @@ abbrev pub IsUp : Machines → Type 0
 IsUp p = p.enabled ≡ true
 
 -- what it leaves of the port of its system, if the link of that is up
-setting_beside : (at : Side → ℕ) (s : Side) (P : Machines → Type 0) → KeptBySettling (AtPort (at s) P) → (setting : Setting)
-    → LeavesPorts at (Sets s setting) → (a : Result Unit SystemFault) (old new : SystemState) → SettingStep old setting a new
-    → OfEach (AtPort (at s) IsUp) old.system_ports → OfEach (AtPort (at s) P) old.system_ports → OfEach (AtPort (at s) P) new.system_ports
-setting_beside at s P k (Hold_port n held) other (Ok done) old new h up p = set_beside (at s) n P k other (is_held_so held) (with_held held)
-    (λ x. refl) (port_index n old.system_ports) old new refl h p
-setting_beside at s P k (Hold_port n held) other (Err fault) old new h up p =
-    subst (λ (t : SystemState). OfEach (AtPort (at s) P) t.system_ports) (sym h.same) p
-setting_beside at s P k (Set_mode n active short) other (Ok done) old new h up p = set_beside (at s) n P k other (is_in_mode active short)
-    (in_mode active short) (λ x. refl) (port_index n old.system_ports) old new refl h p
-setting_beside at s P k (Set_mode n active short) other (Err fault) old new h up p =
-    subst (λ (t : SystemState). OfEach (AtPort (at s) P) t.system_ports) (sym h.same) p
-setting_beside at s P k (Set_max_delay delay) other (Ok done) old new h up p =
-    subst (λ (t : SystemState). OfEach (AtPort (at s) P) t.system_ports) (sym h) p
-setting_beside at s P k (Set_max_delay delay) other (Err fault) old new h up p = absurd h
-setting_beside at s P k (Set_max_links most) other (Ok done) old new h up p = settling_each (AtPort (at s) P) k h.1.0 new h.1.2
+setting_beside : (p : ℕ) (P : Machines → Type 0) → KeptBySettling (AtPort p P) → (setting : Setting) → Withstands p P setting
+    → (a : Result Unit SystemFault) (old new : SystemState) → SettingStep old setting a new
+    → OfEach (AtPort p IsUp) old.system_ports → OfEach (AtPort p P) old.system_ports → OfEach (AtPort p P) new.system_ports
+setting_beside p P k (Hold_port n held) stands (Ok done) old new h up y = set_beside p n P k (is_held_so held) (with_held held) stands
+    (λ x. refl) (port_index n old.system_ports) old new refl h y
+setting_beside p P k (Hold_port n held) stands (Err fault) old new h up y =
+    subst (λ (t : SystemState). OfEach (AtPort p P) t.system_ports) (sym h.same) y
+setting_beside p P k (Set_mode n active short) stands (Ok done) old new h up y = set_beside p n P k (is_in_mode active short)
+    (in_mode active short) stands (λ x. refl) (port_index n old.system_ports) old new refl h y
+setting_beside p P k (Set_mode n active short) stands (Err fault) old new h up y =
+    subst (λ (t : SystemState). OfEach (AtPort p P) t.system_ports) (sym h.same) y
+setting_beside p P k (Set_max_delay delay) stands (Ok done) old new h up y =
+    subst (λ (t : SystemState). OfEach (AtPort p P) t.system_ports) (sym h) y
+setting_beside p P k (Set_max_delay delay) stands (Err fault) old new h up y = absurd h
+setting_beside p P k (Set_max_links most) stands (Ok done) old new h up y = settling_each (AtPort p P) k h.1.0 new h.1.2
     (zip_kept (λ q r. r ≡ record q { choice = choice_with_link most q.enabled q.choice })
-    (λ m q. AtPort (at s) P m q × AtPort (at s) IsUp m q) (AtPort (at s) P)
+    (λ m q. AtPort p P m q × AtPort p IsUp m q) (AtPort p P)
     (λ m q r e a f. subst P (sym (e ∙ limited_port most q (a.1 f))) (a.0 f)) old.system_ports h.1.0.system_ports h.1.1.0
-    (each_both (AtPort (at s) P) (AtPort (at s) IsUp) old.system_ports p up))
-setting_beside at s P k (Set_max_links most) other (Err fault) old new h up p =
-    subst (λ (t : SystemState). OfEach (AtPort (at s) P) t.system_ports) (sym h.1) p
+    (each_both (AtPort p P) (AtPort p IsUp) old.system_ports y up))
+setting_beside p P k (Set_max_links most) stands (Err fault) old new h up y =
+    subst (λ (t : SystemState). OfEach (AtPort p P) t.system_ports) (sym h.1) y
+
+-- no setting takes a link down
+up_withstands : (p : ℕ) (setting : Setting) → Withstands p IsUp setting
+up_withstands p (Hold_port n held) = λ e x up. up
+up_withstands p (Set_mode n active short) = λ e x up. up
+up_withstands p setting = tt
 
 module _ (gives : Algorithms) (s : Side) (setting : Setting) (old new : WorldState) (x : HostSteps gives old (Sets s setting) new) where
   set_there : new ≡ after_call s x.1 old.links old
@@ -418,14 +437,22 @@ module _ (gives : Algorithms) (s : Side) (setting : Setting) (old new : WorldSta
   peer_set : (half (peer s) new).state ≡ (half (peer s) old).state
   peer_set = ap (λ (j : WorldState). (half (peer s) j).state) set_there ∙ peer_there s x.1 old.links old
 
+  set_each : (t : Side) (p : ℕ) (P : Machines → Type 0) → KeptBySettling (AtPort p P) → (t ≡ s → Withstands p P setting)
+      → OfEach (AtPort p IsUp) (half t old).state.system_ports → OfEach (AtPort p P) (half t old).state.system_ports
+      → OfEach (AtPort p P) (half t new).state.system_ports
+  set_each t p P k stands up y = each_side (λ t. (t ≡ s → Withstands p P setting) → OfEach (AtPort p IsUp) (half t old).state.system_ports
+      → OfEach (AtPort p P) (half t old).state.system_ports → OfEach (AtPort p P) (half t new).state.system_ports) s
+      (λ stands up y. subst (λ (z : SystemState). OfEach (AtPort p P) z.system_ports) (sym own_set)
+      (setting_beside p P k setting (stands refl) x.0 (half s old).state x.1.state x.2.answers.step up y))
+      (λ stands up y. subst (λ (z : SystemState). OfEach (AtPort p P) z.system_ports) (sym peer_set) y) t stands up y
+
   pub sets_each : (at : Side → ℕ) → LeavesPorts at (Sets s setting) → (P : Machines → Type 0) (t : Side) → KeptBySettling (AtPort (at t) P)
       → OfEach (AtPort (at t) IsUp) (half t old).state.system_ports → OfEach (AtPort (at t) P) (half t old).state.system_ports
       → OfEach (AtPort (at t) P) (half t new).state.system_ports
-  sets_each at leaves P = each_side (λ t. KeptBySettling (AtPort (at t) P) → OfEach (AtPort (at t) IsUp) (half t old).state.system_ports
-      → OfEach (AtPort (at t) P) (half t old).state.system_ports → OfEach (AtPort (at t) P) (half t new).state.system_ports) s
-      (λ k up p. subst (λ (z : SystemState). OfEach (AtPort (at s) P) z.system_ports) (sym own_set)
-      (setting_beside at s P k setting leaves x.0 (half s old).state x.1.state x.2.answers.step up p))
-      (λ k up p. subst (λ (z : SystemState). OfEach (AtPort (at (peer s)) P) z.system_ports) (sym peer_set) p)
+  sets_each at leaves P t k = set_each t (at t) P k (λ e. subst (λ u. Withstands (at u) P setting) (sym e) (left_alone at s P setting leaves))
+
+  pub sets_up : (t : Side) (p : ℕ) → OfEach (AtPort p IsUp) (half t old).state.system_ports → OfEach (AtPort p IsUp) (half t new).state.system_ports
+  sets_up t p up = set_each t p IsUp (settling_leaves (AtPort p IsUp)) (λ e. up_withstands p setting) up up
 
   sets_ports : (t : Side) → (half t new).state.ports ≡ (half t old).state.ports
   sets_ports = each_side (λ t. (half t new).state.ports ≡ (half t old).state.ports) s

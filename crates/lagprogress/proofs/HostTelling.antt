@@ -4,24 +4,22 @@ use Rattle.lagprogress.proofs.Common.{◌⊎◌, cases_Bool, same_Some, AllByRec
 use Rattle.lagprogress.proofs.Common.{receive_rows, AtRest, RunsToRest, after_sending, count_down, is_due, SystemPort, Carries, IsFrame}
 use Rattle.lagprogress.proofs.Common.{OnlyPortChangesBy, ProcessesLacpdu, ThenSettles, SystemState, machines_of, found_place, Reply, Algorithms}
 use Rattle.lagprogress.proofs.Common.{WorldSteps, side_of, ItemValue, WorldState, half, towards, HostEvent, Plays, timeout_time, KeptBySettling}
-use Rattle.lagprogress.proofs.Common.{OfEach, Tick-each, counts, AtPort, Sounds, LeavesPorts, AfterTick, Clearing, NoneIsLeft, StepReplies}
-use Rattle.lagprogress.proofs.Common.{NothingInFlight, OfPort}
+use Rattle.lagprogress.proofs.Common.{OfEach, Tick-each, counts, AtPort, LeavesPorts, AfterTick, Clearing, StepReplies, OfPort}
 use Rattle.slowpdu.specs.declared.pdu.Pdu.TheVariants as pdu
 use Rattle.lagsystem.specs.declared.drive.Reply.TheVariants as answer
 use Rattle.lagscript.specs.declared.event.Event.TheVariants as event
 use Rattle.lagprogress.proofs.Claims.{IsNamed, Owes, Owing, Wakeful, owes_ticks, owing_settles, wakeful_along, wakeful_ticks}
 use Rattle.lagprogress.proofs.Climbing.{PartnerInSync, known_still, ticks_partner}
 use Rattle.lagprogress.proofs.Delivering.{Heard, arrived_ports, deliver_link, deliver_moves}
-use Rattle.lagprogress.proofs.EndFacts.{CanSound, sounds_along, Along, IsEnd, Learnt, activity, nothing_along, short_timeout, ticks_end, wait_of}
-use Rattle.lagprogress.proofs.HostRound.{between, KeptBeside, MadeByTick, Stages, all_ticked, first_on, fits_in, healthy_link, holds_beside, known_in}
-use Rattle.lagprogress.proofs.HostRound.{learn_less, Whatever, all_whatever, learnt_along, left, none_ticked, side_beside, tick_one, ticks_learnt}
-use Rattle.lagprogress.proofs.HostRound.{two_other, two_there}
+use Rattle.lagprogress.proofs.EndFacts.{Along, IsEnd, Learnt, activity, nothing_along, short_timeout, ticks_end, wait_of}
+use Rattle.lagprogress.proofs.HostRound.{between, KeptBeside, MadeByTick, Stages, first_on, fits_in, healthy_link, holds_beside, known_in, learn_less}
+use Rattle.lagprogress.proofs.HostRound.{Whatever, all_whatever, learnt_along, left, none_ticked, side_beside, tick_one, ticks_learnt, two_other}
+use Rattle.lagprogress.proofs.HostRound.{two_there}
 use Rattle.lagprogress.proofs.Linked.{asked_which, at_end, beside_link, emit_any, found, end_with, of_end, with_ports, EndIs, Fits, Flying, IsGood}
 use Rattle.lagprogress.proofs.Linked.{Link, each_both, each_map, each_side, end_here, gains_has, HasLacpdu, other_side, peer_twice, put_other}
 use Rattle.lagprogress.proofs.Linked.{put_there}
 use Rattle.lagprogress.proofs.OneCable.{Arrives, alone, cable, port_there, put, response, ticks, towards_there}
-use Rattle.lagprogress.proofs.OneRound.{Later, beside_here, sounds_pass, Nothing, Passes, ask_idle, ask_peer, one_of_both, at_rest, forget, join}
-use Rattle.lagprogress.proofs.OneRound.{ticked}
+use Rattle.lagprogress.proofs.OneRound.{Nothing, Passes, ask_idle, ask_peer, one_of_both, at_rest, forget, join, ticked}
 use Rattle.lagprogress.proofs.Quieting.{LeavesEnds, PlayedBeside, ends_up, leaves_each, leaves_link}
 use Rattle.lagprogress.proofs.Telling.{Bears, SaysIt, Tells, arrive_peer, ask_on, came_to, deliver_on, due_on, left_by, sync_settles, tells_map}
 
@@ -470,33 +468,6 @@ module _ (gives : Algorithms) (d : ℕ) (at : Side → ℕ) (w : Side → Lacpdu
           long true = omega arith
           long false = omega arith
 
-      -- what is left after a round in which nothing was on the cable before
-      abbrev Ended : (Machines → Type 0) → WorldState → Type 0
-      Ended X j = OwesNow j ⊎ PeerIs X j
-
-      end_on : (X : Machines → Type 0) (j : WorldState) → NothingInFlight j → (o : OnWay (kn false false) X j) → Ended X j
-      end_on X j none o = elim o.1 [
-        | inl owes ↦ inl owes
-        | inr tells ↦ inr (subst (λ xs. Tells u v xs (PeerIs X j))
-            (sym (towards_there (peer s) at o.0.flying) ∙ none (peer s) o.0.index (cable at o.0.flying) o.0.links.there) tells)
-      ]
-
-      begin_on : (X : Machines → Type 0) (x : Side) (Y : Machines → Type 0) (j : WorldState) → NothingInFlight j → Link d at w c x Y j
-          → OfEach (AtPort (at s) Wakes) (half s j).state.system_ports → Ended X j → OnWay (kn true true) X j
-      begin_on X x Y j none l wakes m =
-          let k = none_ticked d at w c s s Wakes j (join d at w c x s Wakes j (forget d at w c x x Y j l) wakes) in
-          let empty : k.flying (peer s) ≡ [] = sym (towards_there (peer s) at k.flying)
-          ∙ none (peer s) k.index (cable at k.flying) k.links.there in (
-            k,
-            elim m [
-              | inl owes ↦ inl owes
-              | inr y ↦ inr (subst (λ xs. Tells u v xs (PeerIs X j)) (sym empty) y)
-            ],
-          )
-
-      wakes_then : (X : Machines → Type 0) (j : WorldState) → OnWay (kn false false) X j → OfEach (AtPort (at s) Wakes) (half s j).state.system_ports
-      wakes_then X j o = of_end o.0 s Wakes (λ p rest timed a. a.1 refl)
-
       module _ (X V Y Z : Machines → Type 0) (k : Passes X V Y Z (w s) (w (peer s)) (c s) (ticked c s) d)
           (before : Along X (w s) (w (peer s)) (c s) d) where
         abbrev A : Bool → WorldState → Type 0
@@ -586,23 +557,6 @@ module _ (gives : Algorithms) (d : ℕ) (at : Side → ℕ) (w : Side → Lacpdu
             first_on (LeavesPorts at) gives Whatever s A B C NoneDue stages h.events h.replies old new true (all_whatever h.events) (side_beside at s h.events h.ticks) h.acts
             asked start
 
-        -- Z holds of the end of s after the round, or the other end has heard an LACPDU of it, and is told
-        pub host_tells : (old new : WorldState) → Link d at w c s X old → OfEach (AtPort (at s) Wakes) (half s old).state.system_ports
-            → PlayedBeside at NoneIsLeft gives old new → D old
-            → Link d at w (ticked c) s Z new ⊎ (Link d at w (ticked c) (peer s) (Learnt d (w (peer (peer s))) (W - 1)) new
-            × ((OfEach (AtPort (at s) Wakes) (half s new).state.system_ports × Ended PartnerInSync new) × E new))
-        host_tells old new l wakes h da = landed (turns old new l wakes h da)
-          where
-            landed : C false new → Link d at w (ticked c) s Z new ⊎ (Link d at w (ticked c) (peer s) (Learnt d (w (peer (peer s))) (W - 1)) new
-                × ((OfEach (AtPort (at s) Wakes) (half s new).state.system_ports × Ended PartnerInSync new) × E new))
-            landed (inl i) = inl (all_ticked d at w c s s Z new i.0.0)
-            landed (inr (inl i)) = let empty = h.empties (peer s) i.0.0.0.index (cable at i.0.0.0.flying) i.0.0.0.links.there in
-                absurd (subst Flying (sym (towards_there (peer s) at i.0.0.0.flying) ∙ empty) i.0.1)
-            landed (inr (inr i)) = inr (
-              all_ticked d at w c s (peer s) (Learnt d (w (peer (peer s))) (W - 1)) new i.0.0,
-              ((wakes_then PartnerInSync new i.0.1, end_on PartnerInSync new h.empties i.0.1), i.1),
-            )
-
       -- what it is told, or what is on its way, stays
       pub stays_on : {E : Clearing} (old new : WorldState) → OnWay (kn true true) PartnerInSync old → PlayedBeside at E gives old new → 2 ≤ c (peer s)
           → OnWay (kn false false) PartnerInSync new
@@ -623,29 +577,3 @@ module _ (gives : Algorithms) (d : ℕ) (at : Side → ℕ) (w : Side → Lacpdu
               (subst (λ n. IsEnd d (w (peer s)) (w (peer (peer s))) n p) (two_other s (left a (c s)) (c (peer s))) (e.0 f).0) (e.1 f))
               (gives (peer s)) (half (peer s) i).state answer.Tick (half (peer s) j).state t.step
               (each_both (AtPort (at (peer s)) P) (AtPort (at (peer s)) PartnerInSync) (half (peer s) i).state.system_ports (l.ports (peer s)) y)
-
-      -- what it was told stays
-      pub host_told : (x : Side) (Y : Machines → Type 0) (old new : WorldState) → Link d at w c x Y old
-          → OfEach (AtPort (at s) Wakes) (half s old).state.system_ports
-          → NothingInFlight old → PlayedBeside at NoneIsLeft gives old new → 2 ≤ c (peer s) → Ended PartnerInSync old
-          → OfEach (AtPort (at s) Wakes) (half s new).state.system_ports × Ended PartnerInSync new
-      host_told x Y old new l wakes none h known told =
-          let last = stays_on old new (begin_on PartnerInSync x Y old none l wakes told) h known in
-          (wakes_then PartnerInSync new last, end_on PartnerInSync new h.empties last)
-
-      -- an LACPDU of the end of s is nearer, or the other end has heard one, and is told
-      pub host_nears_told : (fast : Bool) (most : ℕ) (old new : WorldState) → CanSound (w s) (w (peer s)) fast (ticked c s)
-          → CanSound (w s) (w (peer s)) fast (c s) → Link d at w c s (Sounds fast most) old
-          → OfEach (AtPort (at s) Wakes) (half s old).state.system_ports → PlayedBeside at NoneIsLeft gives old new → D old
-          → ((1 ≤ most - 1) × Link d at w (ticked c) s (Sounds fast (most - 1)) new)
-          ⊎ (Link d at w (ticked c) (peer s) (Learnt d (w (peer (peer s))) (wait_of (w (peer s)) - 1)) new
-          × ((OfEach (AtPort (at s) Wakes) (half s new).state.system_ports × Ended PartnerInSync new) × E new))
-      host_nears_told fast most old new can was l wakes h da = elim (host_tells (Sounds fast most) (Sounds fast (most - 1)) (Sounds fast (most - 1))
-          (Later fast (most - 1)) (sounds_pass (w s) (w (peer s)) fast (c s) (ticked c s) d most was can)
-          (sounds_along (w s) (w (peer s)) fast (c s) d most was) old new l wakes h da) [
-            | inl z ↦ inl (
-              (beside_here d at w (ticked c) s (Later fast (most - 1)) new z).0,
-              at_rest d at w (ticked c) s (Later fast (most - 1)) (Sounds fast (most - 1)) new (λ p rest timed a y. y.1) z,
-            )
-            | inr k ↦ inr k
-          ]

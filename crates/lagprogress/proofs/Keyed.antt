@@ -5,22 +5,22 @@ use Rattle.lagprogress.proofs.Common.{SystemPort, Call, Step, call_of, HostPromi
 use Rattle.lagprogress.proofs.Common.{SystemState, with_table, selection_view, first_unselected, TableAlone, agrees_beside, host_alone, all-get}
 use Rattle.lagprogress.proofs.Common.{found_place, ports_rise, Step-sound, agrees, Reply, Algorithms, LinkState, WorldState, half, port_at, HostEvent}
 use Rattle.lagprogress.proofs.Common.{Plays, AtPort, at_number, calls_each, BothAreActive, EachLinkComesUp, EndsOfEachKnow, IsBundle, OneIsActive}
-use Rattle.lagprogress.proofs.Common.{Distributes, HostRounds, StepReplies, IsHealthyAt, known_if_both_active, known_if_one_is, up_if_both_active}
-use Rattle.lagprogress.proofs.Common.{up_if_one_is, AreOneGroup, IsSteady, AreInOneAggregator, CallsKeepGroupsWhole, EachKeyIsInOneAggregator}
-use Rattle.lagprogress.proofs.Common.{FirstGroupsAreWhole, GroupsAreWhole, ReachedGroupsAreWhole}
+use Rattle.lagprogress.proofs.Common.{StepReplies, LateRounds, OldArrive, Distributes, IsHealthyAt, known_if_both_active, known_if_one_is}
+use Rattle.lagprogress.proofs.Common.{up_if_both_active, up_if_one_is, AreOneGroup, IsSteady, AreInOneAggregator, CallsKeepGroupsWhole}
+use Rattle.lagprogress.proofs.Common.{EachKeyIsInOneAggregator, FirstGroupsAreWhole, GroupsAreWhole, ReachedGroupsAreWhole}
+use Rattle.lagprogress.proofs.EachRound.{played_on}
+use Rattle.lagprogress.proofs.SharedLemmas.{played_lasted, Lasted, one_group}
 use Rattle.lagprogress.proofs.Quieting.{IsCalm, calm_steady, runs_calm, quiet_ports}
 use Rattle.lagprogress.proofs.Halves.{each_is_calls, both_first, start_steady}
 use Rattle.lagsystem.specs.declared.drive.HostCall.TheVariants as host
 use Rattle.lagsystem.specs.declared.drive.HostReply.TheVariants as told
 use Rattle.lagsystem.proofs.OccupantSteps.{Step-placed}
 use Rattle.std.specs.Prelude.{[], ◌∷◌}
-use Rattle.lagprogress.proofs.Bundling.{heard_holds, each_active_link_comes_up_by_hosts, each_link_comes_up_by_hosts}
-use Rattle.lagprogress.proofs.EachRound.{hosts_on}
+use Rattle.lagprogress.proofs.Bundling.{heard_holds, each_active_link_comes_up, each_link_comes_up}
 use Rattle.lagprogress.proofs.Grouping.{InOne, first_in_one, in_one_of, step_in_one, whole_of}
-use Rattle.lagprogress.proofs.HostKnowing.{active_ends_know_by_hosts, ends_know_by_hosts}
+use Rattle.lagprogress.proofs.Knowing.{active_ends_know, ends_know}
 use Rattle.lagprogress.proofs.Lasting.{still_heard}
 use Rattle.lagprogress.proofs.Linked.{events_each}
-use Rattle.lagprogress.proofs.SharedLemmas.{Lasted, lasted, one_group}
 use Rattle.lagprogress.proofs.Starting.{end_of}
 
 -- calls of a host
@@ -90,9 +90,9 @@ one_whole gives s (Plays e) r i j c h k w =
     (calls_each (gives s) Whole (call_whole (gives s)) (half s i).state (half s j).state g.0 g.1 g.2 ((k s).0, w)).1
 one_whole gives s e r i j c h k w = subst InOne (sym (quiet_ports gives e r i j c h s)) w
 
-rounds_whole : (gives : Algorithms) (n : ℕ) (old new : WorldState) → HostRounds gives n old new → IsSteady old → (s : Side)
+rounds_whole : (gives : Algorithms) (n : ℕ) (old new : WorldState) → LateRounds gives n old new → IsSteady old → (s : Side)
     → InOne (half s old).state.system_ports → InOne (half s new).state.system_ports
-rounds_whole gives n old new h steady s w = (hosts_on gives (λ m j. IsSteady j × InOne (half s j).state.system_ports) old (steady, w)
+rounds_whole gives n old new h steady s w = (played_on OldArrive gives (λ m j. IsSteady j × InOne (half s j).state.system_ports) old (steady, w)
     (λ m i j q. runs_calm gives (λ k. IsSteady k × InOne (half s k).state.system_ports)
     (λ e r i j c step a. (calm_steady gives e r i j c step a.0, one_whole gives s e r i j c step a.0 a.1)) One true true q.events q.replies i j q.ticks
     q.acts) n new h).1
@@ -109,11 +109,11 @@ selected_chosen agg c e u = absurd (none-some agg.0 (sym (ap occupied u) ∙ ap 
 same_aggregator : (a b : AggId) → a.0 ≡ b.0 → a ≡ b
 same_aggregator a b e = λ i. record { 0 = e i }
 
-module _ (Holds : LinkState → WorldState → Type 0) (knowing least : ℕ) (gives : Algorithms) (know : EndsOfEachKnow HostRounds Holds knowing gives)
-    (up : EachLinkComesUp HostRounds Holds least gives) (enough : knowing ≤ least) where
-  module _ (n : ℕ) (old new : WorldState) (s : Side) (b : IsBundle Holds old) (many : least ≤ n) (h : HostRounds gives n old new) where
+module _ (Holds : LinkState → WorldState → Type 0) (knowing least : ℕ) (gives : Algorithms) (know : EndsOfEachKnow LateRounds Holds knowing gives)
+    (up : EachLinkComesUp LateRounds Holds least gives) (enough : knowing ≤ least) where
+  module _ (n : ℕ) (old new : WorldState) (s : Side) (b : IsBundle Holds old) (many : least ≤ n) (h : LateRounds gives n old new) where
     last : Lasted old new
-    last = lasted gives n old new b.steady h
+    last = played_lasted OldArrive gives n old new b.steady h
 
     -- a port whose link is up is SELECTED
     up_selected : (k : ℕ) (x : SystemPort) → slice_get (half s new).state.system_ports k ≡ Some x → x.port.enabled ≡ true
@@ -140,10 +140,10 @@ module _ (Holds : LinkState → WorldState → Type 0) (knowing least : ℕ) (gi
         (one_group old new b.steady last Holds b.heard knows s key g i x at on is).together in
         (c.0, subst (λ (z : AggId). x.port.choice ≡ Selected z) (same_aggregator a.0 c.0 same) a.1, c.1)
 
-pub key_together : (gives : Algorithms) → EachKeyIsInOneAggregator HostRounds OneIsActive up_if_one_is gives
-key_together gives n old new s key b whole g many h = together OneIsActive known_if_one_is up_if_one_is gives (ends_know_by_hosts gives)
-    (each_link_comes_up_by_hosts gives) (omega arith) n old new s b many h key whole g
+pub key_together : (gives : Algorithms) → EachKeyIsInOneAggregator LateRounds OneIsActive up_if_one_is gives
+key_together gives n old new s key b whole g many h = together OneIsActive known_if_one_is up_if_one_is gives (ends_know gives)
+    (each_link_comes_up gives) (omega arith) n old new s b many h key whole g
 
-pub active_key_together : (gives : Algorithms) → EachKeyIsInOneAggregator HostRounds BothAreActive up_if_both_active gives
+pub active_key_together : (gives : Algorithms) → EachKeyIsInOneAggregator LateRounds BothAreActive up_if_both_active gives
 active_key_together gives n old new s key b whole g many h = together BothAreActive known_if_both_active up_if_both_active gives
-    (active_ends_know_by_hosts gives) (each_active_link_comes_up_by_hosts gives) (omega arith) n old new s b many h key whole g
+    (active_ends_know gives) (each_active_link_comes_up gives) (omega arith) n old new s b many h key whole g

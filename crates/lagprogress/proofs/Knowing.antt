@@ -1,16 +1,23 @@
--- How the ends of a cable come to know each other, by rounds of any kind.
+-- How the ends of a cable come to know each other.
 use Rattle.lagprogress.proofs.Common.{Bool, arith, false, inl, inr, refl, subst, suc, sym, true, zero, ℕ, ◌+◌, ◌-◌, ◌∙◌, ◌≡◌, ◌≤◌, ◌⊎◌, cases_Bool}
 use Rattle.lagprogress.proofs.Common.{Lacpdu, One, Side, Two, peer, Machines, periodic_rows, AtRest, machines_of, Algorithms, LinkState, WorldState}
-use Rattle.lagprogress.proofs.Common.{half, port_at, IsTimed, timeout_time, OfEach, no, AtPort, Sounds, silence_of, sounds_first, Clearing, EndKnows}
-use Rattle.lagprogress.proofs.Common.{Knows, AtEnd, OfPort}
+use Rattle.lagprogress.proofs.Common.{half, port_at, IsTimed, timeout_time, OfEach, no, AtPort, Sounds, silence_of, sounds_first, BothAreActive}
+use Rattle.lagprogress.proofs.Common.{EndsOfEachKnow, OneIsActive, LateRounds, OldArrive, EndKnows, Knows, AtEnd, OfPort, known_if_both_active}
+use Rattle.lagprogress.proofs.Common.{known_if_one_is}
 use Rattle.lagprogress.proofs.Claims.{IsNamed, Wakeful, can_wake}
-use Rattle.lagprogress.proofs.EndFacts.{CanSound, IsEnd, Learnt, activity, calm, less_known, short_timeout, wait_of}
+use Rattle.lagprogress.proofs.EndFacts.{CanSound, IsEnd, Learnt, activity, calm, less_known, short_timeout, wait_of, Along}
 use Rattle.lagprogress.proofs.HostRound.{host_keeps, two, two_other, two_there}
-use Rattle.lagprogress.proofs.Lapsing.{Lasting, begins_lasting, lasting_now}
+use Rattle.lagprogress.proofs.Lapsing.{Lasting, begins_lasting, lasting_now, Lapsed, Phase, Tails, lasting_passes}
 use Rattle.lagprogress.proofs.Linked.{EndIs, Fits, Link, each_map, each_side, end_here, of_end, other_ports, peer_twice, with_ports}
-use Rattle.lagprogress.proofs.OneRound.{Nothing, at_rest, forget, ticked}
-use Rattle.lagprogress.proofs.Quieting.{AllBeside, PlayedBeside}
+use Rattle.lagprogress.proofs.OneRound.{Nothing, at_rest, forget, ticked, beside_here, join}
+use Rattle.lagprogress.proofs.Quieting.{AllBeside, PlayedBeside, all_beside}
 use Rattle.lagprogress.proofs.Telling.{Wakes}
+use Rattle.lagprogress.proofs.Climbing.{PartnerInSync}
+use Rattle.lagprogress.proofs.LateHearing.{Ahead, Flies, Hears as Heard, Said, Whoever, late_flies, late_nears, late_passes, late_stamped, late_told}
+use Rattle.lagprogress.proofs.LateHearing.{late_took}
+use Rattle.lagprogress.proofs.LateStart.{counts_of, first_late, kept_of}
+use Rattle.lagprogress.proofs.Stamps.{Stamped, Took}
+use Rattle.lagprogress.proofs.Starting.{Ends, active_at, end_of, named_at, said_by, starts}
 
 pub two_less : (s : Side) (c : Side → ℕ) (a b : ℕ) → a ≤ c s → b ≤ c (peer s) → (u : Side) → two s a b u ≤ c u
 two_less One c a b l m One = l
@@ -95,55 +102,41 @@ module _ (at : Side → ℕ) (w : Side → Lacpdu) where
   wakes_now d c x Y s fast j can l = of_end l s (Wakeful (w s) (w (peer s)))
       (λ p rest timed a. can_wake d (w s) (w (peer s)) fast (c s) p can a.0)
 
--- what shows in a world how far its ends are: what is so of the cable between rounds, in how many rounds the other end of one hears it,
--- in how many if it goes to EXPIRED first, that the other is told that it is synchronized, and that an end took the present change count
-pub record Signs : Type 1 where
-  pub Rest : WorldState → Type 0
-  pub Ahead : Side → Bool → ℕ → WorldState → Type 0
-  pub Awaited : Side → ℕ → WorldState → Type 0
-  pub Told : Side → WorldState → Type 0
-  pub Took : Side → WorldState → Type 0
+one_more : (n : ℕ) → n + 1 - 1 ≡ n
+one_more n = omega arith
 
-module _ (at : Side → ℕ) (w : Side → Lacpdu) (z : Signs) where
+module _ (at : Side → ℕ) (w : Side → Lacpdu) (counts : Side → ℕ) (kept : Side → Bool) where
+  -- LACPDUs bear these change counts
+  abbrev Rest : WorldState → Type 0
+  Rest j = Stamped 1 at counts kept j
+
+  -- the other end is told that this one is synchronized
+  abbrev Told : Side → WorldState → Type 0
+  Told s j = Said at w s PartnerInSync j
+
+  -- in so many rounds it hears it, if it goes to EXPIRED first, or an LACPDU is on the cable
+  abbrev Awaited : Side → ℕ → WorldState → Type 0
+  Awaited s m j = ((2 ≤ m) × AtIt at w s (Lasting (w (peer s)) (m - 1)) j) ⊎ (Said at w s Whoever j × Flies at s j)
+
   -- what is so once the other end has heard an LACPDU of the end of s
   pub record Hears (d : ℕ) (c : Side → ℕ) (s : Side) (j : WorldState) : Type 0 where
     pub link : Link d at w (ticked c) (peer s) (Learnt d (w (peer (peer s))) (wait at w (peer s))) j
     pub wakes : Wakes at w s j
-    pub told : z.Told s j
-    pub took : z.Took (peer s) j
-
-  -- What rounds of a kind make of these signs. An LACPDU is heard in so many rounds, and e more in which it is on the cable.
-  pub record Chain (E : Clearing) (gives : Algorithms) (e : ℕ) : Type 0 where
-    pub few : e ≤ 1
-    pub rests : (old new : WorldState) → PlayedBeside at E gives old new → z.Rest old → z.Rest new
-    pub ahead : (d : ℕ) (c : Side → ℕ) (s : Side) (fast : Bool) (j : WorldState) → CanSound (w s) (w (peer s)) fast (c s)
-        → Link d at w c One Nothing j → z.Ahead s fast (silence_of fast + e) j
-    pub nears : (d : ℕ) (s : Side) → 1 ≤ d → (activity (w s) ≡ true) ⊎ IsNamed (w (peer s)) → (c : Side → ℕ) → Fits d w c → Fits d w (ticked c)
-        → (fast : Bool) (m : ℕ) (old new : WorldState) → CanSound (w s) (w (peer s)) fast (ticked c s) → CanSound (w s) (w (peer s)) fast (c s)
-        → Link d at w c One Nothing old → Wakes at w s old → z.Rest old → z.Ahead s fast m old → PlayedBeside at E gives old new
-        → ((1 ≤ m - 1) × z.Ahead s fast (m - 1) new) ⊎ Hears d c s new
-    pub tells : (d : ℕ) (s : Side) → 1 ≤ d → (activity (w s) ≡ true) ⊎ IsNamed (w (peer s)) → (c : Side → ℕ) → Fits d w c → Fits d w (ticked c)
-        → (old new : WorldState) → Link d at w c One Nothing old → Wakes at w s old → z.Rest old → PlayedBeside at E gives old new → 2 ≤ c (peer s)
-        → z.Told s old → Wakes at w s new × z.Told s new
-    pub takes : (d : ℕ) (c : Side → ℕ) (t : Side) (old new : WorldState) → Link d at w c One Nothing old → z.Rest old → PlayedBeside at E gives old new
-        → z.Took t old → z.Took t new
-    pub begins : (s : Side) (j : WorldState) → AtIt at w s (Lasting (w (peer s)) 300) j → z.Awaited s (300 + e) j
-    pub awaits : (s : Side) → activity (w (peer s)) ≡ true → IsNamed (w (peer s)) → Fits 1 w (λ _. 0) → Fits 1 w (ticked (λ _. 0)) → (m : ℕ)
-        (old new : WorldState) → 1 ≤ m → Link 1 at w (λ _. 0) One Nothing old → Wakes at w s old → z.Rest old → z.Awaited s m old
-        → PlayedBeside at E gives old new → ((1 ≤ m - 1) × Wakes at w s new × z.Awaited s (m - 1) new) ⊎ Hears 1 (λ _. 0) s new
+    pub told : Told s j
+    pub took : Took at counts kept (peer s) j
 
   -- Each end is heard in so many rounds, and the other end knows it for longer, or the rounds are still few.
   pub record Going (d most n : ℕ) (j : WorldState) : Type 0 where
     pub known : Side → ℕ
     pub next : Side → ℕ
     pub link : Link d at w known One Nothing j
-    pub rest : z.Rest j
+    pub rest : Rest j
     pub fits : (s : Side) → known s ≤ wait at w s
     pub later : (s : Side) → 1 ≤ next s
     pub longer : (s : Side) → (next s + 1 ≤ known (peer s)) ⊎ (n + next s ≤ most)
-    pub ahead : (s : Side) → z.Ahead s (mode at w s) (next s) j
-    pub told : (s : Side) → 1 ≤ known (peer s) → z.Told s j
-    pub took : (s : Side) → 1 ≤ known s → z.Took s j
+    pub ahead : (s : Side) → Ahead at w s (mode at w s) (next s) j
+    pub told : (s : Side) → 1 ≤ known (peer s) → Told s j
+    pub took : (s : Side) → 1 ≤ known s → Took at counts kept s j
 
   -- the rounds are no longer few
   abbrev pub Met : ℕ → WorldState → Type 0
@@ -157,6 +150,9 @@ module _ (at : Side → ℕ) (w : Side → Lacpdu) (z : Signs) where
       let m = known_long d most n j g l (peer s) in
       let o = g.later (peer s) in
       subst (λ t. 2 ≤ g.known t) (peer_twice s) (omega (arith, m, o))
+
+  pub knows_late : (d : ℕ) (j : WorldState) (g : Met d j) (s : Side) → 2 ≤ g.known s
+  knows_late d j g s = knows_peer d 0 0 j g (omega arith) s
 
   settled : (d most n : ℕ) (j : WorldState) → most ≤ n → Going d most n j → Met d j
   settled d most n j l g = record {
@@ -213,17 +209,66 @@ module _ (at : Side → ℕ) (w : Side → Lacpdu) (z : Signs) where
       (subst (λ n. OfPort (λ q. Knows one.port.port q) (machines_of n (half (peer s) j).state)) (sym (joins (peer s)))
       (subst (OfPort (λ q. Knows one.port.port q)) (sym other.found) knows)))
 
-  module _ (E : Clearing) (gives : Algorithms) (e : ℕ) (k : Chain E gives e) where
+  -- an end that may sound is heard so soon
+  ahead_now : (d : ℕ) (c : Side → ℕ) (s : Side) (fast : Bool) (j : WorldState) → CanSound (w s) (w (peer s)) fast (c s)
+      → Link d at w c One Nothing j → Ahead at w s fast (silence_of fast + 1) j
+  ahead_now d c s fast j can l = let some = some_silence at w fast in
+      inl (
+        omega (arith, some),
+        subst (λ m. AtIt at w s (Sounds fast m) j) (sym (one_more (silence_of fast))) (sounds_now at w d c One Nothing s fast j can l),
+      )
+
+  heard : (gives : Algorithms) (d : ℕ) (s : Side) (there : 1 ≤ d) (named : (activity (w s) ≡ true) ⊎ IsNamed (w (peer s))) (c : Side → ℕ)
+      (fits : Fits d w c) (then : Fits d w (ticked c)) (j : WorldState) → Heard gives d at w counts kept s there named c fits then j
+      → Hears d c s j
+  heard gives d s there named c fits then j q = record { link = q.0; wakes = q.1.0; told = q.1.1; took = q.2 }
+
+  awaits : (gives : Algorithms) (s : Side) → activity (w (peer s)) ≡ true → IsNamed (w (peer s)) → Fits 1 w (λ _. 0) → Fits 1 w (ticked (λ _. 0))
+      → (m : ℕ) (old new : WorldState) → 1 ≤ m → Link 1 at w (λ _. 0) One Nothing old → AtIt at w s (Wakeful (w s) (w (peer s))) old
+      → Stamped 1 at counts kept old
+      → ((2 ≤ m) × AtIt at w s (Lasting (w (peer s)) (m - 1)) old) ⊎ (Said at w s Whoever old × Flies at s old) → PlayedBeside at OldArrive gives old new
+      → ((1 ≤ m - 1) × AtIt at w s (Wakeful (w s) (w (peer s))) new
+      × (((2 ≤ m - 1) × AtIt at w s (Lasting (w (peer s)) (m - 1 - 1)) new) ⊎ (Said at w s Whoever new × Flies at s new)))
+      ⊎ Hears 1 (λ _. 0) s new
+  awaits gives s active named fits then m old new some l wakes stamped (inr (said, flies)) h =
+      inr (heard gives 1 s (omega arith) (inr named) (λ _. 0) fits then new (late_flies gives 1 at w counts kept s (omega arith) (inr named) (λ _. 0) fits then
+      One old new l wakes stamped said flies h))
+  awaits gives s active named fits then m old new some l wakes stamped (inl (twice, lasting)) h =
+      let u = w (peer s) in
+      elim (late_passes gives 1 at w counts kept s (omega arith) (inr named) (λ _. 0) fits then (Lasting u (m - 1))
+      (Phase u (λ r. Lapsed 30 r ⊎ Tails r) (m - 1 - 1)) (Phase u Tails (m - 1 - 1)) (Lasting u (m - 1 - 1))
+      (lasting_passes (w s) u 1 (m - 1) active (omega (arith, twice)))
+      (subst (λ n. Along (Lasting u n) (w s) u 0 1) (omega arith) (lasting_passes (w s) u 1 (m - 1 + 1) active (omega arith)).asked)
+      old new (join 1 at w (λ _. 0) One s (Lasting u (m - 1)) old l lasting) wakes stamped h) [
+        | inl q ↦ (let more = (beside_here 1 at w (ticked (λ _. 0)) s (Lasting u (m - 1 - 1)) new q).0 in
+            inl (
+              omega (arith, twice),
+              of_end q s (Wakeful (w s) u) (λ p rest timed a. inr (active, λ same. lasting_now u (m - 1 - 1) p active (a.1 refl))),
+              inl (omega (arith, more), of_end q s (Lasting u (m - 1 - 1)) (λ p rest timed a. a.1 refl)),
+            ))
+        | inr (inl y) ↦ inl (omega (arith, twice), y.0, inr (y.1, y.2))
+        | inr (inr q) ↦ inr (heard gives 1 s (omega arith) (inr named) (λ _. 0) fits then new q)
+      ]
+
+  module _ (gives : Algorithms) where
     abbrev Round : WorldState → WorldState → Type 0
-    Round old new = PlayedBeside at E gives old new
+    Round old new = PlayedBeside at OldArrive gives old new
+
+    pub nears : (d : ℕ) (s : Side) → 1 ≤ d → (activity (w s) ≡ true) ⊎ IsNamed (w (peer s)) → (c : Side → ℕ) → Fits d w c → Fits d w (ticked c)
+        → (fast : Bool) (m : ℕ) (old new : WorldState) → CanSound (w s) (w (peer s)) fast (ticked c s) → CanSound (w s) (w (peer s)) fast (c s)
+        → Link d at w c One Nothing old → Wakes at w s old → Rest old → Ahead at w s fast m old → Round old new
+        → ((1 ≤ m - 1) × Ahead at w s fast (m - 1) new) ⊎ Hears d c s new
+    nears d s there named c fits then fast m old new can was l wakes rest y h =
+        elim (late_nears gives d at w counts kept s there named c fits then fast m old new can was l wakes rest y h)
+        [ inl q ↦ inl q | inr q ↦ inr (heard gives d s there named c fits then new q) ]
 
     -- the rounds in which the other end hears one that may sound
     abbrev gap : Bool → ℕ
-    gap b = silence_of b + e
+    gap b = silence_of b + 1
 
     gap_less : (b : Bool) → gap b + 1 ≤ timeout_time b - 1
-    gap_less true = let few = k.few in omega (arith, few)
-    gap_less false = let few = k.few in omega (arith, few)
+    gap_less true = omega arith
+    gap_less false = omega arith
 
     -- what one round makes of one direction
     record Went (d most n : ℕ) (s : Side) (j : WorldState) : Type 0 where
@@ -232,16 +277,16 @@ module _ (at : Side → ℕ) (w : Side → Lacpdu) (z : Signs) where
       fits : known ≤ wait at w (peer s)
       later : 1 ≤ next
       longer : (next + 1 ≤ known) ⊎ (n + next ≤ most)
-      ahead : z.Ahead s (mode at w s) next j
-      told : 1 ≤ known → z.Told s j
-      took : 1 ≤ known → z.Took (peer s) j
+      ahead : Ahead at w s (mode at w s) next j
+      told : 1 ≤ known → Told s j
+      took : 1 ≤ known → Took at counts kept (peer s) j
       peer : AtIt at w (peer s) (IsEnd d (w (peer s)) (w (peer (peer s))) known) j
 
     module _ (named : (t : Side) → IsNamed (w t)) where
       went : (d most n : ℕ) (old new : WorldState) (g : Going d most n old) (there : 1 ≤ d) (fit : Fits d w g.known)
           (then : Fits d w (ticked g.known)) → Able at w g.known → Round old new → Link d at w (ticked g.known) One Nothing new → (s : Side)
           → Went d most (n + 1) s new
-      went d most n old new g there fit then can h base s = elim (k.nears d s there (inr (named (peer s))) g.known fit then
+      went d most n old new g there fit then can h base s = elim (nears d s there (inr (named (peer s))) g.known fit then
           (mode at w s) (g.next s) old new (can s).1 (can s).0 g.link awake g.rest (g.ahead s) h) [
             | inl q ↦ record {
               next = g.next s - 1;
@@ -253,9 +298,9 @@ module _ (at : Side → ℕ) (w : Side → Lacpdu) (z : Signs) where
                 | inr l ↦ (let m = q.0 in inr (omega (arith, l, m)))
               ];
               ahead = q.1;
-              told = λ i. (k.tells d s there (inr (named (peer s))) g.known fit then old new g.link awake g.rest h (omega (arith, i))
+              told = λ i. (late_told gives d at w counts kept s there (inr (named (peer s))) g.known fit then One old new g.link awake h (omega (arith, i))
                   (g.told s (omega (arith, i)))).1;
-              took = λ i. k.takes d g.known (peer s) old new g.link g.rest h (g.took (peer s) (omega (arith, i)));
+              took = λ i. (late_took gives at counts kept old new h (peer s) (g.rest, g.took (peer s) (omega (arith, i)))).1;
               peer = ends_of at w d (ticked g.known) One Nothing (peer s) new base;
             }
             | inr q ↦ (let known = learns at w d (ticked g.known) (peer s) 0 new (omega arith) q.link in
@@ -266,7 +311,7 @@ module _ (at : Side → ℕ) (w : Side → Lacpdu) (z : Signs) where
                   fits = omega arith;
                   later = omega (arith, some);
                   longer = inl (gap_less (mode at w s));
-                  ahead = k.ahead d (ticked g.known) s (mode at w s) new (can s).1 base;
+                  ahead = ahead_now d (ticked g.known) s (mode at w s) new (can s).1 base;
                   told = λ i. q.told;
                   took = λ i. q.took;
                   peer = subst (λ m. AtIt at w (peer s) (IsEnd d (w (peer s)) (w (peer (peer s))) m) new) (two_there (peer s) (wait at w (peer s)) 0)
@@ -290,13 +335,13 @@ module _ (at : Side → ℕ) (w : Side → Lacpdu) (z : Signs) where
             link = with_ports base (λ u. each_map (AtPort (at u) (IsEnd d (w u) (w (peer u)) (r (peer u)).known))
                 (AtPort (at u) (EndIs d w (λ v. (r (peer v)).known) One Nothing u)) (λ m p a i. (a i, λ f. tt))
                 (half u new).state.system_ports (own u));
-            rest = k.rests old new h g.rest;
+            rest = late_stamped gives at counts kept old new h g.rest;
             fits = λ u. subst (λ t. (r (peer u)).known ≤ wait at w t) (peer_twice u) (r (peer u)).fits;
             later = λ s. (r s).later;
             longer = λ s. subst (λ t. ((r s).next + 1 ≤ (r t).known) ⊎ (n + 1 + (r s).next ≤ most)) (sym (peer_twice s)) (r s).longer;
             ahead = λ s. (r s).ahead;
             told = λ s i. (r s).told (subst (λ t. 1 ≤ (r t).known) (peer_twice s) i);
-            took = λ u i. subst (λ t. z.Took t new) (peer_twice u) ((r (peer u)).took i);
+            took = λ u i. subst (λ t. Took at counts kept t new) (peer_twice u) ((r (peer u)).took i);
           }
 
     pub stays_met : ((t : Side) → IsNamed (w t)) → ((s : Side) → (activity (w s) ≡ true) ⊎ (activity (w (peer s)) ≡ true)) → (d : ℕ)
@@ -307,26 +352,26 @@ module _ (at : Side → ℕ) (w : Side → Lacpdu) (z : Signs) where
     -- both ends are active and have Long Timeout
 
     abbrev Lasts : ℕ → WorldState → Type 0
-    Lasts n j = Going 1 (310 + e) n j
+    Lasts n j = Going 1 311 n j
 
     lasts : ((t : Side) → IsNamed (w t)) → (n : ℕ) (old new : WorldState) → ((s : Side) → activity (w s) ≡ true)
         → ((s : Side) → mode at w s ≡ false) → Round old new → Lasts n old → Lasts (n + 1) new
-    lasts named n old new active long h g = goes named 1 (310 + e) n old new g (omega arith) (fits_first at w g.known g.fits)
+    lasts named n old new active long h g = goes named 1 311 n old new g (omega arith) (fits_first at w g.known g.fits)
         (fits_ticked at w g.known g.fits)
         (λ s. ((inl (active s), λ i. absurd (no (sym (long s) ∙ i))), (inl (active s), λ i. absurd (no (sym (long s) ∙ i))))) h
 
     lasts_first : (j : WorldState) → ((s : Side) → activity (w s) ≡ true) → ((s : Side) → mode at w s ≡ false)
-        → Link 1 at w (λ _. 0) One Nothing j → z.Rest j → Lasts 1 j
+        → Link 1 at w (λ _. 0) One Nothing j → Rest j → Lasts 1 j
     lasts_first j active long l rest = record {
       known = λ _. 0;
-      next = λ _. 309 + e;
+      next = λ _. 310;
       link = l;
       rest = rest;
       fits = λ s. omega arith;
       later = λ s. omega arith;
       longer = λ s. inr (omega arith);
-      ahead = λ s. subst (λ b. z.Ahead s b (309 + e) j) (sym (long s))
-          (k.ahead 1 (λ _. 0) s false j (inl (active s), λ i. absurd (no i)) l);
+      ahead = λ s. subst (λ b. Ahead at w s b 310 j) (sym (long s))
+          (ahead_now 1 (λ _. 0) s false j (inl (active s), λ i. absurd (no i)) l);
       told = λ s i. absurd (omega (arith, i));
       took = λ s i. absurd (omega (arith, i));
     }
@@ -335,11 +380,11 @@ module _ (at : Side → ℕ) (w : Side → Lacpdu) (z : Signs) where
     -- it hears the other end.
 
     abbrev Calls : Side → ℕ → WorldState → Type 0
-    Calls s n j = (m : ℕ) × (1 ≤ m) × (n + m ≤ 310 + e) × Link 1 at w (λ _. 0) One Nothing j × z.Rest j × z.Ahead s false m j
+    Calls s n j = (m : ℕ) × (1 ≤ m) × (n + m ≤ 311) × Link 1 at w (λ _. 0) One Nothing j × Rest j × Ahead at w s false m j
 
-    called : (s : Side) → activity (w s) ≡ true → (j : WorldState) → Link 1 at w (λ _. 0) One Nothing j → z.Rest j → Calls s 1 j
+    called : (s : Side) → activity (w s) ≡ true → (j : WorldState) → Link 1 at w (λ _. 0) One Nothing j → Rest j → Calls s 1 j
     called s active j l rest =
-        (309 + e, omega arith, omega arith, l, rest, k.ahead 1 (λ _. 0) s false j (inl active, λ i. absurd (no i)) l)
+        (310, omega arith, omega arith, l, rest, ahead_now 1 (λ _. 0) s false j (inl active, λ i. absurd (no i)) l)
 
     fit_none : Fits 1 w (λ _. 0)
     fit_none = fits_first at w (λ _. 0) (λ t. omega arith)
@@ -355,7 +400,7 @@ module _ (at : Side → ℕ) (w : Side → Lacpdu) (z : Signs) where
     calls_on : (s : Side) (active : activity (w s) ≡ true) (n : ℕ) (old new : WorldState) → Round old new
         → Calls s n old → Calls s (n + 1) new ⊎ Hears 1 (λ _. 0) s new
     calls_on s active n old new h (m, some, soon, link, rest, ahead) =
-        elim (k.nears 1 s (omega arith) (inl active) (λ _. 0) fit_none then_none false m old new
+        elim (nears 1 s (omega arith) (inl active) (λ _. 0) fit_none then_none false m old new
         (inl active, λ i. absurd (no i)) (inl active, λ i. absurd (no i)) link
         (wakes_now at w 1 (λ _. 0) One Nothing s false old (inl active, λ i. absurd (no i)) link) rest ahead h) [
           | inl q ↦ (let more = q.0 in
@@ -364,7 +409,7 @@ module _ (at : Side → ℕ) (w : Side → Lacpdu) (z : Signs) where
                 more,
                 omega (arith, soon, more),
                 none_kept old new h link,
-                k.rests old new h rest,
+                late_stamped gives at counts kept old new h rest,
                 q.1,
               ))
           | inr q ↦ inr q
@@ -373,10 +418,10 @@ module _ (at : Side → ℕ) (w : Side → Lacpdu) (z : Signs) where
     abbrev Answers : Side → ℕ → ℕ → WorldState → Type 0
     Answers s most n j = (m : ℕ) × (b : ℕ) × (1 ≤ m) × (n + m ≤ most + gap (mode at w (peer s)))
         × (wait at w (peer s) + m ≤ b + gap (mode at w (peer s))) × (b ≤ wait at w (peer s)) × Link 1 at w (two s 0 b) One Nothing j
-        × z.Rest j × z.Ahead (peer s) (mode at w (peer s)) m j × Wakes at w s j × z.Told s j × z.Took (peer s) j
+        × Rest j × Ahead at w (peer s) (mode at w (peer s)) m j × Wakes at w s j × Told s j × Took at counts kept (peer s) j
 
     abbrev Comes : Side → ℕ → WorldState → Type 0
-    Comes s n j = Calls s n j ⊎ (Answers s (310 + e) n j ⊎ Met 1 j)
+    Comes s n j = Calls s n j ⊎ (Answers s 311 n j ⊎ Met 1 j)
 
     module _ (named : (t : Side) → IsNamed (w t)) (s : Side) (awake : (u : Side) → (activity (w u) ≡ true) ⊎ (activity (w (peer u)) ≡ true))
         (room : gap (mode at w s) + gap (mode at w (peer s)) + 2 ≤ wait at w (peer s)) where
@@ -384,7 +429,7 @@ module _ (at : Side → ℕ) (w : Side → Lacpdu) (z : Signs) where
       able b l = can_known at w (peer s) b l (awake (peer s))
 
       -- the other end has just heard it
-      hears : (most n : ℕ) (new : WorldState) → n ≤ most → Hears 1 (λ _. 0) s new → z.Rest new → Answers s most n new
+      hears : (most n : ℕ) (new : WorldState) → n ≤ most → Hears 1 (λ _. 0) s new → Rest new → Answers s most n new
       hears most n new l q rest =
           let known = learns at w 1 (ticked (λ _. 0)) (peer s) 0 new (omega arith) q.link in
           let b = wait at w (peer s) in
@@ -401,7 +446,7 @@ module _ (at : Side → ℕ) (w : Side → Lacpdu) (z : Signs) where
             omega arith,
             link,
             rest,
-            k.ahead 1 (two s 0 b) (peer s) fast new
+            ahead_now 1 (two s 0 b) (peer s) fast new
                 (subst (CanSound (w (peer s)) (w (peer (peer s))) fast) (sym (two_other s 0 b)) (able b (omega (arith, room)))) link,
             q.wakes,
             q.told,
@@ -409,8 +454,8 @@ module _ (at : Side → ℕ) (w : Side → Lacpdu) (z : Signs) where
           )
 
       meets : (b m : ℕ) (j : WorldState) → 1 ≤ m → wait at w (peer s) + m ≤ b + gap (mode at w (peer s)) → b ≤ wait at w (peer s)
-          → Link 1 at w (two s (wait at w s) (b - 1)) s Nothing j → z.Rest j → ((u : Side) → z.Told u j)
-          → ((u : Side) → z.Took u j) → Met 1 j
+          → Link 1 at w (two s (wait at w s) (b - 1)) s Nothing j → Rest j → ((u : Side) → Told u j)
+          → ((u : Side) → Took at counts kept u j) → Met 1 j
       meets b m j some enough less l rest told took =
           let c = two s (wait at w s) (b - 1) in
           let own : gap (mode at w s) + 1 ≤ c (peer s) =
@@ -428,19 +473,19 @@ module _ (at : Side → ℕ) (w : Side → Lacpdu) (z : Signs) where
             fits = two_less s (wait at w) (wait at w s) (b - 1) (omega arith) (omega (arith, less));
             later = λ u. (let some = some_silence at w (mode at w u) in omega (arith, some));
             longer = λ u. inl (longer u);
-            ahead = λ u. k.ahead 1 c u (mode at w u) j (can_known at w u (c u) (big u) (awake u)) (forget 1 at w c s One Nothing j l);
+            ahead = λ u. ahead_now 1 c u (mode at w u) j (can_known at w u (c u) (big u) (awake u)) (forget 1 at w c s One Nothing j l);
             told = λ u i. told u;
             took = λ u i. took u;
           }
 
       answers : (most n : ℕ) (old new : WorldState) → Round old new → Answers s most n old → Answers s most (n + 1) new ⊎ Met 1 new
       answers most n old new h (m, b, some, soon, enough, less, link, rest, ahead, wakes, told, took) =
-          let now = k.rests old new h rest in
+          let now = late_stamped gives at counts kept old new h rest in
           let base = host_keeps gives One 1 at w (two s 0 b) old new fit then link h in
-          let still = k.tells 1 s (omega arith) (inr (named (peer s))) (two s 0 b) fit then old new link wakes rest h
+          let still = late_told gives 1 at w counts kept s (omega arith) (inr (named (peer s))) (two s 0 b) fit then One old new link wakes h
           (subst (λ m. 2 ≤ m) (sym (two_other s 0 b)) (omega (arith, room, some, enough))) told in
-          let kept_it = k.takes 1 (two s 0 b) (peer s) old new link rest h took in
-          elim (k.nears 1 (peer s) (omega arith) (inr (named (peer (peer s)))) (two s 0 b) fit then
+          let kept_it = (late_took gives at counts kept old new h (peer s) (rest, took)).1 in
+          elim (nears 1 (peer s) (omega arith) (inr (named (peer (peer s)))) (two s 0 b) fit then
           (mode at w (peer s)) m old new
           (subst (λ m. CanSound (w (peer s)) (w (peer (peer s))) (mode at w (peer s)) (m - 1)) (sym (two_other s 0 b))
           (able (b - 1) (omega (arith, room, some, enough)))) can link
@@ -466,8 +511,8 @@ module _ (at : Side → ℕ) (w : Side → Lacpdu) (z : Signs) where
                 (subst (λ n. b - 1 ≤ n - 1) (sym (two_other s 0 b)) (omega arith))
                 (subst (λ t. Link 1 at w (ticked (two s 0 b)) t (Learnt 1 (w (peer t)) (wait at w t)) new) (peer_twice s) q.link))
                 now
-                (each_side (λ u. z.Told u new) s still.1 q.told)
-                (each_side (λ u. z.Took u new) s (subst (λ t. z.Took t new) (peer_twice s) q.took) kept_it))
+                (each_side (λ u. Told u new) s still.1 q.told)
+                (each_side (λ u. Took at counts kept u new) s (subst (λ t. Took at counts kept t new) (peer_twice s) q.took) kept_it))
           ]
         where
           least : (t : Side) → two s 0 b t ≤ wait at w t
@@ -495,25 +540,25 @@ module _ (at : Side → ℕ) (w : Side → Lacpdu) (z : Signs) where
       comes : (n : ℕ) (old new : WorldState) → Round old new → Comes s n old → Comes s (n + 1) new
       comes n old new h (inl c) = elim (calls_on s active n old new h c) [
         | inl m ↦ inl m
-        | inr q ↦ inr (inl (hears named s some_awake room (310 + e) (n + 1) new (let l = c.2 in let o = c.1 in omega (arith, l, o)) q
-            (k.rests old new h c.4)))
+        | inr q ↦ inr (inl (hears named s some_awake room 311 (n + 1) new (let l = c.2 in let o = c.1 in omega (arith, l, o)) q
+            (late_stamped gives at counts kept old new h c.4)))
       ]
-      comes n old new h (inr (inl a)) = inr (answers named s some_awake room (310 + e) n old new h a)
+      comes n old new h (inr (inl a)) = inr (answers named s some_awake room 311 n old new h a)
       comes n old new h (inr (inr f)) = inr (inr (stays_met named some_awake 1 old new (omega arith) h f))
 
-      came : (n : ℕ) (j : WorldState) → 310 + e + gap (mode at w (peer s)) ≤ n → Comes s n j → Met 1 j
+      came : (n : ℕ) (j : WorldState) → 311 + gap (mode at w (peer s)) ≤ n → Comes s n j → Met 1 j
       came n j l (inl c) = let m = c.1 in let o = c.2 in absurd (omega (arith, l, m, o))
-      came n j l (inr (inl a)) = answered named s some_awake room (310 + e) n j l a
+      came n j l (inr (inl a)) = answered named s some_awake room 311 n j l a
       came n j l (inr (inr f)) = f
 
     -- one end is active
 
     -- The end of s has heard its partner, which is active; then it sounds, since it goes to EXPIRED if it hears nothing more.
     abbrev Waits : Side → ℕ → WorldState → Type 0
-    Waits s n j = (m : ℕ) × (1 ≤ m) × (n + m ≤ 610 + e + e) × Link 1 at w (λ _. 0) One Nothing j × z.Rest j × Wakes at w s j × z.Awaited s m j
+    Waits s n j = (m : ℕ) × (1 ≤ m) × (n + m ≤ 612) × Link 1 at w (λ _. 0) One Nothing j × Rest j × Wakes at w s j × Awaited s m j
 
     abbrev Slowly : Side → ℕ → WorldState → Type 0
-    Slowly s n j = Calls (peer s) n j ⊎ (Waits s n j ⊎ (Answers s (610 + e + e) n j ⊎ Met 1 j))
+    Slowly s n j = Calls (peer s) n j ⊎ (Waits s n j ⊎ (Answers s 612 n j ⊎ Met 1 j))
 
     left_some : (b : Bool) → 1 ≤ timeout_time b - 1
     left_some true = omega arith
@@ -525,19 +570,19 @@ module _ (at : Side → ℕ) (w : Side → Lacpdu) (z : Signs) where
       awake_one = each_side (λ u. (activity (w u) ≡ true) ⊎ (activity (w (peer u)) ≡ true)) s (inr active) (inl active)
 
       -- the end of s has just heard its partner
-      begins : (n : ℕ) (j : WorldState) → n ≤ 310 + e → Link 1 at w (λ _. 0) s (Learnt 1 (w (peer s)) (wait at w s)) j → z.Rest j → Waits s n j
+      begins : (n : ℕ) (j : WorldState) → n ≤ 311 → Link 1 at w (λ _. 0) s (Learnt 1 (w (peer s)) (wait at w s)) j → Rest j → Waits s n j
       begins n j l link rest =
           let y = at_rest 1 at w (λ _. 0) s (Learnt 1 (w (peer s)) (wait at w s)) (Lasting (w (peer s)) 300) j
           (λ p rest timed a y. (let some = left_some (short_timeout (w s)) in
           let r = y.0.1 some in
           begins_lasting (w (peer s)) p active long y.0.0 rest timed (r.0, omega (arith, some, r.1)))) link in (
-            300 + e,
+            301,
             omega arith,
             omega (arith, l),
             forget 1 at w (λ _. 0) s One (Lasting (w (peer s)) 300) j y,
             rest,
             of_end y s (Wakeful (w s) (w (peer s))) (λ p rest timed a. inr (active, λ same. lasting_now (w (peer s)) 300 p active (a.1 refl))),
-            k.begins s j (of_end y s (Lasting (w (peer s)) 300) (λ p rest timed a. a.1 refl)),
+            inl (omega arith, of_end y s (Lasting (w (peer s)) 300) (λ p rest timed a. a.1 refl)),
           )
 
       slowly : (n : ℕ) (old new : WorldState) → Round old new → Slowly s n old → Slowly s (n + 1) new
@@ -548,65 +593,66 @@ module _ (at : Side → ℕ) (w : Side → Lacpdu) (z : Signs) where
             inr (inl (begins (n + 1) new (omega (arith, l, m)) (lower at w (ticked (λ _. 0)) (λ _. 0) s
             (Learnt 1 (w (peer s)) (wait at w s)) new (λ _. omega arith)
             (subst (λ t. Link 1 at w (ticked (λ _. 0)) t (Learnt 1 (w (peer t)) (wait at w t)) new) (peer_twice s) q.link))
-            (k.rests old new h c.4))))
+            (late_stamped gives at counts kept old new h c.4))))
       ]
       slowly n old new h (inr (inl (m, some, soon, link, rest, wakes, awaited))) =
-          elim (k.awaits s active (named (peer s)) fit_none then_none m old new some link wakes rest awaited h) [
+          elim (awaits gives s active (named (peer s)) fit_none then_none m old new some link wakes rest awaited h) [
             | inl q ↦ (let more = q.0 in
                 inr (inl (
                   m - 1,
                   more,
                   omega (arith, soon, some),
                   none_kept old new h link,
-                  k.rests old new h rest,
+                  late_stamped gives at counts kept old new h rest,
                   q.1,
                   q.2,
                 )))
-            | inr q ↦ inr (inr (inl (hears named s awake_one room (610 + e + e) (n + 1) new (omega (arith, soon, some)) q (k.rests old new h rest))))
+            | inr q ↦ inr (inr (inl (hears named s awake_one room 612 (n + 1) new (omega (arith, soon, some)) q
+                (late_stamped gives at counts kept old new h rest))))
           ]
-      slowly n old new h (inr (inr (inl a))) = inr (inr (answers named s awake_one room (610 + e + e) n old new h a))
+      slowly n old new h (inr (inr (inl a))) = inr (inr (answers named s awake_one room 612 n old new h a))
       slowly n old new h (inr (inr (inr f))) = inr (inr (inr (stays_met named awake_one 1 old new (omega arith) h f)))
 
-      ended : (n : ℕ) (j : WorldState) → 610 + e + e + gap (mode at w (peer s)) ≤ n → Slowly s n j → Met 1 j
+      ended : (n : ℕ) (j : WorldState) → 612 + gap (mode at w (peer s)) ≤ n → Slowly s n j → Met 1 j
       ended n j l (inl c) = let m = c.1 in let o = c.2 in absurd (omega (arith, l, m, o))
       ended n j l (inr (inl c)) = let m = c.1 in let o = c.2 in absurd (omega (arith, l, m, o))
-      ended n j l (inr (inr (inl a))) = answered named s awake_one room (610 + e + e) n j l a
+      ended n j l (inr (inr (inl a))) = answered named s awake_one room 612 n j l a
       ended n j l (inr (inr (inr f))) = f
 
     -- so many rounds
 
     along : (S : ℕ → WorldState → Type 0) (start : WorldState) → ((new : WorldState) → Round start new → S 1 new)
         → ((n : ℕ) (old new : WorldState) → Round old new → S n old → S (n + 1) new)
-        → (n : ℕ) (new : WorldState) → 1 ≤ n → AllBeside at E gives n start new → S n new
+        → (n : ℕ) (new : WorldState) → 1 ≤ n → AllBeside at OldArrive gives n start new → S n new
     along S start first next zero new l h = absurd (omega (arith, l))
     along S start first next (suc zero) new l h = first new (subst (λ j. Round j new) h.1 h.2)
     along S start first next (suc (suc n)) new l h =
         subst (λ m. S m new) (omega arith) (next (suc n) h.0 new h.2 (along S start first next (suc n) h.0 (omega arith) h.1))
 
     room_for : (b : Bool) → gap b + gap true + 2 ≤ timeout_time b - 1
-    room_for true = let few = k.few in omega (arith, few)
-    room_for false = let few = k.few in omega (arith, few)
+    room_for true = omega arith
+    room_for false = omega arith
 
     module _ (named : (t : Side) → IsNamed (w t)) (n : ℕ) (old new : WorldState)
-        (first : (j : WorldState) → Round old j → Link 1 at w (λ _. 0) One Nothing j × z.Rest j) (h : AllBeside at E gives n old new) where
+        (first : (j : WorldState) → Round old j → Link 1 at w (λ _. 0) One Nothing j × Rest j) (h : AllBeside at OldArrive gives n old new) where
       comes_to_meet : (s : Side) → activity (w s) ≡ true → gap (mode at w s) + gap (mode at w (peer s)) + 2 ≤ wait at w (peer s)
-          → 310 + e + gap (mode at w (peer s)) ≤ n → Met 1 new
+          → 311 + gap (mode at w (peer s)) ≤ n → Met 1 new
       comes_to_meet s active room enough = came named s active room n new enough (along (λ m j. Comes s m j) old
           (λ j r. let f = first j r in inl (called s active j f.0 f.1)) (λ m i j r c. comes named s active room m i j r c) n new
           (omega (arith, enough)) h)
 
-      meets_short : (s : Side) → activity (w s) ≡ true → short_timeout (w s) ≡ true → 321 + e + e ≤ n → Met 1 new
+      meets_short : (s : Side) → activity (w s) ≡ true → short_timeout (w s) ≡ true → 323 ≤ n → Met 1 new
       meets_short s active short enough =
           let quick : mode at w (peer s) ≡ true = subst (λ t. short_timeout (w t) ≡ true) (sym (peer_twice s)) short in
           comes_to_meet s active (subst (λ b. gap (mode at w s) + gap b + 2 ≤ wait at w (peer s)) (sym quick) (room_for (mode at w s)))
-          (subst (λ b. 310 + e + gap b ≤ n) (sym quick) (omega (arith, enough)))
+          (subst (λ b. 311 + gap b ≤ n) (sym quick) (omega (arith, enough)))
 
-      meets_long : ((s : Side) → activity (w s) ≡ true) → ((s : Side) → mode at w s ≡ false) → 321 + e + e ≤ n → Met 1 new
-      meets_long active long enough = settled 1 (310 + e) n new (omega (arith, enough)) (along (λ m j. Lasts m j) old
+      meets_long : ((s : Side) → activity (w s) ≡ true) → ((s : Side) → mode at w s ≡ false) → 323 ≤ n → Met 1 new
+      meets_long active long enough = settled 1 311 n new (omega (arith, enough)) (along (λ m j. Lasts m j) old
           (λ j r. let f = first j r in lasts_first j active long f.0 f.1) (λ m i j r c. lasts named m i j active long r c) n new
           (omega (arith, enough)) h)
 
-      pub both_meet : ((s : Side) → activity (w s) ≡ true) → 321 + e + e ≤ n → Met 1 new
+      pub both_meet : ((s : Side) → activity (w s) ≡ true) → 323 ≤ n → Met 1 new
       both_meet active enough = elim (cases_Bool (short_timeout (w One))) [
         | inl one ↦ meets_short One (active One) one enough
         | inr one ↦ elim (cases_Bool (short_timeout (w Two))) [
@@ -616,23 +662,54 @@ module _ (at : Side → ℕ) (w : Side → Lacpdu) (z : Signs) where
       ]
 
       other : (u : Side) → short_timeout (w u) ≡ true → activity (w (peer u)) ≡ true → short_timeout (w (peer u)) ≡ false
-          → 621 + e + e + e ≤ n → Met 1 new
+          → 624 ≤ n → Met 1 new
       other u short on long enough =
           let quick : mode at w (peer u) ≡ true = subst (λ t. short_timeout (w t) ≡ true) (sym (peer_twice u)) short in
           let room = subst (λ b. gap (mode at w u) + gap b + 2 ≤ wait at w (peer u)) (sym quick) (room_for (mode at w u)) in
-          ended named u on long room n new (subst (λ b. 610 + e + e + gap b ≤ n) (sym quick) (omega (arith, enough)))
+          ended named u on long room n new (subst (λ b. 612 + gap b ≤ n) (sym quick) (omega (arith, enough)))
           (along (λ m j. Slowly u m j) old (λ j r. let f = first j r in inl (called (peer u) on j f.0 f.1))
           (λ m i j r c. slowly named u on long room m i j r c) n new (omega (arith, enough)) h)
 
-      pub one_meets : (s : Side) → activity (w s) ≡ true → 621 + e + e + e ≤ n → Met 1 new
+      pub one_meets : (s : Side) → activity (w s) ≡ true → 624 ≤ n → Met 1 new
       one_meets s active enough = elim (cases_Bool (short_timeout (w s))) [
         | inl short ↦ meets_short s active short (omega (arith, enough))
         | inr long ↦ elim (cases_Bool (short_timeout (w (peer s)))) [
           | inl short ↦ other (peer s) short (subst (λ t. activity (w t) ≡ true) (sym (peer_twice s)) active)
               (subst (λ t. short_timeout (w t) ≡ false) (sym (peer_twice s)) long) enough
           | inr wide ↦ (let slow : mode at w (peer s) ≡ false = subst (λ t. short_timeout (w t) ≡ false) (sym (peer_twice s)) long in
-              let few = k.few in
-              let room : gap (mode at w s) + gap (mode at w (peer s)) + 2 ≤ wait at w (peer s) = rw (wide, slow) (omega (arith, few)) in
-              comes_to_meet s active room (subst (λ b. 310 + e + gap b ≤ n) (sym slow) (omega (arith, enough, few))))
+              let room : gap (mode at w s) + gap (mode at w (peer s)) + 2 ≤ wait at w (peer s) = rw (wide, slow) (omega arith) in
+              comes_to_meet s active room (subst (λ b. 311 + gap b ≤ n) (sym slow) (omega (arith, enough))))
         ]
       ]
+
+-- both ends know each other, with the change counts that LACPDUs bear since this world
+abbrev pub Fresh : (Side → ℕ) → (Side → Lacpdu) → WorldState → WorldState → Type 0
+Fresh at w old j = Met at w (counts_of at old) (kept_of at old) 1 j
+
+pub late_fresh_knows : (l : LinkState) (w : Side → Lacpdu) (old j : WorldState) → Fresh (λ s. port_at s l) w old j → (s : Side) → EndKnows s l j
+late_fresh_knows l w old j g s = let at : Side → ℕ = λ t. port_at t l in
+    met_knows at w (counts_of at old) (kept_of at old) l (λ t. refl) j g s
+
+module _ (gives : Algorithms) (at : Side → ℕ) (w : Side → Lacpdu) (named : (t : Side) → IsNamed (w t)) (n : ℕ) (old new : WorldState)
+    (l : Link 0 at w (λ _. 0) One Nothing old) (h : LateRounds gives n old new) where
+  pub late_active_meet : ((s : Side) → activity (w s) ≡ true) → 323 ≤ n → Fresh at w old new
+  late_active_meet = both_meet at w (counts_of at old) (kept_of at old) gives named n old new (λ j r. first_late gives at w old j l r)
+      (all_beside at OldArrive gives n old new h)
+
+  pub late_one_meets : (s : Side) → activity (w s) ≡ true → 624 ≤ n → Fresh at w old new
+  late_one_meets = one_meets at w (counts_of at old) (kept_of at old) gives named n old new (λ j r. first_late gives at w old j l r)
+      (all_beside at OldArrive gives n old new h)
+
+pub active_ends_know : (gives : Algorithms) → EndsOfEachKnow LateRounds BothAreActive known_if_both_active gives
+active_ends_know gives n i l old new cabling steady healthy active enough rounds =
+    let e : Ends l old = λ s. end_of (λ p. p.enabled ≡ true) (port_at s l) (half s old).state (healthy.up s) in
+    let w = said_by l old e in
+    late_fresh_knows l w old new (late_active_meet gives (λ s. port_at s l) w (named_at l old e steady) n old new
+    (starts i l old e steady cabling healthy) rounds (λ s. active_at l old e s (active s)) enough)
+
+pub ends_know : (gives : Algorithms) → EndsOfEachKnow LateRounds OneIsActive known_if_one_is gives
+ends_know gives n i l old new cabling steady healthy (a, active) enough rounds =
+    let e : Ends l old = λ s. end_of (λ p. p.enabled ≡ true) (port_at s l) (half s old).state (healthy.up s) in
+    let w = said_by l old e in
+    late_fresh_knows l w old new (late_one_meets gives (λ s. port_at s l) w (named_at l old e steady) n old new
+    (starts i l old e steady cabling healthy) rounds a (active_at l old e a active) enough)

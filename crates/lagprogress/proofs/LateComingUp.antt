@@ -1,22 +1,22 @@
 -- How both ends of a cable come to distribute in late rounds.
 use Rattle.lagprogress.proofs.Common.{Bool, List, [], ap, arith, inl, inr, subst, sym, true, ℕ, ◌-◌, ◌∙◌, ◌∷◌, ◌≡◌, ◌≤◌, ◌⊎◌, AllByRecursion}
 use Rattle.lagprogress.proofs.Common.{is_selected, Lacpdu, One, Side, peer, Machines, is_synchronized, mux_rows, receive_rows, RunsToRest, count_down}
-use Rattle.lagprogress.proofs.Common.{Algorithms, ItemValue, WorldState, half, no, times_keep, AtPort, periodic_leaves, IsLateRound, LateRounds}
-use Rattle.lagprogress.proofs.Common.{OldArrive}
+use Rattle.lagprogress.proofs.Common.{is_stamp, Algorithms, ItemValue, WorldState, half, history_at, taken_in, no, times_keep, AtPort}
+use Rattle.lagprogress.proofs.Common.{periodic_leaves, IsLateRound, LateRounds, OldArrive}
+use Rattle.lagprogress.proofs.EachRound.{played_split}
+use Rattle.lagprogress.proofs.ComingUp.{comes_up, Agrees, AreSynced, owed, synced_of}
+use Rattle.lagprogress.proofs.Quieting.{all_beside, PlayedBeside, as_beside}
+use Rattle.lagprogress.proofs.HostStamps.{Took-it, same_items}
+use Rattle.lagprogress.proofs.Climbing.{Rising, PartnerInSync, keeps_selected, ticks_still}
+use Rattle.lagprogress.proofs.Stamps.{Present}
+use Rattle.lagprogress.proofs.Knowing.{Met, Fresh, fits_fresh, fits_before, knows_late, stays_met, AtIt, beside}
 use Rattle.lagprogress.proofs.Claims.{IsNamed}
-use Rattle.lagprogress.proofs.Climbing.{PartnerInSync, keeps_selected, ticks_still}
-use Rattle.lagprogress.proofs.ComingUp.{Agrees, AreSynced, owed, synced_of}
 use Rattle.lagprogress.proofs.EndFacts.{Along, IsEnd, Synced, activity, synced_mux}
-use Rattle.lagprogress.proofs.HostHearing.{present_of}
-use Rattle.lagprogress.proofs.Knowing.{AtIt, beside}
-use Rattle.lagprogress.proofs.HostStamps.{same_items}
 use Rattle.lagprogress.proofs.LateHearing.{Whoever}
-use Rattle.lagprogress.proofs.LateKnowing.{FreshAt, late_signs, fits_late, fits_now, knows_late, stays_late}
 use Rattle.lagprogress.proofs.LateFlow.{Past}
 use Rattle.lagprogress.proofs.LateStart.{counts_of, flush, kept_of}
 use Rattle.lagprogress.proofs.Linked.{Flying, IsGood, Link, each_map, peer_twice}
 use Rattle.lagprogress.proofs.OneRound.{Nothing, join, ticked}
-use Rattle.lagprogress.proofs.Quieting.{PlayedBeside, as_beside}
 use Rattle.lagprogress.proofs.Starting.{raised}
 use Rattle.lagprogress.proofs.Telling.{Bears, SaysIt, Tells, tells_map}
 
@@ -44,27 +44,32 @@ tells_which u v (x ∷ xs) H h = elim (tells_which u v xs (SaysIt u v x × (H �
   | inr (says, inr b) ↦ inl (inl b)
 ]
 
+present_of : (gives : Algorithms) (at : Side → ℕ) (old new : WorldState) (t : Side) → Took-it gives 1 at (counts_of at old) (kept_of at old) t new
+    → Present at t new
+present_of gives at old new t m there = subst (λ n. is_stamp n (taken_in (history_at (half t new).histories (at t))) ≡ true) (sym (m.0.counts (peer t)))
+    (m.1 (sym (m.0.there t) ∙ there))
+
 module _ (at : Side → ℕ) (w : Side → Lacpdu) (k : Side → ℕ) (kept : Side → Bool) (named : (t : Side) → IsNamed (w t))
     (awake : (s : Side) → (activity (w s) ≡ true) ⊎ (activity (w (peer s)) ≡ true)) where
   -- a round after both are synchronized: all that is on the cable says so
 
-  synced_round : (gives : Algorithms) (old new : WorldState) (g : FreshAt at w k kept 1 old) → ((s : Side) → AtIt at w s Synced old)
+  synced_round : (gives : Algorithms) (old new : WorldState) (g : Met at w k kept 1 old) → ((s : Side) → AtIt at w s Synced old)
       → PlayedBeside at OldArrive gives old new → (t : Side)
       → Link 1 at w (ticked g.known) (peer t) Synced new × (x : ℕ) × Past t x at (IsGood 2 w t) 0 new
   synced_round gives old new g synced h t =
       let x = peer t in
       let l = knows_late at w k kept 1 old g x in
-      flush gives 1 2 at w g.known t Synced (fits_now at w k kept named awake 1 old g (omega arith))
-      (fits_late at w k kept named awake 1 old g (omega arith))
+      flush gives 1 2 at w g.known t Synced (fits_before at w k kept named awake 1 old g (omega arith))
+      (fits_fresh at w k kept named awake 1 old g (omega arith))
       (synced_along (w x) (w (peer x)) (g.known x) 1 (omega arith) (omega (arith, l)))
       (synced_along (w x) (w (peer x)) (ticked g.known x) 1 (omega arith) (omega (arith, l)))
       (λ p q r rest a y. ticks_synced 1 (w x) (w (peer x)) (g.known x) p q (omega (arith, l)) r a y)
       (λ p y. y) (λ p y f. y) (λ f. omega (arith, l)) old new (join 1 at w g.known One x Synced old g.link (synced x)) h
 
-  raises : (gives : Algorithms) (old new : WorldState) (g : FreshAt at w k kept 1 old) → ((s : Side) → AtIt at w s Synced old)
-      → PlayedBeside at OldArrive gives old new → FreshAt at w k kept 2 new
+  raises : (gives : Algorithms) (old new : WorldState) (g : Met at w k kept 1 old) → ((s : Side) → AtIt at w s Synced old)
+      → PlayedBeside at OldArrive gives old new → Met at w k kept 2 new
   raises gives old new g synced h =
-      let f = stays_late at w k kept named awake gives 1 old new (omega arith) h g in
+      let f = stays_met at w k kept gives named awake 1 old new (omega arith) h g in
       let r = synced_round gives old new g synced h in
       let now : (s : Side) → AtIt at w s Synced new = λ s. subst (λ u. AtIt at w u Synced new) (peer_twice s)
       (beside at w 1 (ticked g.known) (peer (peer s)) Synced new (r (peer s)).0) in
@@ -84,7 +89,7 @@ module _ (at : Side → ℕ) (w : Side → Lacpdu) (k : Side → ℕ) (kept : Si
         took = f.took;
       }
 
-  agrees_first : (j : WorldState) → FreshAt at w k kept 2 j → Agrees at w (late_signs at w k kept) 1 0 j
+  agrees_first : (j : WorldState) → Met at w k kept 2 j → Agrees at w k kept 0 j
   agrees_first j g = record {
     fresh = g;
     tells = λ s. elim (g.told s (let l = knows_late at w k kept 2 j g (peer s) in omega (arith, l))) [
@@ -122,13 +127,32 @@ module _ (at : Side → ℕ) (w : Side → Lacpdu) (k : Side → ℕ) (kept : Si
   }
 
   -- in one round more all that is on the cable says so
-  pub late_turn : (gives : Algorithms) (mid next : WorldState) → LateRounds gives 1 mid next → FreshAt at w k kept 1 mid
-      → ((s : Side) → AtIt at w s Synced mid) → Agrees at w (late_signs at w k kept) 1 0 next
+  pub late_turn : (gives : Algorithms) (mid next : WorldState) → LateRounds gives 1 mid next → Met at w k kept 1 mid
+      → ((s : Side) → AtIt at w s Synced mid) → Agrees at w k kept 0 next
   late_turn gives mid next r met synced = agrees_first next (raises gives mid next met synced
       (as_beside at OldArrive gives mid next (subst (λ j. IsLateRound gives j next) r.1 r.2)))
 
 -- both ends are synchronized, and know that of each other
-pub late_synced : (gives : Algorithms) (at : Side → ℕ) (w : Side → Lacpdu) (n : ℕ) (old j : WorldState) → 12 ≤ n
-    → Agrees at w (late_signs at w (counts_of at old) (kept_of at old)) 1 n j → AreSynced at w j
-late_synced gives at w n old j l c = synced_of at w (late_signs at w (counts_of at old) (kept_of at old)) 1 n j l c
-    (λ s stamped took. present_of gives at old j s (stamped, took))
+
+abbrev pub Up : (Side → ℕ) → (Side → Lacpdu) → WorldState → WorldState → Type 0
+Up at w old j = (n : ℕ) × (12 ≤ n) × Agrees at w (counts_of at old) (kept_of at old) n j
+
+pub up_synced : (gives : Algorithms) (at : Side → ℕ) (w : Side → Lacpdu) (old j : WorldState) → Up at w old j → AreSynced at w j
+up_synced gives at w old j up =
+    synced_of at w (counts_of at old) (kept_of at old) up.0 j up.1 up.2 (λ s stamped took. present_of gives at old j s (stamped, took))
+
+-- from a round in which both are SELECTED, and 20 more
+pub comes_to_be_up : (gives : Algorithms) (at : Side → ℕ) (w : Side → Lacpdu) → ((t : Side) → IsNamed (w t))
+    → ((s : Side) → (activity (w s) ≡ true) ⊎ (activity (w (peer s)) ≡ true)) → (n : ℕ) (old mid top new : WorldState) → 13 ≤ n
+    → LateRounds gives 20 mid top → LateRounds gives n top new → Fresh at w old mid → ((s : Side) → AtIt at w s (λ p. is_selected p.choice ≡ true) mid)
+    → ((s : Side) → AtIt at w s (Rising 0) top → AtIt at w s Synced top) → Up at w old new
+comes_to_be_up gives at w named awake n old mid top new enough climb more g chosen ready =
+    let k = counts_of at old in
+    let kept = kept_of at old in
+    let next = played_split OldArrive gives (n - 1) 1 n top new (omega (arith, enough)) more in (
+      n - 1,
+      omega (arith, enough),
+      comes_up at w k kept gives named awake (n - 1) mid top next.0 new g chosen ready
+          (all_beside at OldArrive gives 20 mid top climb) (late_turn at w k kept named awake gives top next.0 next.1)
+          (all_beside at OldArrive gives (n - 1) next.0 new next.2),
+    )

@@ -1,16 +1,13 @@
 -- Which events are a late round.
-use Rattle.lagprogress.proofs.Common.{Bool, List, [], ap, false, inl, inr, length, refl, subst, suc, sym, true, zero, ℕ, ◌++◌, ◌∙◌, ◌∷◌, ◌≡◌, One}
-use Rattle.lagprogress.proofs.Common.{Side, peer, Reply, Algorithms, ItemValue, WorldState, port_at, towards, HostEvent, IsTickOf, RunReplies}
-use Rattle.lagprogress.proofs.Common.{StepReplies, TickOnce, ArriveIn, AskingIsLateRound, HostRoundIsLateRound, OldArrive}
-use Rattle.lagprogress.proofs.EachRound.{joins_kept}
-use Rattle.lagprogress.proofs.HostLoops.{asking_is_one}
+use Rattle.lagprogress.proofs.Common.{Bool, List, [], ap, false, inl, inr, length, refl, subst, suc, sym, true, zero, ℕ, ◌++◌, ◌∙◌, ◌∷◌, ◌≡◌}
+use Rattle.lagprogress.proofs.Common.{IsCabling, One, Side, peer, Reply, Algorithms, world_setup, ItemValue, WorldState, port_at, towards, HostEvent}
+use Rattle.lagprogress.proofs.Common.{Clearing, HostRounds, IsHostRound, IsTickOf, NoneIsLeft, PlayedRounds, RunReplies, StepReplies, TickOnce}
+use Rattle.lagprogress.proofs.Common.{ArriveIn, HostRoundIsLateRound, HostRoundsAreLateRounds, OldArrive, NothingInFlight}
+use Rattle.lagprogress.proofs.EachRound.{clears_less, joins_kept, played_join}
 use Rattle.lagprogress.proofs.LateFlow.{flows, gain_at, stays_there}
 use Rattle.lagprogress.proofs.OneCable.{OnCable, cable, sent_frame, ticks, towards_there}
 use Rattle.lagprogress.proofs.Quieting.{leaves}
 use Rattle.lagprogress.proofs.Starting.{healthy_cable}
-
-pub asking_is_late_round : (gives : Algorithms) → AskingIsLateRound gives
-asking_is_late_round gives = asking_is_one OldArrive gives
 
 -- a run in the end of which nothing is on the cable: what was on it has arrived
 
@@ -64,6 +61,12 @@ module _ (gives : Algorithms) (t : Side) (x : ℕ) (at : Side → ℕ) (j : Worl
           (subst (λ n. ArriveIn n t x es) (ap (λ (zs : List ItemValue). length zs) e ∙ one_longer xs item) h)
   must_arrive es rs i fl a b c h run = absurd run
 
+old_arrive : (gives : Algorithms) (old new : WorldState) → IsCabling (world_setup old).cables → (h : IsHostRound gives old new)
+    → OldArrive h.events old new
+old_arrive gives old new cabling h s i l y = must_arrive gives s i (λ t. port_at t l) new
+    (λ fl on. sym (towards_there s (λ t. port_at t l) fl) ∙ h.empties s i (cable (λ t. port_at t l) fl) on.there)
+    h.events h.replies old (λ t. towards t l) true true (healthy_cable i l old cabling y) h.ticks h.acts
+
 pub host_round_is_late_round : (gives : Algorithms) → HostRoundIsLateRound gives
 host_round_is_late_round gives old new cabling h = record {
   events = h.events;
@@ -71,7 +74,30 @@ host_round_is_late_round gives old new cabling h = record {
   ticks = h.ticks;
   acts = h.acts;
   asked = h.asked;
-  empties = λ s i l y. must_arrive gives s i (λ t. port_at t l) new
-      (λ fl on. sym (towards_there s (λ t. port_at t l) fl) ∙ h.empties s i (cable (λ t. port_at t l) fl) on.there)
-      h.events h.replies old (λ t. towards t l) true true (healthy_cable i l old cabling y) h.ticks h.acts;
+  empties = old_arrive gives old new cabling h;
 }
+
+-- rounds in which all arrives
+
+abbrev pub Emptied : Clearing
+Emptied events old new = OldArrive events old new × NothingInFlight new
+
+pub rounds_emptied : (gives : Algorithms) (n : ℕ) (old new : WorldState) → IsCabling (world_setup old).cables → HostRounds gives n old new
+    → PlayedRounds Emptied gives n old new
+rounds_emptied gives zero old new cabling h = h
+rounds_emptied gives (suc n) old new cabling h = (
+  h.0,
+  rounds_emptied gives n old h.0 cabling h.1,
+  record {
+    events = h.2.events;
+    replies = h.2.replies;
+    ticks = h.2.ticks;
+    acts = h.2.acts;
+    asked = h.2.asked;
+    empties = (old_arrive gives h.0 new (subst IsCabling (sym (played_join NoneIsLeft gives n old h.0 h.1)) cabling) h.2, h.2.empties);
+  },
+)
+
+pub host_rounds_are_late_rounds : (gives : Algorithms) → HostRoundsAreLateRounds gives
+host_rounds_are_late_rounds gives n old new cabling h =
+    clears_less Emptied OldArrive (λ es i j e. e.0) gives n old new (rounds_emptied gives n old new cabling h)

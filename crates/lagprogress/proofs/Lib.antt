@@ -14,19 +14,16 @@ mod Telling
 mod Starting
 mod Lapsing
 mod Knowing
-mod HostKnowing
 mod Climbing
 mod Quieting
 mod HostSteady
 mod HostRound
 mod HostStamps
 mod HostTelling
-mod HostHearing
 mod LateFlow
 mod LateArriving
 mod LateHearing
 mod LateStart
-mod LateKnowing
 mod LateComingUp
 mod ComingUp
 mod Stamps
@@ -34,7 +31,6 @@ mod EachRound
 mod Lasting
 mod SharedLemmas
 mod Bundling
-mod LateBundling
 mod Holding
 mod Answering
 mod Draining
@@ -57,7 +53,5 @@ mod BesideCutOffs
 mod HostLoops
 mod LateLoops
 mod Looping
-mod OneLink
-mod PlainRounds
 mod Grouping
 mod Keyed

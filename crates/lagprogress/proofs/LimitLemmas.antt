@@ -8,19 +8,19 @@ use Rattle.lagprogress.proofs.Common.{changed_party, choice_with_link, SystemSta
 use Rattle.lagprogress.proofs.Common.{agreement_at, Algorithms, IsWorldSound, LinkState, WorldState, half, port_at, end_is, StandsByFull}
 use Rattle.lagprogress.proofs.Common.{WantsAggregator, KeptByCall, KeptBySettling, OfEach, Step-each, first_each, place_each, settling_each, no}
 use Rattle.lagprogress.proofs.Common.{AtPort, at_number, mux_leaves, periodic_leaves, RowsKeep, runs_keep, takes_keep, BothAreActive, OneIsActive}
-use Rattle.lagprogress.proofs.Common.{HostRounds, NoneIsLeft, CarriesOnAll, DownAreUnselected, EachLimitedLinkAgrees, EachReachedHasDownUnselected}
-use Rattle.lagprogress.proofs.Common.{EndsAgreed, IsLimitedBundle, StandsByOthers, EndKnows, Knows, AtEnd, IsHealthyAt, OfPort, up_if_both_active}
-use Rattle.lagprogress.proofs.Common.{up_if_one_is}
-use Rattle.lagprogress.proofs.Bundling.{never_stands, heard_holds}
-use Rattle.lagprogress.proofs.EachRound.{EachAt, RoundKeeps, host_each, hosts_join, hosts_on, hosts_steady, played_keep}
-use Rattle.lagprogress.proofs.Halves.{both_first}
+use Rattle.lagprogress.proofs.Common.{LateRounds, OldArrive, EndKnows, Knows, AtEnd, IsHealthyAt, OfPort, up_if_both_active, up_if_one_is}
+use Rattle.lagprogress.proofs.SharedLemmas.{played_lasted, shared_finds}
+use Rattle.lagprogress.proofs.EachRound.{played_join, played_on, played_steady, EachAt, RoundKeeps, host_each, played_keep}
+use Rattle.lagprogress.proofs.Lasting.{played_alike, played_before, all_by_place, ends_at, own_system, still_heard, still_links, Alike}
 use Rattle.lagprogress.proofs.Linked.{each_side, events_each, machines_there}
+use Rattle.lagprogress.specs.Limited.{CarriesOnAll, DownAreUnselected, EachLimitedLinkAgrees, EachReachedHasDownUnselected, EndsAgreed}
+use Rattle.lagprogress.specs.Limited.{IsLimitedBundle, StandsByOthers}
+use Rattle.lagprogress.proofs.Bundling.{never_stands, heard_holds}
+use Rattle.lagprogress.proofs.Halves.{both_first}
 use Rattle.lagprogress.proofs.Starting.{end_of}
-use Rattle.lagprogress.proofs.SharedLemmas.{lasted, shared_finds}
-use Rattle.lagprogress.proofs.HostKnowing.{active_ends_know_by_hosts, ends_know_by_hosts}
-use Rattle.lagprogress.proofs.Pairing.{active_selected_pairs_agree_by_hosts, selected_pairs_agree_by_hosts}
+use Rattle.lagprogress.proofs.Knowing.{active_ends_know, ends_know}
+use Rattle.lagprogress.proofs.Pairing.{active_selected_pairs_agree, selected_pairs_agree}
 use Rattle.lagsystem.specs.declared.drive.Reply.TheVariants as reply
-use Rattle.lagprogress.proofs.Lasting.{all_by_place, as_before, ends_at, own_system, rounds_alike, still_heard, still_links, Alike}
 
 -- a port whose link is down stays UNSELECTED
 
@@ -68,11 +68,11 @@ idle_first n u q h = idle_starts (before_start u) q h (λ e. refl)
 idle_round : RoundKeeps IdleAt
 idle_round = record { settles = idle_settles; sends = λ n p a. a; takes = λ n v p q h a. idle_takes v p q h a }
 
-still_down : (gives : Algorithms) (n : ℕ) (old new : WorldState) (s : Side) → HostRounds gives n old new → DownAreUnselected (half s old).state
+still_down : (gives : Algorithms) (n : ℕ) (old new : WorldState) (s : Side) → LateRounds gives n old new → DownAreUnselected (half s old).state
     → DownAreUnselected (half s new).state
 still_down gives n old new s h a k x there =
     let first : EachAt IdleAt s old = all_by_place (λ x. Idle x.port) (half s old).state.system_ports a in
-    let last = hosts_on gives (λ m j. EachAt IdleAt s j) old first
+    let last = played_on OldArrive gives (λ m j. EachAt IdleAt s j) old first
     (λ m i j q b. host_each IdleAt IdleAt idle_round idle_round idle_ticks s gives i j q b) n new h in
     all-get (λ (y : SystemPort). Idle y.port) (half s new).state.system_ports k x there last
 
@@ -123,7 +123,7 @@ each_reached_has_down_unselected gives configs es rs start new s i h runs some k
 -- after the rounds
 
 module _ (Holds : LinkState → WorldState → Type 0) (t : Side) (gives : Algorithms) (n : ℕ) (old new : WorldState) (sound : IsWorldSound old)
-    (b : IsLimitedBundle Holds t old) (h : HostRounds gives n old new)
+    (b : IsLimitedBundle Holds t old) (h : LateRounds gives n old new)
     (knows : (i : ℕ) (l : LinkState) → IsHealthyAt i l old → (s : Side) → EndKnows s l new)
     (pairs : (i : ℕ) (l : LinkState) → IsHealthyAt i l old → ((s : Side) → AtEnd (λ p. selected p ≡ true) s l new)
     → agreement_at new (suc i) ≡ Some Same) where
@@ -138,17 +138,17 @@ module _ (Holds : LinkState → WorldState → Type 0) (t : Side) (gives : Algor
   known : (i : ℕ) (l : LinkState) → IsHealthyAt i l old → (s : Side) → Known s l
   known i l y s =
       let st = (half s new).state in
-      let now = hosts_steady gives n old new b.steady h in
+      let now = played_steady OldArrive gives n old new b.steady h in
       let e = end_of (λ p. AtEnd (λ q. Knows p q) (peer s) l new) (port_at s l) st (knows i l y s) in
       let f = end_of (λ q. Knows e.1.port q) (port_at (peer s) l) (half (peer s) new).state e.4 in
       let was = ends_at i l old y s in
       let number = found_place (port_at s l) st.system_ports e.0 e.1 e.2 e.3 in
       let before = found_place (port_at s l) (half s old).state.system_ports was.0 was.1 was.2 was.3 in
       let like = all-get (λ (z : SystemPort). AtPort was.1.number (Alike was.1.port) z.number z.port) st.system_ports e.0 e.1 e.3
-      (rounds_alike gives n old new b.steady h s was.0 was.1 was.3) (number ∙ sym before) in
+      (played_alike OldArrive gives n old new b.steady h s was.0 was.1 was.3) (number ∙ sym before) in
       let own : e.1.port.party.system ≡ st.system = own_system st e.0 e.1 (now s).0 e.3 in
       let other : f.1.port.party.system ≡ (half (peer s) new).state.system = own_system (half (peer s) new).state f.0 f.1 (now (peer s)).0 f.3 in
-      let kept = played_keep NoneIsLeft gives SystemId (λ z. z.system) (λ z ports table. refl) (λ z table. refl) (λ z d. refl) n old new h in
+      let kept = played_keep OldArrive gives SystemId (λ z. z.system) (λ z ports table. refl) (λ z table. refl) (λ z d. refl) n old new h in
       record {
         place = e.0;
         port = e.1;
@@ -174,7 +174,8 @@ module _ (Holds : LinkState → WorldState → Type 0) (t : Side) (gives : Algor
       let st = (half s new).state in
       let e = known i l y s in
       let found = machines_there (port_at s l) st e.place e.port e.index e.there in
-      elim (shared_finds old new b.steady (lasted gives n old new b.steady h) Holds b.heard knows b.aggregators s e.place e.port e.there e.wants) [
+      elim (shared_finds old new b.steady (played_lasted OldArrive gives n old new b.steady h) Holds b.heard knows b.aggregators
+      s e.place e.port e.there e.wants) [
         | inl k ↦ inl (subst (OfPort (λ p. selected p ≡ true)) (sym found) k)
         | inr k ↦ inr (subst (OfPort (StandsByFull st)) (sym found) k)
       ]
@@ -184,10 +185,10 @@ module _ (Holds : LinkState → WorldState → Type 0) (t : Side) (gives : Algor
   chosen i l y = elim (chooses i l y (peer t)) [
     | inl k ↦ k
     | inr k ↦ (let st = (half (peer t) new).state in
-        let now = hosts_steady gives n old new b.steady h in
+        let now = played_steady OldArrive gives n old new b.steady h in
         let e = end_of (StandsByFull st) (port_at (peer t) l) st k in
         absurd (never_stands st e.0 e.1 e.4.0 (now (peer t)).0
-        (still_links (peer t) old new (as_before gives n old new b.steady h (peer t)) b.links) e.3 e.4.1))
+        (still_links (peer t) old new (played_before OldArrive gives n old new b.steady h (peer t)) b.links) e.3 e.4.1))
   ]
 
   -- both are, so the ends agree
@@ -199,8 +200,8 @@ module _ (Holds : LinkState → WorldState → Type 0) (t : Side) (gives : Algor
       → EndsAgreed t x.number new
   member agg k x there chose =
       let st = (half t new).state in
-      let like = as_before gives n old new b.steady h t in
-      let now = hosts_steady gives n old new b.steady h t in
+      let like = played_before OldArrive gives n old new b.steady h t in
+      let now = played_steady OldArrive gives n old new b.steady h t in
       let sel : selected x.port ≡ true = is_chosen x.port.choice chose in
       elim (cases_Bool x.port.enabled) [
         | inl up ↦ (let it = still_heard Holds t old new like b.heard k x there up in
@@ -208,7 +209,7 @@ module _ (Holds : LinkState → WorldState → Type 0) (t : Side) (gives : Algor
             let number : e.port.number ≡ x.number = found_place (port_at t it.link) st.system_ports e.place e.port e.index e.there ∙ it.joins in
             record {
               index = it.index;
-              joins = subst (λ es. end_at es t (suc it.index) ≡ Some x.number) (sym (hosts_join gives n old new h))
+              joins = subst (λ es. end_at es t (suc it.index) ≡ Some x.number) (sym (played_join OldArrive gives n old new h))
                   (end_is t old.links it.index it.link it.healthy.there ∙ ap (λ (m : ℕ). Some m) it.joins);
               same = same it.index it.link it.healthy (subst (OfPort (λ p. selected p ≡ true))
                   (sym (machines_there (port_at t it.link) st e.place e.port e.index e.there))
@@ -232,16 +233,16 @@ module _ (Holds : LinkState → WorldState → Type 0) (t : Side) (gives : Algor
         (e.4.0, e.4.1, record { full = e.4.2; members = λ k x there chose. member e.4.0 k x there chose })))
   ]
 
-pub each_limited_link_agrees_by_hosts : (gives : Algorithms) → EachLimitedLinkAgrees HostRounds OneIsActive up_if_one_is gives
-each_limited_link_agrees_by_hosts gives n i l t old new sound b y enough h =
+pub each_limited_link_agrees : (gives : Algorithms) → EachLimitedLinkAgrees LateRounds OneIsActive up_if_one_is gives
+each_limited_link_agrees gives n i l t old new sound b y enough h =
     limited OneIsActive t gives n old new sound b h
-    (λ k m z s. ends_know_by_hosts gives n k m old new sound.cabling b.steady z (heard_holds OneIsActive old sound.cabling b.heard k m z)
+    (λ k m z s. ends_know gives n k m old new sound.cabling b.steady z (heard_holds OneIsActive old sound.cabling b.heard k m z)
     (omega (arith, enough)) h s)
-    (λ k m z both. selected_pairs_agree_by_hosts gives n k m old new sound b.steady b.heard z enough h both) i l y
+    (λ k m z both. selected_pairs_agree gives n k m old new sound b.steady b.heard z enough h both) i l y
 
-pub each_active_limited_link_agrees_by_hosts : (gives : Algorithms) → EachLimitedLinkAgrees HostRounds BothAreActive up_if_both_active gives
-each_active_limited_link_agrees_by_hosts gives n i l t old new sound b y enough h =
+pub each_active_limited_link_agrees : (gives : Algorithms) → EachLimitedLinkAgrees LateRounds BothAreActive up_if_both_active gives
+each_active_limited_link_agrees gives n i l t old new sound b y enough h =
     limited BothAreActive t gives n old new sound b h
-    (λ k m z s. active_ends_know_by_hosts gives n k m old new sound.cabling b.steady z (heard_holds BothAreActive old sound.cabling b.heard k m z)
+    (λ k m z s. active_ends_know gives n k m old new sound.cabling b.steady z (heard_holds BothAreActive old sound.cabling b.heard k m z)
     (omega (arith, enough)) h s)
-    (λ k m z both. active_selected_pairs_agree_by_hosts gives n k m old new sound b.steady b.heard z enough h both) i l y
+    (λ k m z both. active_selected_pairs_agree gives n k m old new sound b.steady b.heard z enough h both) i l y

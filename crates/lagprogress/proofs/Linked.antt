@@ -1,19 +1,19 @@
 -- What Emit and Deliver events, and ticks, leave of a world with one cable.
 use Rattle.lagprogress.proofs.Common.{Bool, Err, List, None, Ok, Option, Result, Some, [], ap, arith, cond, false, inl, inr, length, nat_lt, not}
 use Rattle.lagprogress.proofs.Common.{option_map, refl, slice_get, subst, suc, sym, true, zero, ℕ, ◌++◌, ◌+◌, ◌<◌, ◌==◌, ◌∙◌, ◌∷◌, ◌≡◌, ◌≤◌, ◌⊎◌}
-use Rattle.lagprogress.proofs.Common.{cases_Bool, nat_tests, position-Some, none-some, same_Some, AllByRecursion, position_or_len, StateBits}
-use Rattle.lagprogress.proofs.Common.{encode_then_decode, Lacpdu, Side, peer, CollectingDistributing, Machines, is_synchronized, same_mux_state}
-use Rattle.lagprogress.proofs.Common.{periodic_rows, AtRest, actor_of, after_sending, is_due, pdu_of, marker_due, Answer, SystemFault, Received}
-use Rattle.lagprogress.proofs.Common.{SystemPort, Call, Carries, IsFrame, OnlyPortChangesBy, ProcessesLacpdu, Receive, ReceivesAt, Step, ThenSettles}
-use Rattle.lagprogress.proofs.Common.{Transmit, configured_numbers, PeriodicIsSettled, IsLacpduOf, SendsMarkerOf, TransmitsAt, TransmitsIf}
-use Rattle.lagprogress.proofs.Common.{CallPromise, SystemState, machines_of, port_index, port_numbers, system_port_at, named, processes_or_stays}
-use Rattle.lagprogress.proofs.Common.{all-get, found_place, ports_rise, Event, Reply, Algorithms, WorldRuns, WorldSteps, side_of, ItemValue}
-use Rattle.lagprogress.proofs.Common.{WorldState, half, IsTimed, KeptBySettling, OfEach, Step-each, AtPort, at_number, calls_each, same_ports}
+use Rattle.lagprogress.proofs.Common.{cases_Bool, nat_tests, position-Some, none-some, same_Some, AllByRecursion, position_or_len, StateBits, Lacpdu}
+use Rattle.lagprogress.proofs.Common.{Side, peer, Machines, periodic_rows, AtRest, actor_of, after_sending, is_due, pdu_of, marker_due, Answer}
+use Rattle.lagprogress.proofs.Common.{SystemFault, Received, SystemPort, Call, Carries, IsFrame, OnlyPortChangesBy, ProcessesLacpdu, Receive}
+use Rattle.lagprogress.proofs.Common.{ReceivesAt, Step, ThenSettles, Transmit, configured_numbers, PeriodicIsSettled, IsLacpduOf, SendsMarkerOf}
+use Rattle.lagprogress.proofs.Common.{TransmitsAt, TransmitsIf, CallPromise, SystemState, machines_of, port_index, port_numbers, system_port_at}
+use Rattle.lagprogress.proofs.Common.{named, processes_or_stays, all-get, found_place, ports_rise, Event, Reply, Algorithms, WorldRuns, WorldSteps}
+use Rattle.lagprogress.proofs.Common.{side_of, ItemValue, WorldState, half, IsTimed, KeptBySettling, OfEach, Step-each, AtPort, at_number, calls_each}
+use Rattle.lagprogress.proofs.Common.{same_ports}
 use Rattle.slowpdu.specs.declared.pdu.Pdu.TheVariants as pdu
 use Rattle.lagsystem.specs.declared.drive.Reply.TheVariants as answer
 use Rattle.lagsystem.specs.declared.received.Received.TheVariants as received
 use Rattle.lagscript.specs.declared.event.Event.TheVariants as event
-use Rattle.lagprogress.proofs.EndFacts.{Along, IsEnd, Suits, activity, end_settles, wait_of}
+use Rattle.lagprogress.proofs.EndFacts.{said_bits, Along, IsEnd, Suits, activity, end_settles, wait_of}
 use Rattle.lagprogress.proofs.Halves.{AreTimely, each_is_calls, keeps_timely}
 use Rattle.lagprogress.proofs.OneCable.{Asks, Beside, Elsewhere, Gains, OnCable, asks, emits, emits_beside, push, push_each, put, sent_frame}
 use Rattle.lagprogress.proofs.Passing.{carries_one, lacpdu_is_sent, marker_carries_none, receives_lacpdu, sent_carries}
@@ -122,16 +122,7 @@ pushed P s item fl k a t = grind (arith, nat_tests)
 
 own_suits : (p : Machines) (dl d : ℕ) (v u : Lacpdu) (c : ℕ) → (2 ≤ d → 1 ≤ c) → IsEnd d v u c p → Suits d u v (pdu_of p dl)
 own_suits p dl d v u c known a =
-    let bits = encode_then_decode (record {
-      activity = p.active;
-      timeout = p.short;
-      aggregation = p.party.aggregatable;
-      synchronization = is_synchronized p.mux;
-      collecting = same_mux_state CollectingDistributing p.mux;
-      distributing = same_mux_state CollectingDistributing p.mux;
-      defaulted = p.defaulted;
-      expired = p.expired;
-    }) in (
+    let bits = said_bits p in (
       λ _. (
         ap (named (actor_of p)) bits ∙ a.0.0,
         ap (λ (b : StateBits). b.activity) bits ∙ a.0.1,

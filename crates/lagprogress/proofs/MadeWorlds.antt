@@ -1,23 +1,27 @@
 -- A world that events lead to from one that was made is a bundle, if its links are up as it wants them.
 use Rattle.lagprogress.proofs.Common.{Bool, List, None, Option, Some, [], ap, arith, false, if◌then◌else◌, map, refl, subst, suc, sym, true, zero, ℕ}
-use Rattle.lagprogress.proofs.Common.{◌++◌, ◌+◌, ◌-◌, ◌∙◌, ◌∷◌, ◌≡◌, none-some, SystemId, same_system, system-itself, One, Side, Two, WorldSetup}
-use Rattle.lagprogress.proofs.Common.{Config, config_value, Algorithms, AreFirst, LinkState, WorldState, half, start_sound, hosts_keep_headline, no}
-use Rattle.lagprogress.proofs.Common.{EachLinkAgrees, EachLinkComesUp, HostReachedIsBundle, IsBundle, ReachedIsApart, ReachedIsBundle, SystemsDiffer}
-use Rattle.lagprogress.proofs.Common.{CarriersAreUp, NothingIsHeld, DrainingRounds, NothingIsHeldByHosts, HostRounds, EachAgrees, EachDistributes}
-use Rattle.lagprogress.proofs.Common.{IsReached, IsReady, LeadsTo, NothingStaysHeld, Rounds, IsSteady}
+use Rattle.lagprogress.proofs.Common.{◌++◌, ◌+◌, ◌-◌, ◌∙◌, ◌∷◌, ◌≡◌, nat_tests, none-some, SystemId, same_system, system-itself, One, Side, Two}
+use Rattle.lagprogress.proofs.Common.{WorldSetup, Config, config_value, or_first, Event, Reply, Algorithms, WorldRuns, AreFirst, IsStart, LinkState}
+use Rattle.lagprogress.proofs.Common.{WorldState, half, start_sound, Plays, hosts_keep_headline, no, EachLinkAgrees, EachLinkComesUp}
+use Rattle.lagprogress.proofs.Common.{HostReachedIsBundle, IsBundle, ReachedIsApart, ReachedIsBundle, SystemsDiffer, CarriersAreUp, NothingIsHeld}
+use Rattle.lagprogress.proofs.Common.{DrainingRounds, NothingIsHeldByHosts, HostRounds, LateRounds, EachAgrees, EachDistributes, IsReached, IsReady}
+use Rattle.lagprogress.proofs.Common.{LeadsTo, NothingStaysHeld, Rounds, IsSteady}
 use Rattle.lagprogress.proofs.Looping.{RunsEvents}
 use Rattle.lagscript.specs.declared.config.BadWorld.TheVariants.{SameSystem}
 use Rattle.cables.specs.declared.item.Item.{Item}
 use Rattle.lagscript.specs.Configs.{refusal_of_all}
 use Rattle.lagworld.specs.Sound.{IsSound}
-use Rattle.lagprogress.proofs.OneLink.{first_none}
-use Rattle.lagprogress.proofs.Carrying.{each_reached_has_carriers_up}
+use Rattle.lagprogress.proofs.LateLoops.{host_rounds_are_late_rounds}
+use Rattle.lagprogress.proofs.Carrying.{host_reached_has_carriers_up}
 use Rattle.lagprogress.proofs.Unchanged.{events_keep}
 use Rattle.lagprogress.proofs.Reaching.{reached_steady}
 use Rattle.lagprogress.proofs.HostSteady.{host_reached_steady}
 use Rattle.lagprogress.proofs.HostRound.{left}
-use Rattle.lagprogress.proofs.HostLoops.{draining_are_host}
+use Rattle.lagprogress.proofs.HostLoops.{draining_are_host, events_are_of_hosts}
 use Rattle.lagprogress.proofs.Played.{runs_append}
+
+first_none : {X : Type 0} (a b : Option X) → or_first a b ≡ None → (a ≡ None) × (b ≡ None)
+first_none a b e = grind (arith, nat_tests)
 
 when_none : {X : Type 0} (b : Bool) (x : X) → (if b then Some x else None) ≡ None → b ≡ false
 when_none true x e = absurd (none-some x (sym e))
@@ -78,6 +82,11 @@ draining_splits gives s g k (suc i) m zero old new e h = absurd (omega (arith, e
 draining_splits gives s g k (suc i) m (suc n) old new e h =
     let r = draining_splits gives s g k i m n old h.0 (omega (arith, e)) h.1 in (r.0, r.1, (h.0, r.2, h.2))
 
+reached_carriers : (gives : Algorithms) (configs : List Config) (es : List Event) (rs : List Reply) (start new : WorldState) → IsStart start
+    → AreFirst configs start → WorldRuns gives start es rs new → (s : Side) → CarriersAreUp (half s new).state
+reached_carriers gives configs es rs start new i h runs =
+    host_reached_has_carriers_up gives configs (map Plays es) start new i h (events_are_of_hosts gives es rs start new runs)
+
 -- as the contract of `World::new` says it
 module _ {C : Type 0} (items : C → List Item) (limit : C → Option ℕ) where
   is_bundle : (Holds : LinkState → WorldState → Type 0) (gives : Algorithms) (j : WorldState) → IsReached items limit gives j → IsReady Holds j
@@ -86,27 +95,29 @@ module _ {C : Type 0} (items : C → List Item) (limit : C → Option ℕ) where
       r.made.systems r.runs r.few ready.heard ready.aggregators ready.links
 
   carriers : (gives : Algorithms) (j : WorldState) → IsReached items limit gives j → (s : Side) → CarriersAreUp (half s j).state
-  carriers gives j r = each_reached_has_carriers_up gives r.config.systems r.events r.replies r.start j r.starts r.made.systems r.runs
+  carriers gives j r = reached_carriers gives r.config.systems r.events r.replies r.start j r.starts r.made.systems r.runs
 
   -- in healthy rounds of hosts
 
-  pub distribute : (Holds : LinkState → WorldState → Type 0) (least : ℕ) (gives : Algorithms) → EachLinkComesUp HostRounds Holds least gives
+  pub distribute : (Holds : LinkState → WorldState → Type 0) (least : ℕ) (gives : Algorithms) → EachLinkComesUp LateRounds Holds least gives
       → (n : ℕ) (old new : WorldState) → (IsSteady old → HostRounds gives n old new)
       → LeadsTo items limit EachDistributes Holds least gives n old new
   distribute Holds least gives by n old new h r ready enough i l healthy =
-      let b = (is_bundle Holds gives old r ready).1 in by n i l old new b healthy enough (h b.steady)
+      let b = (is_bundle Holds gives old r ready).1 in
+      by n i l old new b healthy enough (host_rounds_are_late_rounds gives n old new b.cabling (h b.steady))
 
-  pub agree : (Holds : LinkState → WorldState → Type 0) (least : ℕ) (gives : Algorithms) → EachLinkAgrees HostRounds Holds least gives
+  pub agree : (Holds : LinkState → WorldState → Type 0) (least : ℕ) (gives : Algorithms) → EachLinkAgrees LateRounds Holds least gives
       → (n : ℕ) (old new : WorldState) → (IsSteady old → HostRounds gives n old new)
       → LeadsTo items limit EachAgrees Holds least gives n old new
   agree Holds least gives by n old new h r ready enough i l healthy =
-      let both = is_bundle Holds gives old r ready in by n i l old new both.0 both.1 healthy enough (h both.1.steady)
+      let both = is_bundle Holds gives old r ready in
+      by n i l old new both.0 both.1 healthy enough (host_rounds_are_late_rounds gives n old new both.1.cabling (h both.1.steady))
 
   -- that ask until nothing is due
 
   carriers_later : (gives : Algorithms) (old new : WorldState) → IsReached items limit gives old → RunsEvents gives old new → (s : Side)
       → CarriersAreUp (half s new).state
-  carriers_later gives old new r (es, run) = each_reached_has_carriers_up gives r.config.systems (r.events ++ es) (r.replies ++ run.replies) r.start
+  carriers_later gives old new r (es, run) = reached_carriers gives r.config.systems (r.events ++ es) (r.replies ++ run.replies) r.start
       new r.starts r.made.systems (runs_append gives r.events es r.replies run.replies r.start old new r.runs run.acts)
 
   pub free_by_hosts : (Holds : LinkState → WorldState → Type 0) (least : ℕ) (gives : Algorithms) → NothingIsHeldByHosts Holds least gives
@@ -116,8 +127,9 @@ module _ {C : Type 0} (items : C → List Item) (limit : C → Option ℕ) where
       let b = (is_bundle Holds gives old r ready).1 in
       let all = h b.steady s g k in
       let cut = draining_splits gives s g k 30 (n - 30) n old new (omega (arith, enough)) all in
-      by (n - 30) 30 old cut.0 new s g k b (omega (arith, enough)) (draining_are_host gives s g k (n - 30) old cut.0 cut.1) (omega arith) cut.2 left
-      (carriers_later gives old new r run s)
+      by (n - 30) 30 old cut.0 new s g k b (omega (arith, enough))
+      (host_rounds_are_late_rounds gives (n - 30) old cut.0 b.cabling (draining_are_host gives s g k (n - 30) old cut.0 cut.1)) (omega arith) cut.2
+      left (carriers_later gives old new r run s)
 
   -- and in healthy rounds
 

@@ -1,29 +1,27 @@
 -- A frame that a bundle is offered after its links came up arrives within one round.
-use Rattle.lagprogress.proofs.Common.{List, Some, [], ap, arith, inl, inr, map, refl, slice_get, subst, suc, sym, true, zero, ℕ, ◌++◌, ◌+◌, ◌∙◌, ◌∷◌}
-use Rattle.lagprogress.proofs.Common.{◌≡◌, ◌≤◌, Vec, AggId, Lacpdu, One, Side, peer, Machines, receive_rows, count_down, SystemPort, Data_frame}
-use Rattle.lagprogress.proofs.Common.{IsFrame, SystemState, all-get, Event, Reply, Algorithms, WorldRuns, WorldSteps, side_of, link_ends, ItemValue}
-use Rattle.lagprogress.proofs.Common.{LinkState, WorldState, accepts_at, half, is_accepted, link_at, port_at, put_on_port, towards, put_ends}
-use Rattle.lagprogress.proofs.Common.{HostEvent, Plays, OfEach, Step-each, first_each, AtPort, runs_keep, takes_keep, Arrives}
-use Rattle.lagprogress.proofs.Common.{DisabledAreUnsynchronized, EachFrameArrives, EachFrameArrivesByHosts, EachReachedHasUnsynchronized, GetsPort}
-use Rattle.lagprogress.proofs.Common.{HandsUp, Sometime, SometimePlayed, TakesFrame, BothAreActive, EndsHealthyCable, IsBundle, OneIsActive}
-use Rattle.lagprogress.proofs.Common.{HostRounds, IsHostRound, RunReplies, TickOnce, IsRound, NothingInFlight, Rounds, asks_all, ticks_of_both}
-use Rattle.lagprogress.proofs.Common.{up_if_both_active, up_if_one_is}
-use Rattle.lagprogress.proofs.HostLoops.{as_played, rounds_are_host_rounds, round_ticks}
+use Rattle.lagprogress.proofs.Common.{List, Some, [], ap, arith, map, refl, slice_get, subst, sym, true, ℕ, ◌++◌, ◌+◌, ◌∙◌, ◌∷◌, ◌≡◌, ◌≤◌, Vec, AggId}
+use Rattle.lagprogress.proofs.Common.{Lacpdu, One, Side, peer, Machines, receive_rows, count_down, Data_frame, IsFrame, SystemState, Reply}
+use Rattle.lagprogress.proofs.Common.{Algorithms, WorldSteps, side_of, link_ends, ItemValue, LinkState, WorldState, accepts_at, half, is_accepted}
+use Rattle.lagprogress.proofs.Common.{link_at, port_at, put_on_port, put_ends, OfEach, AtPort, runs_keep, takes_keep, Arrives}
+use Rattle.lagprogress.proofs.Common.{DisabledAreUnsynchronized, EachFrameArrivesByHosts, GetsPort, SometimePlayed, TakesFrame, BothAreActive}
+use Rattle.lagprogress.proofs.Common.{EndsHealthyCable, IsBundle, OneIsActive, IsHostRound, LateRounds, OldArrive, NothingInFlight, up_if_both_active}
+use Rattle.lagprogress.proofs.Common.{up_if_one_is}
+use Rattle.lagprogress.proofs.EachRound.{played_join, played_on, played_steady, EachAt, RoundKeeps, same_index, host_each}
+use Rattle.lagprogress.proofs.Lasting.{played_before, all_by_place, still_heard}
+use Rattle.lagprogress.proofs.Knowing.{fits_fresh, fits_before}
+use Rattle.lagprogress.proofs.LateStart.{counts_of, kept_of}
 use Rattle.lagprogress.proofs.ArrivingLemmas.{is_data, offer_gets_port}
 use Rattle.lagprogress.proofs.Bundling.{Meets, Nowhere, awake_of, both_active, one_active, said, ups_of, named_of}
-use Rattle.lagprogress.proofs.Carrying.{Lapses, LapsesAt, distributes_up, lapse_first, lapse_kept, lapse_settles, receive_lapses}
+use Rattle.lagprogress.proofs.Carrying.{Lapses, LapsesAt, distributes_up, lapse_settles, receive_lapses}
 use Rattle.lagprogress.proofs.Climbing.{PartnerInSync}
-use Rattle.lagprogress.proofs.EachRound.{EachAt, RoundKeeps, same_index, host_each, hosts_join, hosts_on, hosts_steady}
 use Rattle.lagprogress.proofs.FlyingLemmas.{OnItsWay, in_run}
-use Rattle.lagprogress.proofs.Halves.{both_first, keeps_timely}
-use Rattle.lagprogress.proofs.Linked.{EndIs, IsGood, Link, place_kept, push_there, events_each}
+use Rattle.lagprogress.proofs.Halves.{keeps_timely}
+use Rattle.lagprogress.proofs.Linked.{EndIs, IsGood, Link, place_kept, push_there}
 use Rattle.lagprogress.proofs.OneCable.{OnCable, cable, placed, port_there, push, push_each, puts, takes_all, towards_there}
 use Rattle.lagprogress.proofs.OneRound.{join}
-use Rattle.lagprogress.proofs.HostKnowing.{host_signs, fits_fresh, fits_before}
 use Rattle.lagprogress.proofs.ComingUp.{told_now}
 use Rattle.lagscript.specs.declared.event.Event.TheVariants as event
 use Rattle.lagworld.specs.declared.reply.Reply.TheVariants as reply
-use Rattle.lagprogress.proofs.Lasting.{all_by_place, as_before, still_heard}
 
 -- the partner of a port in PORT_DISABLED is not synchronized
 
@@ -37,17 +35,10 @@ lapse_round = record {
   takes = λ n v p q h a. takes_keep Lapses v (λ p a e. absurd cc, tt) p q h a;
 }
 
-lapses_on : (gives : Algorithms) (n : ℕ) (old new : WorldState) (s : Side) → HostRounds gives n old new → EachAt LapsesAt s old → EachAt LapsesAt s new
-lapses_on gives n old new s h a = hosts_on gives (λ m j. EachAt LapsesAt s j) old a
+lapses_on : (gives : Algorithms) (n : ℕ) (old new : WorldState) (s : Side) → LateRounds gives n old new → EachAt LapsesAt s old → EachAt LapsesAt s new
+lapses_on gives n old new s h a = played_on OldArrive gives (λ m j. EachAt LapsesAt s j) old a
     (λ m i j q b. host_each LapsesAt LapsesAt lapse_round lapse_round
     (λ k p r run c. runs_keep Lapses receive_rows receive_lapses (count_down p) r run c) s gives i j q b) n new h
-
-pub each_reached_has_unsynchronized : (gives : Algorithms) → EachReachedHasUnsynchronized gives
-each_reached_has_unsynchronized gives configs es rs start new s i h runs =
-    let st = (half s start).state in
-    let first = first_each LapsesAt lapse_settles lapse_first st (both_first configs start h s) in
-    λ k x there. all-get (λ (y : SystemPort). Lapses y.port) (half s new).state.system_ports k x there (events_each gives s (λ t. OfEach LapsesAt t.system_ports)
-    (λ a b call r. Step-each LapsesAt lapse_settles (gives s) a call r b (lapse_kept call r)) es rs start new runs first)
 
 -- the cable after an offer
 
@@ -76,51 +67,25 @@ accepted : (s : Side) (p i : ℕ) (at : Side → ℕ) (fl : Side → List ItemVa
 accepted s p i at fl links c e = ap (λ q. is_accepted s q links) (sym e) ∙ (ap (λ o. accepts_at s (link_at o links)) (placed s i at fl links c)
     ∙ (ap (accepts_at s) c.there ∙ takes_all s at fl))
 
--- what comes at an event of hosts that play events comes at one of those
-sometime_played : (P : WorldState → Event → Reply → Type 0) (gives : Algorithms) (es : List Event) (rs : List Reply) (old new : WorldState)
-    (run : WorldRuns gives old es rs new) → SometimePlayed P gives (map Plays es) rs old new (as_played gives es rs old new run)
-    → Sometime P gives es rs old new run
-unfolding as_played
-sometime_played P gives [] [] old new run h = absurd h
-sometime_played P gives (e ∷ es) (r ∷ rs) old new run (inl h) = inl h
-sometime_played P gives (e ∷ es) (r ∷ rs) old new run (inr h) = inr (sometime_played P gives es rs run.0 new run.2 h)
-sometime_played P gives es rs old new run h = absurd run
-
--- after a round nothing flies
-none_flies : (gives : Algorithms) (n : ℕ) (old new : WorldState) → 1 ≤ n → HostRounds gives n old new → NothingInFlight new
-none_flies gives zero old new l h = absurd (omega (arith, l))
-none_flies gives (suc n) old new l h = h.2.empties
-
 module _ (Holds : LinkState → WorldState → Type 0) (first : ℕ) (gives : Algorithms) (old : WorldState) (b : IsBundle Holds old)
-    (m : Meets Holds Nowhere first gives old) where
+    (m : Meets Holds first gives old) where
   -- the healthy cable of a port that is up
   carrier : (n : ℕ) (s : Side) (agg : AggId) (octets : List ℕ) (r : Reply) (mid sent : WorldState) → DisabledAreUnsynchronized (half s old).state
-      → HostRounds gives n old mid → (g : GetsPort s agg octets mid r sent) → EndsHealthyCable Holds s g.port old
+      → LateRounds gives n old mid → (g : GetsPort s agg octets mid r sent) → EndsHealthyCable Holds s g.port old
   carrier n s agg octets r mid sent quiet h g =
       let st = (half s mid).state in
-      let now = hosts_steady gives n old mid b.steady h in
+      let now = played_steady OldArrive gives n old mid b.steady h in
       let up = distributes_up st agg g.port (now s).0 (lapses_on gives n old mid s h (unsynchronized (half s old).state quiet)) g.distributes in
       subst (λ p. EndsHealthyCable Holds s p old) up.3
-      (still_heard Holds s old mid (as_before gives n old mid b.steady h s) b.heard up.0 up.1 up.2 up.4)
+      (still_heard Holds s old mid (played_before OldArrive gives n old mid b.steady h s) b.heard up.0 up.1 up.2 up.4)
 
-  -- what is known of a frame that is offered then
-  pub record Sent (s : Side) (agg : AggId) (octets : List ℕ) (mid : WorldState) (r : Reply) (sent : WorldState) : Type 0 where
-    pub got : GetsPort s agg octets mid r sent
-    pub replied : r ≡ reply.Port got.port got.serial true
-    pub index : ℕ
-    pub link : LinkState
-    pub there : slice_get sent.links index ≡ Some link
-    pub joins : port_at s link ≡ got.port
-    pub flies : towards (peer s) link ≡ got.item ∷ []
-    pub arrives : (es : List HostEvent) (rs : List Reply) (new : WorldState) → TickOnce One true true es → (run : RunReplies gives sent es rs new)
-        → NothingInFlight new → SometimePlayed (HandsUp (peer s) index got.item) gives es rs sent new run
-
-  pub frame_sent : (n number : ℕ) (s : Side) (agg : AggId) (octets : Vec ℕ) (r : Reply) (mid sent : WorldState)
-      → DisabledAreUnsynchronized (half s old).state → 1 ≤ n → first + 31 ≤ n → HostRounds gives n old mid
-      → side_of number ≡ Some s → TakesFrame agg octets.items (half s mid).state
-      → WorldSteps gives mid (event.Offer number agg octets) r sent → Sent s agg octets.items mid r sent
-  frame_sent n number s agg octets r mid sent quiet some enough h told takes step =
-      let now = hosts_steady gives n old mid b.steady h in
+  pub arrives : (n number : ℕ) (s : Side) (agg : AggId) (octets : Vec ℕ) (r : Reply) (mid sent new : WorldState)
+      → DisabledAreUnsynchronized (half s old).state → first + 33 ≤ n → LateRounds gives n old mid → NothingInFlight mid → side_of number ≡ Some s
+      → TakesFrame agg octets.items (half s mid).state → WorldSteps gives mid (event.Offer number agg octets) r sent
+      → (q : IsHostRound gives sent new)
+      → Arrives s agg octets.items mid r sent (λ P. SometimePlayed P gives q.events q.replies sent new q.acts)
+  arrives n number s agg octets r mid sent new quiet enough h none told takes step q =
+      let now = played_steady OldArrive gives n old mid b.steady h in
       let g = offer_gets_port gives number s agg octets r mid sent told (now s).0 takes step in
       let it = carrier n s agg octets.items r mid sent quiet h g in
       let i = it.index in
@@ -128,94 +93,46 @@ module _ (Holds : LinkState → WorldState → Type 0) (first : ℕ) (gives : Al
       let y = it.healthy in
       let at : Side → ℕ = λ t. port_at t l in
       let w = said old i l y in
-      let named = named_of Holds Nowhere first gives old m i l y in
-      let awake = awake_of Holds Nowhere first gives old m i l y in
-      let top = ups_of Holds Nowhere first gives old m i l y n mid enough h in
+      let named = named_of OldArrive Holds Nowhere first gives old m i l y in
+      let awake = awake_of OldArrive Holds Nowhere first gives old m i l y in
+      let top = ups_of OldArrive Holds Nowhere first gives old m i l y n mid enough h in
       let fresh = top.2.fresh in
-      let heard = told_now at w (host_signs at w) 0 top.0 mid top.1 top.2 (peer s) in
+      let heard = told_now at w (counts_of at old) (kept_of at old) top.0 mid top.1 top.2 (peer s) in
       let start = join 2 at w fresh.known One (peer s) PartnerInSync mid fresh.link heard in
       let plain = subst (λ o. IsFrame o Data_frame) (sym g.frame) (is_data octets.items takes.may.1) in
       let o = offer_link gives number s 2 at w fresh.known (peer s) PartnerInSync agg octets r mid sent g (sym it.joins) plain step start in
       let fl : Side → List ItemValue = push (peer s) g.item start.flying in
       let on : OnCable o.0.index at fl sent.links = subst (λ f. OnCable o.0.index at f sent.links) o.1 o.0.links in
-      let empty = sym (towards_there (peer s) at start.flying)
-      ∙ none_flies gives n old mid some h (peer s) start.index (cable at start.flying) start.links.there in
+      let empty = sym (towards_there (peer s) at start.flying) ∙ none (peer s) start.index (cable at start.flying) start.links.there in
       let alone : fl (peer s) ≡ g.item ∷ [] = push_there (peer s) g.item start.flying ∙ ap (λ xs. xs ++ g.item ∷ []) empty in
       let joins : map link_ends sent.links ≡ map link_ends old.links =
-      ap (map link_ends) g.sent ∙ (put_ends s g.port g.item mid.links ∙ hosts_join gives n old mid h) in
+      ap (map link_ends) g.sent ∙ (put_ends s g.port g.item mid.links ∙ played_join OldArrive gives n old mid h) in
       let same : o.0.index ≡ i = same_index i o.0.index l fl old sent y.there joins on in
       let way : OnItsWay s l g.item old sent = record { index = o.0.index; flying = fl; links = on; first = ([], alone); joins = joins } in
       record {
-        got = g;
+        port = g.port;
+        serial = g.serial;
+        distributes = g.distributes;
         replied = g.replied ∙ ap (reply.Port g.port g.serial) (accepted s g.port start.index at start.flying mid.links start.links it.joins);
         index = i;
         link = cable at fl;
         there = subst (λ k. slice_get sent.links k ≡ Some (cable at fl)) same on.there;
         joins = port_there s at fl ∙ it.joins;
+        item = g.item;
+        frame = g.frame;
         flies = towards_there (peer s) at fl ∙ alone;
-        arrives = λ es rs new turns run none. in_run gives s i l w fresh.known g.item old awake y.there
-            (fits_before at w named awake 2 mid fresh (omega arith)) (fits_fresh at w named awake 2 mid fresh (omega arith)) plain
-            es rs sent new turns run none o.0 way;
+        up = in_run gives s i l w fresh.known g.item old awake y.there
+            (fits_before at w (counts_of at old) (kept_of at old) named awake 2 mid fresh (omega arith))
+            (fits_fresh at w (counts_of at old) (kept_of at old) named awake 2 mid fresh (omega arith)) plain
+            q.events q.replies sent new q.ticks q.acts q.empties o.0 way;
       }
 
-  frame_arrives : (s : Side) (agg : AggId) (octets : List ℕ) (mid : WorldState) (r : Reply) (sent : WorldState)
-      (At : (WorldState → Event → Reply → Type 0) → Type 0) (x : Sent s agg octets mid r sent) → At (HandsUp (peer s) x.index x.got.item)
-      → Arrives s agg octets mid r sent At
-  frame_arrives s agg octets mid r sent At x up = record {
-    port = x.got.port;
-    serial = x.got.serial;
-    distributes = x.got.distributes;
-    replied = x.replied;
-    index = x.index;
-    link = x.link;
-    there = x.there;
-    joins = x.joins;
-    item = x.got.item;
-    frame = x.got.frame;
-    flies = x.flies;
-    up = up;
-  }
-
-  pub arrives_by_hosts : (n number : ℕ) (s : Side) (agg : AggId) (octets : Vec ℕ) (r : Reply) (mid sent new : WorldState)
-      → DisabledAreUnsynchronized (half s old).state → first + 31 ≤ n → HostRounds gives n old mid → side_of number ≡ Some s
-      → TakesFrame agg octets.items (half s mid).state → WorldSteps gives mid (event.Offer number agg octets) r sent
-      → (q : IsHostRound gives sent new)
-      → Arrives s agg octets.items mid r sent (λ P. SometimePlayed P gives q.events q.replies sent new q.acts)
-  arrives_by_hosts n number s agg octets r mid sent new quiet enough h named takes step q =
-      let x = frame_sent n number s agg octets r mid sent quiet (omega (arith, enough)) enough h named takes step in
-      frame_arrives s agg octets.items mid r sent (λ P. SometimePlayed P gives q.events q.replies sent new q.acts) x
-      (x.arrives q.events q.replies new q.ticks q.acts q.empties)
-
-  pub arrives : (n number : ℕ) (s : Side) (agg : AggId) (octets : Vec ℕ) (r : Reply) (mid sent new : WorldState)
-      → DisabledAreUnsynchronized (half s old).state → first + 31 ≤ n → Rounds gives n old mid → side_of number ≡ Some s
-      → TakesFrame agg octets.items (half s mid).state → WorldSteps gives mid (event.Offer number agg octets) r sent
-      → (q : IsRound gives sent new)
-      → Arrives s agg octets.items mid r sent
-      (λ P. Sometime P gives (ticks_of_both ++ (asks_all sent.links ++ q.delivers)) q.replies sent new q.acts)
-  arrives n number s agg octets r mid sent new quiet enough h named takes step q =
-      let x = frame_sent n number s agg octets r mid sent quiet (omega (arith, enough)) enough
-      (rounds_are_host_rounds gives n old mid b.steady h) named takes step in
-      let es = ticks_of_both ++ (asks_all sent.links ++ q.delivers) in
-      frame_arrives s agg octets.items mid r sent (λ P. Sometime P gives es q.replies sent new q.acts) x
-      (sometime_played (HandsUp (peer s) x.index x.got.item) gives es q.replies sent new q.acts (x.arrives (map Plays es) q.replies new
-      (round_ticks sent.links q.delivers q.arrives) (as_played gives es q.replies sent new q.acts) q.empties))
-
 pub each_frame_arrives_by_hosts : (gives : Algorithms) → EachFrameArrivesByHosts OneIsActive up_if_one_is gives
-each_frame_arrives_by_hosts gives n number s agg octets r old mid sent new b quiet enough h named takes step q =
-    arrives_by_hosts OneIsActive 621 gives old b (one_active gives old b) n number s agg octets r mid sent new quiet (omega (arith, enough)) h
+each_frame_arrives_by_hosts gives n number s agg octets r old mid sent new b quiet enough h none named takes step q =
+    arrives OneIsActive 624 gives old b (one_active gives old b) n number s agg octets r mid sent new quiet (omega (arith, enough)) h none
     named takes step q
 
 pub each_active_frame_arrives_by_hosts : (gives : Algorithms) → EachFrameArrivesByHosts BothAreActive up_if_both_active gives
-each_active_frame_arrives_by_hosts gives n number s agg octets r old mid sent new b quiet enough h named takes step q =
-    arrives_by_hosts BothAreActive 321 gives old b (both_active gives old b) n number s agg octets r mid sent new quiet (omega (arith, enough))
-    h named takes step q
-
-pub each_frame_arrives : (gives : Algorithms) → EachFrameArrives OneIsActive up_if_one_is gives
-each_frame_arrives gives n number s agg octets r old mid sent new b quiet enough h named takes step q =
-    arrives OneIsActive 621 gives old b (one_active gives old b) n number s agg octets r mid sent new quiet (omega (arith, enough)) h named
-    takes step q
-
-pub each_active_frame_arrives : (gives : Algorithms) → EachFrameArrives BothAreActive up_if_both_active gives
-each_active_frame_arrives gives n number s agg octets r old mid sent new b quiet enough h named takes step q =
-    arrives BothAreActive 321 gives old b (both_active gives old b) n number s agg octets r mid sent new quiet (omega (arith, enough)) h named
-    takes step q
+each_active_frame_arrives_by_hosts gives n number s agg octets r old mid sent new b quiet enough h none named takes step q =
+    arrives BothAreActive 323 gives old b (both_active gives old b) n number s agg octets r mid sent new quiet (omega (arith, enough)) h none
+    named takes step q

@@ -4,9 +4,10 @@ use Rattle.lagprogress.proofs.Common.{sym, true, ℕ, ◌++◌, ◌∙◌, ◌�
 use Rattle.lagprogress.proofs.Common.{Two, peer, value_of, is_due, pdu_of, SystemFault, Received, TookLacpdu, SystemPort, Carries, IsFrame}
 use Rattle.lagprogress.proofs.Common.{OnlyPortChangesBy, ParsesWhere, Performs, ProcessesLacpdu, ReceivesAt, Step, ThenSettles, Transmit, IsSent}
 use Rattle.lagprogress.proofs.Common.{IsLacpduOf, SendsLacpdu, TransmitsAt, TransmitsIf, SystemState, port_index, effect_one, Reply, AfterReceive}
-use Rattle.lagprogress.proofs.Common.{AfterTransmit, Algorithms, DeliversFrom, OnLink, WorldEmits, WorldReceives, side_of, with_link_at, HalfState}
-use Rattle.lagprogress.proofs.Common.{ItemValue, LinkState, WorldState, accepts, half, link_index, port_at, put_on_port, towards, with_half}
-use Rattle.lagprogress.proofs.Common.{with_towards, half_there, DeliverProcessesLacpdu, EmitSendsLacpdu, EndIsUp, IsHeardOn, IsSentOn}
+use Rattle.lagprogress.proofs.Common.{AfterTransmit, Algorithms, DeliversFrom, OnLink, WorldEmits, WorldReceives, WorldSteps, side_of, with_link_at}
+use Rattle.lagprogress.proofs.Common.{HalfState, ItemValue, LinkState, WorldState, accepts, half, link_index, port_at, put_on_port, towards}
+use Rattle.lagprogress.proofs.Common.{with_half, with_towards, half_there, DeliverProcessesLacpdu, EmitSendsLacpdu, EndIsUp, IsHeardOn, IsSentOn}
+use Rattle.lagscript.specs.declared.event.Event.TheVariants as event
 use Rattle.slowpdu.specs.declared.pdu.Pdu.TheVariants as pdu
 use Rattle.slowpdu.proofs.LacpduLemmas.{one_reading}
 use Rattle.slowpdu.proofs.MarkerLemmas.{not_both}
@@ -117,15 +118,21 @@ delivered gives s i k l x y d item rest r old new there end is (Ok o, mid, h, af
     same_halves One old = refl
     same_halves Two old = refl
 
-pub deliver_processes : (gives : Algorithms) → DeliverProcessesLacpdu gives
-deliver_processes gives n s i k l x y d item rest r old new is there first end lacpdu h =
+-- what a Deliver event of a cable does with the first item
+pub first_delivered : (gives : Algorithms) (n : ℕ) (s : Side) (i : ℕ) (l : LinkState) (item : ItemValue) (rest : List ItemValue) (r : Reply)
+    (old new : WorldState) → side_of n ≡ Some s → slice_get old.links i ≡ Some l → towards s l ≡ item ∷ rest
+    → WorldSteps gives old (event.Deliver (suc i) n) r new → DeliversFrom gives s i l (item ∷ rest) old r (record new { acted = old.acted })
+first_delivered gives n s i l item rest r old new is there first h =
     let v = value_of (side_of n) _ h.0 in
     let same : v.0 ≡ s = same_Some v.0 s (sym v.1 ∙ is) in
     let now = record new { acted = old.acted } in
     let e = subst (λ t. OnLink (suc i) (λ i l. DeliversFrom gives t i l (towards t l) old r now) old.links) same v.2 in
     let c = value_of (slice_get old.links i) _ e in
     let it : c.0 ≡ l = same_Some c.0 l (sym c.1 ∙ there) in
-    let d1 = subst (λ m. DeliversFrom gives s i m (towards s m) old r now) it c.2 in
-    let d2 = subst (λ xs. DeliversFrom gives s i l xs old r now) first d1 in
-    let heard = delivered gives s i k l x y d item rest r old now there end lacpdu d2 in
+    subst (λ xs. DeliversFrom gives s i l xs old r now) first (subst (λ m. DeliversFrom gives s i m (towards s m) old r now) it c.2)
+
+pub deliver_processes : (gives : Algorithms) → DeliverProcessesLacpdu gives
+deliver_processes gives n s i k l x y d item rest r old new is there first end lacpdu h =
+    let heard = delivered gives s i k l x y d item rest r old (record new { acted = old.acted }) there end lacpdu
+    (first_delivered gives n s i l item rest r old new is there first h) in
     record { processed = heard.processed; left = heard.left; peer = heard.peer }

@@ -133,7 +133,7 @@ pub calm_quiet : (e : HostEvent) → IsQuiet e → IsCalm e
 calm_quiet (Plays e) q = tt
 calm_quiet e q = q
 
-pub calm_between : (e : HostEvent) → IsBetweenTicks e → IsCalm e
+calm_between : (e : HostEvent) → IsBetweenTicks e → IsCalm e
 calm_between (Plays e) b = tt
 calm_between e b = b
 
@@ -157,10 +157,12 @@ calm_steady gives e r old new c h k = λ s.
       subst (λ ports. AllByRecursion (λ (x : SystemPort). x.held ≡ false) ports) (sym (quiet_ports gives e r old new c h s)) (k s).2,
     ))
 
-pub calm_place : (gives : Algorithms) (e : HostEvent) (r : Reply) (old new : WorldState) → IsCalm e → StepReplies gives old e r new
-    → IsSteady old → IsSteady new → (s : Side) (n : ℕ) → port_index n (half s new).state.system_ports ≡ port_index n (half s old).state.system_ports
-calm_place gives (Plays e) r old new c h a b s n = place_kept gives e r old new h (timely old a) (timely new b) s n
-calm_place gives e r old new c h a b s n = ap (port_index n) (quiet_ports gives e r old new c h s)
+-- each port stays in its place
+pub place_stays : (gives : Algorithms) (e : HostEvent) (r : Reply) (old new : WorldState) → StepReplies gives old e r new → AreTimely old
+    → AreTimely new → (s : Side) (n : ℕ) → port_index n (half s new).state.system_ports ≡ port_index n (half s old).state.system_ports
+place_stays gives (Plays e) r old new h a b s n = place_kept gives e r old new h a b s n
+place_stays gives (Sets t setting) r old new h a b s n = sets_place gives t setting old new h a b s n
+place_stays gives e r old new h a b s n = ap (port_index n) (quiet_ports gives e r old new tt h s)
 
 module _ (X : Type 0) (g : SystemState → X)
     (kept : (s : SystemState) (ports : List SystemPort) (t : Table) → g (with_table (with_system_ports s ports) t) ≡ g s)
@@ -218,12 +220,6 @@ pub leaves_each : (gives : Algorithms) (e : HostEvent) (at : Side → ℕ) (r : 
     → OfEach (AtPort (at t) P) (half t new).state.system_ports
 leaves_each gives (Sets s setting) at r old new q h P t k up p = sets_each gives s setting old new h at q P t k up p
 leaves_each gives e at r old new q h P t k up p = subst (OfEach (AtPort (at t) P)) (sym (quiet_ports gives e r old new q h t)) p
-
-leaves_place : (gives : Algorithms) (e : HostEvent) (at : Side → ℕ) (r : Reply) (old new : WorldState) → LeavesEnds at e
-    → StepReplies gives old e r new → AreTimely old → AreTimely new → (t : Side) (n : ℕ)
-    → port_index n (half t new).state.system_ports ≡ port_index n (half t old).state.system_ports
-leaves_place gives (Sets s setting) at r old new q h a b t n = sets_place gives s setting old new h a b t n
-leaves_place gives e at r old new q h a b t n = ap (port_index n) (quiet_ports gives e r old new q h t)
 
 pub leaves_logs : (gives : Algorithms) (e : HostEvent) (at : Side → ℕ) (r : Reply) (old new : WorldState) → LeavesEnds at e
     → StepReplies gives old e r new → (t : Side) → (half t new).histories ≡ (half t old).histories
@@ -302,7 +298,7 @@ leaves_link gives e d at w c x Y r old new q h along l =
           | inr e ↦ subst (AllByRecursion (IsGood d w t)) (sym e.2)
               (all-append (IsGood d w t) (l.flying t) (e.0 ∷ []) (l.good t) ((λ v c. absurd (e.1 v c)), tt))
         ];
-        place = λ t. ((l.place t).0, leaves_place gives e at r old new q h l.steady steady t (at t) ∙ (l.place t).1);
+        place = λ t. ((l.place t).0, place_stays gives e r old new h l.steady steady t (at t) ∙ (l.place t).1);
         ports = λ t. leaves_each gives e at r old new q h (EndIs d w c x Y t) t (end_kept w c d x Y along t (at t)) (ends_up d at w c x Y old l t)
             (l.ports t);
       };

@@ -6,8 +6,8 @@ use Rattle.lagprogress.proofs.Common.{mux_rows, selected, RunsPeriodic, receive_
 use Rattle.lagprogress.proofs.Common.{none_enabled, NoneHeld, SystemState, rests, all-get, found_place, ports_rise, Algorithms, LinkState, WorldState}
 use Rattle.lagprogress.proofs.Common.{half, port_at, SharesGroup, StandsByFull, WantsAggregator, EnabledKeep, no, times_keep, AtPort, at_number}
 use Rattle.lagprogress.proofs.Common.{mux_leaves, periodic_leaves, finds_aggregator, shares_aggregator, AllHeard, EnoughAggregators, Clearing}
-use Rattle.lagprogress.proofs.Common.{HostRounds, NoneIsLeft, PlayedRounds, EndKnows, Knows, AtEnd, IsHealthyAt, OfPort, AreOneGroup}
-use Rattle.lagprogress.proofs.Common.{DownWereLinkedTo, HasAggregators, LeadToKey, IsSteady}
+use Rattle.lagprogress.proofs.Common.{PlayedRounds, EndKnows, Knows, AtEnd, IsHealthyAt, OfPort, AreOneGroup, DownWereLinkedTo, HasAggregators}
+use Rattle.lagprogress.proofs.Common.{LeadToKey, IsSteady}
 use Rattle.lagprogress.proofs.Choosing.{down_as_read}
 use Rattle.lagprogress.proofs.EachRound.{EachAt, RoundKeeps, host_each, played_keep, played_on, played_steady}
 use Rattle.lagprogress.proofs.Lasting.{IsAsBefore, ends_at, old_port, own_system, still_enough, still_heard, still_one, played_before, played_alike}
@@ -154,9 +154,6 @@ played_lasted E gives n old new steady h = record {
   system = played_keep E gives SystemId (λ z. z.system) (λ z ports table. refl) (λ z table. refl) (λ z d. refl) n old new h;
   sleeps = still_sleeps E gives n old new steady h;
 }
-
-pub lasted : (gives : Algorithms) (n : ℕ) (old new : WorldState) → IsSteady old → HostRounds gives n old new → Lasted old new
-lasted gives = played_lasted NoneIsLeft gives
 
 module _ (old new : WorldState) (steady : IsSteady old) (last : Lasted old new) (Holds : LinkState → WorldState → Type 0) (heard : AllHeard Holds old)
     (knows : (i : ℕ) (l : LinkState) → IsHealthyAt i l old → (s : Side) → EndKnows s l new) where

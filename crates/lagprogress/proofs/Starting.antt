@@ -1,14 +1,13 @@
 -- The ends of a cable in the world before the rounds.
-use Rattle.lagprogress.proofs.Common.{List, Some, [], ap, arith, map, option_map, refl, slice_get, subst, suc, sym, true, zero, ℕ, ◌<◌, ◌∙◌, ◌∷◌, ◌≡◌}
-use Rattle.lagprogress.proofs.Common.{◌≢◌, ◌≤◌, ◌⊎◌, nat_tests, AllByRecursion, Party, StateBits, encode_then_decode, Lacpdu, IsCabling, One, Side}
-use Rattle.lagprogress.proofs.Common.{Two, end_at, peer, find_at, CollectingDistributing, Machines, is_synchronized, same_mux_state, actor_of, pdu_of}
+use Rattle.lagprogress.proofs.Common.{List, Some, [], ap, arith, option_map, slice_get, subst, sym, true, ℕ, ◌<◌, ◌∙◌, ◌∷◌, ◌≡◌, ◌≤◌, ◌⊎◌, nat_tests}
+use Rattle.lagprogress.proofs.Common.{AllByRecursion, Party, StateBits, Lacpdu, IsCabling, One, Side, peer, find_at, Machines, actor_of, pdu_of}
 use Rattle.lagprogress.proofs.Common.{SystemPort, model_port_of, number_of_port, IsSound, SystemState, machines_of, port_index, named, are_numbered}
-use Rattle.lagprogress.proofs.Common.{found_place, ports_rise, link_ends, world_setup, ItemValue, LinkState, WorldState, half, port_at, towards}
-use Rattle.lagprogress.proofs.Common.{OfEach, AtPort, at_number, higher, AreApart, AtEnd, IsHealthy, IsHealthyAt, NothingInFlight, OfPort, IsSteady}
-use Rattle.lagprogress.proofs.EndFacts.{Says, Synced, activity}
+use Rattle.lagprogress.proofs.Common.{found_place, ports_rise, world_setup, ItemValue, LinkState, WorldState, half, port_at, towards, OfEach, AtPort}
+use Rattle.lagprogress.proofs.Common.{at_number, higher, AtEnd, IsHealthyAt, OfPort, IsSteady}
+use Rattle.lagprogress.proofs.EndFacts.{said_bits, Says, Synced, activity}
 use Rattle.lagprogress.proofs.Halves.{timely}
 use Rattle.lagprogress.proofs.Linked.{EndIs, IsGood, Link, each_side, peer_twice, both_at, machines_there}
-use Rattle.lagprogress.proofs.OneCable.{OnCable, as_cable, cable, towards_there}
+use Rattle.lagprogress.proofs.OneCable.{OnCable, as_cable}
 use Rattle.lagprogress.proofs.OneRound.{Nothing}
 use Rattle.lagprogress.proofs.Claims.{IsNamed}
 
@@ -21,16 +20,7 @@ end_of P n s h = grind (arith, nat_tests)
 
 pub own_says : (p : Machines) → Says (pdu_of p 0) p
 own_says p =
-    let bits = encode_then_decode (record {
-      activity = p.active;
-      timeout = p.short;
-      aggregation = p.party.aggregatable;
-      synchronization = is_synchronized p.mux;
-      collecting = same_mux_state CollectingDistributing p.mux;
-      distributing = same_mux_state CollectingDistributing p.mux;
-      defaulted = p.defaulted;
-      expired = p.expired;
-    }) in
+    let bits = said_bits p in
     (sym (ap (named (actor_of p)) bits), sym (ap (λ (b : StateBits). b.activity) bits), sym (ap (λ (b : StateBits). b.timeout) bits))
 
 -- what the LACPDUs of the port at an end say
@@ -48,18 +38,6 @@ all_unknown w s (x ∷ xs) = (λ v c. (λ l. absurd (omega (arith, l)), λ l. ab
 pub healthy_cable : (i : ℕ) (l : LinkState) (j : WorldState) → IsCabling (world_setup j).cables → IsHealthyAt i l j
     → OnCable i (λ s. port_at s l) (λ s. towards s l) j.links
 healthy_cable i l j cabling h = record { there = h.there ∙ ap (λ m. Some m) (as_cable l h.whole h.unlimited); cabling = cabling }
-
--- the only cable of a world
-pub only_cable : (l : LinkState) (j : WorldState) → IsHealthy l j → IsHealthyAt zero l j
-only_cable l j h =
-    record { there = ap (λ ls. slice_get ls zero) h.only; whole = h.whole; unlimited = h.unlimited; up = h.up }
-
-pub only_cabling : (l : LinkState) (j : WorldState) → IsHealthy l j → IsCabling (world_setup j).cables
-only_cabling l j h = subst (λ ls. IsCabling (map link_ends ls)) (sym h.only) one
-  where
-    one : (s : Side) (c d p : ℕ) → end_at (map link_ends (l ∷ [])) s c ≡ Some p → end_at (map link_ends (l ∷ [])) s d ≡ Some p → c ≡ d
-    one s (suc zero) (suc zero) p e f = refl
-    one s c d p e f = absurd cc
 
 pub starts : (i : ℕ) (l : LinkState) (j : WorldState) (e : Ends l j) → IsSteady j → IsCabling (world_setup j).cables → IsHealthyAt i l j
     → Link 0 (λ s. port_at s l) (said_by l j e) (λ _. 0) One Nothing j
@@ -93,13 +71,6 @@ raised at w d e c x Y j synced k good = record {
       (λ p a b. ((a.0.0, a.0.1, b), a.1)) (half s j).state.system_ports (k.ports s) (synced s);
 }
 
--- where nothing is on the cable, nothing on it is unknown
-pub emptied : (at : Side → ℕ) (w : Side → Lacpdu) (d e : ℕ) (c : Side → ℕ) (x : Side) (Y : Machines → Type 0) (j : WorldState)
-    → NothingInFlight j → ((s : Side) → OfEach (AtPort (at s) (λ p. 2 ≤ e → Synced p)) (half s j).state.system_ports)
-    → Link d at w c x Y j → Link e at w c x Y j
-emptied at w d e c x Y j none synced k = raised at w d e c x Y j synced k (λ s. subst (AllByRecursion (IsGood e w s))
-    (sym (sym (towards_there s at k.flying) ∙ none s k.index (cable at k.flying) k.links.there)) tt)
-
 -- an end names itself by a port number that the default partner has not
 
 own_number : (s : SystemState) (k : ℕ) (x : SystemPort) → IsSound s → slice_get s.system_ports k ≡ Some x → x.port.party.port.number ≡ x.number
@@ -115,17 +86,6 @@ named_at l j e steady t same =
     let none : 0 ≡ x.number = ap (λ (p : Party). p.port.number) (same ∙ sym (own_says x.port).0)
     ∙ own_number st (e t).0 x (steady t).0 (e t).3 in
     absurd (omega (arith, some, none))
-
-pub apart_at : (l : LinkState) (j : WorldState) (e : Ends l j) → AreApart l j → (s : Side)
-    → (said_by l j e (peer s)).actor.system ≢ (said_by l j e s).actor.system
-apart_at l j e h = each_side (λ s. (said_by l j e (peer s)).actor.system ≢ (said_by l j e s).actor.system) One other (λ x. other (sym x))
-  where
-    there : (s : Side) → machines_of (port_at s l) (half s j).state ≡ Some (e s).1.port
-    there s = machines_there (port_at s l) (half s j).state (e s).0 (e s).1 (e s).2 (e s).3
-
-    other : (e Two).1.port.party.system ≢ (e One).1.port.party.system
-    other = subst (OfPort (λ q. q.party.system ≢ (e One).1.port.party.system)) (there Two)
-        (subst (OfPort (λ p. AtEnd (λ q. q.party.system ≢ p.party.system) Two l j)) (there One) h)
 
 pub awake_at : (w : Side → Lacpdu) (a : Side) → activity (w a) ≡ true → (s : Side) → (activity (w s) ≡ true) ⊎ (activity (w (peer s)) ≡ true)
 awake_at w a h = grind (arith, nat_tests, each_side, peer_twice)

@@ -401,11 +401,6 @@ module _ (gives : Algorithms) (d : ℕ) (at : Side → ℕ) (w : Side → Lacpdu
 pub sync_settles : (n : ℕ) → KeptBySettling (AtPort n PartnerInSync)
 sync_settles n = settling_leaves (AtPort n PartnerInSync)
 
--- the end of s owes an LACPDU, or its peer has recorded that it is synchronized
-abbrev pub Told : (Side → ℕ) → (Side → Lacpdu) → Side → WorldState → Type 0
-Told at w s j = OfEach (AtPort (at s) (Owes (w (peer s)))) (half s j).state.system_ports
-    ⊎ OfEach (AtPort (at (peer s)) PartnerInSync) (half (peer s) j).state.system_ports
-
 -- the end of s is wakeful
 abbrev pub Wakes : (Side → ℕ) → (Side → Lacpdu) → Side → WorldState → Type 0
 Wakes at w s j = OfEach (AtPort (at s) (Wakeful (w s) (w (peer s)))) (half s j).state.system_ports

@@ -1,5 +1,5 @@
 -- A data frame that a bundle is offered gets a port, and is handed up at the other end of its cable (6.2.3, 6.2.4; profile).
-use Rattle.std.specs.Prelude.{◌≡◌, ◌≤◌, ◌⊎◌, ◌++◌, ℕ, suc, true, false, List, [], ◌∷◌, None, Some, slice_get, slice_set}
+use Rattle.std.specs.Prelude.{◌≡◌, ◌≤◌, ◌⊎◌, ℕ, suc, true, false, List, [], ◌∷◌, None, Some, slice_get, slice_set}
 use Rattle.std.specs.Global.{Vec}
 use Rattle.lagtypes.specs.declared.identifiers.AggId.{AggId}
 use Rattle.portmachines.specs.declared.receive.ReceiveState.TheVariants.{PortDisabled}
@@ -17,16 +17,17 @@ use Rattle.lagscript.specs.declared.event.Event.{Event}
 use Rattle.lagscript.specs.declared.event.Event.TheVariants as event
 use Rattle.lagworld.specs.declared.reply.Reply.{Reply}
 use Rattle.lagworld.specs.declared.reply.Reply.TheVariants as reply
-use Rattle.lagworld.specs.Events.{Algorithms, WorldRuns, WorldSteps, side_of}
+use Rattle.lagworld.specs.Events.{Algorithms, WorldSteps, side_of}
 use Rattle.lagworld.specs.Making.{AreFirst}
 use Rattle.lagworld.specs.Sound.{IsStart}
 use Rattle.lagworld.specs.State.{ItemValue, LinkState, WorldState, half, is_accepted, port_at, put_on_port, towards, with_towards}
 use Rattle.lagprogress.specs.Bundle.{IsBundle}
 use Rattle.lagprogress.specs.Freed.{held_on}
 use Rattle.laghosts.specs.HostEvents.{HostEvent, HostRuns, Plays}
-use Rattle.lagprogress.specs.HostRounds.{HostRounds, IsHostRound, RunReplies}
+use Rattle.lagprogress.specs.HostRounds.{IsHostRound, RunReplies}
+use Rattle.lagprogress.specs.LateRounds.{LateRounds}
 use Rattle.lagprogress.specs.Passing.{EndIsUp}
-use Rattle.lagprogress.specs.Rounds.{AtEnd, IsRound, Rounds, asks_all, ticks_of_both}
+use Rattle.lagprogress.specs.Rounds.{AtEnd, NothingInFlight}
 
 -- The frame and the aggregator are such as `offer` takes, a port distributes in the aggregator, and the conversation of the
 -- frame is not held.
@@ -82,20 +83,12 @@ pub record HandsUp (s : Side) (i : ℕ) (item : ItemValue) (j : WorldState) (e :
   pub collects : AtEnd (λ p. collecting p ≡ Some agg) s link j
   pub up : r ≡ reply.Up agg
 
--- at some event of the run this holds of the world before it, of the event and of its reply
-abbrev pub Sometime : (P : WorldState → Event → Reply → Type 0) (gives : Algorithms) (es : List Event) (rs : List Reply)
-    (old new : WorldState) → WorldRuns gives old es rs new → Type 0
-Sometime P gives [] [] old new run = ⊥
-Sometime P gives (e ∷ es) (r ∷ rs) old new run = P old e r ⊎ Sometime P gives es rs run.0 new run.2
-Sometime P gives [] (r ∷ rs) old new run = ⊥
-Sometime P gives (e ∷ es) [] old new run = ⊥
-
 -- it is an event, of which this holds
 abbrev pub IsEventWhere : (P : WorldState → Event → Reply → Type 0) → WorldState → HostEvent → Reply → Type 0
 IsEventWhere P j (Plays e) r = P j e r
 IsEventWhere P j e r = ⊥
 
--- so it is at some event of a run of hosts
+-- at some event of a run of hosts this holds of the world before it, of the event and of its reply
 abbrev pub SometimePlayed : (P : WorldState → Event → Reply → Type 0) (gives : Algorithms) (es : List HostEvent) (rs : List Reply)
     (old new : WorldState) → RunReplies gives old es rs new → Type 0
 SometimePlayed P gives [] [] old new run = ⊥
@@ -125,29 +118,16 @@ abbrev pub DisabledAreUnsynchronized : SystemState → Type 0
 DisabledAreUnsynchronized s = (k : ℕ) (x : SystemPort) → slice_get s.system_ports k ≡ Some x → x.port.receive ≡ PortDisabled
     → partner_synchronized x.port ≡ false
 
--- so it is in both systems of each world that events lead to from a start
-abbrev pub EachReachedHasUnsynchronized : Algorithms → Type 0
-EachReachedHasUnsynchronized gives = (configs : List Config) (es : List Event) (rs : List Reply) (start new : WorldState) (s : Side)
-    → IsStart start → AreFirst configs start → WorldRuns gives start es rs new → DisabledAreUnsynchronized (half s new).state
-
--- so it is if the hosts call what they like, and set what they like
+-- so it is in both systems of each world that events, calls of hosts and settings lead to from a start
 abbrev pub EachHostReachedHasUnsynchronized : Algorithms → Type 0
 EachHostReachedHasUnsynchronized gives = (configs : List Config) (es : List HostEvent) (start new : WorldState) (s : Side)
     → IsStart start → AreFirst configs start → HostRuns gives start es new → DisabledAreUnsynchronized (half s new).state
 
--- After so many healthy rounds of a bundle or more, whatever was before them, a frame that a system takes arrives within one round.
-abbrev pub EachFrameArrives : (LinkState → WorldState → Type 0) → ℕ → Algorithms → Type 0
-EachFrameArrives Holds least gives = (n number : ℕ) (s : Side) (agg : AggId) (octets : Vec ℕ) (r : Reply) (old mid sent new : WorldState)
-    → IsBundle Holds old → DisabledAreUnsynchronized (half s old).state → least ≤ n → Rounds gives n old mid
-    → side_of number ≡ Some s → TakesFrame agg octets.items (half s mid).state
-    → WorldSteps gives mid (event.Offer number agg octets) r sent → (q : IsRound gives sent new)
-    → Arrives s agg octets.items mid r sent
-    (λ P. Sometime P gives (ticks_of_both ++ (asks_all sent.links ++ q.delivers)) q.replies sent new q.acts)
-
--- And so it does by healthy rounds of hosts, whatever else is offered or called in them.
+-- After so many late rounds of a bundle or more, whatever was before them, if nothing is on any cable then, a frame that a system takes
+-- arrives within one healthy round of hosts, whatever else is offered or called in it.
 abbrev pub EachFrameArrivesByHosts : (LinkState → WorldState → Type 0) → ℕ → Algorithms → Type 0
 EachFrameArrivesByHosts Holds least gives = (n number : ℕ) (s : Side) (agg : AggId) (octets : Vec ℕ) (r : Reply)
     (old mid sent new : WorldState) → IsBundle Holds old → DisabledAreUnsynchronized (half s old).state → least ≤ n
-    → HostRounds gives n old mid → side_of number ≡ Some s → TakesFrame agg octets.items (half s mid).state
+    → LateRounds gives n old mid → NothingInFlight mid → side_of number ≡ Some s → TakesFrame agg octets.items (half s mid).state
     → WorldSteps gives mid (event.Offer number agg octets) r sent → (q : IsHostRound gives sent new)
     → Arrives s agg octets.items mid r sent (λ P. SometimePlayed P gives q.events q.replies sent new q.acts)

@@ -9,8 +9,8 @@ use Rattle.lagworld.specs.Events.{Algorithms}
 use Rattle.lagworld.specs.Sound.{IsSound}
 use Rattle.lagworld.specs.State.{LinkState, WorldState, port_at}
 use Rattle.lagprogress.specs.Bundle.{IsBundle}
-use Rattle.lagprogress.specs.ComingUp.{Distributes}
-use Rattle.lagprogress.specs.HostRounds.{IsBetweenTicks, PlayedAmong}
+use Rattle.lagprogress.specs.Progress.{Distributes}
+use Rattle.lagprogress.specs.HostRounds.{AskingIsPlayed, IsBetweenTicks, PlayedAmong}
 use Rattle.lagprogress.specs.LateRounds.{LateRounds, OldArrive}
 use Rattle.lagprogress.specs.Rounds.{AtEnd, IsHealthyAt}
 
@@ -25,6 +25,10 @@ LeavesPorts at e = IsBetweenTicks e
 -- so many late rounds in which such events come, beside the ends of this cable
 abbrev pub RoundsBeside : LinkState → Algorithms → ℕ → WorldState → WorldState → Type 0
 RoundsBeside l gives n old new = PlayedAmong (LeavesPorts (λ s. port_at s l)) OldArrive gives n old new
+
+-- These events are such a round if each end of a healthy cable is asked after its system's tick, and what was on it arrives.
+abbrev pub AskingIsRoundBeside : Algorithms → Type 0
+AskingIsRoundBeside gives = (l : LinkState) → AskingIsPlayed (LeavesPorts (λ s. port_at s l)) OldArrive gives
 
 -- A healthy link of a bundle distributes at both ends behind so many late rounds or more, and then after any number of these rounds. Other
 -- ports may be held then, or have come up or not; and any limit of links may have been set.

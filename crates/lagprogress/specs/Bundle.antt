@@ -1,4 +1,4 @@
--- What holds after so many rounds (100 ms each), healthy ones or those of hosts, of a world with any cables, and any ports and aggregators (profile).
+-- What holds after so many rounds (100 ms each) of a world with any cables, and any ports and aggregators (profile).
 use Rattle.std.specs.Prelude.{◌≡◌, ◌≢◌, ◌≤◌, ℕ, suc, true, List, None, Some, slice_get}
 use Rattle.lagmodel.specs.World.{IsCabling, Side, One, Two}
 use Rattle.portmachines.specs.Mux.{selected}
@@ -17,8 +17,7 @@ use Rattle.lagworld.specs.Sound.{IsSound, IsStart}
 use Rattle.lagworld.specs.State.{LinkState, WorldState, half, port_at}
 use Rattle.lagsystem.specs.Sound.{NoneHeld}
 use Rattle.laghosts.specs.HostEvents.{HostEvent, HostRuns}
-use Rattle.lagprogress.specs.ComingUp.{Distributes}
-use Rattle.lagprogress.specs.Progress.{EndKnows}
+use Rattle.lagprogress.specs.Progress.{Distributes, EndKnows}
 use Rattle.lagprogress.specs.Rounds.{AtEnd, IsHealthyAt, Playing}
 use Rattle.lagbeside.specs.Selecting.{aggregators_with, ports_with}
 use Rattle.lagprogress.specs.Shared.{HasAggregators}

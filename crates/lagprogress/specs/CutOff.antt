@@ -10,9 +10,8 @@ use Rattle.lagworld.specs.ModelWorld.{world_setup}
 use Rattle.lagworld.specs.Sound.{IsSound}
 use Rattle.lagworld.specs.State.{LinkState, WorldState, half, port_at}
 use Rattle.lagprogress.specs.Bundle.{EndsHealthyCable, EnoughAggregators, EnoughLinks, OneIsActive, SystemsDiffer}
-use Rattle.lagprogress.specs.ComingUp.{Distributes}
-use Rattle.lagprogress.specs.Freed.{HasIdentifierLeft, NoneIsHeldOn}
-use Rattle.lagprogress.specs.Rounds.{AtEnd, IsHealthyAt, Playing, Rounds}
+use Rattle.lagprogress.specs.Progress.{Distributes}
+use Rattle.lagprogress.specs.Rounds.{AtEnd, IsHealthyAt, Playing}
 use Rattle.lagprogress.specs.Steady.{IsSteady}
 
 -- each port of system s with this number has its link down
@@ -46,18 +45,12 @@ pub record IsBundleBesideCutOffs (j : WorldState) : Type 0 where
   pub aggregators : (s : Side) → EnoughAggregators (half s j).state
   pub links : (s : Side) → EnoughLinks (half s j).state
 
--- From 962 rounds on, whatever was before them, both ends of each healthy cable of such a bundle distribute.
+-- From 964 rounds on, whatever was before them, both ends of each healthy cable of such a bundle distribute.
 abbrev pub EachLinkComesUpBesideCutOffs : Playing → Algorithms → Type 0
 EachLinkComesUpBesideCutOffs Plays gives = (n i : ℕ) (l : LinkState) (old new : WorldState) → IsBundleBesideCutOffs old
-    → IsHealthyAt i l old → 962 ≤ n → Plays gives n old new → (s : Side) → AtEnd Distributes s l new
+    → IsHealthyAt i l old → 964 ≤ n → Plays gives n old new → (s : Side) → AtEnd Distributes s l new
 
 -- And in a sound world the agreement of each such cable is Same.
 abbrev pub EachLinkAgreesBesideCutOffs : Playing → Algorithms → Type 0
 EachLinkAgreesBesideCutOffs Plays gives = (n i : ℕ) (l : LinkState) (old new : WorldState) → IsSound old → IsBundleBesideCutOffs old
-    → IsHealthyAt i l old → 962 ≤ n → Plays gives n old new → agreement_at new (suc i) ≡ Some Same
-
--- From 992 healthy rounds on no conversation is held on an end of a healthy cable, if its system has an identifier left in the end.
-abbrev pub NoneIsHeldBesideCutOffs : Algorithms → Type 0
-NoneIsHeldBesideCutOffs gives = (n i : ℕ) (l : LinkState) (old new : WorldState) (s : Side) → IsBundleBesideCutOffs old
-    → IsHealthyAt i l old → 992 ≤ n → Rounds gives n old new → HasIdentifierLeft (half s new).state
-    → NoneIsHeldOn (port_at s l) (half s new).state
+    → IsHealthyAt i l old → 964 ≤ n → Plays gives n old new → agreement_at new (suc i) ≡ Some Same

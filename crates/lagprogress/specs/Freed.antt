@@ -7,15 +7,13 @@ use Rattle.lagmodel.specs.World.{Side}
 use Rattle.lagsystem.specs.declared.config.Config.{Config}
 use Rattle.lagsystem.specs.declared.system_ports.SystemPort.{SystemPort}
 use Rattle.lagsystem.specs.State.{SystemState}
-use Rattle.lagscript.specs.declared.event.Event.{Event}
-use Rattle.lagworld.specs.declared.reply.Reply.{Reply}
-use Rattle.lagworld.specs.Events.{Algorithms, WorldRuns}
+use Rattle.lagworld.specs.Events.{Algorithms}
 use Rattle.lagworld.specs.Making.{AreFirst}
 use Rattle.lagworld.specs.Sound.{IsStart}
-use Rattle.lagworld.specs.State.{LinkState, WorldState, half, port_at}
+use Rattle.lagworld.specs.State.{LinkState, WorldState, half}
 use Rattle.laghosts.specs.HostEvents.{HostEvent, HostRuns}
 use Rattle.lagprogress.specs.Bundle.{IsBundle}
-use Rattle.lagprogress.specs.Rounds.{IsHealthyAt, Rounds}
+use Rattle.lagprogress.specs.Rounds.{Rounds}
 
 -- the port that the conversation is held on: a marker is to be sent there, or its response is waited for
 abbrev pub held_on : Assignment → Option ℕ
@@ -59,24 +57,13 @@ HasPortUp n s = (k : ℕ) × (x : SystemPort) × (slice_get s.system_ports k ≡
 abbrev pub CarriersAreUp : SystemState → Type 0
 CarriersAreUp s = (g k p : ℕ) → IsConversation s.table g k → carrier_of (assignment_of s.table g k) ≡ Some p → HasPortUp p s
 
--- After so many healthy rounds of a bundle or more, whatever was before them, no conversation is held on an end of a healthy cable, if
--- its system has an identifier left in the end.
-abbrev pub NoneIsHeldOnEnds : (LinkState → WorldState → Type 0) → ℕ → Algorithms → Type 0
-NoneIsHeldOnEnds Holds least gives = (n i : ℕ) (l : LinkState) (old new : WorldState) (s : Side) → IsBundle Holds old
-    → IsHealthyAt i l old → least ≤ n → Rounds gives n old new → HasIdentifierLeft (half s new).state
-    → NoneIsHeldOn (port_at s l) (half s new).state
-
--- And no conversation of a system is held at all, if the links of the ports were up that carried one, or held one.
+-- After so many healthy rounds of a bundle or more, whatever was before them, no conversation of a system is held at all, if the links of the
+-- ports were up that carried one, or held one, and it has an identifier left in the end.
 abbrev pub NothingIsHeld : (LinkState → WorldState → Type 0) → ℕ → Algorithms → Type 0
 NothingIsHeld Holds least gives = (n : ℕ) (old new : WorldState) (s : Side) → IsBundle Holds old → CarriersAreUp (half s old).state
     → least ≤ n → Rounds gives n old new → HasIdentifierLeft (half s new).state → NoneIsHeld (half s new).state
 
--- So it is with both systems of each world that events lead to from a start.
-abbrev pub EachReachedHasCarriersUp : Algorithms → Type 0
-EachReachedHasCarriersUp gives = (configs : List Config) (es : List Event) (rs : List Reply) (start new : WorldState) → IsStart start
-    → AreFirst configs start → WorldRuns gives start es rs new → (s : Side) → CarriersAreUp (half s new).state
-
--- So it is if the hosts call what they like, and set what they like.
+-- So it is with both systems of each world that events, calls of hosts and settings lead to from a start.
 abbrev pub EachHostReachedHasCarriersUp : Algorithms → Type 0
 EachHostReachedHasCarriersUp gives = (configs : List Config) (es : List HostEvent) (start new : WorldState) → IsStart start
     → AreFirst configs start → HostRuns gives start es new → (s : Side) → CarriersAreUp (half s new).state

@@ -14,6 +14,7 @@ use Rattle.lagprogress.specs.Bundle.{IsBundle}
 use Rattle.lagprogress.specs.CutOff.{IsBundleBesideCutOffs}
 use Rattle.lagprogress.specs.Freed.{CarriersAreUp, HasIdentifierLeft, IsNotHeld, IsNotHeldOn}
 use Rattle.lagprogress.specs.HostRounds.{AfterTick, Asks, HostRounds, IsHostRound, IsTickOf, RunReplies, TickOnce}
+use Rattle.lagprogress.specs.LateRounds.{LateRounds}
 use Rattle.lagprogress.specs.Rounds.{AtEnd, IsHealthyAt, IsRound, NothingInFlight}
 use Rattle.lagprogress.specs.Steady.{IsSteady}
 
@@ -43,25 +44,25 @@ DrainingRounds s g k gives zero old new = new ≡ old
 DrainingRounds s g k gives (suc n) old new =
     (mid : WorldState) × DrainingRounds s g k gives n old mid × IsDrainingRound s g k gives mid new
 
--- After so many healthy rounds of hosts of a bundle or more, and 30 of these or more, the conversation is not held on an end of a
--- healthy cable, if its system has an identifier left in the end.
+-- After so many late rounds of a bundle or more, and 30 of these or more, the conversation is not held on an end of a healthy cable, if its
+-- system has an identifier left in the end.
 abbrev pub NoneIsHeldOnEndsByHosts : (LinkState → WorldState → Type 0) → ℕ → Algorithms → Type 0
 NoneIsHeldOnEndsByHosts Holds least gives = (n m i : ℕ) (l : LinkState) (old mid new : WorldState) (s : Side) (g k : ℕ)
-    → IsBundle Holds old → IsHealthyAt i l old → least ≤ n → HostRounds gives n old mid → 30 ≤ m → DrainingRounds s g k gives m mid new
+    → IsBundle Holds old → IsHealthyAt i l old → least ≤ n → LateRounds gives n old mid → 30 ≤ m → DrainingRounds s g k gives m mid new
     → HasIdentifierLeft (half s new).state → IsNotHeldOn (port_at s l) g k (half s new).state
 
 -- And it is not held at all, if in the end the links of the ports are up that carry a conversation of its system, or on which one is
 -- held.
 abbrev pub NothingIsHeldByHosts : (LinkState → WorldState → Type 0) → ℕ → Algorithms → Type 0
 NothingIsHeldByHosts Holds least gives = (n m : ℕ) (old mid new : WorldState) (s : Side) (g k : ℕ) → IsBundle Holds old → least ≤ n
-    → HostRounds gives n old mid → 30 ≤ m → DrainingRounds s g k gives m mid new → HasIdentifierLeft (half s new).state
+    → LateRounds gives n old mid → 30 ≤ m → DrainingRounds s g k gives m mid new → HasIdentifierLeft (half s new).state
     → CarriersAreUp (half s new).state → IsNotHeld g k (half s new).state
 
--- Beside ports that are cut off: after 962 and 30 it is not held on an end of a healthy cable, if its system has an identifier left in
+-- Beside ports that are cut off: after 964 and 30 it is not held on an end of a healthy cable, if its system has an identifier left in
 -- the end.
 abbrev pub NoneIsHeldBesideCutOffsByHosts : Algorithms → Type 0
 NoneIsHeldBesideCutOffsByHosts gives = (n m i : ℕ) (l : LinkState) (old mid new : WorldState) (s : Side) (g k : ℕ)
-    → IsBundleBesideCutOffs old → IsHealthyAt i l old → 962 ≤ n → HostRounds gives n old mid → 30 ≤ m
+    → IsBundleBesideCutOffs old → IsHealthyAt i l old → 964 ≤ n → HostRounds gives n old mid → 30 ≤ m
     → DrainingRounds s g k gives m mid new → HasIdentifierLeft (half s new).state → IsNotHeldOn (port_at s l) g k (half s new).state
 
 -- each healthy round is one, for any conversation

@@ -1,16 +1,16 @@
 -- A healthy round of a world as hosts play it: in any order, each system ticks once, is asked, is offered frames, and is called as hosts
 -- with a data plane do (profile).
-use Rattle.std.specs.Prelude.{◌≡◌, ◌⊎◌, ℕ, zero, suc, Bool, true, false, List, [], ◌∷◌, ◌++◌, map, Some, slice_get}
-use Rattle.std.specs.List.{AllByRecursion}
-use Rattle.lagsystem.specs.declared.system_ports.SystemPort.{SystemPort}
-use Rattle.lagmodel.specs.World.{Side, One, Two, peer}
+use Rattle.std.specs.Prelude.{◌≡◌, ◌⊎◌, ℕ, zero, suc, Bool, true, false, List, [], ◌∷◌, map, Some}
+use Rattle.lagmodel.specs.World.{Side, One, peer}
 use Rattle.portmachines.specs.Transmit.{is_due}
 use Rattle.lagscript.specs.declared.event.Event.{Event}
 use Rattle.lagscript.specs.declared.event.Event.TheVariants as event
 use Rattle.lagworld.specs.declared.reply.Reply.{Reply}
 use Rattle.lagworld.specs.Events.{Algorithms, WorldRuns, WorldSteps, side_of}
-use Rattle.lagworld.specs.State.{LinkState, WorldState, port_at}
+use Rattle.lagworld.specs.State.{LinkState, WorldState, half, port_at}
 use Rattle.lagsystem.specs.Settings.{Set_max_delay}
+use Rattle.lagsystem.specs.Sound.{IsSound}
+use Rattle.lagbeside.specs.Timers.{PortsAreTimed}
 use Rattle.laghosts.specs.HostEvents.{HostEvent, HostRuns, HostSteps, Plays, Sets}
 use Rattle.lagprogress.specs.Rounds.{AtEnd, IsHealthyAt, IsRound, NothingInFlight, Rounds}
 use Rattle.lagprogress.specs.Steady.{IsSteady}
@@ -129,38 +129,21 @@ abbrev pub AsksAfterTick : Side → ℕ → List HostEvent → Type 0
 AsksAfterTick s p [] = ⊥
 AsksAfterTick s p (e ∷ es) = (IsTickOf s e × AsksIn s p es) ⊎ AsksAfterTick s p es
 
--- These events are a healthy round of hosts if each end of a healthy cable is asked after its system's tick, once at least, and
--- nothing is on any cable in the end: whatever else they are, and in what order. The world is steady.
-abbrev pub AskingIsHostRound : Algorithms → Type 0
-AskingIsHostRound gives = (events : List HostEvent) (old new : WorldState) → IsSteady old → TickOnce One true true events
+-- These events, which may come, are a round of this kind if each end of a healthy cable is asked after its system's tick, once at least, and
+-- the cables are cleared so far: whatever else they are, and in what order. Both systems are sound, their timers within their bounds.
+abbrev pub AskingIsPlayed : (HostEvent → Type 0) → Clearing → Algorithms → Type 0
+AskingIsPlayed May Clears gives = (events : List HostEvent) (old new : WorldState)
+    → ((s : Side) → IsSound (half s old).state × PortsAreTimed (half s old).state) → TickOnceAmong May One true true events
     → HostRuns gives old events new
-    → ((s : Side) (i : ℕ) (l : LinkState) → IsHealthyAt i l old → AsksAfterTick s (port_at s l) events) → NothingInFlight new
-    → IsHostRound gives old new
+    → ((s : Side) (i : ℕ) (l : LinkState) → IsHealthyAt i l old → AsksAfterTick s (port_at s l) events) → Clears events old new
+    → IsPlayedAmong May Clears gives old new
 
 -- A list of events that acts is a run of hosts, so what is said of runs of hosts holds of events.
 abbrev pub EventsAreOfHosts : Algorithms → Type 0
 EventsAreOfHosts gives = (events : List Event) (replies : List Reply) (old new : WorldState) → WorldRuns gives old events replies new
     → HostRuns gives old (map Plays events) new
 
--- The loop of two hosts: each system ticks, and then asks each of its ports, until nothing is due or once at the least; then what
--- is on the cables arrives, and ports are asked again after each arrival, or not. Items may arrive, and what moves no port may be
--- called, at any time after the first tick. In the end nothing is on any cable.
-pub record IsHostLoop (gives : Algorithms) (old new : WorldState) : Type 0 where
-  pub first : List HostEvent
-  pub second : List HostEvent
-  pub later : List HostEvent
-  pub between_first : AllByRecursion IsBetweenTicks first
-  pub between_second : AllByRecursion IsBetweenTicks second
-  pub between_later : AllByRecursion IsBetweenTicks later
-  pub asks_one : (k : ℕ) (x : SystemPort) → slice_get old.one.state.system_ports k ≡ Some x → AsksIn One x.number first
-  pub asks_two : (k : ℕ) (x : SystemPort) → slice_get old.two.state.system_ports k ≡ Some x → AsksIn Two x.number second
-  pub acts : HostRuns gives old (Plays (event.Tick 1 1) ∷ (first ++ (Plays (event.Tick 2 1) ∷ (second ++ later)))) new
-  pub empties : NothingInFlight new
-
-abbrev pub LoopIsHostRound : Algorithms → Type 0
-LoopIsHostRound gives = (old new : WorldState) → IsSteady old → IsHostLoop gives old new → IsHostRound gives old new
-
--- so each healthy round is one, in which both systems tick first, and each end is asked twice before anything is delivered
+-- Each healthy round is a healthy round of hosts, in which both systems tick first, and each end is asked twice before anything is delivered
 abbrev pub RoundIsHostRound : Algorithms → Type 0
 RoundIsHostRound gives = (old new : WorldState) → IsSteady old → IsRound gives old new → IsHostRound gives old new
 

@@ -1,14 +1,13 @@
 -- A healthy round of a world whose hosts tick by clocks of their own, and whose frames take up to a tick to arrive (profile).
-use Rattle.std.specs.Prelude.{◌≡◌, ◌⊎◌, ℕ, zero, suc, List, [], ◌∷◌, length, Some, true}
-use Rattle.lagmodel.specs.World.{IsCabling, One, Side}
+use Rattle.std.specs.Prelude.{◌≡◌, ◌⊎◌, ℕ, zero, suc, List, [], ◌∷◌, length, Some}
+use Rattle.lagmodel.specs.World.{IsCabling, Side}
 use Rattle.lagscript.specs.declared.event.Event.TheVariants as event
 use Rattle.lagworld.specs.Events.{Algorithms, side_of}
-use Rattle.laghosts.specs.HostEvents.{HostEvent, HostRuns, Plays}
+use Rattle.laghosts.specs.HostEvents.{HostEvent, Plays}
 use Rattle.lagworld.specs.ModelWorld.{world_setup}
-use Rattle.lagworld.specs.State.{LinkState, WorldState, port_at, towards}
-use Rattle.lagprogress.specs.HostRounds.{AsksAfterTick, Clearing, IsHostRound, IsPlayed, PlayedRounds, TickOnce}
+use Rattle.lagworld.specs.State.{LinkState, WorldState, towards}
+use Rattle.lagprogress.specs.HostRounds.{Clearing, HostRounds, IsHostRound, IsPlayed, PlayedRounds}
 use Rattle.lagprogress.specs.Rounds.{IsHealthyAt}
-use Rattle.lagprogress.specs.Steady.{IsSteady}
 
 -- the event is that the first item on the cable at index i towards system s arrives, if there is one
 abbrev pub IsArrivalAt : Side → ℕ → HostEvent → Type 0
@@ -33,28 +32,11 @@ IsLateRound gives old new = IsPlayed OldArrive gives old new
 abbrev pub LateRounds : Algorithms → ℕ → WorldState → WorldState → Type 0
 LateRounds gives n old new = PlayedRounds OldArrive gives n old new
 
--- These events are such a round if each end of a healthy cable is asked after its system's tick, once at least, and what was on it
--- arrives, whatever else they are, and in what order. The world is steady.
-abbrev pub AskingIsLateRound : Algorithms → Type 0
-AskingIsLateRound gives = (events : List HostEvent) (old new : WorldState) → IsSteady old → TickOnce One true true events
-    → HostRuns gives old events new
-    → ((s : Side) (i : ℕ) (l : LinkState) → IsHealthyAt i l old → AsksAfterTick s (port_at s l) events) → OldArrive events old new
-    → IsLateRound gives old new
-
--- so each healthy round of hosts is one, if no port has two cables
+-- each healthy round of hosts is one, if no port has two cables
 abbrev pub HostRoundIsLateRound : Algorithms → Type 0
 HostRoundIsLateRound gives = (old new : WorldState) → IsCabling (world_setup old).cables → IsHostRound gives old new → IsLateRound gives old new
 
--- After so many of them, whatever was before them, the ends of healthy cables know each other, if both are active, and if one is;
--- and they distribute and agree.
-abbrev pub late_known_if_both_active : ℕ
-late_known_if_both_active = 323
-
-abbrev pub late_known_if_one_is : ℕ
-late_known_if_one_is = 624
-
-abbrev pub late_up_if_both_active : ℕ
-late_up_if_both_active = 356
-
-abbrev pub late_up_if_one_is : ℕ
-late_up_if_one_is = 657
+-- and so many of them are as many
+abbrev pub HostRoundsAreLateRounds : Algorithms → Type 0
+HostRoundsAreLateRounds gives = (n : ℕ) (old new : WorldState) → IsCabling (world_setup old).cables → HostRounds gives n old new
+    → LateRounds gives n old new

@@ -6,8 +6,6 @@ pub mod Rounds
 pub mod Played
 pub mod Progress
 pub mod Bundle
-pub mod ComingUp
-pub mod Agreeing
 pub mod Freed
 pub mod Arriving
 pub mod Limited

@@ -18,7 +18,7 @@ use Rattle.lagworld.specs.Making.{IsMade, refusal_with}
 use Rattle.lagworld.specs.Sound.{IsStart, RefusesFor}
 use Rattle.lagworld.specs.State.{LinkState, WorldState, half}
 use Rattle.lagprogress.specs.Bundle.{AllHeard, EnoughLinks}
-use Rattle.lagprogress.specs.ComingUp.{Distributes}
+use Rattle.lagprogress.specs.Progress.{Distributes}
 use Rattle.lagprogress.specs.Freed.{HasIdentifierLeft, NoneIsHeld}
 use Rattle.lagprogress.specs.Rounds.{AtEnd, IsDeliver, IsHealthyAt, Rounds, asks_all, ticks_of_both}
 use Rattle.lagprogress.specs.Shared.{HasAggregators}

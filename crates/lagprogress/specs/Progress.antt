@@ -1,14 +1,14 @@
--- What holds after so many healthy rounds (100 ms each) of a world with one cable (profile).
-use Rattle.std.specs.Prelude.{◌≡◌, ◌≤◌, ℕ, true, false}
+-- What an end of a cable comes to: it knows the other end, and it distributes (6.4.12 to 6.4.15).
+use Rattle.std.specs.Prelude.{◌≡◌, true, false}
 use Rattle.lagtypes.specs.States.{bits_of}
 use Rattle.slowpdu.specs.Parties.{party_of}
 use Rattle.portmachines.specs.Machines.{Machines}
+use Rattle.portmachines.specs.Mux.{selected}
+use Rattle.portmachines.specs.declared.mux.MuxState.TheVariants.{CollectingDistributing}
 use Rattle.portmachines.specs.declared.receive.ReceiveState.TheVariants.{Current}
 use Rattle.lagmodel.specs.World.{Side, peer}
-use Rattle.lagworld.specs.Events.{Algorithms}
 use Rattle.lagworld.specs.State.{LinkState, WorldState}
-use Rattle.lagprogress.specs.Rounds.{AtEnd, IsHealthy, Rounds, known_if_both_active, known_if_one_is}
-use Rattle.lagprogress.specs.Steady.{IsSteady}
+use Rattle.lagprogress.specs.Rounds.{AtEnd}
 
 -- p is CURRENT, on no defaults and not Expired, and has recorded q as it is: its parameters, its Activity and its Timeout
 pub record Knows (p q : Machines) : Type 0 where
@@ -23,12 +23,6 @@ pub record Knows (p q : Machines) : Type 0 where
 abbrev pub EndKnows : Side → LinkState → WorldState → Type 0
 EndKnows s l j = AtEnd (λ p. AtEnd (λ q. Knows p q) (peer s) l j) s l j
 
--- From 321 healthy rounds on, whatever was before them, each end of the cable knows the other, if both are active.
-abbrev pub ActiveEndsComeToKnow : Algorithms → Type 0
-ActiveEndsComeToKnow gives = (n : ℕ) (l : LinkState) (old new : WorldState) → IsSteady old → IsHealthy l old
-    → ((s : Side) → AtEnd (λ p. p.active ≡ true) s l old) → known_if_both_active ≤ n → Rounds gives n old new → (s : Side) → EndKnows s l new
-
--- From 621 on they do, if the end at system a is active.
-abbrev pub EndsComeToKnow : Algorithms → Type 0
-EndsComeToKnow gives = (n : ℕ) (l : LinkState) (old new : WorldState) (a : Side) → IsSteady old → IsHealthy l old
-    → AtEnd (λ p. p.active ≡ true) a l old → known_if_one_is ≤ n → Rounds gives n old new → (s : Side) → EndKnows s l new
+-- the port is SELECTED, and in COLLECTING_DISTRIBUTING
+abbrev pub Distributes : Machines → Type 0
+Distributes p = (p.mux ≡ CollectingDistributing) × (selected p ≡ true)

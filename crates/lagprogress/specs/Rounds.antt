@@ -60,13 +60,6 @@ OfPort P (Some p) = P p
 abbrev pub AtEnd : (Machines → Type 0) → Side → LinkState → WorldState → Type 0
 AtEnd P s l j = OfPort P (machines_of (port_at s l) (half s j).state)
 
--- the world has one cable, which is whole and has no limit, and the links of the ports at both of its ends are up
-pub record IsHealthy (l : LinkState) (j : WorldState) : Type 0 where
-  pub only : j.links ≡ l ∷ []
-  pub whole : l.whole ≡ true
-  pub unlimited : (s : Side) → limit_towards s l ≡ None
-  pub up : (s : Side) → AtEnd (λ p. p.enabled ≡ true) s l j
-
 -- the cable at index i of the world is whole and has no limit, and the links of the ports at both of its ends are up
 pub record IsHealthyAt (i : ℕ) (l : LinkState) (j : WorldState) : Type 0 where
   pub there : slice_get j.links i ≡ Some l
@@ -74,22 +67,22 @@ pub record IsHealthyAt (i : ℕ) (l : LinkState) (j : WorldState) : Type 0 where
   pub unlimited : (s : Side) → limit_towards s l ≡ None
   pub up : (s : Side) → AtEnd (λ p. p.enabled ≡ true) s l j
 
--- After so many healthy rounds, whatever was before them, this holds of healthy cables: their ends know each other, if both are
--- active, and if one is; they distribute and agree; and no conversation is held on them.
+-- After so many rounds, whatever was before them, this holds of healthy cables: their ends know each other, if both are active, and if
+-- one is; they distribute and agree; and no conversation is held on them.
 abbrev pub known_if_both_active : ℕ
-known_if_both_active = 321
+known_if_both_active = 323
 
 abbrev pub known_if_one_is : ℕ
-known_if_one_is = 621
+known_if_one_is = 624
 
 abbrev pub up_if_both_active : ℕ
-up_if_both_active = 352
+up_if_both_active = 356
 
 abbrev pub up_if_one_is : ℕ
-up_if_one_is = 652
+up_if_one_is = 657
 
 abbrev pub freed_if_both_active : ℕ
-freed_if_both_active = 382
+freed_if_both_active = 386
 
 abbrev pub freed_if_one_is : ℕ
-freed_if_one_is = 682
+freed_if_one_is = 687

@@ -20,32 +20,31 @@ pub fn frames_pass_cables<F: Fn(u16, usize) -> usize>()
     ensures delivered { (one two : F) → DeliverHandsUp (both_algorithms (F.post one) (F.post two)) }
 {}
 
-ghost use Rattle.lagprogress.specs.Arriving.{EachHostReachedHasUnsynchronized, EachReachedHasUnsynchronized};
+ghost use Rattle.lagprogress.specs.Arriving.{EachHostReachedHasUnsynchronized};
 
 /// The recorded partner of each port in PORT_DISABLED has Synchronization FALSE, in both systems of each world that events, or
-/// calls and settings of hosts, lead to from a start, as `each_frame_arrives` wants it (6.4.12).
+/// calls and settings of hosts, lead to from a start, as `each_frame_arrives_by_hosts` wants it (6.4.12).
 pub fn disabled_ports_have_unsynchronized_partners<F: Fn(u16, usize) -> usize>()
-    ensures events { (one two : F) → EachReachedHasUnsynchronized (both_algorithms (F.post one) (F.post two)) }
-    ensures hosts { (one two : F) → EachHostReachedHasUnsynchronized (both_algorithms (F.post one) (F.post two)) }
+    ensures { (one two : F) → EachHostReachedHasUnsynchronized (both_algorithms (F.post one) (F.post two)) }
 {}
 
-ghost use Rattle.lagprogress.specs.Arriving.{EachFrameArrives};
+ghost use Rattle.lagprogress.specs.Arriving.{EachFrameArrivesByHosts};
 ghost use Rattle.lagprogress.specs.Bundle.{BothAreActive, OneIsActive};
 ghost use Rattle.lagprogress.specs.Rounds.{up_if_both_active, up_if_one_is};
 
-// promise: a frame offered behind the rounds gets a port, the cable accepts it, and in the next healthy round the other end hands it up,
-//    octet by octet: 352 | 652
-// contract: `each_frame_arrives` (`Arrives`, `HandsUp`)
-// premises: `IsBundle` before the rounds; `TakesFrame` when it is offered; a partner recorded in PORT_DISABLED has Synchronization FALSE,
-//    as after any events, or calls and settings of hosts (`disabled_ports_have_unsynchronized_partners`); the Offer comes between two
-//    rounds. Nothing is said of a second frame in it
-/// A data frame that a bundle as in `each_link_comes_up` is offered after 352 healthy rounds (35.2 s) or more if both ends of each
-/// healthy cable are active, after 652 (65.2 s) if one is, arrives within one healthy round (100 ms), whatever was before them:
-/// it gets a port that distributes in the aggregator, its cable accepts it, and at the other end it is handed up, with the same
-/// octets, in the aggregator in which the port there collects. The system takes the frame as in `frames_pass_cables`. It is said
-/// of one frame: a healthy round offers none. Each disabled port of the sender has an unsynchronized partner, as
+// promise: a frame offered behind the rounds gets a port, the cable accepts it, and in the next healthy round of hosts the other end hands it
+//    up, octet by octet, whatever else is offered or called in that: 356 | 657 late rounds
+// contract: `each_frame_arrives_by_hosts` (`Arrives`, `HandsUp`)
+// premises: `IsBundle` before the rounds; nothing is on any cable behind them, as behind each healthy round; `TakesFrame` when it is offered;
+//    a partner recorded in PORT_DISABLED has Synchronization FALSE, as after any events, or calls and settings of hosts
+//    (`disabled_ports_have_unsynchronized_partners`); the Offer comes between two rounds
+/// A data frame that a bundle as in `each_link_comes_up_by_clocks` is offered after 356 late rounds (35.6 s) or more if both ends of each
+/// healthy cable are active, after 657 (65.7 s) if one is, when nothing is on any cable, arrives within one healthy round of hosts (100 ms),
+/// whatever was before them, and whatever else is offered or called in that round: it gets a port that distributes in the aggregator, its
+/// cable accepts it, and at the other end it is handed up, with the same octets, in the aggregator in which the port there collects. The
+/// system takes the frame as in `frames_pass_cables`. Each disabled port of the sender has an unsynchronized partner, as
 /// `disabled_ports_have_unsynchronized_partners` has it (6.2.3, 6.2.4; profile).
-pub fn each_frame_arrives<F: Fn(u16, usize) -> usize>()
-    ensures both { (one two : F) → EachFrameArrives BothAreActive up_if_both_active (both_algorithms (F.post one) (F.post two)) }
-    ensures one { (one two : F) → EachFrameArrives OneIsActive up_if_one_is (both_algorithms (F.post one) (F.post two)) }
+pub fn each_frame_arrives_by_hosts<F: Fn(u16, usize) -> usize>()
+    ensures both { (one two : F) → EachFrameArrivesByHosts BothAreActive up_if_both_active (both_algorithms (F.post one) (F.post two)) }
+    ensures one { (one two : F) → EachFrameArrivesByHosts OneIsActive up_if_one_is (both_algorithms (F.post one) (F.post two)) }
 {}

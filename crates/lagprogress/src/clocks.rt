@@ -1,50 +1,70 @@
 //! Late rounds: hosts tick by clocks of their own, and their frames take up to a tick to arrive.
 
 ghost use Rattle.lagworld.specs.Sound.{both_algorithms};
-ghost use Rattle.lagprogress.specs.LateRounds.{AskingIsLateRound, HostRoundIsLateRound};
+ghost use Rattle.lagprogress.specs.Beside.{AskingIsRoundBeside};
+ghost use Rattle.lagprogress.specs.HostRounds.{AskingIsPlayed, IsBetweenTicks};
+ghost use Rattle.lagprogress.specs.LateRounds.{HostRoundIsLateRound, HostRoundsAreLateRounds, OldArrive};
 
 // promise: events and calls as in the first row are a late round (`IsLateRound`) if what was on each healthy cable before has arrived,
-//    whatever is on it in the end; each healthy round of hosts is one
-// contract: `clocks_play_rounds` (`asking`, `host`)
-// premises: steady; the events acted, the calls kept their contracts; no port has two cables
+//    whatever is on it in the end; each healthy round of hosts is one, and so many are as many
+// contract: `clocks_play_rounds` (`asking`, `host`, `hosts`)
+// premises: both systems are sound, with timers within bounds; the events acted, the calls kept their contracts; for `host` and `hosts` no port
+//    has two cables
+// promise: so are they beside a link, if settings come among them, of which none holds, lets go or sets a port at its ends, whatever ports are held
+// contract: `clocks_play_rounds` (`beside`: `RoundsBeside`)
+// premises: the same
 /// Which events are a late round: each system ticks once, and every other event or call is as `hosts_play_rounds` has it, in any order; each
 /// end of a healthy cable is asked at least once after the tick of its system; and what was on each healthy cable before has arrived,
-/// while frames may be on it in the end. The timers of both systems are within their bounds, and no port is held (6.4.16; profile).
+/// while frames may be on it in the end. Settings may come among them, too, for rounds beside the ends of a cable, as
+/// `each_link_stays_up_by_clocks` has them, if none holds, lets go or sets the mode of a port at these ends. The systems are sound, and their
+/// timers within their bounds; ports may be held. Each healthy round of hosts is a late one, and what holds after so many late rounds holds
+/// after as many of hosts, and of `play_round` (6.4.16; profile).
 pub fn clocks_play_rounds<F: Fn(u16, usize) -> usize>()
-    ensures asking { (one two : F) → AskingIsLateRound (both_algorithms (F.post one) (F.post two)) }
+    ensures asking { (one two : F) → AskingIsPlayed IsBetweenTicks OldArrive (both_algorithms (F.post one) (F.post two)) }
+    ensures beside { (one two : F) → AskingIsRoundBeside (both_algorithms (F.post one) (F.post two)) }
     ensures host { (one two : F) → HostRoundIsLateRound (both_algorithms (F.post one) (F.post two)) }
+    ensures hosts { (one two : F) → HostRoundsAreLateRounds (both_algorithms (F.post one) (F.post two)) }
 {}
 
 ghost use Rattle.lagprogress.specs.Bundle.{BothAreActive, EndsOfEachKnow, OneIsActive};
-ghost use Rattle.lagprogress.specs.LateRounds.{LateRounds, late_known_if_both_active, late_known_if_one_is};
+ghost use Rattle.lagprogress.specs.LateRounds.{LateRounds};
+ghost use Rattle.lagprogress.specs.Rounds.{known_if_both_active, known_if_one_is};
 
-// promise: in late rounds both ends know each other after 323 | 624, and both ports are up, and agree, after 356 | 657
-// contract: `ends_come_to_know_by_clocks`, `each_link_comes_up_by_clocks`, `each_link_agrees_by_clocks`
-// premises: those of the same laws by rounds of hosts
-/// The ends of each healthy cable come to know each other in late rounds: from 323 (32.3 s) on if both are active, from 624 (62.4 s) on if
-/// one is, whatever was before them, and whatever is offered or called in them, as in `ends_of_each_cable_come_to_know` (6.4.12, 6.4.13).
+// promise: among any cables, the ports of each healthy one know each other after 323 late rounds if both are active, after 624 if one is
+// contract: `ends_come_to_know_by_clocks` (`both`, `one`)
+// premises: steady; no port has two cables
+/// Of any number of cables, the ends of each healthy one come to know each other in late rounds: from 323 (32.3 s) on if both are active,
+/// from 624 (62.4 s) on if one is, whatever was before them, whatever is offered or called in them, whatever the other cables are, and
+/// whatever other ports and aggregators the systems have. A cable is healthy that is whole and has no limit, with the links of both of its
+/// ports up; no port has two cables; both systems are sound, their timers within their bounds, and no port held (6.4.12, 6.4.13).
 pub fn ends_come_to_know_by_clocks<F: Fn(u16, usize) -> usize>()
-    ensures both { (one two : F) → EndsOfEachKnow LateRounds BothAreActive late_known_if_both_active (both_algorithms (F.post one) (F.post two)) }
-    ensures one { (one two : F) → EndsOfEachKnow LateRounds OneIsActive late_known_if_one_is (both_algorithms (F.post one) (F.post two)) }
+    ensures both { (one two : F) → EndsOfEachKnow LateRounds BothAreActive known_if_both_active (both_algorithms (F.post one) (F.post two)) }
+    ensures one { (one two : F) → EndsOfEachKnow LateRounds OneIsActive known_if_one_is (both_algorithms (F.post one) (F.post two)) }
 {}
 
 ghost use Rattle.lagprogress.specs.Bundle.{EachLinkAgrees, EachLinkComesUp};
-ghost use Rattle.lagprogress.specs.LateRounds.{late_up_if_both_active, late_up_if_one_is};
+ghost use Rattle.lagprogress.specs.Rounds.{up_if_both_active, up_if_one_is};
 
-/// The links of a bundle, as in `each_link_comes_up`, come up in late rounds: after 356 (35.6 s) or more if both ends of each healthy
-/// cable are active, after 657 (65.7 s) if one is, both ends of each distribute, whatever was before them, and whatever is offered or
-/// called in them (6.4.12 to 6.4.16; profile).
+// promise: both ports of each healthy cable are up, and its `agreement` is `Same`: 356 | 657
+// contract: `each_link_comes_up_by_clocks`, `each_link_agrees_by_clocks`
+// premises: `IsBundle`; for the agreement the world is sound. Other cables may be cut, have a limit, or end at ports whose links are down
+/// The links of a bundle come up in late rounds: both ends of each healthy cable are SELECTED and distribute from 356 (35.6 s) on if both ends
+/// of each are active, from 657 (65.7 s) on if one is, whatever was before them, and whatever is offered or called in them. Each port whose
+/// link is up ends a healthy cable; each system has as many aggregators of a port's key as ports of that key, or at least one,
+/// where the ports of that key lead to aggregatable ports of one key at the other system, and are aggregatable themselves, and
+/// those whose links are down are UNSELECTED or led there; a limit of links, if it has one, is no less than the ports of one key;
+/// the two systems differ, both are sound, their timers are within their bounds, and no port is held. Other cables may be cut,
+/// or end at ports whose links are down (6.3.6, 6.4.12 to 6.4.16).
 pub fn each_link_comes_up_by_clocks<F: Fn(u16, usize) -> usize>()
-    ensures both { (one two : F) → EachLinkComesUp LateRounds BothAreActive late_up_if_both_active (both_algorithms (F.post one) (F.post two)) }
-    ensures one { (one two : F) → EachLinkComesUp LateRounds OneIsActive late_up_if_one_is (both_algorithms (F.post one) (F.post two)) }
+    ensures both { (one two : F) → EachLinkComesUp LateRounds BothAreActive up_if_both_active (both_algorithms (F.post one) (F.post two)) }
+    ensures one { (one two : F) → EachLinkComesUp LateRounds OneIsActive up_if_one_is (both_algorithms (F.post one) (F.post two)) }
 {}
 
-/// The links of a bundle in a sound world, as in `each_link_agrees`, agree in late rounds: after 356 (35.6 s) or more if both ends of each
-/// healthy cable are active, after 657 (65.7 s) if one is, the agreement of each is `Same`, whatever was before them, and whatever is
-/// offered or called in them (6.3.6, 6.4.12 to 6.4.16; profile).
+/// The two ends of each link agree: in a sound world as in `each_link_comes_up_by_clocks` the agreement of each healthy cable is `Same` from
+/// 356 late rounds (35.6 s) on if both ends of each are active, from 657 (65.7 s) on if one is (6.3.6, 6.4.12 to 6.4.16; profile).
 pub fn each_link_agrees_by_clocks<F: Fn(u16, usize) -> usize>()
-    ensures both { (one two : F) → EachLinkAgrees LateRounds BothAreActive late_up_if_both_active (both_algorithms (F.post one) (F.post two)) }
-    ensures one { (one two : F) → EachLinkAgrees LateRounds OneIsActive late_up_if_one_is (both_algorithms (F.post one) (F.post two)) }
+    ensures both { (one two : F) → EachLinkAgrees LateRounds BothAreActive up_if_both_active (both_algorithms (F.post one) (F.post two)) }
+    ensures one { (one two : F) → EachLinkAgrees LateRounds OneIsActive up_if_one_is (both_algorithms (F.post one) (F.post two)) }
 {}
 
 ghost use Rattle.lagprogress.specs.Beside.{EachLinkStaysAgreed, EachLinkStaysUp};
@@ -57,13 +77,30 @@ ghost use Rattle.lagprogress.specs.Beside.{EachLinkStaysAgreed, EachLinkStaysUp}
 // premises: those of `each_link_comes_up_by_clocks` and of `each_link_agrees_by_clocks` before the rounds; no setting holds, lets go or sets
 //    the port at an end of this link. Each end of a healthy cable is asked still, and what was on it arrives, as in each late round; whether
 //    other ports are held, or come up, is of no account
-// not said: which lists of calls are such rounds while a port is held; that a link stays up that came up while another port was held
+// not said: that a link stays up that came up while another port was held
 /// The links that come up as in `each_link_comes_up_by_clocks` stay up, and agree, in any number of late rounds behind them in which hosts
 /// also make settings: other ports are held, let go, or set to other modes, CollectorMaxDelay is set, and so is any limit of links that
 /// `set_max_links` takes. No setting is one of `hold_port` or `set_mode` for a port at an end of the link (6.4.2.3, 6.4.7, 6.4.8; profile).
 pub fn each_link_stays_up_by_clocks<F: Fn(u16, usize) -> usize>()
-    ensures up_both { (one two : F) → EachLinkStaysUp BothAreActive late_up_if_both_active (both_algorithms (F.post one) (F.post two)) }
-    ensures up_one { (one two : F) → EachLinkStaysUp OneIsActive late_up_if_one_is (both_algorithms (F.post one) (F.post two)) }
-    ensures agrees_both { (one two : F) → EachLinkStaysAgreed BothAreActive late_up_if_both_active (both_algorithms (F.post one) (F.post two)) }
-    ensures agrees_one { (one two : F) → EachLinkStaysAgreed OneIsActive late_up_if_one_is (both_algorithms (F.post one) (F.post two)) }
+    ensures up_both { (one two : F) → EachLinkStaysUp BothAreActive up_if_both_active (both_algorithms (F.post one) (F.post two)) }
+    ensures up_one { (one two : F) → EachLinkStaysUp OneIsActive up_if_one_is (both_algorithms (F.post one) (F.post two)) }
+    ensures agrees_both { (one two : F) → EachLinkStaysAgreed BothAreActive up_if_both_active (both_algorithms (F.post one) (F.post two)) }
+    ensures agrees_one { (one two : F) → EachLinkStaysAgreed OneIsActive up_if_one_is (both_algorithms (F.post one) (F.post two)) }
+{}
+
+ghost use Rattle.lagprogress.specs.Bundle.{SelectedPairsAgree, SelectedPairsComeUp};
+
+// promise: if both ports of a healthy cable are SELECTED after that many late rounds, they are up and agree, however few aggregators and links
+//    there are: 356 | 657
+// contract: `selected_pairs_agree_by_clocks` (`up_both`, `up_one`, `both`, `one`)
+// premises: steady; no port has two cables; `AllHeard`; for the agreement the world is sound. That they are SELECTED no clause says
+/// However few aggregators and links the systems have: if each port whose link is up ends a healthy cable, and both ends of one
+/// are SELECTED after 356 late rounds or more if both ends of each are active, after 657 if one is, then both distribute, and in
+/// a sound world the agreement of that cable is `Same`, whatever was before the rounds. Both systems are sound, their timers within
+/// their bounds, and no port held, as in each world that events lead to from a start (6.3.6, 6.4.12 to 6.4.16; profile).
+pub fn selected_pairs_agree_by_clocks<F: Fn(u16, usize) -> usize>()
+    ensures up_both { (one two : F) → SelectedPairsComeUp LateRounds BothAreActive up_if_both_active (both_algorithms (F.post one) (F.post two)) }
+    ensures up_one { (one two : F) → SelectedPairsComeUp LateRounds OneIsActive up_if_one_is (both_algorithms (F.post one) (F.post two)) }
+    ensures both { (one two : F) → SelectedPairsAgree LateRounds BothAreActive up_if_both_active (both_algorithms (F.post one) (F.post two)) }
+    ensures one { (one two : F) → SelectedPairsAgree LateRounds OneIsActive up_if_one_is (both_algorithms (F.post one) (F.post two)) }
 {}

@@ -121,7 +121,7 @@ fn deliver_and_ask<C: Cable, F: Fn(u16, usize) -> usize + Drop>(
 // premises: the condition
 /// Plays one healthy round of a world as two hosts do: both systems tick, the ends of all cables are asked until they send
 /// nothing, and while anything is on a cable, it is delivered and they are asked again. Where it is not refused, this is a round
-/// as `each_link_agrees_by_hosts` and `held_conversations_are_freed_by_hosts` want it, if the systems are sound, their timers within
+/// as `hosts_play_rounds` and `held_conversations_are_freed_by_hosts` want it, if the systems are sound, their timers within
 /// their bounds and no port held, as in each world that events lead to from a start. `NoMemory` or `Spent` if `World::step` refuses an event of
 /// the round so; then the events before it have been played, and no other. So `NoMemory` comes after both ticks. `NoCable`, before any
 /// event, if there are more than 65,535 cables, since no event can name the others (profile).

@@ -148,10 +148,10 @@ fn deliver_all<C: Cable, F: Fn(u16, usize) -> usize + Drop>(
 //    as `Spent`, or after both ticks and where there is a cable as `NoMemory`
 // contract: `play_round` (`refused`, `part`), `play_rounds` (`stopped`)
 /// Plays one healthy round of a world: both systems tick, both ends of each cable are asked twice, since an LACPDU goes before a
-/// marker, and what is on the cables is delivered until nothing is. Where it is not refused, this is a round as `each_link_agrees`
-/// wants it, from whatever state the world was in. `NoMemory` or `Spent` if `World::step` refuses an event of the round so; then
-/// the events before it have been played, and no other. So `NoMemory` comes after both ticks, and only where there is a cable.
-/// `NoCable`, before any event, if there are more than 65,535 cables, since no event can name the others (profile).
+/// marker, and what is on the cables is delivered until nothing is. Where it is not refused, this is a healthy round, as
+/// `hosts_play_rounds` has it, from whatever state the world was in. `NoMemory` or `Spent` if `World::step` refuses an event of the
+/// round so; then the events before it have been played, and no other. So `NoMemory` comes after both ticks, and only where there is
+/// a cable. `NoCable`, before any event, if there are more than 65,535 cables, since no event can name the others (profile).
 pub fn play_round<C: Cable, F: Fn(u16, usize) -> usize + Drop>(
     world: &mut World<C, F>,
 ) -> Result<(), WorldFault>
@@ -176,7 +176,7 @@ pub fn play_round<C: Cable, F: Fn(u16, usize) -> usize + Drop>(
 }
 
 // promise: **from a new world:** after `World::new`, any events and `play_rounds` with a count, both ports of each healthy cable are up and
-//    its `agreement` is `Same` (352 | 652), and no conversation is held (382 | 682) where an identifier is left
+//    its `agreement` is `Same` (356 | 657), and no conversation is held (386 | 687) where an identifier is left
 // contract: `play_rounds` (`distributes_both`, `agrees_both`, `frees_both`, and `_one` of each: `LeadsTo`)
 // premises: no round was refused; before them `AllHeard`, `HasAggregators` and `EnoughLinks` hold (`IsReady`)
 /// Plays so many healthy rounds, as `play_round` plays one, and stops in the first that is refused.

@@ -117,14 +117,14 @@ fn comes_up(
 }
 
 #[test]
-fn crossed_cables_agree_in_352_healthy_rounds(rt: HostRuntime) -> Result<(), Fail> {
-    comes_up(&rt, rt.alloc(), ACTIVE, 352)?;
+fn crossed_cables_agree_in_356_healthy_rounds(rt: HostRuntime) -> Result<(), Fail> {
+    comes_up(&rt, rt.alloc(), ACTIVE, 356)?;
     Ok(())
 }
 
 #[test]
-fn crossed_cables_with_a_passive_end_agree_in_652(rt: HostRuntime) -> Result<(), Fail> {
-    comes_up(&rt, rt.alloc(), HALF_PASSIVE, 652)?;
+fn crossed_cables_with_a_passive_end_agree_in_657(rt: HostRuntime) -> Result<(), Fail> {
+    comes_up(&rt, rt.alloc(), HALF_PASSIVE, 657)?;
     Ok(())
 }
 

@@ -15,8 +15,8 @@ sense 2 2 => Sensed(true)
 ";
 
 /// A healthy round as hosts play it: each system ticks and then asks its ports, frames are offered, a conversation is moved, items
-/// arrive between the ticks, and ports are asked again after what arrives. The replies are those of round 352.
-const ROUND: &str = "offer 1 1 0200000000200200000000100800 => port 2 serial 321
+/// arrive between the ticks, and ports are asked again after what arrives. The replies are those of round 356.
+const ROUND: &str = "offer 1 1 0200000000200200000000100800 => port 2 serial 325
 tick 1 1 => Ticked
 emit 1 1 => Nothing
 emit 1 2 => Nothing
@@ -24,7 +24,7 @@ move 1 1 48 2 => Refused(SamePort)
 deliver 2 2 => Up(AggId(1))
 tick 2 1 => Ticked
 emit 2 1 => Nothing
-offer 2 1 0200000000200200000000100800 => port 2 serial 322
+offer 2 1 0200000000200200000000100800 => port 2 serial 326
 emit 2 2 => Nothing
 deliver 1 1 => Empty
 deliver 1 2 => Empty
@@ -84,13 +84,13 @@ fn play(rt: &impl Abort, alloc: Global, rounds: u16) -> Result<(), WorldFault> {
 }
 
 #[test]
-fn cables_of_one_aggregator_agree_in_352_rounds_with_data(rt: HostRuntime) -> Result<(), Fail> {
-    share(&rt, rt.alloc(), 352)?;
+fn cables_of_one_aggregator_agree_in_356_rounds_with_data(rt: HostRuntime) -> Result<(), Fail> {
+    share(&rt, rt.alloc(), 356)?;
     Ok(())
 }
 
 #[test]
-fn cables_of_one_aggregator_agree_in_352_rounds_of_hosts(rt: HostRuntime) -> Result<(), Fail> {
-    play(&rt, rt.alloc(), 352)?;
+fn cables_of_one_aggregator_agree_in_356_rounds_of_hosts(rt: HostRuntime) -> Result<(), Fail> {
+    play(&rt, rt.alloc(), 356)?;
     Ok(())
 }

@@ -89,10 +89,10 @@ fn comes_up(rt: &impl Abort, alloc: Global, row: &Row, rounds: u16) -> Result<()
 }
 
 #[test]
-fn a_link_comes_up_in_352_healthy_rounds(rt: HostRuntime) -> Result<(), Fail> {
-    comes_up(&rt, rt.alloc(), &STARTED_ROW, 352)?;
-    comes_up(&rt, rt.alloc(), &ON_DEFAULTS_ROW, 352)?;
-    comes_up(&rt, rt.alloc(), &MENDED_ROW, 352)?;
+fn a_link_comes_up_in_356_healthy_rounds(rt: HostRuntime) -> Result<(), Fail> {
+    comes_up(&rt, rt.alloc(), &STARTED_ROW, 356)?;
+    comes_up(&rt, rt.alloc(), &ON_DEFAULTS_ROW, 356)?;
+    comes_up(&rt, rt.alloc(), &MENDED_ROW, 356)?;
     Ok(())
 }
 

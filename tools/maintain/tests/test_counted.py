@@ -55,11 +55,9 @@ def test_what_stands_elsewhere_with_another_number_is_refused() -> None:
 
 
 def test_bounds_are_those_of_the_definitions() -> None:
-    names = ("known", "up")
-    late = "".join(f"late_{it}_if_both_active = 12{place}\nlate_{it}_if_one_is = 13{place}\n" for place, it in enumerate(names))
-    assert counted.late_rounds(read(LateRounds=late)) == ["120", "130", "121", "131", "12.1", "13.1"]
-    early = "up_if_both_active = 118\nup_if_one_is = 127\n"
-    assert counted.rounds_and_seconds("up")(read(Rounds=early)) == ["118", "11.8", "127", "12.7"]
+    rounds = read(Rounds="up_if_both_active = 118\nup_if_one_is = 127\n")
+    assert counted.rounds_and_seconds("up")(rounds) == ["118", "11.8", "127", "12.7"]
+    assert counted.until_up(rounds) == ["11.8", "12.7"]
 
 
 REPORT = "1 sense 1 1 -> up\n2 tick 1 10 -> ticked\n3 tick 2 10 -> ticked\n4 emit 1 1 -> lacpdu c7 sent\n5 join 1 -> joined\n6 tick 1 25 -> ticked\n"

@@ -118,7 +118,7 @@ def test_control_frames_alone_are_repeated() -> None:
 @pytest.mark.parametrize("place", range(3))
 @pytest.mark.parametrize("late_by", [-1, 0])
 def test_each_bound_is_that_of_its_rounds_and_cables(monkeypatch: pytest.MonkeyPatch, kind: str, place: int, late_by: int) -> None:
-    bounds = {rounds.is_known: rounds.KNOWN[kind][place], rounds.is_agreed: rounds.AGREED[kind][place], rounds.is_free: rounds.FREED[place]}
+    bounds = {rounds.is_known: rounds.KNOWN[place], rounds.is_agreed: rounds.AGREED[place], rounds.is_free: rounds.FREED[place]}
     last = {it: bound + late_by for it, bound in bounds.items()}
     played: list[int] = []
 

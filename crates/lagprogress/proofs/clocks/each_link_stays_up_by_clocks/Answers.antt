@@ -1,15 +1,14 @@
-use Rattle.lagprogress.proofs.LateBundling.{each_active_link_stays_agreed_late, each_active_link_stays_up_late, each_link_stays_agreed_late}
-use Rattle.lagprogress.proofs.LateBundling.{each_link_stays_up_late}
+use Rattle.lagprogress.proofs.Bundling.{each_active_link_stays_agreed, each_active_link_stays_up, each_link_stays_agreed, each_link_stays_up}
 use Rattle.lagprogress.proofs.clocks.each_link_stays_up_by_clocks.Goals as goal
 
 pub returns-clause-up_both : goal.returns-clause-up_both
-returns-clause-up_both g c = λ one two. each_active_link_stays_up_late _
+returns-clause-up_both g c = λ one two. each_active_link_stays_up _
 
 pub returns-clause-up_one : goal.returns-clause-up_one
-returns-clause-up_one g c = λ one two. each_link_stays_up_late _
+returns-clause-up_one g c = λ one two. each_link_stays_up _
 
 pub returns-clause-agrees_both : goal.returns-clause-agrees_both
-returns-clause-agrees_both g c = λ one two. each_active_link_stays_agreed_late _
+returns-clause-agrees_both g c = λ one two. each_active_link_stays_agreed _
 
 pub returns-clause-agrees_one : goal.returns-clause-agrees_one
-returns-clause-agrees_one g c = λ one two. each_link_stays_agreed_late _
+returns-clause-agrees_one g c = λ one two. each_link_stays_agreed _

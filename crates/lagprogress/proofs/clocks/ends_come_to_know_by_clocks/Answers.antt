@@ -1,8 +1,8 @@
-use Rattle.lagprogress.proofs.LateKnowing.{active_ends_know_late, ends_know_late}
+use Rattle.lagprogress.proofs.Knowing.{active_ends_know, ends_know}
 use Rattle.lagprogress.proofs.clocks.ends_come_to_know_by_clocks.Goals as goal
 
 pub returns-clause-both : goal.returns-clause-both
-returns-clause-both g c = λ one two. active_ends_know_late _
+returns-clause-both g c = λ one two. active_ends_know _
 
 pub returns-clause-one : goal.returns-clause-one
-returns-clause-one g c = λ one two. ends_know_late _
+returns-clause-one g c = λ one two. ends_know _

@@ -1,17 +1,15 @@
-use Rattle.lagprogress.proofs.HostLoops.{asking_is_host_round, events_are_of_hosts, loop_is_host_round, round_is_host_round, rounds_are_host_rounds}
+use Rattle.lagprogress.proofs.HostLoops.{asking_is_played, come_between, events_are_of_hosts, round_is_host_round, rounds_are_host_rounds}
+use Rattle.lagprogress.proofs.Common.{IsBetweenTicks, NoneIsLeft}
 use Rattle.lagprogress.proofs.hosting.hosts_play_rounds.Goals as goal
 
 pub returns-clause-asking : goal.returns-clause-asking
-returns-clause-asking g c = λ one two. asking_is_host_round _
+returns-clause-asking g c = λ one two. asking_is_played IsBetweenTicks come_between NoneIsLeft _
 
 pub returns-clause-round : goal.returns-clause-round
 returns-clause-round g c = λ one two. round_is_host_round _
 
 pub returns-clause-rounds : goal.returns-clause-rounds
 returns-clause-rounds g c = λ one two. rounds_are_host_rounds _
-
-pub returns-clause-host_loop : goal.returns-clause-host_loop
-returns-clause-host_loop g c = λ one two. loop_is_host_round _
 
 pub returns-clause-events : goal.returns-clause-events
 returns-clause-events g c = λ one two. events_are_of_hosts _

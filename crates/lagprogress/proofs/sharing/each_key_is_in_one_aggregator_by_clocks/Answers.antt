@@ -1,5 +1,5 @@
 use Rattle.lagprogress.proofs.Keyed.{active_key_together, key_together}
-use Rattle.lagprogress.proofs.sharing.each_key_is_in_one_aggregator_by_hosts.Goals as goal
+use Rattle.lagprogress.proofs.sharing.each_key_is_in_one_aggregator_by_clocks.Goals as goal
 
 pub returns-clause-both : goal.returns-clause-both
 returns-clause-both g c = λ one two. active_key_together _

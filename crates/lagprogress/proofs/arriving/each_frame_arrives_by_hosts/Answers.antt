@@ -1,5 +1,5 @@
 use Rattle.lagprogress.proofs.OfferedLemmas.{each_active_frame_arrives_by_hosts, each_frame_arrives_by_hosts}
-use Rattle.lagprogress.proofs.hosting.each_frame_arrives_by_hosts.Goals as goal
+use Rattle.lagprogress.proofs.arriving.each_frame_arrives_by_hosts.Goals as goal
 
 pub returns-clause-both : goal.returns-clause-both
 returns-clause-both g c = λ one two. each_active_frame_arrives_by_hosts _

@@ -1,8 +1,0 @@
-use Rattle.lagprogress.proofs.LimitLemmas.{each_active_limited_link_agrees_by_hosts, each_limited_link_agrees_by_hosts}
-use Rattle.lagprogress.proofs.hosting.each_limited_link_agrees_by_hosts.Goals as goal
-
-pub returns-clause-both : goal.returns-clause-both
-returns-clause-both g c = λ one two. each_active_limited_link_agrees_by_hosts _
-
-pub returns-clause-one : goal.returns-clause-one
-returns-clause-one g c = λ one two. each_limited_link_agrees_by_hosts _

@@ -1,0 +1,8 @@
+use Rattle.lagprogress.proofs.LimitLemmas.{each_active_limited_link_agrees, each_limited_link_agrees}
+use Rattle.lagprogress.proofs.limits.each_limited_link_agrees_by_clocks.Goals as goal
+
+pub returns-clause-both : goal.returns-clause-both
+returns-clause-both g c = λ one two. each_active_limited_link_agrees _
+
+pub returns-clause-one : goal.returns-clause-one
+returns-clause-one g c = λ one two. each_limited_link_agrees _
