@@ -8,9 +8,6 @@ use Rattle.lagfleet.proofs.Common.{has_aggregator, CallPromise, SystemState, Doe
 use Rattle.lagfleet.proofs.Common.{offered, ShowsOneAct, is_held}
 use Rattle.std.proofs.lemmas.Bool.Decides.{nat_tests}
 use Rattle.std.specs.Prelude.{drop}
-use Rattle.lagtypes.specs.declared.party.Party.{Party}
-use Rattle.lagtypes.specs.Same.{same_party}
-use Rattle.lagtypes.proofs.SameLemmas.{exact_party, party_itself}
 use Rattle.slowpdu.proofs.PduInLemmas.{pdu_read}
 use Rattle.distributor.specs.declared.assignment.Assignment.{Assignment}
 use Rattle.distributor.specs.declared.assignment.Assignment.TheVariants as state
@@ -190,28 +187,6 @@ held_freed port old new c f = (
       }),
   ap model_setup f.others,
 )
-
--- ---- change counts
-
-abbrev same_place : Option Party → Option Party → Bool
-same_place None None = true
-same_place (Some a) (Some b) = same_party a b
-same_place a b = false
-
-abbrev pub recount : Option Party → Option Party → ℕ → ℕ
-recount new old n = cond (same_place new old) n (suc n)
-
-pub recounted : (new old : Option Party) (n : ℕ) → ((new ≡ old) × (recount new old n ≡ n)) ⊎ ((new ≢ old) × (recount new old n ≡ suc n))
-recounted None None n = inl (refl, refl)
-recounted None (Some b) n = inr (λ e. none-some b e, refl)
-recounted (Some a) None n = inr (λ e. none-some a (sym e), refl)
-recounted (Some a) (Some b) n = elim (cases_Bool (same_party a b)) [
-  | inl e ↦ inl (ap (λ (p : Party). Some p) (exact_party a b e), cond_true (same_party a b) n (suc n) e)
-  | inr e ↦ inr (
-    (λ h. true≢false (sym (subst (λ c. same_party a c ≡ true) (same_Some a b h) (party_itself a)) ∙ e)),
-    cond_false (same_party a b) n (suc n) e,
-  )
-]
 
 -- ---- refusals
 

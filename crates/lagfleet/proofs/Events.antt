@@ -9,13 +9,8 @@ use Rattle.lagfleet.proofs.Common.{FleetReceives, GoesOn, IsOther, IsTrueOf, Mak
 use Rattle.lagsystem.specs.declared.drive.HostCall.TheVariants as host
 use Rattle.lagsystem.specs.declared.drive.HostReply.TheVariants as told
 use Rattle.lagsystem.specs.declared.drive.Reply.TheVariants as reply
-use Rattle.lagfleet.proofs.Doings.{recount, recounted, refused_same, told_received}
-
-abbrev counted : Network → Network → ℕ → ℕ → ℕ
-counted old new s p = recount (party_at (new.view s) p) (party_at (old.view s) p) (old.count s p)
-
-counts : (old new : Network) → CountsNetworkChanges old new (counted old new)
-counts old new s p = recounted (party_at (new.view s) p) (party_at (old.view s) p) (old.count s p)
+use Rattle.lagnetwork.proofs.NetworkTakeovers.{counted, counts}
+use Rattle.lagfleet.proofs.Doings.{refused_same, told_received}
 
 module _ (gives : FleetAlgorithms) (far : ℕ → ℕ → Option Place) (s : ℕ) (old : Fleet) (accepts : Act → Bool) (after : SystemState) where
   abbrev systems : ℕ → SystemState
