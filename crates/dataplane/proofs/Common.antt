@@ -58,7 +58,7 @@ pub use Rattle.dataplane.specs.declared.balance.moves.Move.{Move}
 pub use Rattle.dataplane.specs.declared.holding.refusal.Refusal.{Refusal}
 pub use Rattle.dataplane.specs.declared.resuming.SavedPort.{SavedPort}
 pub use Rattle.dataplane.specs.declared.warming.Moment.TheVariants.{Before, Leading}
-pub use Rattle.dataplane.specs.Adopting.{Adoption, Adopts, IsFreeIn, IsPlaced, IsWarmStart, WasTakenLast, adopt_result, adopted, with_first_marker}
+pub use Rattle.dataplane.specs.Adopting.{Adoption, Adopts, IsFreeIn, IsPlaced, IsWarmStart, WasTakenLast, adopt_result, adopted}
 pub use Rattle.dataplane.specs.Arrivals.{at_places}
 pub use Rattle.dataplane.specs.Choice.{Carries, IsAggregator, better, group_cmp, is_before, is_other, lesser, rank_by, rank_cmp, rank_in}
 pub use Rattle.dataplane.specs.Ends.{Alike, HasMore, ShowTheSame}

@@ -9,8 +9,8 @@ use Rattle.dataplane.proofs.Common.{Call, Tick, Drives, IsFirst, configured_numb
 use Rattle.dataplane.proofs.Common.{model_view, selected_number, GivesAssignment, GivesOrRefuses, has_aggregator, in_system, conversation_count}
 use Rattle.dataplane.proofs.Common.{distributing, IsSound, PortsAgree, SystemState, machines_of, port_index, system_port_at, with_system_ports}
 use Rattle.dataplane.proofs.Common.{with_table, Step-frame, ports_first, SavedPort, Before, Adoption, Adopts, IsWarmStart, WasTakenLast, adopt_result}
-use Rattle.dataplane.proofs.Common.{adopted, with_first_marker, IsBack, IsResumed, calls_of, first_touched, is_at_start, is_left_at, know_each_other}
-use Rattle.dataplane.proofs.Common.{duration, heard, is_saved, link_up, occupied, others_starting, passing, warm_calls}
+use Rattle.dataplane.proofs.Common.{adopted, IsBack, IsResumed, calls_of, first_touched, is_at_start, is_left_at, know_each_other, duration, heard}
+use Rattle.dataplane.proofs.Common.{is_saved, link_up, occupied, others_starting, passing, warm_calls}
 use Rattle.std.specs.Prelude.{◌-◌, ◌⊎◌}
 use Rattle.lagsystem.specs.First.{refusal}
 use Rattle.lagtypes.proofs.SameLemmas.{exact_party}
@@ -22,6 +22,7 @@ use Rattle.slowpdu.specs.Parties.{party_of}
 use Rattle.lagmodel.proofs.Base.{mapped_some, chosen}
 use Rattle.lagmodel.specs.Succession.{HasHeard, IsSuccessor, KeepsParties}
 use Rattle.lagmodel.specs.Bridge.{find_number}
+use Rattle.lagnetwork.specs.Network.{IsAlikeSetup}
 use Rattle.lagsystem.proofs.Seen.{party_seen, port_seen}
 use Rattle.lagsystem.proofs.Sound.{Step-sound, first_sound}
 use Rattle.slowpdu.proofs.LacpduLemmas.{one_reading}
@@ -432,13 +433,13 @@ had_or_adopted old new (a ∷ more) h g k p e = elim (had_or_adopted h.0 new mor
   | inr c ↦ inr (suc c.0, omega (arith, c.1), c.2)
 ]
 
--- no clause on the ports of a system reads its first marker
-other_marker : (u : SystemSetup) (ports : ℕ → Option PortFacts) (n : ℕ) → Members u ports → Members (with_first_marker n u) ports
-other_marker u ports n m = record {
-  configured = m.configured;
+-- what holds of the ports of a system holds of them under the configuration before
+before_alike : (u v : SystemSetup) (ports : ℕ → Option PortFacts) → IsAlikeSetup u v → Members v ports → Members u ports
+before_alike u v ports a m = record {
+  configured = λ p. m.configured p ∙ a.ports p;
   number = m.number;
-  own = m.own;
-  key = m.key;
+  own = λ p b h. m.own p b h ∙ a.system;
+  key = λ p g b h e. sym (a.key g) ∙ m.key p g b h e;
   group = m.group;
   member = m.member;
 }
@@ -454,9 +455,9 @@ module _ (gives : ℕ → ℕ → ℕ → Type 0) (before : View) (taken : ℕ �
   at_port : (p : ℕ) (a : PortFacts) → (model_view new).port p ≡ Some a → (model_view w.resumed).port p ≡ Some a
   at_port p a e = subst (λ (f : ℕ → Option PortFacts). f p ≡ Some a) same_ports e
 
-  pub may_follow : (marker : ℕ) → IsSuccessor (with_first_marker marker (model_setup new)) before taken (model_view new)
-  may_follow marker = record {
-    members = other_marker (model_setup new) (model_view new).port marker
+  pub may_follow : (setup : SystemSetup) → IsAlikeSetup setup (model_setup new) → IsSuccessor setup before taken (model_view new)
+  may_follow setup alike = record {
+    members = before_alike setup (model_setup new) (model_view new).port alike
         (subst (λ (z : SystemState). Members (model_setup z) (model_view z).port) (sym stays)
         (sound gives w.config w.saved w.resumed w.resumes).members);
     heard = λ p a e. heard_last gives w.config w.saved w.resumed w.resumes taken w.last p a (at_port p a e);

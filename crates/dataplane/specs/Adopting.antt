@@ -12,7 +12,7 @@ use Rattle.distributor.specs.declared.fault.DistFault.TheVariants.{Held, Markers
 use Rattle.distributor.specs.Calls.{is_among}
 use Rattle.distributor.specs.Conversations.{assignment_of, next_identifier}
 use Rattle.lagmodel.specs.Move.{Sends_frame}
-use Rattle.lagmodel.specs.View.{ModelCall, SystemSetup, View, conversation_port}
+use Rattle.lagmodel.specs.View.{ModelCall, View, conversation_port}
 use Rattle.lagmodel.specs.World.{TakenLacpdu}
 use Rattle.lagsystem.specs.declared.config.Config.{Config}
 use Rattle.lagsystem.specs.declared.fault.SystemFault.{SystemFault}
@@ -85,7 +85,3 @@ pub record IsWarmStart (gives : ℕ → ℕ → ℕ → Type 0) (before : View) 
   pub marker : before.flows.next ≤ config.first_marker
   pub each : (g k p : ℕ) → conversation_port (before.flows.state g k) ≡ Some p
       → Contains adoptions (record { agg = record { 0 = g }; conv = k; port = p })
-
--- the configuration with another first marker
-abbrev pub with_first_marker : ℕ → SystemSetup → SystemSetup
-with_first_marker n u = record u { first_marker = n }

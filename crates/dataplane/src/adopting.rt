@@ -114,29 +114,33 @@ pub fn adopt<F: Fn(u16, usize) -> usize + Drop>(
 
 ghost use Rattle.std.specs.Prelude.{◌≢◌, ℕ, IsSome, List, Option, Some};
 ghost use Rattle.lagmodel.specs.Succession.{IsSuccessor, KeepsParties};
-ghost use Rattle.lagmodel.specs.View.{PortFacts, View};
+ghost use Rattle.lagmodel.specs.View.{PortFacts, SystemSetup, View};
 ghost use Rattle.lagmodel.specs.World.{TakenLacpdu, party_at};
+ghost use Rattle.lagnetwork.specs.Network.{IsAlikeSetup};
 ghost use Rattle.lagsystem.specs.declared.config.Config.{Config};
 ghost use Rattle.lagsystem.specs.ModelView.{model_setup, model_view};
 ghost use Rattle.lagsystem.specs.State.{SystemState};
 ghost use Rattle.dataplane.specs.declared.resuming.SavedPort.{SavedPort};
-ghost use Rattle.dataplane.specs.Adopting.{Adoption, Adopts, IsWarmStart, with_first_marker};
+ghost use Rattle.dataplane.specs.Adopting.{Adoption, Adopts, IsWarmStart};
 ghost use Rattle.dataplane.specs.Resuming.{IsResumed};
 
 // promise: **a warm start may follow**: a system that `resume` made of the LACPDUs that ports took last, with each conversation that had a
-//    port adopted there, goes on where the one before it was: it is a takeover of `headline_through_succession` (`IsSuccessor`) and of
-//    lagnetwork (`IsNetworkSuccessor`), so order, agreement and one partner stay. Whatever `resume` and `adopt` accept follows some system
-// contract: `a_warm_start_may_follow` (`follows`: `IsWarmStart`; `parties`, `apart`, `possible`)
+//    port adopted there, goes on where the one before it was, if that had its identifier, keys of aggregators and ports, whatever its first
+//    marker was: it is a takeover of `headline_through_succession` (`IsSuccessor`) and of lagnetwork (`IsNetworkSuccessor`), so order,
+//    agreement and one partner stay. Whatever `resume` and `adopt` accept follows some system
+// contract: `a_warm_start_may_follow` (`follows`: `IsAlikeSetup`, `IsWarmStart`; `parties`, `apart`, `possible`)
 // not said: that a host saved the last LACPDUs, and adopted each conversation that had a port
-/// A system may take the place of the one before it if `resume` was given LACPDUs that the ports took last, and as first marker the next
-/// one of that system or a higher one; and if each conversation that had a port was adopted there. It may do so whatever the first marker
-/// of the system before was (`follows`). Its ports have the own parameters that they had, if these are the configured ones (`parties`); and
-/// none that is in an aggregator has its own system as its partner (`apart`). Whatever was resumed and adopted may take the place of a
-/// system that looked like it (`possible`; 6.2.4, 6.3.6, 6.4.9; profile).
+/// A system may take the place of the one before it (`follows`). `setup` is what was set up before the stop, and the configuration of `new`
+/// what is set up after it: this has the same identifier, the same aggregators with the same keys, and ports of the same numbers
+/// (`IsAlikeSetup`). The first marker, and the own parameters that the ports start with, may differ. `resume` was given LACPDUs that the
+/// ports took last, and as first marker the next one of the system before or a higher one; and each conversation that had a port was adopted
+/// there (`IsWarmStart`). The ports of the new system have the own parameters that they had at the stop, if these are the configured ones
+/// (`parties`); and none that is in an aggregator has its own system as its partner (`apart`). Whatever was resumed and adopted may take the
+/// place of a system that looked like it (`possible`; 6.2.4, 6.3.6, 6.4.9; profile).
 pub fn a_warm_start_may_follow<F: Fn(u16, usize) -> usize>()
-    ensures follows { (algorithm : F) (before : View) (taken : ℕ → Option TakenLacpdu) (new : SystemState) (marker : ℕ)
-        → IsWarmStart (F.post algorithm) before taken new
-        → IsSuccessor (with_first_marker marker (model_setup new)) before taken (model_view new) }
+    ensures follows { (algorithm : F) (setup : SystemSetup) (before : View) (taken : ℕ → Option TakenLacpdu) (new : SystemState)
+        → IsAlikeSetup setup (model_setup new) → IsWarmStart (F.post algorithm) before taken new
+        → IsSuccessor setup before taken (model_view new) }
     ensures parties { (algorithm : F) (before : View) (taken : ℕ → Option TakenLacpdu) (new : SystemState)
         → IsWarmStart (F.post algorithm) before taken new → ((p : ℕ) → party_at before p ≡ (model_setup new).party p)
         → KeepsParties before (model_view new) }

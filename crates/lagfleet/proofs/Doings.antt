@@ -1,16 +1,23 @@
 -- What is done to a system is lawful moves with at most one visible act.
-use Rattle.lagfleet.proofs.Common.{Bool, Err, List, None, Ok, Option, Result, Some, [], ap, arith, cond, false, inl, inr, length, nat_le, nat_lt}
-use Rattle.lagfleet.proofs.Common.{refl, subst, suc, sym, true, ℕ, ◌&&◌, ◌<◌, ◌∙◌, ◌∷◌, ◌≡◌, ◌≢◌, ◌≤◌, ◌⊎◌, and_parts, cases_Bool, true≢false}
-use Rattle.lagfleet.proofs.Common.{none-some, same_Some, AggId, Act, LawfulMoves, Sends, Sends_frame, Took, ControlMessage, Free, ModelCall}
-use Rattle.lagfleet.proofs.Common.{SystemSetup, View, cond_false, cond_true, freed_view, SystemFault, Call, HasConversations, FrameSeenAs}
-use Rattle.lagfleet.proofs.Common.{control_message, lacp_message, marker_message, model_setup, model_view, GivesOrRefuses, MayBeOffered}
-use Rattle.lagfleet.proofs.Common.{has_aggregator, CallPromise, SystemState, Does, Doing, Forces, IsTold, Leaves, Makes, Offers, Probes, Rests, Sets}
-use Rattle.lagfleet.proofs.Common.{offered, ShowsOneAct, is_held}
+use Rattle.std.proofs.Common.{Bool, Err, List, None, Ok, Option, Result, Some, [], ap, arith, cond, false, inl, inr, length, nat_le, nat_lt, refl}
+use Rattle.std.proofs.Common.{subst, sym, true, ℕ, ◌&&◌, ◌<◌, ◌∙◌, ◌∷◌, ◌≡◌, ◌≤◌}
+use Rattle.std.proofs.lemmas.Bool.{and_parts, cases_Bool, true≢false}
+use Rattle.lagtypes.specs.declared.identifiers.AggId.{AggId}
+use Rattle.lagmodel.specs.Move.{Act, LawfulMoves, Sends, Sends_frame, Took}
+use Rattle.lagmodel.specs.View.{ControlMessage, Free, ModelCall, SystemSetup, View}
+use Rattle.lagmodel.proofs.Base.{cond_false, cond_true}
+use Rattle.lagnetwork.specs.Network.{freed_view}
+use Rattle.lagsystem.specs.declared.fault.SystemFault.{SystemFault}
+use Rattle.lagsystem.specs.Calls.{Call}
+use Rattle.lagsystem.specs.HostCalls.{HasConversations}
+use Rattle.lagsystem.specs.ModelView.{FrameSeenAs, control_message, lacp_message, marker_message, model_setup, model_view}
+use Rattle.lagsystem.specs.Offers.{GivesOrRefuses, MayBeOffered, has_aggregator}
+use Rattle.lagsystem.specs.Sound.{CallPromise}
+use Rattle.lagsystem.specs.State.{SystemState}
+use Rattle.lagfleet.specs.Doing.{Does, Doing, Forces, IsTold, Leaves, Makes, Offers, Probes, Rests, Sets, offered}
+use Rattle.lagfleet.specs.Fleet.{ShowsOneAct, is_held}
 use Rattle.std.proofs.lemmas.Bool.Decides.{nat_tests}
 use Rattle.std.specs.Prelude.{drop}
-use Rattle.lagtypes.specs.declared.party.Party.{Party}
-use Rattle.lagtypes.specs.Same.{same_party}
-use Rattle.lagtypes.proofs.SameLemmas.{exact_party, party_itself}
 use Rattle.slowpdu.proofs.PduInLemmas.{pdu_read}
 use Rattle.distributor.specs.declared.assignment.Assignment.{Assignment}
 use Rattle.distributor.specs.declared.assignment.Assignment.TheVariants as state
@@ -190,28 +197,6 @@ held_freed port old new c f = (
       }),
   ap model_setup f.others,
 )
-
--- ---- change counts
-
-abbrev same_place : Option Party → Option Party → Bool
-same_place None None = true
-same_place (Some a) (Some b) = same_party a b
-same_place a b = false
-
-abbrev pub recount : Option Party → Option Party → ℕ → ℕ
-recount new old n = cond (same_place new old) n (suc n)
-
-pub recounted : (new old : Option Party) (n : ℕ) → ((new ≡ old) × (recount new old n ≡ n)) ⊎ ((new ≢ old) × (recount new old n ≡ suc n))
-recounted None None n = inl (refl, refl)
-recounted None (Some b) n = inr (λ e. none-some b e, refl)
-recounted (Some a) None n = inr (λ e. none-some a (sym e), refl)
-recounted (Some a) (Some b) n = elim (cases_Bool (same_party a b)) [
-  | inl e ↦ inl (ap (λ (p : Party). Some p) (exact_party a b e), cond_true (same_party a b) n (suc n) e)
-  | inr e ↦ inr (
-    (λ h. true≢false (sym (subst (λ c. same_party a c ≡ true) (same_Some a b h) (party_itself a)) ∙ e)),
-    cond_false (same_party a b) n (suc n) e,
-  )
-]
 
 -- ---- refusals
 

@@ -1,21 +1,29 @@
 -- Each call that a contract allows is an event of a fleet.
-use Rattle.lagfleet.proofs.Common.{Bool, Err, List, None, Ok, Option, Some, [], ap, cond, inl, refl, subst, sym, true, ℕ, ◌∙◌, ◌∷◌, ◌≡◌, Act}
-use Rattle.lagfleet.proofs.Common.{ControlMessage, ModelCall, Control, Data, Message, at_two, party_at, CountsNetworkChanges, Network, Place}
-use Rattle.lagfleet.proofs.Common.{also_forced, at_system, ends_at, handed_up_from, network_after_acts, without_first, itself, there, HostCall}
-use Rattle.lagfleet.proofs.Common.{HostReply, Reply, Call, HostPromise, system_rest_result, FrameSeenAs, model_view, system_force_result, CallPromise}
-use Rattle.lagfleet.proofs.Common.{SystemState, Does, Doing, Forces, IsTold, Leaves, Makes, Offers, Probes, Rests, Sets, offered, Answers, Asks_call}
-use Rattle.lagfleet.proofs.Common.{CarriesFirst, EachCallIsAnEvent, EachHostCallIsAnEvent, EachSettingIsAnEvent, Fleet, FleetAlgorithms}
-use Rattle.lagfleet.proofs.Common.{FleetReceives, GoesOn, IsOther, IsTrueOf, Makes_call, fleet_setup, handed_up_in, is_held}
+use Rattle.std.proofs.Common.{Bool, Err, List, None, Ok, Option, Some, [], ap, cond, inl, refl, subst, sym, true, ℕ, ◌∙◌, ◌∷◌, ◌≡◌}
+use Rattle.lagmodel.specs.Move.{Act}
+use Rattle.lagmodel.specs.View.{ControlMessage, ModelCall}
+use Rattle.lagmodel.specs.World.{Control, Data, Message, at_two}
+use Rattle.lagnetwork.specs.Network.{Network, Place, also_forced, at_system, ends_at, handed_up_from, network_after_acts, without_first}
+use Rattle.lagnetwork.proofs.NetworkCalls.{itself}
+use Rattle.lagnetwork.proofs.Networks.{there}
+use Rattle.lagsystem.specs.declared.drive.HostCall.{HostCall}
+use Rattle.lagsystem.specs.declared.drive.HostReply.{HostReply}
+use Rattle.lagsystem.specs.declared.drive.Reply.{Reply}
+use Rattle.lagsystem.specs.Calls.{Call}
+use Rattle.lagsystem.specs.HostCalls.{HostPromise}
+use Rattle.lagsystem.specs.Leaving.{system_rest_result}
+use Rattle.lagsystem.specs.ModelView.{FrameSeenAs, model_view}
+use Rattle.lagsystem.specs.Offers.{system_force_result}
+use Rattle.lagsystem.specs.Sound.{CallPromise}
+use Rattle.lagsystem.specs.State.{SystemState}
+use Rattle.lagfleet.specs.Doing.{Does, Doing, Forces, IsTold, Leaves, Makes, Offers, Probes, Rests, Sets, offered}
+use Rattle.lagfleet.specs.Fleet.{Answers, Asks_call, CarriesFirst, EachCallIsAnEvent, EachHostCallIsAnEvent, EachSettingIsAnEvent, Fleet}
+use Rattle.lagfleet.specs.Fleet.{FleetAlgorithms, FleetReceives, GoesOn, IsOther, IsTrueOf, Makes_call, fleet_setup, handed_up_in, is_held}
 use Rattle.lagsystem.specs.declared.drive.HostCall.TheVariants as host
 use Rattle.lagsystem.specs.declared.drive.HostReply.TheVariants as told
 use Rattle.lagsystem.specs.declared.drive.Reply.TheVariants as reply
-use Rattle.lagfleet.proofs.Doings.{recount, recounted, refused_same, told_received}
-
-abbrev counted : Network → Network → ℕ → ℕ → ℕ
-counted old new s p = recount (party_at (new.view s) p) (party_at (old.view s) p) (old.count s p)
-
-counts : (old new : Network) → CountsNetworkChanges old new (counted old new)
-counts old new s p = recounted (party_at (new.view s) p) (party_at (old.view s) p) (old.count s p)
+use Rattle.lagnetwork.proofs.NetworkTakeovers.{counted, counts}
+use Rattle.lagfleet.proofs.Doings.{refused_same, told_received}
 
 module _ (gives : FleetAlgorithms) (far : ℕ → ℕ → Option Place) (s : ℕ) (old : Fleet) (accepts : Act → Bool) (after : SystemState) where
   abbrev systems : ℕ → SystemState

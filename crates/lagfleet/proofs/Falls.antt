@@ -1,9 +1,13 @@
 -- A link goes down, and its port is out of sync.
-use Rattle.lagfleet.proofs.Common.{Bool, List, None, Option, Some, [], ap, arith, cond, eq-eqb, eqb, eqb-true, false, get_or, inl, inr, not}
-use Rattle.lagfleet.proofs.Common.{option_map, refl, slice_get, slice_set, subst, suc, sym, true, zero, ℕ, ◌&&◌, ◌<◌, ◌==◌, ◌∙◌, ◌∷◌, ◌≡◌, and_from}
-use Rattle.lagfleet.proofs.Common.{and_parts, cases_Bool, false≢true, true≢false, get_or_from_slice_get, same_Some, cond_false, cond_true, Moved_down}
-use Rattle.lagfleet.proofs.Common.{Moved_up, moved_of, PortAtChangesBy, SetsPortEnabled, choice_with_link, ReceivesAtRest, model_port_of}
-use Rattle.lagfleet.proofs.Common.{none_enabled, number_of_port, SystemState, aggregators_value, port_index, system_port_at}
+use Rattle.std.proofs.Common.{Bool, List, None, Option, Some, [], ap, arith, cond, eq-eqb, eqb, eqb-true, false, get_or, inl, inr, not, option_map}
+use Rattle.std.proofs.Common.{refl, slice_get, slice_set, subst, suc, sym, true, zero, ℕ, ◌&&◌, ◌<◌, ◌==◌, ◌∙◌, ◌∷◌, ◌≡◌}
+use Rattle.std.proofs.lemmas.Bool.{and_from, and_parts, cases_Bool, false≢true, true≢false}
+use Rattle.std.proofs.lemmas.Option.{get_or_from_slice_get, same_Some}
+use Rattle.lagmodel.proofs.Base.{cond_false, cond_true}
+use Rattle.lagnetwork.specs.Network.{Moved_down, Moved_up, moved_of}
+use Rattle.lagsystem.specs.Calls.{PortAtChangesBy, SetsPortEnabled, choice_with_link}
+use Rattle.lagsystem.specs.ModelView.{ReceivesAtRest, model_port_of, none_enabled, number_of_port}
+use Rattle.lagsystem.specs.State.{SystemState, aggregators_value, port_index, system_port_at}
 use Rattle.std.proofs.lemmas.List.Quantifiers.{position-Some}
 use Rattle.lagtypes.specs.declared.party.Choice.{Choice}
 use Rattle.lagtypes.specs.States.{bits_of, with_synchronization}

@@ -1,18 +1,31 @@
 -- Each event of a fleet is an event of its network.
-use Rattle.lagfleet.proofs.Common.{Bool, Err, List, None, Ok, Option, Some, [], ap, cond, inr, refl, subst, sym, true, ℕ, ◌++◌, ◌∙◌, ◌∷◌, ◌≡◌, AggId}
-use Rattle.lagfleet.proofs.Common.{Act, LawfulMoves, IsSuccessor, ModelCall, SystemSetup, View, first_view, Control, Data, Message, at_two}
-use Rattle.lagfleet.proofs.Common.{sent_after, taken_after, Configure, CountsNetworkChanges, Cut, Deliver, DeliversFirstAt, Emit, Frees, Hear}
-use Rattle.lagfleet.proofs.Common.{IsAlikeSetup, IsNetworkSetup, Join, Lose, Move_conversation, Network, NetworkCall, NetworkEvent, NetworkHappens}
-use Rattle.lagfleet.proofs.Common.{NetworkRun, NetworkSetup, Offer, Overtake, Place, Plug, Pull, Repeat, RepeatsFirstAt, Restart, Sense, Succeed}
-use Rattle.lagfleet.proofs.Common.{Tick, also_forced, at_system, ends_at, first_network, freed_view, handed_up_from, network_after_acts, recabled}
-use Rattle.lagfleet.proofs.Common.{recabled_all, source_after, towards_after, without_first, CablesStay, IsNetworkInvariant, TookFromFixedEnd}
-use Rattle.lagfleet.proofs.Common.{calls_from, recabled_joined, runs_joined, elsewhere, is_or_not, there, HostCall, HostReply, Reply, Call}
-use Rattle.lagfleet.proofs.Common.{model_setup, model_view, SystemState, configured_setup, first_shows, Doing, Forces, Leaves, Makes, Offers, Probes}
-use Rattle.lagfleet.proofs.Common.{Rests, Sets, Answers, Asks_call, Befalls, Changes_setting, Fleet, FleetAlgorithms, FleetAsks, FleetCablesStay}
-use Rattle.lagfleet.proofs.Common.{FleetCalls, FleetEvent, FleetForces, FleetReceives, FleetRepeats, FleetRun, FleetSteps, FleetTookFromFixedEnd}
-use Rattle.lagfleet.proofs.Common.{ForcesHeld, Gives_way, Hears_again, IsCabled, IsFirstFleet, IsFleetInvariant, IsOnCables, Makes_call, Restarts}
-use Rattle.lagfleet.proofs.Common.{StaysBy, fleet_setup, handed_up_in, is_held, recabled_by, recabled_by_all}
-use Rattle.lagnetwork.specs.Network.{Force}
+use Rattle.std.proofs.Common.{Bool, Err, List, None, Ok, Option, Some, [], ap, cond, inr, refl, subst, sym, true, ℕ, ◌++◌, ◌∙◌, ◌∷◌, ◌≡◌}
+use Rattle.lagtypes.specs.declared.identifiers.AggId.{AggId}
+use Rattle.lagmodel.specs.Move.{Act, LawfulMoves}
+use Rattle.lagmodel.specs.Succession.{IsSuccessor}
+use Rattle.lagmodel.specs.View.{ModelCall, SystemSetup, View, first_view}
+use Rattle.lagmodel.specs.World.{Control, Data, Message, at_two, sent_after, taken_after}
+use Rattle.lagnetwork.specs.Network.{Configure, CountsNetworkChanges, Cut, Deliver, DeliversFirstAt, Emit, Frees, Hear, IsAlikeSetup, IsNetworkSetup}
+use Rattle.lagnetwork.specs.Network.{Join, Lose, Move_conversation, Network, NetworkCall, NetworkEvent, NetworkHappens, NetworkRun, NetworkSetup}
+use Rattle.lagnetwork.specs.Network.{Offer, Overtake, Place, Plug, Pull, Repeat, RepeatsFirstAt, Restart, Sense, Succeed, Tick, also_forced}
+use Rattle.lagnetwork.specs.Network.{at_system, ends_at, first_network, freed_view, handed_up_from, network_after_acts, recabled, recabled_all}
+use Rattle.lagnetwork.specs.Network.{source_after, towards_after, without_first, Force}
+use Rattle.lagnetwork.specs.NetworkLaw.{CablesStay, IsNetworkInvariant, TookFromFixedEnd}
+use Rattle.lagnetwork.proofs.NetworkCalls.{calls_from}
+use Rattle.lagnetwork.proofs.NetworkEvents.{recabled_joined, runs_joined}
+use Rattle.lagnetwork.proofs.Networks.{elsewhere, is_or_not, there}
+use Rattle.lagsystem.specs.declared.drive.HostCall.{HostCall}
+use Rattle.lagsystem.specs.declared.drive.HostReply.{HostReply}
+use Rattle.lagsystem.specs.declared.drive.Reply.{Reply}
+use Rattle.lagsystem.specs.Calls.{Call}
+use Rattle.lagsystem.specs.ModelView.{model_setup, model_view}
+use Rattle.lagsystem.specs.State.{SystemState}
+use Rattle.lagsystem.proofs.FirstView.{configured_setup, first_shows}
+use Rattle.lagfleet.specs.Doing.{Doing, Forces, Leaves, Makes, Offers, Probes, Rests, Sets}
+use Rattle.lagfleet.specs.Fleet.{Answers, Asks_call, Befalls, Changes_setting, Fleet, FleetAlgorithms, FleetAsks, FleetCablesStay, FleetCalls}
+use Rattle.lagfleet.specs.Fleet.{FleetEvent, FleetForces, FleetReceives, FleetRepeats, FleetRun, FleetSteps, FleetTookFromFixedEnd, ForcesHeld}
+use Rattle.lagfleet.specs.Fleet.{Gives_way, Hears_again, IsCabled, IsFirstFleet, IsFleetInvariant, IsOnCables, Makes_call, Restarts, StaysBy}
+use Rattle.lagfleet.specs.Fleet.{fleet_setup, handed_up_in, is_held, recabled_by, recabled_by_all}
 use Rattle.lagsystem.specs.declared.drive.HostCall.TheVariants as host
 use Rattle.lagsystem.specs.declared.drive.HostReply.TheVariants as told
 use Rattle.lagsystem.specs.declared.drive.Reply.TheVariants as reply

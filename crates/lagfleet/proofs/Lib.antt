@@ -1,4 +1,3 @@
-mod Common
 pub mod Doings
 pub mod Fleets
 pub mod Events

@@ -1,10 +1,28 @@
 -- One system beside any peer: what it does moves the scene as the law has it.
-use Rattle.lagfleet.proofs.Common.{Bool, Err, List, Ok, Option, Result, Some, [], ap, arith, false, inl, inr, refl, subst, sym, true, ℕ, ◌∙◌, ◌∷◌}
-use Rattle.lagfleet.proofs.Common.{◌≡◌, true≢false, AggId, Act, LawfulMoves, IsSuccessor, ControlMessage, Flushing, Force, IsSystemSetup, ModelCall}
-use Rattle.lagfleet.proofs.Common.{On, Receive, Set_link, SystemSetup, View, conversation_port, first_view, is_restart, One, at_two, on_cable_after}
-use Rattle.lagfleet.proofs.Common.{sent_after, taken_after, also_forced, freed_view, members_alike, took_in_sync, HostCall, HostReply, SystemFault}
-use Rattle.lagfleet.proofs.Common.{Call, HostPromise, system_rest_result, model_setup, model_view, system_force_result, CallPromise, SystemState}
-use Rattle.lagfleet.proofs.Common.{configured_setup, first_shows, Does, Doing, offered, IsOther, is_held}
+use Rattle.std.proofs.Common.{Bool, Err, List, Ok, Option, Result, Some, [], ap, arith, false, inl, inr, refl, subst, sym, true, ℕ, ◌∙◌, ◌∷◌, ◌≡◌}
+use Rattle.std.proofs.lemmas.Bool.{true≢false}
+use Rattle.lagtypes.specs.declared.identifiers.AggId.{AggId}
+use Rattle.lagmodel.specs.Move.{Act, LawfulMoves}
+use Rattle.lagmodel.specs.Succession.{IsSuccessor}
+use Rattle.lagmodel.specs.View.{ControlMessage, Flushing, Force, IsSystemSetup, ModelCall, On, Receive, Set_link, SystemSetup, View}
+use Rattle.lagmodel.specs.View.{conversation_port, first_view, is_restart}
+use Rattle.lagmodel.specs.World.{One, at_two, on_cable_after, sent_after, taken_after}
+use Rattle.lagnetwork.specs.Network.{also_forced, freed_view}
+use Rattle.lagnetwork.proofs.NetworkEvents.{members_alike}
+use Rattle.lagnetwork.proofs.NetworkLaws.{took_in_sync}
+use Rattle.lagsystem.specs.declared.drive.HostCall.{HostCall}
+use Rattle.lagsystem.specs.declared.drive.HostReply.{HostReply}
+use Rattle.lagsystem.specs.declared.fault.SystemFault.{SystemFault}
+use Rattle.lagsystem.specs.Calls.{Call}
+use Rattle.lagsystem.specs.HostCalls.{HostPromise}
+use Rattle.lagsystem.specs.Leaving.{system_rest_result}
+use Rattle.lagsystem.specs.ModelView.{model_setup, model_view}
+use Rattle.lagsystem.specs.Offers.{system_force_result}
+use Rattle.lagsystem.specs.Sound.{CallPromise}
+use Rattle.lagsystem.specs.State.{SystemState}
+use Rattle.lagsystem.proofs.FirstView.{configured_setup, first_shows}
+use Rattle.lagfleet.specs.Doing.{Does, Doing, offered}
+use Rattle.lagfleet.specs.Fleet.{IsOther, is_held}
 use Rattle.lagmodel.specs.Law.{OnePartner}
 use Rattle.lagmodel.specs.AnyPeer.{Answers, Calls, Comes, Cuts, Fits, Forces, Gone, HandsUp, Happening, Joins, OvertakesBack, OvertakesOut, Restarts}
 use Rattle.lagmodel.specs.AnyPeer.{Says, Scene, Takes, OrderHolds, SerialsCountFromZero, TookInSync, first_scene, scene_after_acts}

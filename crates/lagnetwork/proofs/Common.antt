@@ -33,6 +33,6 @@ pub use Rattle.lagnetwork.specs.Network.{freed_view, handed_up_from, is_at, is_e
 pub use Rattle.lagnetwork.specs.Network.{network_after_acts, network_after_all, put_on_line, recabled, recabled_all, source_after, towards_after}
 pub use Rattle.lagnetwork.specs.Network.{with_cable_moved, without_first}
 pub use Rattle.lagnetwork.specs.NetworkLaw.{AllBelowNext, AllCountFromZero, CablesAgree, CablesStay, CollectedThenFlying, EachOnePartner}
-pub use Rattle.lagnetwork.specs.NetworkLaw.{EachTookInSync, EndsMeetAfterMove, FlushedBehindMarker, FlyOnItsCable, GoesByItsCable, IsUpToDate}
-pub use Rattle.lagnetwork.specs.NetworkLaw.{MaySucceedItself, NamesFarEnd, NetworkInOrder, NotWithItself, OneAggregatorReachesTwo, OneDevice}
-pub use Rattle.lagnetwork.specs.NetworkLaw.{TookFromFarEnd, TookFromFixedEnd, scene_of}
+pub use Rattle.lagnetwork.specs.NetworkLaw.{EachTookInSync, EndsMeetAfterMove, FirstMarkersAreAlike, FlushedBehindMarker, FlyOnItsCable}
+pub use Rattle.lagnetwork.specs.NetworkLaw.{GoesByItsCable, IsUpToDate, MayBeginAnew, MaySucceedItself, NamesFarEnd, NetworkInOrder, NotWithItself}
+pub use Rattle.lagnetwork.specs.NetworkLaw.{OneAggregatorReachesTwo, OneDevice, TookFromFarEnd, TookFromFixedEnd, scene_of}

@@ -6,6 +6,7 @@ pub mod NetworkEvents
 mod NetworkReceives
 pub mod NetworkSources
 pub mod NetworkLaws
+pub mod NetworkTakeovers
 pub mod NetworkWitness
 pub mod NetworkCounting
 pub mod NetworkCalls

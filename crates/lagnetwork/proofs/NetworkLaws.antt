@@ -1,12 +1,11 @@
 -- What follows in a network in which the facts hold.
-use Rattle.lagnetwork.proofs.Common.{Option, Some, [], ap, arith, eq-eqb, inl, inr, option_map, refl, subst, sym, true, ℕ, ◌++◌, ◌∙◌, ◌≡◌, same_Some}
-use Rattle.lagnetwork.proofs.Common.{Party, IsSubsequence, Members, serials, Flushing, Marker, On, PortFacts, Response, SystemSetup, View}
-use Rattle.lagnetwork.proofs.Common.{conversation_port, Control, One, TakenLacpdu, party_at, same_value, Every, MarkerBelow, NoneBehind}
-use Rattle.lagnetwork.proofs.Common.{ResponseBelow, answers, behind_split, every_contains, handed_front, one_partner, AllHeard, FreshPdu, Moved}
-use Rattle.lagnetwork.proofs.Common.{Moved_down, Moved_up, Network, NetworkSetup, Place, Unmoved, recabled_all, AllBelowNext, CablesAgree}
-use Rattle.lagnetwork.proofs.Common.{CollectedThenFlying, EachOnePartner, EachTookInSync, FlushedBehindMarker, FlyOnItsCable, GoesByItsCable}
-use Rattle.lagnetwork.proofs.Common.{IsUpToDate, MaySucceedItself, NamesFarEnd, NetworkInOrder, NotWithItself, OneDevice, TookFromFarEnd}
-use Rattle.lagnetwork.proofs.Common.{TookFromFixedEnd, scene_of}
+use Rattle.lagnetwork.proofs.Common.{Option, Some, [], ap, eq-eqb, inl, inr, option_map, refl, subst, sym, true, ℕ, ◌++◌, ◌∙◌, ◌≡◌, same_Some, Party}
+use Rattle.lagnetwork.proofs.Common.{IsSubsequence, Members, serials, Marker, PortFacts, Response, SystemSetup, View, Control, One, TakenLacpdu}
+use Rattle.lagnetwork.proofs.Common.{party_at, same_value, Every, MarkerBelow, NoneBehind, ResponseBelow, answers, behind_split, every_contains}
+use Rattle.lagnetwork.proofs.Common.{handed_front, one_partner, AllHeard, FreshPdu, Moved, Moved_down, Moved_up, Network, NetworkSetup, Place}
+use Rattle.lagnetwork.proofs.Common.{Unmoved, recabled_all, AllBelowNext, CablesAgree, CollectedThenFlying, EachOnePartner, EachTookInSync}
+use Rattle.lagnetwork.proofs.Common.{FlushedBehindMarker, FlyOnItsCable, GoesByItsCable, IsUpToDate, NamesFarEnd, NetworkInOrder, NotWithItself}
+use Rattle.lagnetwork.proofs.Common.{OneDevice, TookFromFarEnd, TookFromFixedEnd, scene_of}
 use Rattle.lagnetwork.proofs.NetworkSources.{sourced, unmoved, Sourced}
 use Rattle.lagnetwork.proofs.NetworkEvents.{all_fine}
 use Rattle.lagnetwork.proofs.NetworkLines.{at_far, ends-some, ends_of, out_of}
@@ -100,23 +99,6 @@ pub collected_then_flying : (x : NetworkSetup) (w : Network) → AllFine x w →
 collected_then_flying x w i s g k p t q u e =
     subst (λ l. IsSubsequence (w.collected s g k ++ serials One g k l) (w.sent s g k)) (there_out x w s p t q e)
     (((i.each s).lanes.orderly g k p u).in_order)
-
--- what flushes is not On a port
-waits_not_on : (p q n : ℕ) → Flushing p n ≡ On q → ⊥
-waits_not_on p q n e = cc
-
-pub may_succeed_itself : (x : NetworkSetup) (w : Network) → AllFine x w → MaySucceedItself x w
-may_succeed_itself x w i s on = record {
-  follows = record {
-    members = (i.each s).members;
-    heard = (i.each s).heard;
-    on = on;
-    waits = λ g k p n e. waits_not_on p p n (sym e ∙ on g k p (ap conversation_port e));
-    next = omega arith;
-  };
-  parties = λ p. refl;
-  apart = (i.each s).apart;
-}
 
 -- what a system took last, by what holds of its ports
 pub took_in_sync : (u : SystemSetup) (w : Scene) → Members u w.view.port → AllHeard w.view.port w.taken → TookInSync w

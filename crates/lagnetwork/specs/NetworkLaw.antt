@@ -2,14 +2,14 @@
 use Rattle.std.specs.Prelude.{◌≡◌, ◌≢◌, ◌⊎◌, ◌<◌, ℕ, true, false, Some, IsSome, List, [], ◌∷◌, ◌++◌, Contains, length, slice_index}
 use Rattle.lagtypes.specs.Group.{SamePair}
 use Rattle.std.specs.Prelude.{Bool, None, Option}
-use Rattle.lagmodel.specs.View.{ModelCall, View, PortFacts, Flushing, On, conversation_port, Marker, Response}
+use Rattle.lagmodel.specs.View.{ModelCall, SystemSetup, View, PortFacts, Flushing, On, conversation_port, first_view, Marker, Response}
 use Rattle.lagmodel.specs.Move.{Act, LawfulMoves, pair_at}
 use Rattle.lagmodel.specs.World.{One, Message, Control, TakenLacpdu}
 use Rattle.lagmodel.specs.Law.{IsSubsequence, OnePartner, serials}
 use Rattle.lagnetwork.specs.Network.{Network, NetworkSetup, IsNetworkSetup, NetworkEvent, NetworkRun, first_network}
 use Rattle.lagmodel.specs.AnyPeer.{Scene, TookInSync}
-use Rattle.lagnetwork.specs.Network.{Place, IsNetworkSuccessor, NetworkCall, CountsNetworkChanges, network_after_acts}
-use Rattle.lagnetwork.specs.Network.{Moved, Unmoved, Moved_down, Moved_up, Pull, Plug, recabled_all}
+use Rattle.lagnetwork.specs.Network.{Place, IsAlikeSetup, NetworkCall, NetworkHappens, CountsNetworkChanges, network_after_acts}
+use Rattle.lagnetwork.specs.Network.{Moved, Unmoved, Moved_down, Moved_up, Pull, Plug, Restart, Succeed, recabled_all}
 
 -- Ports of each system that distribute in one aggregator have one partner system and key.
 abbrev pub EachOnePartner : Network → Type 0
@@ -130,12 +130,24 @@ scene_of x w s = record {
 abbrev pub EachTookInSync : NetworkSetup → Network → Type 0
 EachTookInSync x w = (s : ℕ) → TookInSync (scene_of x w s)
 
--- A system of which no conversation waits may take its own place: so takeovers are possible.
+-- A configuration with another first marker is alike.
+abbrev pub FirstMarkersAreAlike : NetworkSetup → Type 0
+FirstMarkersAreAlike x = (s n : ℕ) → IsAlikeSetup (x.setup s) (record (x.setup s) { first_marker = n })
+
+-- A system of which no conversation waits may take its own place, with any configuration that is alike: so takeovers are possible.
 abbrev pub MaySucceedItself : NetworkSetup → Network → Type 0
 MaySucceedItself x w =
-    (s : ℕ)
+    (s : ℕ) (setup : SystemSetup) → IsAlikeSetup (x.setup s) setup
     → ((g k p : ℕ) → conversation_port ((w.view s).flows.state g k) ≡ Some p → (w.view s).flows.state g k ≡ On p)
-    → IsNetworkSuccessor x w s (w.view s)
+    → (new : Network) × NetworkHappens x (Succeed s setup (w.view s)) w new
+
+-- A system may begin anew, whatever waits, with any configuration that is alike: it restarts, takes its own place with that, and restarts
+-- again.
+abbrev pub MayBeginAnew : NetworkSetup → Network → Type 0
+MayBeginAnew x w =
+    (s : ℕ) (setup : SystemSetup) → IsAlikeSetup (x.setup s) setup
+    → (new : Network) × NetworkRun x (Restart s ∷ Succeed s setup (first_view (x.setup s)) ∷ Restart s ∷ []) w new
+    × (new.view s ≡ first_view setup)
 
 -- The statement holds after each event of each schedule, from the start of any systems on any cables; it is of the cables as they are then.
 abbrev pub IsNetworkInvariant : (NetworkSetup → Network → Type 0) → Type 0

@@ -6,7 +6,7 @@
 #![tactic(auto)]
 
 ghost use Rattle.lagnetwork.specs.NetworkLaw.{IsNetworkInvariant, EachOnePartner, CablesAgree, NetworkInOrder, NamesFarEnd, TookFromFarEnd, TookFromFixedEnd, OneDevice};
-ghost use Rattle.lagnetwork.specs.NetworkLaw.{EachTookInSync, MaySucceedItself, EachCollectorInOrder, NotWithItself, FlyOnItsCable, FlushedBehindMarker, AllBelowNext, CollectedThenFlying, AllCountFromZero};
+ghost use Rattle.lagnetwork.specs.NetworkLaw.{EachTookInSync, FirstMarkersAreAlike, MayBeginAnew, MaySucceedItself, EachCollectorInOrder, NotWithItself, FlyOnItsCable, FlushedBehindMarker, AllBelowNext, CollectedThenFlying, AllCountFromZero};
 
 // promise: one partner, agreement and order hold after each event of any number of systems, cabled in any way, whose cables may be moved,
 //    and whose other ports hear anything: agreement of two ports that took their last LACPDUs from each other; order of what all collectors
@@ -40,7 +40,8 @@ ghost use Rattle.lagnetwork.specs.NetworkLaw.{EachTookInSync, MaySucceedItself, 
 /// end of its cable, if that was never moved, or was moved while the port was down, and the port distributes, or was up when a warm start
 /// followed; and ports that distribute in
 /// one aggregator, not on defaults, took their last LACPDUs from one system, if no other claims its identifier (6.2.4, 6.3.6, 6.4.14, 6.5).
-/// The other clauses are the invariants on which the order rests.
+/// A system may take its own place with another first marker, and so it may restart: what comes then is one more run of the law. The other
+/// clauses are the invariants on which the order rests.
 pub fn network()
     ensures one_partner { IsNetworkInvariant (λ x w. EachOnePartner w) }
     ensures agree { IsNetworkInvariant (λ x w. CablesAgree w) }
@@ -58,6 +59,8 @@ pub fn network()
     ensures collected_then_in_flight { IsNetworkInvariant (λ x w. CollectedThenFlying x w) }
     ensures counts_from_zero { IsNetworkInvariant (λ x w. AllCountFromZero w) }
     ensures takeovers { IsNetworkInvariant (λ x w. MaySucceedItself x w) }
+    ensures restarts { IsNetworkInvariant (λ x w. MayBeginAnew x w) }
+    ensures first_markers { IsNetworkInvariant (λ x w. FirstMarkersAreAlike x) }
 {}
 
 ghost use Rattle.lagnetwork.specs.NetworkLaw.{EndsMeetAfterMove, OneAggregatorReachesTwo};
@@ -75,10 +78,11 @@ pub fn ends_meet_after_move()
 
 ghost use Rattle.lagnetwork.specs.NetworkLaw.{LawfulCallsAreCalls};
 
-// promise: a takeover is possible: a system of which no conversation waits may take its own place
-// contract: `network` (`takeovers`)
+// promise: a takeover is possible: a system of which no conversation waits may take its own place, and any system may restart, with another
+//    first marker, or with any configuration that is alike
+// contract: `network` (`takeovers`, `restarts`, `first_markers`)
 // premises: a system that takes over has the identifier, the keys of aggregators and the ports of the one before (`IsAlikeSetup`); its configuration
-//    may have other own parameters, and another first marker. That one with another configuration takes over is not shown here
+//    may have other own parameters, and another first marker
 // promise: a call of one system, lawful moves with visible acts, is a call of the network, whatever cables accept, and leaves what it sends on
 //    them
 // contract: `lawful_calls`

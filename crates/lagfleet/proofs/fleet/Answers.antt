@@ -1,6 +1,9 @@
-use Rattle.lagfleet.proofs.Common.{recabled_all, AllCountFromZero, CablesAgree, EachCollectorInOrder, EachOnePartner, EachTookInSync, NamesFarEnd}
-use Rattle.lagfleet.proofs.Common.{NetworkInOrder, NotWithItself, OneDevice, TookFromFarEnd, all_fine, cables_agree, each_took_in_sync, in_order_each}
-use Rattle.lagfleet.proofs.Common.{names_far_end, not_with_itself, one_device, one_partner_each, took_from_far_end, took_from_fixed_end}
+use Rattle.lagnetwork.specs.Network.{recabled_all}
+use Rattle.lagnetwork.specs.NetworkLaw.{AllCountFromZero, CablesAgree, EachCollectorInOrder, EachOnePartner, EachTookInSync, NamesFarEnd}
+use Rattle.lagnetwork.specs.NetworkLaw.{NetworkInOrder, NotWithItself, OneDevice, TookFromFarEnd}
+use Rattle.lagnetwork.proofs.NetworkEvents.{all_fine}
+use Rattle.lagnetwork.proofs.NetworkLaws.{cables_agree, each_took_in_sync, in_order_each, names_far_end, not_with_itself, one_device}
+use Rattle.lagnetwork.proofs.NetworkLaws.{one_partner_each, took_from_far_end, took_from_fixed_end}
 use Rattle.lagfleet.proofs.Fleets.{fixed_of_fleet, holds_of_fleet}
 use Rattle.lagnetwork.proofs.NetworkSources.{sourced}
 use Rattle.lagnetwork.proofs.NetworkArriving.{each_part, parts}

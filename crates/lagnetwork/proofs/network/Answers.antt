@@ -1,7 +1,8 @@
 use Rattle.lagnetwork.proofs.Common.{recabled_all}
 use Rattle.lagnetwork.proofs.NetworkLaws.{took_from_fixed_end, took_from_far_end, one_partner_each, cables_agree, in_order_each, names_far_end}
 use Rattle.lagnetwork.proofs.NetworkLaws.{one_device, not_with_itself, fly_on_its_cable, flushed_behind_marker, all_below_next, collected_then_flying}
-use Rattle.lagnetwork.proofs.NetworkLaws.{each_took_in_sync, may_succeed_itself}
+use Rattle.lagnetwork.proofs.NetworkLaws.{each_took_in_sync}
+use Rattle.lagnetwork.proofs.NetworkTakeovers.{first_markers_are_alike, may_begin_anew, may_succeed_itself}
 use Rattle.lagnetwork.proofs.NetworkSources.{sourced}
 use Rattle.lagnetwork.proofs.NetworkEvents.{all_fine}
 use Rattle.lagnetwork.proofs.NetworkCounting.{counts_from_zero}
@@ -48,6 +49,13 @@ returns-clause-each_in_order c = λ x events w f r t h s g k u.
 
 pub returns-clause-takeovers : goal.returns-clause-takeovers
 returns-clause-takeovers c = λ x events w f r. may_succeed_itself (recabled_all x events) w (all_fine x events w f r).1
+
+pub returns-clause-restarts : goal.returns-clause-restarts
+returns-clause-restarts c = λ x events w f r.
+    may_begin_anew (recabled_all x events) w (all_fine x events w f r).0 (all_fine x events w f r).1
+
+pub returns-clause-first_markers : goal.returns-clause-first_markers
+returns-clause-first_markers c = λ x events w f r. first_markers_are_alike (recabled_all x events) (all_fine x events w f r).0
 
 pub returns-clause-took_synchronized : goal.returns-clause-took_synchronized
 returns-clause-took_synchronized c = λ x events w f r. each_took_in_sync (recabled_all x events) w (all_fine x events w f r).1

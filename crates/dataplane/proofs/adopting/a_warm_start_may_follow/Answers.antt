@@ -2,8 +2,8 @@ use Rattle.dataplane.proofs.WarmSuccessors.{is_possible, keeps_parties, may_foll
 use Rattle.dataplane.proofs.adopting.a_warm_start_may_follow.Goals as goal
 
 pub returns-clause-follows : goal.returns-clause-follows
-returns-clause-follows g c = λ algorithm before taken new marker w.
-    may_follow (λ conv count place. g.F.Fn.post algorithm (conv, (count, tt)) place) before taken new w marker
+returns-clause-follows g c = λ algorithm setup before taken new alike w.
+    may_follow (λ conv count place. g.F.Fn.post algorithm (conv, (count, tt)) place) before taken new w setup alike
 
 pub returns-clause-parties : goal.returns-clause-parties
 returns-clause-parties g c = λ algorithm before taken new w own.
