@@ -12,6 +12,17 @@ pub(crate) fn same_in_row<T: Debug + PartialEq>(rt: &impl Abort, row: usize, cam
     assert_eq!(rt; *came, *wanted, "row {row}");
 }
 
+/// Fails unless a value of the item with this number is the expected one; the text says what was read.
+pub(crate) fn same_at<T: Debug + PartialEq>(
+    rt: &impl Abort,
+    what: &str,
+    number: u64,
+    came: &T,
+    wanted: &T,
+) {
+    assert_eq!(rt; *came, *wanted, "{what} {number}");
+}
+
 /// Fails unless a statement holds; the text is the statement.
 pub(crate) fn holds(rt: &impl Abort, statement: &str, is_true: bool) {
     assert!(rt; is_true, "{statement}");

@@ -1,3 +1,4 @@
+use crate::comparing::{same, same_at};
 use cables::{AnyCable, Cable, CableFault, Item, ListCable, RingCable, Stamp};
 use std::alloc::{AllocError, Global};
 use std::process::Abort;
@@ -28,25 +29,25 @@ fn pushes<C: Cable>(rt: &impl Abort, alloc: Global, cable: &mut C, count: u64, a
     let item = control(alloc, count);
     let wanted = if accepts { Ok(()) } else { Err(item) };
     let answer = cable.push(control(alloc, count));
-    assert_eq!(rt; answer, wanted, "push of item {count}");
+    same_at(rt, "push of item", count, &answer, &wanted);
 }
 
 /// The first item is the control frame with this count, and is taken off.
 fn pops<C: Cable>(rt: &impl Abort, alloc: Global, cable: &mut C, count: u64) {
     let first = control(alloc, count);
-    assert_eq!(rt; cable.front(), Some(&first), "front of item {count}");
-    assert_eq!(rt; cable.pop(), Some(first), "pop of item {count}");
+    same_at(rt, "front of item", count, &cable.front(), &Some(&first));
+    same_at(rt, "pop of item", count, &cable.pop(), &Some(first));
 }
 
 fn is_empty<C: Cable>(rt: &impl Abort, cable: &mut C) {
-    assert_eq!(rt; cable.front(), None, "front of an empty cable");
-    assert_eq!(rt; cable.pop(), None, "pop of an empty cable");
+    same(rt, "front of an empty cable", &cable.front(), &None);
+    same(rt, "pop of an empty cable", &cable.pop(), &None);
 }
 
 /// How many items are on the cable, and how many it can hold.
 fn holds<C: Cable>(rt: &impl Abort, cable: &C, len: u64, limit: Option<u16>) {
-    assert_eq!(rt; cable.len() as u64, len, "limit {limit:?}: len");
-    assert_eq!(rt; cable.limit(), limit.map(usize::from), "limit");
+    same(rt, "len", &(cable.len() as u64), &len);
+    same(rt, "limit", &cable.limit(), &limit.map(usize::from));
 }
 
 /// Puts items with the stamps from 0 up to `tries` on; the cable accepts this many.
@@ -66,9 +67,12 @@ fn fills<C: Cable>(
 
 /// Sends a data frame through a cable, and leaves another on it.
 fn takes_data<C: Cable>(rt: &impl Abort, alloc: Global, cable: &mut C) -> Result<(), AllocError> {
-    assert_eq!(rt; cable.push(data(alloc)?), Ok(()), "push of a data frame");
-    assert_eq!(rt; cable.pop(), Some(data(alloc)?), "pop of a data frame");
-    assert_eq!(rt; cable.push(data(alloc)?), Ok(()), "push before clear");
+    let pushed = cable.push(data(alloc)?);
+    same(rt, "push of a data frame", &pushed, &Ok(()));
+    let popped = cable.pop();
+    same(rt, "pop of a data frame", &popped, &Some(data(alloc)?));
+    let pushed = cable.push(data(alloc)?);
+    same(rt, "push before clear", &pushed, &Ok(()));
     Ok(())
 }
 
@@ -120,7 +124,7 @@ fn each_kind_is_filled_to_its_limit_and_past_it(rt: HostRuntime) -> Result<(), F
 #[test]
 fn a_limit_of_0_is_refused(rt: HostRuntime) {
     let refused = RingCable::new(rt.alloc(), 0).err();
-    assert_eq!(rt; refused, Some(CableFault::Limit), "new with limit 0");
+    same(&rt, "new with limit 0", &refused, &Some(CableFault::Limit));
 }
 
 /// A fault has this number, and prints this text.
@@ -131,9 +135,9 @@ fn tells(
     number: u8,
     text: &str,
 ) -> Result<(), AllocError> {
-    assert_eq!(rt; fault.number(), number, "number of {fault:?}");
+    same(rt, text, &fault.number(), &number);
     let printed = format!(in alloc; "{fault}")?;
-    assert_eq!(rt; printed.as_str(), text, "text of {fault:?}");
+    same(rt, "text of a fault", &printed.as_str(), &text);
     Ok(())
 }
 
@@ -167,25 +171,36 @@ fn a_ring_serves_long_after_it_first_was_full(rt: HostRuntime) -> Result<(), Cab
 
 /// An item that was refused came back, and the list is as long as before.
 fn came_back(rt: &impl Abort, list: &ListCable, back: Item, wanted: Item, before: usize) {
-    assert_eq!(rt; back, wanted, "push");
-    assert_eq!(rt; list.len(), before, "len after a refused push");
+    same(rt, "push", &back, &wanted);
+    same(rt, "len after a refused push", &list.len(), &before);
 }
 
 /// Reserves a place in a list and puts an item there; if memory is refused, the list stays as it is.
 fn grows(rt: &impl Abort, alloc: Global, list: &mut ListCable, count: u64) {
     let before = list.len();
     let reserved = list.reserve_one().is_ok();
-    assert_eq!(rt;
-        list.len(),
-        before,
-        "len after reserve_one for item {count}"
+    same_at(
+        rt,
+        "len after reserve_one for item",
+        count,
+        &list.len(),
+        &before,
     );
     match list.push(control(alloc, count)) {
-        Ok(()) => assert!(rt; list.len() > before, "len after push of item {count}"),
+        Ok(()) => same_at(
+            rt,
+            "longer after push of item",
+            count,
+            &(list.len() > before),
+            &true,
+        ),
         Err(back) => {
-            assert!(rt;
-                !reserved,
-                "item {count} came back though a place was reserved"
+            same_at(
+                rt,
+                "a place was reserved for item",
+                count,
+                &reserved,
+                &false,
             );
             came_back(rt, list, back, control(alloc, count), before);
         }
@@ -194,7 +209,13 @@ fn grows(rt: &impl Abort, alloc: Global, list: &mut ListCable, count: u64) {
 
 fn fills_ring(rt: &impl Abort, alloc: Global, ring: &mut RingCable) {
     for count in 0..100 {
-        assert!(rt; ring.reserve_one().is_ok(), "reserve_one for item {count}");
+        same_at(
+            rt,
+            "reserve_one for item",
+            count,
+            &ring.reserve_one().is_ok(),
+            &true,
+        );
         pushes(rt, alloc, ring, count, true);
     }
 }
@@ -209,6 +230,6 @@ fn refused_memory_leaves_the_items(rt: HostRuntime) {
     }
     match RingCable::new(alloc, 100) {
         Ok(mut ring) => fills_ring(&rt, alloc, &mut ring),
-        Err(fault) => assert_eq!(rt; fault, CableFault::NoMemory, "new with limit 100"),
+        Err(fault) => same(&rt, "new with limit 100", &fault, &CableFault::NoMemory),
     }
 }

@@ -1,7 +1,7 @@
 ghost use Rattle.std.specs.Prelude.{◌≡◌, ◌≤◌, ◌<◌, length};
 ghost use Rattle.distributor.specs.Calls.{PicksIndexes};
 
-use crate::comparing::same_in_row;
+use crate::comparing::{same, same_in_row};
 use distributor::{Assignment, DistFault, Distributor, by_number};
 use lagtypes::{AggId, NoMemory};
 use std::alloc::{AllocError, Global};
@@ -16,10 +16,17 @@ fn by_place(conversation: u16, count: usize) -> usize
 
 const AGG: AggId = AggId(1);
 
+const FREE: Assignment = Assignment::Free { preferred: None };
+
+/// Free, and preferring port 2.
+const FREE_FOR_2: Assignment = Assignment::Free { preferred: Some(2) };
+
 /// What a reader of a distributor is expected to return.
 #[derive(Clone, Copy)]
 enum Fact {
     State(u16, Assignment),
+    /// The conversation waits on port 1 behind marker 1, since this many ticks, and prefers port 65.
+    FlushingSince(u16, u8),
     Preferred(u16, Option<u16>),
     IsConversation(u16, bool),
     /// This many conversations of the aggregator are On this port.
@@ -74,6 +81,15 @@ fn reads<F: Fn(u16, usize) -> usize + Drop>(
 ) {
     match fact {
         Fact::State(conv, state) => same_in_row(rt, place, &d.state(agg, conv), &state),
+        Fact::FlushingSince(conv, age) => {
+            let state = Assignment::Flushing {
+                port: 1,
+                id: 1,
+                preferred: Some(65),
+                age,
+            };
+            same_in_row(rt, place, &d.state(agg, conv), &state);
+        }
         Fact::Preferred(conv, port) => same_in_row(rt, place, &d.preferred(agg, conv), &port),
         Fact::IsConversation(conv, is) => {
             same_in_row(rt, place, &d.is_conversation(agg, conv), &is);
@@ -161,15 +177,18 @@ fn plays_apart(
         }
     };
     for (place, (agg, ports, row)) in rows.iter().enumerate() {
-        assert!(rt; ports.len() <= 64, "ports of row {place}");
-        play(rt, place, &mut d, AggId(*agg), *ports, *row);
+        if ports.len() <= 64 {
+            play(rt, place, &mut d, AggId(*agg), *ports, *row);
+        } else {
+            same_in_row(rt, place, &"ports", &"64 ports at most");
+        }
     }
     Ok(())
 }
 
 #[test]
 fn a_moved_conversation_waits_for_the_response(rt: HostRuntime) -> Result<(), NoMemory> {
-    let rows = [
+    const ROWS: [Row; 14] = [
         Row::Assign(48, Ok(1)),
         Row::Assign(49, Ok(2)),
         Row::Move(48, 2, Ok(())),
@@ -185,12 +204,12 @@ fn a_moved_conversation_waits_for_the_response(rt: HostRuntime) -> Result<(), No
         Row::Response(1, 2, 1),
         Row::Assign(48, Ok(2)),
     ];
-    plays(&rt, rt.alloc(), 1, [1, 2], &rows)
+    plays(&rt, rt.alloc(), 1, [1, 2], &ROWS)
 }
 
 #[test]
 fn the_next_marker_is_wanted_after_the_soonest_wait(rt: HostRuntime) -> Result<(), NoMemory> {
-    let rows = [
+    const ROWS: [Row; 23] = [
         Row::Is(Fact::NextWanted(None)),
         Row::Assign(48, Ok(1)),
         Row::Assign(49, Ok(2)),
@@ -215,12 +234,12 @@ fn the_next_marker_is_wanted_after_the_soonest_wait(rt: HostRuntime) -> Result<(
         Row::Down(2),
         Row::Is(Fact::NextWanted(None)),
     ];
-    plays(&rt, rt.alloc(), 7, [1, 2], &rows)
+    plays(&rt, rt.alloc(), 7, [1, 2], &ROWS)
 }
 
 #[test]
 fn ports_are_counted(rt: HostRuntime) -> Result<(), NoMemory> {
-    let rows = [
+    const ROWS: [Row; 14] = [
         Row::Assign(48, Ok(1)),
         Row::Assign(49, Ok(2)),
         Row::Assign(50, Ok(1)),
@@ -236,19 +255,16 @@ fn ports_are_counted(rt: HostRuntime) -> Result<(), NoMemory> {
         Row::Is(Fact::Load(1, 0)),
         Row::Is(Fact::Load(2, 1)),
     ];
-    plays(&rt, rt.alloc(), 1, [1, 2], &rows)
+    plays(&rt, rt.alloc(), 1, [1, 2], &ROWS)
 }
 
 #[test]
 fn ports_of_one_chain_stay_apart(rt: HostRuntime) -> Result<(), NoMemory> {
-    let wanted = |preferred: Option<u16>| Assignment::Wanted { port: 1, preferred };
-    let flushing = |age: u8| Assignment::Flushing {
+    const WANTED: Assignment = Assignment::Wanted {
         port: 1,
-        id: 1,
         preferred: Some(65),
-        age,
     };
-    let rows = [
+    const ROWS: [Row; 42] = [
         Row::Assign(0, Ok(1)),
         Row::Assign(1, Ok(65)),
         Row::Assign(2, Ok(1)),
@@ -256,28 +272,28 @@ fn ports_of_one_chain_stay_apart(rt: HostRuntime) -> Result<(), NoMemory> {
         Row::Is(Fact::Load(1, 2)),
         Row::Is(Fact::Load(65, 2)),
         Row::Move(0, 65, Ok(())),
-        Row::Is(Fact::State(0, wanted(Some(65)))),
+        Row::Is(Fact::State(0, WANTED)),
         Row::Marker(65, None),
         Row::Marker(1, Some(1)),
         Row::Is(Fact::State(1, Assignment::On(65))),
         Row::Is(Fact::State(2, Assignment::On(1))),
-        Row::Is(Fact::State(0, flushing(0))),
+        Row::Is(Fact::FlushingSince(0, 0)),
         // what is On port 65 becomes Wanted, and what is On port 1 does not (both are in chain 1)
         Row::Leave(65),
         Row::Is(Fact::State(2, Assignment::On(1))),
         Row::Ticks(1),
-        Row::Is(Fact::State(0, flushing(1))),
+        Row::Is(Fact::FlushingSince(0, 1)),
         Row::Response(65, 1, 0),
         Row::Marker(65, Some(2)),
         Row::Response(1, 2, 0),
         Row::Is(Fact::Load(1, 2)),
         Row::Is(Fact::Load(65, 2)),
         Row::Ticks(28),
-        Row::Is(Fact::State(0, flushing(29))),
+        Row::Is(Fact::FlushingSince(0, 29)),
         Row::Ticks(1),
-        Row::Is(Fact::State(0, wanted(Some(65)))),
+        Row::Is(Fact::State(0, WANTED)),
         Row::Response(65, 2, 2),
-        Row::Is(Fact::State(0, wanted(Some(65)))),
+        Row::Is(Fact::State(0, WANTED)),
         Row::Assign(1, Ok(65)),
         Row::Down(65),
         Row::Is(Fact::Load(65, 0)),
@@ -293,12 +309,12 @@ fn ports_of_one_chain_stay_apart(rt: HostRuntime) -> Result<(), NoMemory> {
         Row::Clear,
         Row::Is(Fact::Load(65, 0)),
     ];
-    plays(&rt, rt.alloc(), 1, [1, 65], &rows)
+    plays(&rt, rt.alloc(), 1, [1, 65], &ROWS)
 }
 
 #[test]
 fn a_chain_keeps_the_neighbours_of_one_that_leaves(rt: HostRuntime) -> Result<(), NoMemory> {
-    let rows = [
+    const ROWS: [Row; 16] = [
         Row::Assign(0, Ok(1)),
         Row::Assign(2, Ok(1)),
         Row::Assign(4, Ok(1)),
@@ -323,12 +339,12 @@ fn a_chain_keeps_the_neighbours_of_one_that_leaves(rt: HostRuntime) -> Result<()
         Row::Response(1, 1, 1),
         Row::Is(Fact::Load(1, 0)),
     ];
-    plays(&rt, rt.alloc(), 1, [1, 2], &rows)
+    plays(&rt, rt.alloc(), 1, [1, 2], &ROWS)
 }
 
 #[test]
 fn identifiers_end_at_the_greatest(rt: HostRuntime) -> Result<(), NoMemory> {
-    let rows = [
+    const ROWS: [Row; 9] = [
         Row::Assign(48, Ok(1)),
         Row::Assign(50, Ok(1)),
         Row::Move(48, 2, Ok(())),
@@ -339,12 +355,12 @@ fn identifiers_end_at_the_greatest(rt: HostRuntime) -> Result<(), NoMemory> {
         Row::Leave(1),
         Row::Marker(1, None),
     ];
-    plays(&rt, rt.alloc(), 4294967295, [1, 2], &rows)
+    plays(&rt, rt.alloc(), 4294967295, [1, 2], &ROWS)
 }
 
 #[test]
 fn refusals_come_in_order(rt: HostRuntime) -> Result<(), NoMemory> {
-    let rows = [
+    const ROWS: [Row; 14] = [
         // no such conversation, or a free one, whatever the port is
         Row::Assign(256, Err(DistFault::NotAssigned)),
         Row::Move(256, 3, Err(DistFault::NotAssigned)),
@@ -363,63 +379,59 @@ fn refusals_come_in_order(rt: HostRuntime) -> Result<(), NoMemory> {
         Row::Move(50, 1, Err(DistFault::SamePort)),
         Row::Move(50, 2, Err(DistFault::MarkersSpent)),
     ];
-    plays(&rt, rt.alloc(), 4294967295, [1, 2], &rows)
+    plays(&rt, rt.alloc(), 4294967295, [1, 2], &ROWS)
 }
 
 #[test]
 fn preferences_are_kept_and_used_once(rt: HostRuntime) -> Result<(), NoMemory> {
-    let free = |preferred: Option<u16>| Assignment::Free { preferred };
-    let rows = [
+    const ROWS: [Row; 22] = [
         // `down` keeps the preferred port, which is used once
         Row::Assign(48, Ok(1)),
         Row::Move(48, 2, Ok(())),
         Row::Down(1),
-        Row::Is(Fact::State(48, free(Some(2)))),
+        Row::Is(Fact::State(48, FREE_FOR_2)),
         Row::Assign(48, Ok(2)),
         Row::Is(Fact::State(48, Assignment::On(2))),
         Row::Force(48, Ok(())),
-        Row::Is(Fact::State(48, free(None))),
+        Row::Is(Fact::State(48, FREE)),
         // `force` keeps the preferred port of a conversation that waits
         Row::Assign(48, Ok(1)),
         Row::Move(48, 2, Ok(())),
         Row::Marker(1, Some(7)),
         Row::Force(48, Ok(())),
-        Row::Is(Fact::State(48, free(Some(2)))),
+        Row::Is(Fact::State(48, FREE_FOR_2)),
         Row::Response(1, 7, 0),
         // a port that only stops distributing frees nothing
         Row::Assign(50, Ok(1)),
         Row::Leave(1),
         Row::Assign(50, Err(DistFault::Held)),
         Row::Clear,
-        Row::Is(Fact::State(48, free(None))),
+        Row::Is(Fact::State(48, FREE)),
         Row::Assign(50, Ok(1)),
         Row::Leave(1),
         Row::Marker(1, Some(7)),
     ];
-    plays(&rt, rt.alloc(), 7, [1, 2], &rows)
+    plays(&rt, rt.alloc(), 7, [1, 2], &ROWS)
 }
 
 #[test]
 fn a_link_that_goes_down_frees_what_is_on_it(rt: HostRuntime) -> Result<(), NoMemory> {
-    let free = |preferred: Option<u16>| Assignment::Free { preferred };
-    let rows = [
+    const ROWS: [Row; 7] = [
         Row::Assign(48, Ok(1)),
         Row::Assign(50, Ok(1)),
         Row::Move(50, 2, Ok(())),
         Row::Marker(1, Some(7)),
         Row::Down(1),
-        Row::Is(Fact::State(48, free(None))),
-        Row::Is(Fact::State(50, free(Some(2)))),
+        Row::Is(Fact::State(48, FREE)),
+        Row::Is(Fact::State(50, FREE_FOR_2)),
     ];
-    plays(&rt, rt.alloc(), 7, [1, 2], &rows)
+    plays(&rt, rt.alloc(), 7, [1, 2], &ROWS)
 }
-
-const FREE: Assignment = Assignment::Free { preferred: None };
 
 /// The last of 64 aggregators with 4096 conversations each.
 #[test]
 fn aggregators_with_4096_conversations_keep_them_apart(rt: HostRuntime) -> Result<(), NoMemory> {
-    let rows: [Put<'_>; 19] = [
+    const ROWS: [Put<'static>; 19] = [
         (1, &[1, 2], Row::Assign(4095, Ok(2))),
         (1, &[1, 2], Row::Assign(304, Ok(1))),
         (64, &[3], Row::Assign(4095, Ok(3))),
@@ -442,7 +454,7 @@ fn aggregators_with_4096_conversations_keep_them_apart(rt: HostRuntime) -> Resul
         (1, &[], Row::Is(Fact::Conversations(4096))),
         (1, &[], Row::Is(Fact::NextMarker(Some(7)))),
     ];
-    plays_apart(&rt, rt.alloc(), 64, Count::With4096, 7, &rows)
+    plays_apart(&rt, rt.alloc(), 64, Count::With4096, 7, &ROWS)
 }
 
 /// There is no conversation with this number.
@@ -474,36 +486,36 @@ fn behind<'a>(
 /// A conversation at or above the count does not exist.
 #[test]
 fn conversations_end_at_256(rt: HostRuntime) -> Result<(), NoMemory> {
-    let rows: [Put<'_>; 4] = [
+    const ROWS: [Put<'static>; 4] = [
         (2, &[1], Row::Assign(255, Ok(1))),
         (3, &[1], Row::Assign(0, Err(DistFault::NotAssigned))),
         (1, &[], Row::Is(Fact::Conversations(256))),
         (1, &[], Row::Is(Fact::Load(1, 1))),
     ];
-    let rows = behind(rt.alloc(), [256, 257, 511, 65535], &rows)?;
+    let rows = behind(rt.alloc(), [256, 257, 511, 65535], &ROWS)?;
     plays_apart(&rt, rt.alloc(), 2, Count::With256, 1, &rows)
 }
 
 #[test]
 fn conversations_end_at_4096(rt: HostRuntime) -> Result<(), NoMemory> {
-    let rows: [Put<'_>; 4] = [
+    const ROWS: [Put<'static>; 4] = [
         (2, &[1], Row::Assign(4095, Ok(1))),
         (3, &[1], Row::Assign(0, Err(DistFault::NotAssigned))),
         (1, &[], Row::Is(Fact::Conversations(4096))),
         (1, &[], Row::Is(Fact::Load(1, 1))),
     ];
-    let rows = behind(rt.alloc(), [4096, 4097, 8191, 65535], &rows)?;
+    let rows = behind(rt.alloc(), [4096, 4097, 8191, 65535], &ROWS)?;
     plays_apart(&rt, rt.alloc(), 2, Count::With4096, 1, &rows)
 }
 
 #[test]
 fn new_makes_256_conversations(rt: HostRuntime) -> Result<(), NoMemory> {
-    let rows: [Put<'_>; 3] = [
+    const ROWS: [Put<'static>; 3] = [
         (1, &[], Row::Is(Fact::Conversations(256))),
         (1, &[1, 2], Row::Assign(255, Ok(2))),
         (1, &[1, 2], Row::Assign(256, Err(DistFault::NotAssigned))),
     ];
-    plays_apart(&rt, rt.alloc(), 1, Count::ByNew, 1, &rows)
+    plays_apart(&rt, rt.alloc(), 1, Count::ByNew, 1, &ROWS)
 }
 
 /// The port of ports 3, 5 and 67 at the index that is the conversation's number modulo 3.
@@ -597,7 +609,7 @@ fn ports_are_picked_by_their_place(rt: HostRuntime) -> Result<(), NoMemory> {
 
 #[test]
 fn a_port_that_distributes_no_more(rt: HostRuntime) -> Result<(), NoMemory> {
-    let rows: [Put<'_>; 6] = [
+    const ROWS: [Put<'static>; 6] = [
         (1, &[1, 2], Row::Assign(48, Ok(1))),
         // NotDistributing comes before SamePort
         (1, &[2], Row::Move(48, 1, Err(DistFault::NotDistributing))),
@@ -607,7 +619,7 @@ fn a_port_that_distributes_no_more(rt: HostRuntime) -> Result<(), NoMemory> {
         (1, &[], Row::Is(Fact::Preferred(48, Some(2)))),
         (1, &[3, 4, 5], Row::Assign(48, Ok(3))),
     ];
-    plays_apart(&rt, rt.alloc(), 1, Count::ByNew, 1, &rows)
+    plays_apart(&rt, rt.alloc(), 1, Count::ByNew, 1, &ROWS)
 }
 
 /// A conversation's number among this many ports, and its place.
@@ -622,8 +634,8 @@ const PLACES: [(u16, usize, usize); 6] = [
 
 #[test]
 fn places_are_numbers_modulo_the_count(rt: HostRuntime) {
-    for (conv, count, place) in PLACES {
-        assert_eq!(rt; by_number(conv, count), place, "{conv} among {count}");
+    for (row, (conv, count, place)) in PLACES.iter().enumerate() {
+        same_in_row(&rt, row, &by_number(*conv, *count), place);
     }
 }
 
@@ -660,9 +672,9 @@ fn tells(
     number: u8,
     text: &str,
 ) -> Result<(), AllocError> {
-    assert_eq!(rt; fault.number(), number, "{fault:?}");
+    same(rt, text, &fault.number(), &number);
     let printed = format!(in alloc; "{fault}")?;
-    assert_eq!(rt; printed.as_str(), text);
+    same(rt, "text of a fault", &printed.as_str(), &text);
     Ok(())
 }
 

@@ -226,7 +226,7 @@ fn walk(rt: &impl Abort, mut port: Port, steps: &[Step]) {
 
 #[test]
 fn an_active_port_alone(rt: HostRuntime) {
-    let steps = [
+    const STEPS: [Step; 17] = [
         Step::Periodic,
         Step::Link(true),
         Step::Periodic,
@@ -245,12 +245,12 @@ fn an_active_port_alone(rt: HostRuntime) {
         Step::Mux(false, 0),
         Step::Is(Fact::State(0x47)),
     ];
-    walk(&rt, port(true, true), &steps);
+    walk(&rt, port(true, true), &STEPS);
 }
 
 #[test]
 fn a_passive_port_waits_for_a_partner(rt: HostRuntime) {
-    let steps = [
+    const STEPS: [Step; 9] = [
         Step::Link(true),
         Step::Periodic,
         Step::Run(10),
@@ -261,12 +261,12 @@ fn a_passive_port_waits_for_a_partner(rt: HostRuntime) {
         Step::Is(Fact::PeriodicIn(PeriodicState::Fast)),
         Step::Sends(Some(0x06)),
     ];
-    walk(&rt, port(false, true), &steps);
+    walk(&rt, port(false, true), &STEPS);
 }
 
 #[test]
 fn long_timeouts(rt: HostRuntime) {
-    let steps = [
+    const STEPS: [Step; 24] = [
         Step::Take(0x05),
         Step::Is(Fact::Receive(ReceiveState::PortDisabled)),
         Step::Link(true),
@@ -292,12 +292,12 @@ fn long_timeouts(rt: HostRuntime) {
         Step::Is(Fact::Chosen(Choice::Unselected)),
         Step::Is(Fact::State(0x45)),
     ];
-    walk(&rt, port(true, false), &steps);
+    walk(&rt, port(true, false), &STEPS);
 }
 
 #[test]
 fn a_full_window(rt: HostRuntime) {
-    let steps = [
+    const STEPS: [Step; 14] = [
         Step::Periodic,
         Step::Link(true),
         Step::Take(0x07),
@@ -313,12 +313,12 @@ fn a_full_window(rt: HostRuntime) {
         Step::Run(1),
         Step::Sends(Some(0x07)),
     ];
-    walk(&rt, port(true, true), &steps);
+    walk(&rt, port(true, true), &STEPS);
 }
 
 #[test]
 fn attached_is_synchronized_and_passes_no_frames(rt: HostRuntime) {
-    let steps = [
+    const STEPS: [Step; 8] = [
         Step::Link(true),
         Step::Take(0x07),
         Step::Select(Choice::Selected(AggId(1))),
@@ -328,7 +328,7 @@ fn attached_is_synchronized_and_passes_no_frames(rt: HostRuntime) {
         Step::Mux(true, 1),
         Step::Is(Fact::State(0x07)),
     ];
-    walk(&rt, port(true, true), &steps);
+    walk(&rt, port(true, true), &STEPS);
 }
 
 #[test]
@@ -627,7 +627,7 @@ fn a_port_on_standby_waits(rt: HostRuntime) {
 /// A STANDBY port waits for wait_while as a SELECTED one does, and stays in WAITING until it is SELECTED.
 #[test]
 fn a_port_on_standby_is_promoted(rt: HostRuntime) {
-    let steps = [
+    const STEPS: [Step; 15] = [
         Step::Select(STANDBY),
         Step::Mux(false, 1),
         Step::Is(Fact::WaitWhile(20)),
@@ -647,7 +647,7 @@ fn a_port_on_standby_is_promoted(rt: HostRuntime) {
         Step::Mux(true, 1),
         Step::Is(Fact::MuxIn(MuxState::Detached)),
     ];
-    walk(&rt, hearing_port(0x07), &steps);
+    walk(&rt, hearing_port(0x07), &STEPS);
 }
 
 /// The information six times, each time with another one of its six parameters changed.
@@ -753,7 +753,7 @@ fn a_link_that_goes_down(rt: HostRuntime) {
 
 #[test]
 fn ages_stand_in_their_order(rt: HostRuntime) {
-    let steps = [
+    const STEPS: [Step; 6] = [
         Step::Take(0x07),
         Step::Sends(Some(0x07)),
         Step::Run(3),
@@ -761,7 +761,7 @@ fn ages_stand_in_their_order(rt: HostRuntime) {
         Step::Sends(Some(0x07)),
         Step::Is(Fact::Ages(2, Some(3), Some(0))),
     ];
-    walk(&rt, quiet_port(true, true), &steps);
+    walk(&rt, quiet_port(true, true), &STEPS);
 }
 
 /// Eleven ticks that begin with tick 0 end with tick 10.

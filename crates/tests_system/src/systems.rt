@@ -40,7 +40,11 @@ enum Row<'a> {
     Ticks(u16),
     Restart,
     /// An LACPDU with this Actor and Partner information is received on a port.
-    Takes(u16, Info, Info),
+    Takes(u16, Side, Side),
+    /// The LACPDU of a system's port with the same number is received on a port: it is in its aggregator, and knows the port.
+    Joins(u8, u16),
+    /// The same on a port with the priority of its rank.
+    RankedJoins(u8, u16),
     /// `receive` of this frame on a port returns this.
     Hears(u16, &'a [u8], Received),
     /// `receive` of this frame on a port returns this, and the readers return for the port what they returned before.
@@ -52,7 +56,7 @@ enum Row<'a> {
     /// A tick, this many times, and each time `transmit` returns None.
     Quiet(u16, u16),
     /// `transmit` returns an LACPDU with this Actor and Partner information.
-    Sends(u16, Info, Info),
+    Sends(u16, Side, Side),
     /// The calls and readers return `NoPort` or None for this port.
     Unknown(u16),
     /// `offer` of a frame in an aggregator returns this.
@@ -71,11 +75,11 @@ enum Row<'a> {
     /// `set_max_delay`.
     Delay(u16),
     /// `transmit` returns an LACPDU with this Actor and Partner information and this CollectorMaxDelay.
-    SendsWith(u16, Info, Info, u16),
+    SendsWith(u16, Side, Side, u16),
     /// `transmit` returns the marker with this identifier.
     Marks(u16, u32),
     /// This Marker Response comes on a port and frees this many conversations.
-    Releases(u16, Marker, u32),
+    Releases(u16, Response, u32),
     /// The readers return this for a port.
     Shows(u16, PortFacts),
     Chosen(u16, Choice),
@@ -91,12 +95,68 @@ enum Row<'a> {
     Conversation(&'a [u8], Option<u16>),
     /// `conversation_state` of a conversation of an aggregator returns this.
     Conversing(u16, u16, Option<Assignment>),
+    /// The same for a conversation that is Wanted on a port and prefers this one.
+    Wanted(u16, u16, u16, Option<u16>),
+    /// The same for a conversation that is free and prefers this port.
+    Free(u16, u16, Option<u16>),
     /// `next_marker` returns this.
     Next(Option<u32>),
     /// `ticks_until_due` returns this.
     Waits(Option<u16>),
     /// `ports` returns these, and `aggregators` this number.
     Has(&'a [u16], usize),
+}
+
+/// What an LACPDU says of one side of a link. Rows name it by numbers, so that they are constants, which cost the prover little.
+#[derive(Clone, Copy)]
+pub(crate) enum Side {
+    /// The port of a system: the last octet of the system's MAC address, the port's number, its key and its state.
+    Of(u8, u16, u16, u8),
+    /// The port of system 1 with this number and state, and with the priority of its rank.
+    Ranked(u16, u8),
+    /// No port, with this state.
+    Nobody(u8),
+    /// Any other.
+    Exactly(Info),
+}
+
+impl Side {
+    fn info(self) -> Info {
+        match self {
+            Side::Of(system, port, key, state) => end(system, port, key, state),
+            Side::Ranked(port, state) => Info {
+                port: PortId {
+                    priority: rank(port),
+                    number: port,
+                },
+                ..end(1, port, 1, state)
+            },
+            Side::Nobody(state) => no_partner(state),
+            Side::Exactly(info) => info,
+        }
+    }
+}
+
+/// The priority of a port in a system whose ports have ranks: the later the port, the lower its port identifier.
+fn rank(port: u16) -> u16 {
+    match port {
+        1 => 400,
+        2 => 300,
+        3 => 200,
+        4 => 150,
+        _ => 100,
+    }
+}
+
+/// A Marker Response: the port and the last octet of the system's MAC address that it names, and its identifier.
+#[derive(Clone, Copy)]
+pub(crate) struct Response(u16, u8, u32);
+
+impl Response {
+    fn marker(self) -> Marker {
+        let Response(port, system, id) = self;
+        marker(MarkerKind::Response, port, system, id)
+    }
 }
 
 /// What the readers return for a port.
@@ -345,6 +405,25 @@ fn tells_port<F: Fn(u16, usize) -> usize + Drop>(
     }
 }
 
+/// Compares the state of a conversation with what a row expects.
+fn tells_conversation<F: Fn(u16, usize) -> usize + Drop>(
+    rt: &impl Abort,
+    system: &System<F>,
+    place: usize,
+    row: Row<'_>,
+) {
+    let (agg, conv, state) = match row {
+        Row::Conversing(agg, conv, state) => (agg, conv, state),
+        Row::Wanted(agg, conv, port, preferred) => {
+            (agg, conv, Some(Assignment::Wanted { port, preferred }))
+        }
+        Row::Free(agg, conv, preferred) => (agg, conv, Some(Assignment::Free { preferred })),
+        _ => return,
+    };
+    let found = system.conversation_state(AggId(agg), conv);
+    same_in_row(rt, place, &found, &state);
+}
+
 /// Compares what the readers of a system return with what a row expects.
 fn tells<F: Fn(u16, usize) -> usize + Drop>(
     rt: &impl Abort,
@@ -364,9 +443,8 @@ fn tells<F: Fn(u16, usize) -> usize + Drop>(
         Row::Conversation(octets, conv) => {
             same_in_row(rt, place, &system.conversation(octets), &conv);
         }
-        Row::Conversing(agg, conv, state) => {
-            let found = system.conversation_state(AggId(agg), conv);
-            same_in_row(rt, place, &found, &state);
+        Row::Conversing(..) | Row::Wanted(..) | Row::Free(..) => {
+            tells_conversation(rt, system, place, row);
         }
         Row::Next(id) => same_in_row(rt, place, &system.next_marker(), &id),
         Row::Waits(ticks) => same_in_row(rt, place, &system.ticks_until_due(), &ticks),

@@ -1,3 +1,4 @@
+use crate::comparing::{same, same_at, same_octets, same_text};
 use crate::pieces::{HEAD, MARKER, Pieces, SLOW, TO_ALL, joined};
 use crate::slow::sink_of;
 use lagstreams::Sink;
@@ -154,8 +155,8 @@ fn shows_as(
     text: &str,
 ) -> Result<(), Fail> {
     let (verdict, written) = shown(rt.alloc(), hex)?;
-    assert_eq!(rt; written.as_str(), text, "{hex}");
-    assert_eq!(rt; verdict, accepted, "{hex}");
+    same_text(rt, hex, written.as_str(), text);
+    same(rt, hex, &verdict, &accepted);
     Ok(())
 }
 
@@ -183,8 +184,8 @@ fn replies_with(
     text: &str,
 ) -> Result<(), Fail> {
     let (verdict, written) = replied(rt.alloc(), mac, frame)?;
-    assert_eq!(rt; written.as_str(), text, "{mac} {frame}");
-    assert_eq!(rt; verdict, answered, "{mac} {frame}");
+    same_text(rt, frame, written.as_str(), text);
+    same(rt, frame, &verdict, &answered);
     Ok(())
 }
 
@@ -223,10 +224,10 @@ fn other_frames_are_not_answered(rt: HostRuntime) -> Result<(), Fail> {
 
 /// Neither a payload nor a frame is these digits.
 fn not_hex(rt: &(impl Abort + AllocGlobal), hex: &str) {
-    let said = shown(rt.alloc(), hex);
-    assert_eq!(rt; said, Err(ToolFault::NotHex), "decode {hex}");
+    let wanted = (hex, Err(ToolFault::NotHex));
+    same(rt, "decode", &(hex, shown(rt.alloc(), hex)), &wanted);
     let said = replied(rt.alloc(), "020000000002", hex);
-    assert_eq!(rt; said, Err(ToolFault::NotHex), "respond {hex}");
+    same(rt, "respond", &(hex, said), &wanted);
 }
 
 #[test]
@@ -239,7 +240,7 @@ fn words_that_are_not_hexadecimal(rt: HostRuntime) {
 /// The frame is not hexadecimal either, but the address is checked first.
 fn not_mac(rt: &(impl Abort + AllocGlobal), mac: &str) {
     let said = replied(rt.alloc(), mac, "zz");
-    assert_eq!(rt; said, Err(ToolFault::NotMac), "respond {mac} zz");
+    same(rt, mac, &said, &Err(ToolFault::NotMac));
 }
 
 #[test]
@@ -266,14 +267,17 @@ fn shown_into(rt: &(impl Abort + AllocGlobal), hex: &str, room: usize, errs: boo
     };
     let mut sink = sink_of(rt.alloc(), room, errs);
     let answer = show(rt.alloc(), hex, &mut sink);
-    assert_eq!(rt; answer, expected, "room for {room} octets");
-    assert_eq!(rt; sink.failed(), !fits, "room for {room} octets");
-    let taken = sink.into_inner().taken;
-    assert_eq!(rt;
-        taken.as_slice(),
-        &text[..room.min(text.len())],
-        "room for {room} octets"
+    same_at(rt, "octets of room", room, &answer, &expected);
+    same_at(
+        rt,
+        "a failure at octets of room",
+        room,
+        &sink.failed(),
+        &!fits,
     );
+    let taken = sink.into_inner().taken;
+    let wanted = &text[..room.min(text.len())];
+    same_octets(rt, "octets of room", room, taken.as_slice(), wanted);
 }
 
 #[test]
@@ -292,8 +296,8 @@ fn an_answer_into_a_sink_that_fails(rt: HostRuntime) {
     for (room, expected) in [(14, Err(ToolFault::Write)), (15, Ok(false))] {
         let mut sink = sink_of(rt.alloc(), room, false);
         let answer = reply(rt.alloc(), "020000000002", "00", &mut sink);
-        assert_eq!(rt; answer, expected, "room for {room} octets");
+        same_at(&rt, "octets of room", room, &answer, &expected);
         let taken = sink.into_inner().taken;
-        assert_eq!(rt; taken.as_slice(), &text[..room], "room for {room} octets");
+        same_octets(&rt, "octets of room", room, taken.as_slice(), &text[..room]);
     }
 }

@@ -1,5 +1,6 @@
 ghost use Rattle.std.specs.Prelude.{◌≡◌, false};
 
+use crate::comparing::{same, same_at};
 use crate::pieces::{HEAD, MARKER, Pieces, SLOW, TO_ALL, joined};
 use crate::slow::sink_of;
 use lagstreams::Source;
@@ -107,7 +108,7 @@ fn says(
 ) -> Result<(), Fail> {
     let seen = outcome_of(rt.alloc(), whole(octets))?;
     let said = wanted(rt.alloc(), verdicts, faults)?;
-    assert_eq!(rt; seen, said);
+    same(rt, "outcome", &seen, &said);
     Ok(())
 }
 
@@ -327,7 +328,8 @@ fn says_of_reads(rt: &(impl Abort + AllocGlobal), first: usize, size: usize) -> 
     };
     let seen = outcome_of(rt.alloc(), reader)?;
     let said = wanted(rt.alloc(), &VERDICTS, 4)?;
-    assert_eq!(rt; seen, said, "first {first} octets, then {size} a read");
+    let (came, wanted) = ((first, size, seen), (first, size, said));
+    same(rt, "first read, later reads and outcome", &came, &wanted);
     Ok(())
 }
 
@@ -355,7 +357,7 @@ fn read_fails(rt: &(impl Abort + AllocGlobal), reads: usize, text: &str) -> Resu
         text: String::from_str(rt.alloc(), text)?,
         failed: (true, false),
     };
-    assert_eq!(rt; seen, said, "read {reads} fails");
+    same_at(rt, "the failing read", reads, &seen, &said);
     Ok(())
 }
 
@@ -382,7 +384,7 @@ fn write_fails(rt: &(impl Abort + AllocGlobal), text: &str, errs: bool) -> Resul
         text: String::from_str(rt.alloc(), text)?,
         failed: (false, true),
     };
-    assert_eq!(rt; seen, said);
+    same(rt, "outcome", &seen, &said);
     Ok(())
 }
 
@@ -396,6 +398,6 @@ fn each_write_fails_or_takes_nothing(rt: HostRuntime) -> Result<(), Fail> {
         text.push(next)?;
     }
     let seen = outcome_into(rt.alloc(), whole(FILE), text.len(), false)?;
-    assert_eq!(rt; seen, said, "room for all");
+    same(&rt, "room for all", &seen, &said);
     Ok(())
 }

@@ -1,3 +1,4 @@
+use crate::comparing::same_text;
 use lagtool_jobs::{digits_text, script_text, unread_text, utf8_text};
 use lagworld::{EntryFault, ScriptFault};
 use std::alloc::Allocator;
@@ -71,7 +72,7 @@ fn unread(
     text: &str,
 ) -> Result<(), Fail> {
     let said = unread_text(rt.alloc(), files, file)?;
-    assert_eq!(rt; said.as_str(), text);
+    same_text(rt, file, said.as_str(), text);
     Ok(())
 }
 
@@ -98,7 +99,7 @@ fn digits(
     text: &str,
 ) -> Result<(), Fail> {
     let said = digits_text(rt.alloc(), name, word, wanted)?;
-    assert_eq!(rt; said.as_str(), text);
+    same_text(rt, word, said.as_str(), text);
     Ok(())
 }
 
@@ -135,7 +136,7 @@ const NOT_UTF8: [(&str, &[u8], &str); 5] = [
 fn octets_that_are_not_utf8(rt: HostRuntime) -> Result<(), Fail> {
     for (file, before, text) in NOT_UTF8 {
         let said = utf8_text(rt.alloc(), file, before)?;
-        assert_eq!(rt; said.as_str(), text);
+        same_text(&rt, file, said.as_str(), text);
     }
     Ok(())
 }
@@ -203,7 +204,7 @@ fn scripts_that_are_refused(rt: HostRuntime) -> Result<(), Fail> {
     let fault = ScriptFault::Entry(3, EntryFault::Word);
     for (file, text) in REFUSED {
         let said = script_text(rt.alloc(), file, NO_EVENT, fault)?;
-        assert_eq!(rt; said.as_str(), text);
+        same_text(&rt, file, said.as_str(), text);
     }
     Ok(())
 }

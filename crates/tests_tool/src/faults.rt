@@ -1,3 +1,4 @@
+use crate::comparing::{same, same_at};
 use crate::telling::told;
 use lagtool_jobs::{FaultText, ToolFault, status_of};
 use lagworld::ScriptFault;
@@ -5,13 +6,14 @@ use std::test::Fail;
 
 #[test]
 fn statuses(rt: HostRuntime) {
-    for (ended, status) in [
+    let rows = [
         (Ok(true), 0),
         (Ok(false), 1),
         (Err(ToolFault::Write), 2),
         (Err(ToolFault::NotHex), 2),
-    ] {
-        assert_eq!(rt; status_of(&ended), status, "{ended:?}");
+    ];
+    for (row, (ended, status)) in rows.iter().enumerate() {
+        same_at(&rt, "status of row", row, &status_of(ended), status);
     }
 }
 
@@ -27,7 +29,7 @@ const FAULTS: [(ToolFault, u8, &str, &str); 5] = [
 #[test]
 fn faults_have_numbers_and_texts(rt: HostRuntime) -> Result<(), Fail> {
     for (fault, number, text, said) in FAULTS {
-        assert_eq!(rt; fault.number(), number);
+        same(&rt, text, &fault.number(), &number);
         told(&rt, fault, text)?;
         told(&rt, FaultText { fault, file: "a b" }, said)?;
     }
@@ -36,13 +38,9 @@ fn faults_have_numbers_and_texts(rt: HostRuntime) -> Result<(), Fail> {
 
 #[test]
 fn want_of_memory_is_no_fault_of_a_script(rt: HostRuntime) {
-    for (fault, told) in [
-        (ScriptFault::NoMemory, ToolFault::NoMemory),
-        (
-            ScriptFault::NotToml,
-            ToolFault::Script(ScriptFault::NotToml),
-        ),
-    ] {
-        assert_eq!(rt; ToolFault::from(fault), told, "{fault}");
-    }
+    let memory = ToolFault::from(ScriptFault::NoMemory);
+    same(&rt, "memory", &memory, &ToolFault::NoMemory);
+    let script = ToolFault::from(ScriptFault::NotToml);
+    let wanted = ToolFault::Script(ScriptFault::NotToml);
+    same(&rt, "script", &script, &wanted);
 }

@@ -10,6 +10,8 @@ mod answers;
 #[cfg(test)]
 mod checks;
 #[cfg(test)]
+mod comparing;
+#[cfg(test)]
 mod conversations;
 #[cfg(test)]
 mod explained;

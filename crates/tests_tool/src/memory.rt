@@ -1,5 +1,6 @@
 use crate::algorithm::by_number;
 use crate::checks::whole;
+use crate::comparing::{same, same_octets};
 use crate::pieces::{Pieces, joined, one_text};
 use crate::replays::{BOTH_UP, BOTH_UP_TEXT, MOVE, MOVE_TEXT, TWO_CABLES, TWO_PORTS};
 use lagstreams::{Sink, Source};
@@ -20,12 +21,12 @@ const CHECKED: &str = "1 marker-response\n2 runt\n3 not hex\n4 data\nchecked 4 f
 /// A report is whole; or it is a beginning, and memory was refused. Returns whether it is whole.
 fn ends(rt: &impl Abort, answer: Result<(), ToolFault>, taken: &[u8], report: &str) -> bool {
     if answer.is_ok() {
-        assert_eq!(rt; taken, report.as_bytes());
+        same_octets(rt, "report", 0, taken, report.as_bytes());
         return true;
     }
-    assert_eq!(rt; answer, Err(ToolFault::NoMemory));
+    same(rt, "answer", &answer, &Err(ToolFault::NoMemory));
     let is_beginning = taken.len() < report.len() && report.as_bytes().starts_with(taken);
-    assert!(rt; is_beginning, "{taken:?}");
+    same(rt, "a beginning of the report", &is_beginning, &true);
     false
 }
 
@@ -53,27 +54,27 @@ fn replays(rt: &impl Abort, alloc: Global) -> Result<bool, ToolFault> {
 /// Fails if an allocation is refused.
 #[test]
 fn memory_for_a_check_is_granted(rt: HostRuntime) {
-    assert_eq!(rt; checks(&rt, rt.alloc()), Ok(true));
+    same(&rt, "whole", &checks(&rt, rt.alloc()), &Ok(true));
 }
 
 /// Passes whichever allocation is refused.
 #[test]
 fn refused_memory_cuts_a_check(rt: HostRuntime) {
     if let Err(fault) = checks(&rt, rt.alloc()) {
-        assert_eq!(rt; fault, ToolFault::NoMemory);
+        same(&rt, "fault", &fault, &ToolFault::NoMemory);
     }
 }
 
 /// Fails if an allocation is refused.
 #[test]
 fn memory_for_a_replay_is_granted(rt: HostRuntime) {
-    assert_eq!(rt; replays(&rt, rt.alloc()), Ok(true));
+    same(&rt, "whole", &replays(&rt, rt.alloc()), &Ok(true));
 }
 
 /// Passes whichever allocation is refused.
 #[test]
 fn refused_memory_cuts_a_replay(rt: HostRuntime) {
     if let Err(fault) = replays(&rt, rt.alloc()) {
-        assert_eq!(rt; fault, ToolFault::NoMemory);
+        same(&rt, "fault", &fault, &ToolFault::NoMemory);
     }
 }

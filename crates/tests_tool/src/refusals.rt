@@ -1,3 +1,4 @@
+use crate::comparing::same;
 use crate::replays::{TWO_CABLES, TWO_PORTS, replayed};
 use crate::telling::told;
 use lagtool_jobs::FaultText;
@@ -39,7 +40,7 @@ pub(crate) fn says(
     wanted: &str,
 ) -> Result<(), Fail> {
     match replayed(rt.alloc(), pieces) {
-        Ok(_) => assert!(rt; false, "no refusal: {wanted}"),
+        Ok(_) => same(rt, wanted, &"no refusal", &"a refusal"),
         Err(fault) => told(rt, FaultText { fault, file: "a" }, wanted)?,
     }
     Ok(())

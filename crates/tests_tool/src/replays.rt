@@ -1,4 +1,5 @@
 use crate::algorithm::by_number;
+use crate::comparing::{same, same_at, same_octets, same_text};
 use crate::pieces::one_text;
 use crate::slow::sink_of;
 use crate::telling::told;
@@ -183,7 +184,7 @@ pub(crate) fn reports(
 ) -> Result<(), Fail> {
     let written = replayed(rt.alloc(), pieces)?;
     let wanted = one_text(rt.alloc(), texts)?;
-    assert_eq!(rt; written.as_str(), wanted.as_str());
+    same_text(rt, "report", written.as_str(), wanted.as_str());
     Ok(())
 }
 
@@ -195,8 +196,8 @@ fn refuses(
     said: &str,
 ) -> Result<(), Fail> {
     let fault = ToolFault::Script(fault);
-    assert_eq!(rt; replayed(rt.alloc(), pieces), Err(fault));
-    assert_eq!(rt; fault.number(), 4);
+    same(rt, said, &replayed(rt.alloc(), pieces), &Err(fault));
+    same(rt, said, &fault.number(), &4);
     told(rt, FaultText { fault, file: "a" }, said)
 }
 
@@ -489,9 +490,10 @@ fn report_into(rt: &(impl Abort + AllocGlobal), room: usize, errs: bool) {
     let expected = if fits { Ok(()) } else { Err(ToolFault::Write) };
     let mut sink = sink_of(rt.alloc(), room, errs);
     let answer = replay(rt.alloc(), ONE_CABLE, by_number, by_number, &mut sink);
-    assert_eq!(rt; answer, expected, "room for {room} octets");
+    same_at(rt, "octets of room", room, &answer, &expected);
     let taken = sink.into_inner().taken;
-    assert_eq!(rt; taken.as_slice(), &text[..room.min(text.len())]);
+    let wanted = &text[..room.min(text.len())];
+    same_octets(rt, "octets of room", room, taken.as_slice(), wanted);
 }
 
 #[test]
@@ -520,8 +522,14 @@ vectors 10 failed 0
     let mut sink = Sink::new(Vec::new(alloc));
     let summary = vectors(alloc, &mut sink)?;
     let (checked, faults) = (10, 0);
-    assert_eq!(rt; summary, Summary { checked, faults });
-    assert_eq!(rt; sink.into_inner().as_slice(), text.as_bytes());
+    same(&rt, "summary", &summary, &Summary { checked, faults });
+    same_octets(
+        &rt,
+        "vectors",
+        10,
+        sink.into_inner().as_slice(),
+        text.as_bytes(),
+    );
     Ok(())
 }
 
@@ -536,10 +544,8 @@ fn a_vector_that_fails_is_told(rt: HostRuntime) -> Result<(), Fail> {
     let mut sink = Sink::new(Vec::new(alloc));
     let summary = run_vectors(alloc, &vectors, &mut sink)?;
     let (checked, faults) = (3, 1);
-    assert_eq!(rt; summary, Summary { checked, faults });
-    assert_eq!(rt;
-        sink.into_inner().as_slice(),
-        b"V1 ok\nV2 failed\nV3 ok\nvectors 3 failed 1\n".as_slice()
-    );
+    same(&rt, "summary", &summary, &Summary { checked, faults });
+    let wanted = b"V1 ok\nV2 failed\nV3 ok\nvectors 3 failed 1\n";
+    same_octets(&rt, "vectors", 3, sink.into_inner().as_slice(), wanted);
     Ok(())
 }

@@ -2,6 +2,7 @@ ghost use Rattle.std.specs.Prelude.{◌≡◌, false};
 
 use crate::algorithm::by_number;
 use crate::checks::{FILE, Piecewise};
+use crate::comparing::{same, same_at};
 use crate::pieces::one_text;
 use crate::replays::{BOTH_UP, BOTH_UP_TEXT, MOVE, MOVE_TEXT, TWO_CABLES, TWO_PORTS};
 use crate::telling::told;
@@ -91,13 +92,12 @@ fn ends(
     let taken = writer.taken.as_slice();
     let came = writer.before.is_none();
     if came && writer.turn != Turn::TakesOne {
-        assert_eq!(rt; answer, Err(ToolFault::Write), "{place:?}");
-        assert!(rt; failed && taken.len() < report.len(), "{place:?}");
-        assert!(rt; report.starts_with(taken), "{place:?}: {taken:?}");
+        let is_beginning = taken.len() < report.len() && report.starts_with(taken);
+        let wanted = (place, Err(ToolFault::Write), true, true);
+        same(rt, "write", &(place, answer, failed, is_beginning), &wanted);
     } else {
-        assert_eq!(rt; answer, Ok(()), "{place:?}");
-        assert!(rt; !failed, "{place:?}");
-        assert_eq!(rt; taken, report, "{place:?}");
+        let wanted = (place, Ok(()), false, report);
+        same(rt, "write", &(place, answer, failed, taken), &wanted);
     }
     came
 }
@@ -134,7 +134,14 @@ fn one_write_of_a_check(rt: HostRuntime) {
             writes = writes.saturating_add(u32::from(checked(&rt, rt.alloc(), before, turn)));
         }
         // one for each line that ends, and one for the rest of the report
-        assert!(rt; writes >= 5 && writes < 100, "{writes}");
+        let counted = writes as usize;
+        same_at(
+            &rt,
+            "writes",
+            counted,
+            &(counted >= 5 && counted < 100),
+            &true,
+        );
     }
 }
 
@@ -150,7 +157,7 @@ fn one_write_of_a_replay(rt: HostRuntime) -> Result<(), Fail> {
             let came = ends(&rt, answer, sink, report.as_bytes(), (turn, before));
             writes = writes.saturating_add(usize::from(came));
         }
-        assert_eq!(rt; writes, report.len().div_ceil(64));
+        same(&rt, "writes", &writes, &report.len().div_ceil(64));
     }
     Ok(())
 }

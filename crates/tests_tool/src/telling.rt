@@ -1,5 +1,6 @@
 //! What a value is told as.
 
+use crate::comparing::same_text;
 use std::fmt::Display;
 use std::process::Abort;
 use std::test::Fail;
@@ -11,6 +12,6 @@ pub(crate) fn told<D: Display + Drop>(
     text: &str,
 ) -> Result<(), Fail> {
     let written = format!(in rt.alloc(); "{value}")?;
-    assert_eq!(rt; written.as_str(), text);
+    same_text(rt, "text", written.as_str(), text);
     Ok(())
 }

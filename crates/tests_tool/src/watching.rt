@@ -1,5 +1,6 @@
 use crate::algorithm::by_number;
 use crate::checks::whole;
+use crate::comparing::{same, same_octets, same_text};
 use lagstreams::{Sink, Source};
 use lagtool_jobs::{ONE_CABLE, Progress, UP, UP_TEXT, Watch, check_watched, replay_watched};
 use std::alloc::Global;
@@ -88,7 +89,7 @@ const SIGNS: [(u64, bool, &str); 5] = [
 fn signs_are_apart_and_go(rt: HostRuntime) {
     for (step, is_asked, text) in SIGNS {
         let said = shown(rt.alloc(), step, is_asked);
-        assert_eq!(rt; said.as_str(), text, "{step}");
+        same(&rt, "step and signs", &(step, said.as_str()), &(step, text));
     }
 }
 
@@ -119,7 +120,12 @@ const FAILING: [((u64, u64), &str); 5] = [
 fn nothing_is_shown_where_the_clock_fails(rt: HostRuntime) {
     for (unread, text) in FAILING {
         let said = shown_without(rt.alloc(), unread);
-        assert_eq!(rt; said.as_str(), text, "{unread:?}");
+        same(
+            &rt,
+            "times and signs",
+            &(unread, said.as_str()),
+            &(unread, text),
+        );
     }
 }
 
@@ -140,11 +146,12 @@ fn a_watched_replay_writes_the_same(rt: HostRuntime) -> Result<(), Fail> {
             &progress,
         )?;
         let written = sink.into_inner();
-        assert_eq!(rt; written.as_slice(), UP_TEXT.as_bytes());
+        same_octets(&rt, "report", 0, written.as_slice(), UP_TEXT.as_bytes());
         // both signs are gone before the report is written
         let shown = "\rlagtool: entry 16\rlagtool: entry 20\r\x1b[K";
         let said = fake.said.into_inner();
-        assert_eq!(rt; said.as_str(), if is_asked && !fails { shown } else { "" });
+        let wanted = if is_asked && !fails { shown } else { "" };
+        same_text(&rt, "signs", said.as_str(), wanted);
     }
     Ok(())
 }
@@ -163,13 +170,11 @@ fn a_watched_check_writes_the_same(rt: HostRuntime) -> Result<(), Fail> {
         let mut source = Source::new(whole(b"zz\n00\n"));
         let summary = check_watched(alloc, &mut source, &mut sink, &progress)?;
         progress.clear();
-        assert_eq!(rt; summary.checked, 2);
+        same(&rt, "checked", &summary.checked, &2);
         let written = sink.into_inner();
-        assert_eq!(rt;
-            written.as_slice(),
-            b"1 not hex\n2 runt\nchecked 2 faults 2\n".as_slice()
-        );
-        assert_eq!(rt; fake.said.into_inner().as_str(), text);
+        let wanted = b"1 not hex\n2 runt\nchecked 2 faults 2\n";
+        same_octets(&rt, "report", 0, written.as_slice(), wanted);
+        same_text(&rt, "signs", fake.said.into_inner().as_str(), text);
     }
     Ok(())
 }

@@ -1,3 +1,4 @@
+use crate::comparing::{same, same_at};
 use lagstreams::Sink;
 use lagtool_jobs::{
     ALONE, ALONE_TEXT, DATA_FRAME, Expectation, LACPDU, LACPDU_AND_MORE, LACPDU_OF_VERSION_2,
@@ -57,8 +58,11 @@ fn is_found(
     for (at, known) in VECTORS.iter().enumerate() {
         let mut changed = Vec::from_slice(alloc, *known)?;
         if at + 1 == number {
-            assert!(rt; place < changed.len(), "V{number} expects less");
-            changed[place] = mistake;
+            let is_there = place < changed.len();
+            same_at(rt, "an expectation of V", number, &is_there, &true);
+            if is_there {
+                changed[place] = mistake;
+            }
         }
         expected.push(changed)?;
     }
@@ -69,10 +73,18 @@ fn is_found(
     let mut sink = Sink::new(Vec::new(alloc));
     let summary = run_vectors(alloc, vectors.as_slice(), &mut sink)?;
     let (checked, faults) = (10, 1);
-    assert_eq!(rt; summary, Summary { checked, faults });
+    same_at(
+        rt,
+        "summary at V",
+        number,
+        &summary,
+        &Summary { checked, faults },
+    );
     let written = String::from_utf8_lossy(alloc, sink.into_inner().as_slice())?;
     let wanted = one_failed(alloc, number)?;
-    assert_eq!(rt; written.as_str(), wanted.as_str(), "V{number}, {place}");
+    let came = (number, place, written.as_str());
+    let wanted = (number, place, wanted.as_str());
+    same(rt, "vector, place and lines", &came, &wanted);
     Ok(())
 }
 

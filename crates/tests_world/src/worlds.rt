@@ -153,14 +153,15 @@ fn is_from_zero(serials: &[u64]) -> bool {
 
 /// Compares what a conversation sent and collected with what a row expects.
 fn compare_flow(rt: &impl Abort, told: Flow, sent: &[u64], collected: &[u64], forced: bool) {
-    let came = (sent.len(), is_from_zero(sent), collected, forced);
-    let wanted = (told.sent, true, told.collected, told.forced);
-    assert_eq!(rt;
-        came,
-        wanted,
-        "conversation {} of system {}",
-        told.conv, told.system
+    let came = (
+        told.system,
+        sent.len(),
+        is_from_zero(sent),
+        collected,
+        forced,
     );
+    let wanted = (told.system, told.sent, true, told.collected, told.forced);
+    same_at(rt, "conversation", usize::from(told.conv), &came, &wanted);
 }
 
 /// Compares what the readers return with what a row expects.

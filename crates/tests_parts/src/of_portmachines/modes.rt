@@ -3,7 +3,7 @@ use portmachines::PeriodicState;
 
 #[test]
 fn another_mode_is_told_to_the_partner(rt: HostRuntime) {
-    let steps = [
+    const STEPS: [Step; 19] = [
         Step::Sends(Some(0xc7)),
         // active and short, as before
         Step::Mode(true, true),
@@ -27,7 +27,7 @@ fn another_mode_is_told_to_the_partner(rt: HostRuntime) {
         Step::Take(0x05),
         Step::Is(Fact::CurrentWhile(30)),
     ];
-    walk(&rt, port_after_a_second(), &steps);
+    walk(&rt, port_after_a_second(), &STEPS);
 }
 
 #[test]

@@ -1,5 +1,5 @@
 use crate::comparing::same;
-use crate::hosts::playing::{Row, come_up, config, heard, modulo, play};
+use crate::hosts::playing::{COME_UP, Row, config, heard, modulo, play};
 use dataplane::{SavedPort, resume};
 use lagsystem::{Assignment, System, SystemFault};
 use std::test::Fail;
@@ -18,13 +18,7 @@ const FREE: Assignment = Assignment::Free { preferred: None };
 
 #[test]
 fn conversations_go_back_to_the_ports_of_the_chip(rt: HostRuntime) -> Result<(), Fail> {
-    let alloc = rt.alloc();
-    let ports = [saved(3), saved(7)];
-    let Ok(mut system) = resume(alloc, config(alloc, 70)?, modulo, &ports) else {
-        same(&rt, "there is a system", &false, &true);
-        return Ok(());
-    };
-    let rows = [
+    const ROWS: [Row<'static>; 17] = [
         Row::Sends(3),
         Row::Sends(7),
         // the algorithm picks 3 for 14, and 7 for 15 and 17
@@ -45,16 +39,19 @@ fn conversations_go_back_to_the_ports_of_the_chip(rt: HostRuntime) -> Result<(),
         Row::Adopts(1, 14, 3, Err(SystemFault::Held)),
         Row::State(1, 14, Assignment::On(7)),
     ];
-    play(&rt, &mut system, &rows);
+    let alloc = rt.alloc();
+    let ports = [saved(3), saved(7)];
+    let Ok(mut system) = resume(alloc, config(alloc, 70)?, modulo, &ports) else {
+        same(&rt, "there is a system", &false, &true);
+        return Ok(());
+    };
+    play(&rt, &mut system, &ROWS);
     Ok(())
 }
 
 #[test]
 fn what_is_not_adopted_stays(rt: HostRuntime) -> Result<(), Fail> {
-    let alloc = rt.alloc();
-    let mut system = System::new(alloc, config(alloc, 4_294_967_295)?, modulo)?;
-    play(&rt, &mut system, &come_up());
-    let rows = [
+    const ROWS: [Row<'static>; 20] = [
         Row::Adopts(3, 999, 4, Err(SystemFault::NoAggregator)),
         Row::Adopts(0, 14, 7, Err(SystemFault::NoAggregator)),
         Row::Adopts(1, 999, 4, Err(SystemFault::NoPort)),
@@ -79,6 +76,9 @@ fn what_is_not_adopted_stays(rt: HostRuntime) -> Result<(), Fail> {
         Row::Adopts(1, 15, 7, Err(SystemFault::MarkersSpent)),
         Row::State(1, 15, FREE),
     ];
-    play(&rt, &mut system, &rows);
+    let alloc = rt.alloc();
+    let mut system = System::new(alloc, config(alloc, 4_294_967_295)?, modulo)?;
+    play(&rt, &mut system, &COME_UP);
+    play(&rt, &mut system, &ROWS);
     Ok(())
 }

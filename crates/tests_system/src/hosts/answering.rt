@@ -2,7 +2,7 @@ ghost use Rattle.std.specs.Prelude.{◌≡◌};
 ghost use Rattle.distributor.specs.Calls.{PicksIndexes};
 
 use crate::comparing::same;
-use crate::hosts::playing::{Row as Played, come_up, config, marker, modulo, play};
+use crate::hosts::playing::{COME_UP, Row as Played, config, marker, modulo, play};
 use dataplane::{Answering, MarkerNote};
 use lagsystem::{Call, NoMemory, Reply, System, SystemFault};
 use std::alloc::Global;
@@ -137,7 +137,7 @@ fn plays(rt: &impl Abort, alloc: Global, rows: &[Row]) -> Result<(), Fail> {
 
 #[test]
 fn a_probe_asks_and_a_response_answers(rt: HostRuntime) -> Result<(), Fail> {
-    let rows = [
+    const ROWS: [Row; 20] = [
         Row::Noted(3, 0, "never-asked"),
         // its link is down
         Row::Probes(3),
@@ -161,12 +161,12 @@ fn a_probe_asks_and_a_response_answers(rt: HostRuntime) -> Result<(), Fail> {
         Row::Link(3, true),
         Row::Noted(3, 0, "never-asked"),
     ];
-    plays(&rt, rt.alloc(), &rows)
+    plays(&rt, rt.alloc(), &ROWS)
 }
 
 #[test]
 fn a_response_to_another_marker_does_not_answer(rt: HostRuntime) -> Result<(), Fail> {
-    let rows = [
+    const ROWS: [Row; 18] = [
         Row::Link(3, true),
         Row::Link(7, true),
         // to no marker yet
@@ -189,12 +189,12 @@ fn a_response_to_another_marker_does_not_answer(rt: HostRuntime) -> Result<(), F
         Row::Noted(3, 2, "answered"),
         Row::Noted(7, 1, "asked"),
     ];
-    plays(&rt, rt.alloc(), &rows)
+    plays(&rt, rt.alloc(), &ROWS)
 }
 
 #[test]
 fn a_restart_forgets(rt: HostRuntime) -> Result<(), Fail> {
-    let rows = [
+    const ROWS: [Row; 8] = [
         Row::Link(3, true),
         Row::Link(7, true),
         Row::Probes(3),
@@ -204,30 +204,30 @@ fn a_restart_forgets(rt: HostRuntime) -> Result<(), Fail> {
         Row::Noted(3, 0, "never-asked"),
         Row::Noted(7, 0, "never-asked"),
     ];
-    plays(&rt, rt.alloc(), &rows)
+    plays(&rt, rt.alloc(), &ROWS)
 }
 
 #[test]
 fn a_sent_marker_asks_and_an_lacpdu_does_not(rt: HostRuntime) -> Result<(), Fail> {
-    let alloc = rt.alloc();
-    let mut system = System::new(alloc, config(alloc, 70)?, modulo)?;
-    let mut notes = Answering::nobody_asked();
-    play(&rt, &mut system, &come_up()[..5]);
-    let told = [Row::Sends(3, 1), Row::Noted(3, 0, "never-asked")];
-    steps(&rt, alloc, &mut system, &mut notes, &told)?;
-    let moved = [
+    const FIRST: [Row; 2] = [Row::Sends(3, 1), Row::Noted(3, 0, "never-asked")];
+    const MOVED: [Played<'static>; 2] = [
         Played::OffersConversation(1, 14, Ok(3)),
         Played::Moves(1, 14, 7, Ok(())),
     ];
-    play(&rt, &mut system, &moved);
-    let told = [
+    const THEN: [Row; 5] = [
         Row::Sends(3, 2),
         Row::Noted(3, 1, "asked"),
         Row::Noted(7, 0, "never-asked"),
         Row::Responds(3, 0x21, 3, 70),
         Row::Noted(3, 2, "answered"),
     ];
-    steps(&rt, alloc, &mut system, &mut notes, &told)
+    let alloc = rt.alloc();
+    let mut system = System::new(alloc, config(alloc, 70)?, modulo)?;
+    let mut notes = Answering::nobody_asked();
+    play(&rt, &mut system, &COME_UP[..5]);
+    steps(&rt, alloc, &mut system, &mut notes, &FIRST)?;
+    play(&rt, &mut system, &MOVED);
+    steps(&rt, alloc, &mut system, &mut notes, &THEN)
 }
 
 /// The calls of these rows.
@@ -241,16 +241,20 @@ fn calls_of(alloc: Global, rows: &[Row]) -> Result<Vec<Call>, NoMemory> {
 
 #[test]
 fn calls_that_are_driven_are_noted_one_after_another(rt: HostRuntime) -> Result<(), Fail> {
-    let alloc = rt.alloc();
-    let mut system = System::new(alloc, config(alloc, 70)?, modulo)?;
-    let mut notes = Answering::nobody_asked();
-    let asked = [
+    const ASKED: [Row; 4] = [
         Row::Link(3, true),
         Row::Link(7, true),
         Row::Probes(3),
         Row::Probes(7),
     ];
-    steps(&rt, alloc, &mut system, &mut notes, &asked)?;
+    const TOLD: [Row; 2] = [
+        Row::Noted(3, 0, "never-asked"),
+        Row::Noted(7, 2, "answered"),
+    ];
+    let alloc = rt.alloc();
+    let mut system = System::new(alloc, config(alloc, 70)?, modulo)?;
+    let mut notes = Answering::nobody_asked();
+    steps(&rt, alloc, &mut system, &mut notes, &ASKED)?;
     let calls = calls_of(
         alloc,
         &[
@@ -262,9 +266,5 @@ fn calls_that_are_driven_are_noted_one_after_another(rt: HostRuntime) -> Result<
     )?;
     let replies = system.drive(alloc, calls.as_slice())?;
     notes.after_calls(&system, calls.as_slice(), replies.as_slice());
-    let told = [
-        Row::Noted(3, 0, "never-asked"),
-        Row::Noted(7, 2, "answered"),
-    ];
-    steps(&rt, alloc, &mut system, &mut notes, &told)
+    steps(&rt, alloc, &mut system, &mut notes, &TOLD)
 }

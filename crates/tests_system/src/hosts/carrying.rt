@@ -3,7 +3,7 @@ use lagsystem::{Assignment, SystemFault};
 
 #[test]
 fn a_conversation_is_held_until_it_is_free_elsewhere(rt: HostRuntime) -> Result<(), SystemFault> {
-    let rows = [
+    const ROWS: [Row<'static>; 13] = [
         // 165 % 2 is 1: the second port that distributes
         Row::OffersInActiveAggregator(1, 165, Ok(7)),
         Row::State(1, 165, Assignment::On(7)),
@@ -21,14 +21,14 @@ fn a_conversation_is_held_until_it_is_free_elsewhere(rt: HostRuntime) -> Result<
         Row::OffersInActiveAggregator(2, 165, Err(SystemFault::NoneDistributing)),
         Row::OffersInActiveAggregator(1, 165, Ok(7)),
     ];
-    plays(&rt, rt.alloc(), 11, &rows)
+    plays(&rt, rt.alloc(), 11, &ROWS)
 }
 
 #[test]
 fn offers_in_the_active_aggregator_are_refused_in_order(
     rt: HostRuntime,
 ) -> Result<(), SystemFault> {
-    let rows = [
+    const ROWS: [Row<'static>; 7] = [
         Row::OffersInActiveAggregator(0, 300, Err(SystemFault::NoAggregator)),
         Row::OffersInActiveAggregator(3, 90, Err(SystemFault::NoAggregator)),
         Row::OffersInActiveAggregator(1, 256, Err(SystemFault::NotAssigned)),
@@ -39,5 +39,5 @@ fn offers_in_the_active_aggregator_are_refused_in_order(
         // another conversation is not held with it
         Row::OffersInActiveAggregator(2, 91, Err(SystemFault::NoneDistributing)),
     ];
-    plays(&rt, rt.alloc(), 1, &rows)
+    plays(&rt, rt.alloc(), 1, &ROWS)
 }

@@ -74,8 +74,7 @@ fn plays(rt: &impl Abort, held: &mut Holding<u32>, rows: &[Row], wanted: Counts)
 
 #[test]
 fn two_conversations_with_three_places_each_and_four_in_all(rt: HostRuntime) -> Result<(), Fail> {
-    let mut held = Holding::new(rt.alloc(), 2, 4, 3)?;
-    let rows = [
+    const FILLED: [Row; 8] = [
         Row::Next(0, None),
         Row::Put(0, 10, None),
         Row::Put(1, 20, None),
@@ -85,8 +84,7 @@ fn two_conversations_with_three_places_each_and_four_in_all(rt: HostRuntime) -> 
         Row::Put(1, 21, Some(Refusal::AllFull)),
         Row::Put(2, 30, Some(Refusal::NoConversation)),
     ];
-    plays(&rt, &mut held, &rows, (3, 1, 4, 0, 3));
-    let rows = [
+    const TURNED: [Row; 10] = [
         Row::Next(0, Some(10)),
         Row::Put(1, 21, None),
         Row::DropOldest(0, Some(11)),
@@ -98,8 +96,7 @@ fn two_conversations_with_three_places_each_and_four_in_all(rt: HostRuntime) -> 
         Row::DropOldest(2, None),
         Row::Clear(2, 0),
     ];
-    plays(&rt, &mut held, &rows, (2, 1, 3, 1, 3));
-    let rows = [
+    const EMPTIED: [Row; 6] = [
         Row::Clear(0, 2),
         Row::Next(0, None),
         Row::DropOldest(1, Some(21)),
@@ -107,7 +104,10 @@ fn two_conversations_with_three_places_each_and_four_in_all(rt: HostRuntime) -> 
         Row::Put(0, 16, None),
         Row::Next(0, Some(16)),
     ];
-    plays(&rt, &mut held, &rows, (0, 0, 0, 4, 3));
+    let mut held = Holding::new(rt.alloc(), 2, 4, 3)?;
+    plays(&rt, &mut held, &FILLED, (3, 1, 4, 0, 3));
+    plays(&rt, &mut held, &TURNED, (2, 1, 3, 1, 3));
+    plays(&rt, &mut held, &EMPTIED, (0, 0, 0, 4, 3));
     Ok(())
 }
 
@@ -130,15 +130,15 @@ fn releases(
 
 #[test]
 fn what_is_on_a_port_leaves_in_order_and_what_is_not_stays(rt: HostRuntime) -> Result<(), Fail> {
-    let mut held = Holding::new(rt.alloc(), 4, 8, 8)?;
-    let rows = [
+    const ROWS: [Row; 5] = [
         Row::Put(3, 30, None),
         Row::Put(1, 10, None),
         Row::Put(0, 1, None),
         Row::Put(1, 11, None),
         Row::Put(3, 31, None),
     ];
-    plays(&rt, &mut held, &rows, (1, 2, 5, 0, 0));
+    let mut held = Holding::new(rt.alloc(), 4, 8, 8)?;
+    plays(&rt, &mut held, &ROWS, (1, 2, 5, 0, 0));
     let ports = [0, 7, 7, 5];
     for wanted in &[
         Some((1, 7, 10)),
@@ -213,19 +213,19 @@ fn all_memory_is_taken_at_the_start(rt: HostRuntime) -> Result<(), Fail> {
 
 #[test]
 fn a_conversation_has_no_more_places_than_may_wait_in_all(rt: HostRuntime) -> Result<(), Fail> {
-    let mut held = Holding::new(rt.alloc(), 300, 3, usize::MAX)?;
-    let full = Some(Refusal::AllFull);
-    let rows = [
+    const FULL: Option<Refusal> = Some(Refusal::AllFull);
+    const ROWS: [Row; 7] = [
         Row::Put(299, 70, None),
         Row::Put(299, 71, None),
         Row::Put(299, 72, None),
-        Row::Put(299, 73, full),
-        Row::Put(5, 74, full),
+        Row::Put(299, 73, FULL),
+        Row::Put(5, 74, FULL),
         Row::Next(299, Some(70)),
         Row::Put(5, 75, None),
     ];
-    plays(&rt, &mut held, &rows, (0, 0, 3, 0, 2));
+    let mut held = Holding::new(rt.alloc(), 300, 3, usize::MAX)?;
+    plays(&rt, &mut held, &ROWS, (0, 0, 3, 0, 2));
     let mut none: Holding<u32> = Holding::new(rt.alloc(), 300, 0, usize::MAX)?;
-    puts(&rt, &mut none, 0, (299, 1), full);
+    puts(&rt, &mut none, 0, (299, 1), FULL);
     Ok(())
 }

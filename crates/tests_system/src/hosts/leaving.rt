@@ -3,26 +3,26 @@ use lagsystem::{Assignment, SystemFault};
 
 #[test]
 fn a_conversation_leaves_its_port_for_none(rt: HostRuntime) -> Result<(), SystemFault> {
-    let wanted = Assignment::Wanted {
+    const WANTED: Assignment = Assignment::Wanted {
         port: 7,
         preferred: None,
     };
-    let flushing = Assignment::Flushing {
+    const FLUSHING: Assignment = Assignment::Flushing {
         port: 7,
         id: 40,
         preferred: None,
         age: 0,
     };
-    let rows = [
+    const ROWS: [Row<'static>; 15] = [
         Row::OffersConversation(1, 23, Ok(7)),
         Row::OffersConversation(1, 25, Ok(7)),
         Row::Leaves(1, 23, Ok(())),
-        Row::State(1, 23, wanted),
+        Row::State(1, 23, WANTED),
         Row::State(1, 25, Assignment::On(7)),
         Row::Held(7, Ok(1)),
         Row::Held(3, Ok(0)),
         Row::Marks(7, Some(40)),
-        Row::State(1, 23, flushing),
+        Row::State(1, 23, FLUSHING),
         Row::Held(7, Ok(1)),
         Row::Releases(7, 40, 1),
         Row::State(1, 23, Assignment::Free { preferred: None }),
@@ -30,12 +30,12 @@ fn a_conversation_leaves_its_port_for_none(rt: HostRuntime) -> Result<(), System
         Row::ForcesPort(7, Ok(0)),
         Row::State(1, 25, Assignment::On(7)),
     ];
-    plays(&rt, rt.alloc(), 40, &rows)
+    plays(&rt, rt.alloc(), 40, &ROWS)
 }
 
 #[test]
 fn leaving_is_refused_in_order(rt: HostRuntime) -> Result<(), SystemFault> {
-    let rows = [
+    const ROWS: [Row<'static>; 14] = [
         Row::OffersConversation(1, 6, Ok(3)),
         Row::OffersConversation(1, 8, Ok(3)),
         Row::Leaves(0, 6, Err(SystemFault::NoAggregator)),
@@ -52,12 +52,12 @@ fn leaving_is_refused_in_order(rt: HostRuntime) -> Result<(), SystemFault> {
         Row::Leaves(1, 8, Err(SystemFault::MarkersSpent)),
         Row::State(1, 8, Assignment::On(3)),
     ];
-    plays(&rt, rt.alloc(), 4294967295, &rows)
+    plays(&rt, rt.alloc(), 4294967295, &ROWS)
 }
 
 #[test]
 fn a_conversation_rests(rt: HostRuntime) -> Result<(), SystemFault> {
-    let rows = [
+    const ROWS: [Row<'static>; 18] = [
         Row::OffersConversation(1, 9, Ok(7)),
         Row::OffersConversation(1, 13, Ok(7)),
         Row::Moves(1, 13, 3, Ok(())),
@@ -77,5 +77,5 @@ fn a_conversation_rests(rt: HostRuntime) -> Result<(), SystemFault> {
         Row::ForcesPort(7, Ok(0)),
         Row::Held(8, Err(SystemFault::NoPort)),
     ];
-    plays(&rt, rt.alloc(), 2, &rows)
+    plays(&rt, rt.alloc(), 2, &ROWS)
 }

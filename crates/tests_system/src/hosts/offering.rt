@@ -6,7 +6,7 @@ const FRAME: [u8; 14] = [2, 0, 0, 0, 0, 0xb7, 2, 0, 0, 0, 0, 0x12, 8, 0];
 
 #[test]
 fn a_conversation_goes_where_its_frames_go(rt: HostRuntime) -> Result<(), SystemFault> {
-    let rows = [
+    const ROWS: [Row<'static>; 16] = [
         // 165 % 2 is 1: the second port that distributes
         Row::OffersConversation(1, 165, Ok(7)),
         Row::State(1, 165, Assignment::On(7)),
@@ -27,12 +27,12 @@ fn a_conversation_goes_where_its_frames_go(rt: HostRuntime) -> Result<(), System
         Row::Due(3, false),
         Row::Due(7, false),
     ];
-    plays(&rt, rt.alloc(), 11, &rows)
+    plays(&rt, rt.alloc(), 11, &ROWS)
 }
 
 #[test]
 fn offers_of_a_conversation_are_refused_in_order(rt: HostRuntime) -> Result<(), SystemFault> {
-    let rows = [
+    const ROWS: [Row<'static>; 6] = [
         Row::OffersConversation(0, 300, Err(SystemFault::NoAggregator)),
         Row::OffersConversation(3, 300, Err(SystemFault::NoAggregator)),
         Row::OffersConversation(1, 256, Err(SystemFault::NotAssigned)),
@@ -41,5 +41,5 @@ fn offers_of_a_conversation_are_refused_in_order(rt: HostRuntime) -> Result<(), 
         Row::OffersConversation(2, 255, Err(SystemFault::NoneDistributing)),
         Row::OffersConversation(1, 255, Ok(7)),
     ];
-    plays(&rt, rt.alloc(), 1, &rows)
+    plays(&rt, rt.alloc(), 1, &ROWS)
 }

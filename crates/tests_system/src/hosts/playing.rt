@@ -148,17 +148,15 @@ pub(crate) fn config(alloc: Global, first_marker: u32) -> Result<Config, NoMemor
 }
 
 /// Ports 3 and 7 come to distribute in aggregator 1; the link of port 9 stays down. Each sends its LACPDU.
-pub(crate) fn come_up() -> [Row<'static>; 7] {
-    [
-        Row::Link(3, true),
-        Row::Link(7, true),
-        Row::Hears(3),
-        Row::Hears(7),
-        Row::Ticks(20),
-        Row::Sends(3),
-        Row::Sends(7),
-    ]
-}
+pub(crate) const COME_UP: [Row<'static>; 7] = [
+    Row::Link(3, true),
+    Row::Link(7, true),
+    Row::Hears(3),
+    Row::Hears(7),
+    Row::Ticks(20),
+    Row::Sends(3),
+    Row::Sends(7),
+];
 
 fn made(
     kind: u8,
@@ -353,7 +351,7 @@ pub(crate) fn plays(
     rows: &[Row<'_>],
 ) -> Result<(), SystemFault> {
     let mut system = System::new(alloc, config(alloc, first_marker)?, modulo)?;
-    play(rt, &mut system, &come_up());
+    play(rt, &mut system, &COME_UP);
     play(rt, &mut system, rows);
     Ok(())
 }

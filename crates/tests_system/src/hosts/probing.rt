@@ -3,13 +3,13 @@ use lagsystem::{Assignment, SystemFault};
 
 #[test]
 fn a_probe_is_the_next_marker(rt: HostRuntime) -> Result<(), SystemFault> {
-    let flushing = Assignment::Flushing {
+    const FLUSHING: Assignment = Assignment::Flushing {
         port: 3,
         id: 71,
         preferred: Some(7),
         age: 0,
     };
-    let rows = [
+    const ROWS: [Row<'static>; 16] = [
         Row::Marks(3, None),
         Row::Probes(3, Ok(Some(70))),
         Row::Next(Some(71)),
@@ -20,7 +20,7 @@ fn a_probe_is_the_next_marker(rt: HostRuntime) -> Result<(), SystemFault> {
         Row::Moves(1, 14, 7, Ok(())),
         Row::Due(3, true),
         Row::Probes(3, Ok(Some(71))),
-        Row::State(1, 14, flushing),
+        Row::State(1, 14, FLUSHING),
         Row::State(1, 16, Assignment::On(3)),
         Row::Due(3, false),
         Row::Marks(3, None),
@@ -28,12 +28,12 @@ fn a_probe_is_the_next_marker(rt: HostRuntime) -> Result<(), SystemFault> {
         Row::State(1, 14, Assignment::Free { preferred: Some(7) }),
         Row::Probes(7, Ok(Some(72))),
     ];
-    plays(&rt, rt.alloc(), 70, &rows)
+    plays(&rt, rt.alloc(), 70, &ROWS)
 }
 
 #[test]
 fn no_probe_goes_out_where_none_can(rt: HostRuntime) -> Result<(), SystemFault> {
-    let rows = [
+    const ROWS: [Row<'static>; 7] = [
         Row::Probes(8, Err(SystemFault::NoPort)),
         // its link is down
         Row::Probes(9, Ok(None)),
@@ -43,5 +43,5 @@ fn no_probe_goes_out_where_none_can(rt: HostRuntime) -> Result<(), SystemFault> 
         Row::Probes(7, Ok(None)),
         Row::Probes(3, Ok(None)),
     ];
-    plays(&rt, rt.alloc(), 4294967295, &rows)
+    plays(&rt, rt.alloc(), 4294967295, &ROWS)
 }

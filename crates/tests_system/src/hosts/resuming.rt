@@ -60,6 +60,16 @@ fn refused(
 
 #[test]
 fn saved_ports_distribute_at_once(rt: HostRuntime) -> Result<(), Fail> {
+    const ROWS: [Row<'static>; 8] = [
+        Row::Due(3, false),
+        Row::Sends(7),
+        Row::Due(9, false),
+        Row::State(1, 14, Assignment::Free { preferred: None }),
+        Row::OffersConversation(1, 14, Ok(3)),
+        Row::OffersConversation(1, 15, Ok(7)),
+        Row::Moves(1, 14, 7, Ok(())),
+        Row::Marks(3, Some(70)),
+    ];
     let alloc = rt.alloc();
     let ports = [saved(3, 899), saved(7, 0)];
     let Ok(mut system) = resume(alloc, config(alloc, 70)?, modulo, &ports) else {
@@ -71,17 +81,7 @@ fn saved_ports_distribute_at_once(rt: HostRuntime) -> Result<(), Fail> {
         same(&rt, "Actor_State", &sent[ACTOR_STATE], &0x3d);
         same(&rt, "Partner_State", &sent[PARTNER_STATE], &0x0d);
     }
-    let rows = [
-        Row::Due(3, false),
-        Row::Sends(7),
-        Row::Due(9, false),
-        Row::State(1, 14, Assignment::Free { preferred: None }),
-        Row::OffersConversation(1, 14, Ok(3)),
-        Row::OffersConversation(1, 15, Ok(7)),
-        Row::Moves(1, 14, 7, Ok(())),
-        Row::Marks(3, Some(70)),
-    ];
-    play(&rt, &mut system, &rows);
+    play(&rt, &mut system, &ROWS);
     Ok(())
 }
 

@@ -1,5 +1,5 @@
 use crate::comparing::{same, same_at};
-use crate::hosts::playing::{Row, come_up, config, modulo, play};
+use crate::hosts::playing::{COME_UP, Row, config, modulo, play};
 use lagsystem::{AggId, System, SystemFault};
 use std::process::Abort;
 
@@ -31,19 +31,19 @@ fn tells_ports<F: Fn(u16, usize) -> usize + Drop>(
 
 #[test]
 fn each_conversation_tells_its_port_at_once(rt: HostRuntime) -> Result<(), SystemFault> {
-    let alloc = rt.alloc();
-    let mut system = System::new(alloc, config(alloc, 5)?, modulo)?;
-    play(&rt, &mut system, &come_up());
-    let mut ports = [0; 256];
-    let mut changed = [true; 256];
-    let told = [(255, 0, false)];
-    tells_ports(&rt, &system, &mut ports, &mut changed, (1, Ok(0)), &told);
-    let rows = [
+    const ROWS: [Row<'static>; 3] = [
         Row::OffersConversation(1, 0, Ok(3)),
         Row::OffersConversation(1, 101, Ok(7)),
         Row::OffersConversation(1, 255, Ok(7)),
     ];
-    play(&rt, &mut system, &rows);
+    let alloc = rt.alloc();
+    let mut system = System::new(alloc, config(alloc, 5)?, modulo)?;
+    play(&rt, &mut system, &COME_UP);
+    let mut ports = [0; 256];
+    let mut changed = [true; 256];
+    let told = [(255, 0, false)];
+    tells_ports(&rt, &system, &mut ports, &mut changed, (1, Ok(0)), &told);
+    play(&rt, &mut system, &ROWS);
     let told = [(0, 3, true), (1, 0, false), (101, 7, true), (255, 7, true)];
     tells_ports(&rt, &system, &mut ports, &mut changed, (1, Ok(3)), &told);
     // a conversation that waits has no port, and what it prefers is none either
@@ -59,14 +59,14 @@ fn each_conversation_tells_its_port_at_once(rt: HostRuntime) -> Result<(), Syste
 
 #[test]
 fn rows_are_told_as_far_as_both_lists_go(rt: HostRuntime) -> Result<(), SystemFault> {
-    let alloc = rt.alloc();
-    let mut system = System::new(alloc, config(alloc, 5)?, modulo)?;
-    play(&rt, &mut system, &come_up());
-    let rows = [
+    const ROWS: [Row<'static>; 2] = [
         Row::OffersConversation(1, 2, Ok(3)),
         Row::OffersConversation(1, 3, Ok(7)),
     ];
-    play(&rt, &mut system, &rows);
+    let alloc = rt.alloc();
+    let mut system = System::new(alloc, config(alloc, 5)?, modulo)?;
+    play(&rt, &mut system, &COME_UP);
+    play(&rt, &mut system, &ROWS);
     let mut ports = [19; 4];
     let mut changed = [true; 3];
     let told = [(0, 0, true), (1, 0, true), (2, 3, true)];
@@ -140,12 +140,7 @@ const DOWN: [Freed; 4] = [
 
 #[test]
 fn what_a_call_sets_free_is_told(rt: HostRuntime) -> Result<(), SystemFault> {
-    let alloc = rt.alloc();
-    let mut system = System::new(alloc, config(alloc, 5)?, modulo)?;
-    play(&rt, &mut system, &come_up());
-    let mut busy = [false; 256];
-    let mut freed = [true; 256];
-    let rows = [
+    const WAITING: [Row<'static>; 6] = [
         Row::OffersConversation(1, 40, Ok(3)),
         Row::OffersConversation(1, 42, Ok(3)),
         Row::OffersConversation(1, 43, Ok(7)),
@@ -153,10 +148,15 @@ fn what_a_call_sets_free_is_told(rt: HostRuntime) -> Result<(), SystemFault> {
         Row::Moves(1, 42, 7, Ok(())),
         Row::Moves(1, 45, 3, Ok(())),
     ];
-    play(&rt, &mut system, &rows);
+    const ANSWERS: [Row<'static>; 2] = [Row::Marks(3, Some(5)), Row::Releases(3, 5, 1)];
+    let alloc = rt.alloc();
+    let mut system = System::new(alloc, config(alloc, 5)?, modulo)?;
+    play(&rt, &mut system, &COME_UP);
+    let mut busy = [false; 256];
+    let mut freed = [true; 256];
+    play(&rt, &mut system, &WAITING);
     tells_released(&rt, &system, &mut busy, &mut freed, (1, Ok(0)), &MOVED);
-    let rows = [Row::Marks(3, Some(5)), Row::Releases(3, 5, 1)];
-    play(&rt, &mut system, &rows);
+    play(&rt, &mut system, &ANSWERS);
     tells_released(&rt, &system, &mut busy, &mut freed, (1, Ok(1)), &ANSWERED);
     play(&rt, &mut system, &[Row::Link(7, false)]);
     tells_released(&rt, &system, &mut busy, &mut freed, (1, Ok(2)), &DOWN);

@@ -1,6 +1,6 @@
 use crate::comparing::same_in_row;
 use crate::systems::plan::plan_of_all;
-use crate::systems::{Row, config, end, mac, marker, modulo};
+use crate::systems::{Row, Side, config, mac, marker, modulo};
 use lagsystem::{AggId, Call, HostCall, HostReply, NoMemory, Received, Reply, System, SystemFault};
 use slowpdu::{MarkerKind, frame};
 use std::alloc::Global;
@@ -68,21 +68,19 @@ fn marked(id: u32) -> [u8; 124] {
 }
 
 /// Ports 1 and 2 come to distribute in aggregator 1.
-fn both_up() -> [Row<'static>; 5] {
-    [
-        Row::Link(1, true),
-        Row::Link(2, true),
-        Row::Takes(1, end(2, 1, 1, 0x0d), end(1, 1, 1, 0x07)),
-        Row::Takes(2, end(2, 2, 1, 0x0d), end(1, 2, 1, 0x07)),
-        Row::Ticks(20),
-    ]
-}
+const BOTH_UP: [Row<'static>; 5] = [
+    Row::Link(1, true),
+    Row::Link(2, true),
+    Row::Takes(1, Side::Of(2, 1, 1, 0x0d), Side::Of(1, 1, 1, 0x07)),
+    Row::Takes(2, Side::Of(2, 2, 1, 0x0d), Side::Of(1, 2, 1, 0x07)),
+    Row::Ticks(20),
+];
 
 #[test]
 fn each_kind_of_host_call(rt: HostRuntime) -> Result<(), SystemFault> {
     let alloc = rt.alloc();
     let mut system = System::new(alloc, config(alloc, &[1, 2], 2)?, modulo)?;
-    let _replies = system.drive(alloc, &plan_of_all(alloc, &both_up())?.calls)?;
+    let _replies = system.drive(alloc, &plan_of_all(alloc, &BOTH_UP)?.calls)?;
     let rows = [
         offered(48, Ok(1)),
         offered(49, Ok(2)),

@@ -1,6 +1,5 @@
-use crate::systems::{DATA, Row, config, end, joined, marker, plays, plays_lists, plays_with};
+use crate::systems::{DATA, Response, Row, Side, config, joined, plays, plays_lists, plays_with};
 use lagsystem::{Assignment, Received, SystemFault};
-use slowpdu::{Marker, MarkerKind};
 
 /// A data frame of conversation 49.
 const NEXT: [u8; 14] = [2, 0, 0, 0, 0, 0x21, 2, 0, 0, 0, 0, 0x10, 8, 0];
@@ -14,60 +13,50 @@ const LAST: [u8; 14] = [2, 0, 0, 0, 0, 0xa5, 2, 0, 0, 0, 0, 0x5a, 8, 0];
 /// A data frame of conversation 304 if there are 4096 of them, and of conversation 48 if there are 256.
 const WIDE: [u8; 14] = [2, 0, 0, 0, 0xf1, 0x20, 2, 0, 0, 0, 0, 0x10, 8, 0];
 
-/// A Marker Response that names system 1.
-fn response(port: u16, id: u32) -> Marker {
-    marker(MarkerKind::Response, port, 1, id)
-}
-
 /// Ports 1 and 2 come up: both distribute in aggregator 1, with system 2 as their partner; then nothing is due, and no
 /// LACPDU was sent in the last eleven ticks.
-pub(crate) fn coming_up() -> [Row<'static>; 17] {
-    [
-        Row::Link(1, true),
-        Row::Link(2, true),
-        Row::Takes(1, end(2, 1, 1, 0x05), end(1, 1, 1, 0x07)),
-        Row::Takes(2, end(2, 2, 1, 0x05), end(1, 2, 1, 0x07)),
-        Row::Ticks(20),
-        Row::Sends(1, end(1, 1, 1, 0x0f), end(2, 1, 1, 0x05)),
-        Row::Sends(2, end(1, 2, 1, 0x0f), end(2, 2, 1, 0x05)),
-        Row::Takes(1, end(2, 1, 1, 0x0d), end(1, 1, 1, 0x0f)),
-        Row::Takes(2, end(2, 2, 1, 0x0d), end(1, 2, 1, 0x0f)),
-        Row::Sends(1, end(1, 1, 1, 0x3f), end(2, 1, 1, 0x0d)),
-        Row::Sends(2, end(1, 2, 1, 0x3f), end(2, 2, 1, 0x0d)),
-        Row::Takes(1, end(2, 1, 1, 0x0d), end(1, 1, 1, 0x3f)),
-        Row::Takes(2, end(2, 2, 1, 0x0d), end(1, 2, 1, 0x3f)),
-        Row::Ticks(11),
-        Row::Silent(1),
-        Row::Silent(2),
-        Row::Distributing(1, &[1, 2]),
-    ]
-}
+pub(crate) const COMING_UP: [Row<'static>; 17] = [
+    Row::Link(1, true),
+    Row::Link(2, true),
+    Row::Takes(1, Side::Of(2, 1, 1, 0x05), Side::Of(1, 1, 1, 0x07)),
+    Row::Takes(2, Side::Of(2, 2, 1, 0x05), Side::Of(1, 2, 1, 0x07)),
+    Row::Ticks(20),
+    Row::Sends(1, Side::Of(1, 1, 1, 0x0f), Side::Of(2, 1, 1, 0x05)),
+    Row::Sends(2, Side::Of(1, 2, 1, 0x0f), Side::Of(2, 2, 1, 0x05)),
+    Row::Takes(1, Side::Of(2, 1, 1, 0x0d), Side::Of(1, 1, 1, 0x0f)),
+    Row::Takes(2, Side::Of(2, 2, 1, 0x0d), Side::Of(1, 2, 1, 0x0f)),
+    Row::Sends(1, Side::Of(1, 1, 1, 0x3f), Side::Of(2, 1, 1, 0x0d)),
+    Row::Sends(2, Side::Of(1, 2, 1, 0x3f), Side::Of(2, 2, 1, 0x0d)),
+    Row::Takes(1, Side::Of(2, 1, 1, 0x0d), Side::Of(1, 1, 1, 0x3f)),
+    Row::Takes(2, Side::Of(2, 2, 1, 0x0d), Side::Of(1, 2, 1, 0x3f)),
+    Row::Ticks(11),
+    Row::Silent(1),
+    Row::Silent(2),
+    Row::Distributing(1, &[1, 2]),
+];
 
 /// After these rows, port 1 leaves the aggregator, and conversation 48 goes to port 2 after its Marker Response.
-pub(crate) fn leaving() -> [Row<'static>; 14] {
-    let theirs = end(2, 1, 2, 0x0d);
-    [
-        Row::Conversation(&DATA, Some(48)),
-        Row::Conversation(&NEXT, Some(49)),
-        Row::Conversation(&[0; 13], None),
-        Row::Offers(1, &DATA, Ok(1)),
-        Row::Offers(1, &NEXT, Ok(2)),
-        // the partner's key is another one; all else is as before
-        Row::Takes(1, theirs, end(1, 1, 1, 0x3f)),
-        Row::Distributing(1, &[2]),
-        Row::Offers(1, &DATA, Err(SystemFault::Held)),
-        Row::Offers(1, &NEXT, Ok(2)),
-        Row::Sends(1, end(1, 1, 1, 0x07), theirs),
-        Row::Marks(1, 1),
-        Row::Silent(1),
-        Row::Releases(1, response(1, 1), 1),
-        Row::Offers(1, &DATA, Ok(2)),
-    ]
-}
+pub(crate) const LEAVING: [Row<'static>; 14] = [
+    Row::Conversation(&DATA, Some(48)),
+    Row::Conversation(&NEXT, Some(49)),
+    Row::Conversation(&[0; 13], None),
+    Row::Offers(1, &DATA, Ok(1)),
+    Row::Offers(1, &NEXT, Ok(2)),
+    // the partner's key is another one; all else is as before
+    Row::Takes(1, Side::Of(2, 1, 2, 0x0d), Side::Of(1, 1, 1, 0x3f)),
+    Row::Distributing(1, &[2]),
+    Row::Offers(1, &DATA, Err(SystemFault::Held)),
+    Row::Offers(1, &NEXT, Ok(2)),
+    Row::Sends(1, Side::Of(1, 1, 1, 0x07), Side::Of(2, 1, 2, 0x0d)),
+    Row::Marks(1, 1),
+    Row::Silent(1),
+    Row::Releases(1, Response(1, 1, 1), 1),
+    Row::Offers(1, &DATA, Ok(2)),
+];
 
 #[test]
 fn a_conversation_leaves_a_port_behind_its_marker(rt: HostRuntime) -> Result<(), SystemFault> {
-    plays_with(&rt, rt.alloc(), &[1, 2], 2, &[&coming_up(), &leaving()])
+    plays_with(&rt, rt.alloc(), &[1, 2], 2, &[&COMING_UP, &LEAVING])
 }
 
 /// A frame of the slow protocols.
@@ -100,7 +89,7 @@ fn offers_are_refused_in_order(rt: HostRuntime) -> Result<(), SystemFault> {
 #[test]
 fn moves_are_refused_in_order(rt: HostRuntime) -> Result<(), SystemFault> {
     // the link of port 3 stays down
-    let rows = [
+    const ROWS: [Row<'static>; 23] = [
         Row::Offers(1, &DATA, Ok(1)),
         Row::Moves(0, 48, 4, Err(SystemFault::NoAggregator)),
         Row::Moves(3, 48, 4, Err(SystemFault::NoAggregator)),
@@ -126,32 +115,32 @@ fn moves_are_refused_in_order(rt: HostRuntime) -> Result<(), SystemFault> {
         Row::Silent(1),
         Row::Offers(1, &DATA, Ok(2)),
     ];
-    plays_with(&rt, rt.alloc(), &[1, 2, 3], 2, &[&coming_up(), &rows])
+    plays_with(&rt, rt.alloc(), &[1, 2, 3], 2, &[&COMING_UP, &ROWS])
 }
 
 #[test]
 fn responses_that_are_not_for_the_port(rt: HostRuntime) -> Result<(), SystemFault> {
-    let rows = [
+    const ROWS: [Row<'static>; 13] = [
         Row::Offers(1, &DATA, Ok(1)),
         Row::Moves(1, 48, 2, Ok(())),
         Row::Silent(2),
         Row::Marks(1, 1),
-        Row::Releases(1, marker(MarkerKind::Response, 1, 2, 1), 0),
-        Row::Releases(1, response(2, 1), 0),
-        Row::Releases(2, response(1, 1), 0),
-        Row::Releases(2, response(2, 1), 0),
-        Row::Releases(1, response(1, 2), 0),
+        Row::Releases(1, Response(1, 2, 1), 0),
+        Row::Releases(1, Response(2, 1, 1), 0),
+        Row::Releases(2, Response(1, 1, 1), 0),
+        Row::Releases(2, Response(2, 1, 1), 0),
+        Row::Releases(1, Response(1, 1, 2), 0),
         Row::Offers(1, &DATA, Err(SystemFault::Held)),
-        Row::Releases(1, response(1, 1), 1),
-        Row::Releases(1, response(1, 1), 0),
+        Row::Releases(1, Response(1, 1, 1), 1),
+        Row::Releases(1, Response(1, 1, 1), 0),
         Row::Offers(1, &DATA, Ok(2)),
     ];
-    plays_with(&rt, rt.alloc(), &[1, 2], 2, &[&coming_up(), &rows])
+    plays_with(&rt, rt.alloc(), &[1, 2], 2, &[&COMING_UP, &ROWS])
 }
 
 #[test]
 fn a_link_that_goes_down_frees_its_conversations(rt: HostRuntime) -> Result<(), SystemFault> {
-    let rows = [
+    const ROWS: [Row<'static>; 6] = [
         Row::Offers(1, &DATA, Ok(1)),
         Row::Moves(1, 48, 2, Ok(())),
         Row::Link(1, false),
@@ -159,15 +148,12 @@ fn a_link_that_goes_down_frees_its_conversations(rt: HostRuntime) -> Result<(), 
         Row::Hears(1, &DATA, Received::Disabled),
         Row::Offers(1, &DATA, Ok(2)),
     ];
-    plays_with(&rt, rt.alloc(), &[1, 2], 2, &[&coming_up(), &rows])
+    plays_with(&rt, rt.alloc(), &[1, 2], 2, &[&COMING_UP, &ROWS])
 }
 
 #[test]
 fn identifiers_end_and_a_restart_begins_anew(rt: HostRuntime) -> Result<(), SystemFault> {
-    let mut given = config(rt.alloc(), &[1, 2], 2)?;
-    given.first_marker = 4294967295;
-    let up = coming_up();
-    let rows = [
+    const ROWS: [Row<'static>; 17] = [
         Row::Offers(1, &DATA, Ok(1)),
         Row::Offers(1, &THIRD, Ok(1)),
         Row::Moves(1, 48, 2, Ok(())),
@@ -178,89 +164,94 @@ fn identifiers_end_and_a_restart_begins_anew(rt: HostRuntime) -> Result<(), Syst
         Row::Moves(1, 50, 2, Err(SystemFault::MarkersSpent)),
         Row::Silent(1),
         // conversation 50 needs a marker, but no identifier is left
-        Row::Takes(1, end(2, 1, 2, 0x0d), end(1, 1, 1, 0x3f)),
+        Row::Takes(1, Side::Of(2, 1, 2, 0x0d), Side::Of(1, 1, 1, 0x3f)),
         Row::Offers(1, &THIRD, Err(SystemFault::Held)),
-        Row::Sends(1, end(1, 1, 1, 0x07), end(2, 1, 2, 0x0d)),
+        Row::Sends(1, Side::Of(1, 1, 1, 0x07), Side::Of(2, 1, 2, 0x0d)),
         Row::Due(1, false),
         Row::Silent(1),
         Row::Restart,
         Row::Forces(1, 48, Err(SystemFault::NotAssigned)),
         Row::Forces(1, 50, Err(SystemFault::NotAssigned)),
     ];
-    plays_lists(&rt, rt.alloc(), given, &[&up, &rows, &up, &rows])
+    let mut given = config(rt.alloc(), &[1, 2], 2)?;
+    given.first_marker = 4294967295;
+    plays_lists(
+        &rt,
+        rt.alloc(),
+        given,
+        &[&COMING_UP, &ROWS, &COMING_UP, &ROWS],
+    )
 }
 
 #[test]
 fn a_marker_without_a_response_is_sent_again(rt: HostRuntime) -> Result<(), SystemFault> {
-    let rows = [
+    const ROWS: [Row<'static>; 14] = [
         Row::Offers(1, &DATA, Ok(1)),
         Row::Moves(1, 48, 2, Ok(())),
         Row::Marks(1, 1),
         Row::Quiet(1, 10),
         // an LACPDU of the partner comes, so that both ports stay in the aggregator
-        Row::Takes(1, end(2, 1, 1, 0x0d), end(1, 1, 1, 0x3f)),
-        Row::Takes(2, end(2, 2, 1, 0x0d), end(1, 2, 1, 0x3f)),
+        Row::Takes(1, Side::Of(2, 1, 1, 0x0d), Side::Of(1, 1, 1, 0x3f)),
+        Row::Takes(2, Side::Of(2, 2, 1, 0x0d), Side::Of(1, 2, 1, 0x3f)),
         Row::Quiet(1, 19),
         Row::Ticks(1),
         Row::Marks(1, 2),
-        Row::Releases(1, response(1, 1), 0),
+        Row::Releases(1, Response(1, 1, 1), 0),
         Row::Offers(1, &DATA, Err(SystemFault::Held)),
-        Row::Releases(1, response(1, 2), 1),
+        Row::Releases(1, Response(1, 1, 2), 1),
         Row::Offers(1, &DATA, Ok(2)),
         Row::Distributing(1, &[1, 2]),
     ];
-    plays_with(&rt, rt.alloc(), &[1, 2], 2, &[&coming_up(), &rows])
+    plays_with(&rt, rt.alloc(), &[1, 2], 2, &[&COMING_UP, &ROWS])
 }
 
-/// Conversation 48 of aggregator 1 is in this state.
-fn conversing(state: Assignment) -> Row<'static> {
-    Row::Conversing(1, 48, Some(state))
-}
+/// The conversation waits for the response to marker 1 on port 1, which was sent in this tick.
+const SENT_NOW: Assignment = Assignment::Flushing {
+    port: 1,
+    id: 1,
+    preferred: Some(2),
+    age: 0,
+};
 
-/// The conversation waits for the response to marker 1 on port 1, which was sent this many ticks ago.
-fn flushing(age: u8) -> Row<'static> {
-    conversing(Assignment::Flushing {
-        port: 1,
-        id: 1,
-        preferred: Some(2),
-        age,
-    })
-}
+/// The same one tick later.
+const SENT_A_TICK_AGO: Assignment = Assignment::Flushing {
+    port: 1,
+    id: 1,
+    preferred: Some(2),
+    age: 1,
+};
 
 #[test]
 fn what_a_host_sees(rt: HostRuntime) -> Result<(), SystemFault> {
-    let preferred = Some(2);
-    let rows = [
+    const ROWS: [Row<'static>; 21] = [
         Row::Has(&[1, 2], 2),
         Row::Next(Some(1)),
         Row::Conversing(0, 48, None),
         Row::Conversing(3, 48, None),
         Row::Conversing(1, 256, None),
-        conversing(Assignment::Free { preferred: None }),
+        Row::Free(1, 48, None),
         Row::Offers(1, &DATA, Ok(1)),
-        conversing(Assignment::On(1)),
+        Row::Conversing(1, 48, Some(Assignment::On(1))),
         Row::Due(1, false),
         Row::Moves(1, 48, 2, Ok(())),
-        conversing(Assignment::Wanted { port: 1, preferred }),
+        Row::Wanted(1, 48, 1, Some(2)),
         Row::Due(1, true),
         Row::Due(2, false),
         Row::Marks(1, 1),
         Row::Due(1, false),
         Row::Next(Some(2)),
-        flushing(0),
+        Row::Conversing(1, 48, Some(SENT_NOW)),
         Row::Ticks(1),
-        flushing(1),
-        Row::Releases(1, response(1, 1), 1),
-        conversing(Assignment::Free { preferred }),
+        Row::Conversing(1, 48, Some(SENT_A_TICK_AGO)),
+        Row::Releases(1, Response(1, 1, 1), 1),
+        Row::Free(1, 48, Some(2)),
     ];
-    plays_with(&rt, rt.alloc(), &[1, 2], 2, &[&coming_up(), &rows])
+    plays_with(&rt, rt.alloc(), &[1, 2], 2, &[&COMING_UP, &ROWS])
 }
 
 #[test]
 fn the_last_conversation_moves_and_is_forced(rt: HostRuntime) -> Result<(), SystemFault> {
-    let mut given = config(rt.alloc(), &[1, 2], 2)?;
-    given.first_marker = 7;
-    let rows = [
+    const ROWS: [Row<'static>; 13] = [
         Row::Conversation(&LAST, Some(255)),
         Row::Moves(1, 255, 1, Err(SystemFault::NotAssigned)),
         Row::Forces(1, 255, Err(SystemFault::NotAssigned)),
@@ -269,38 +260,40 @@ fn the_last_conversation_moves_and_is_forced(rt: HostRuntime) -> Result<(), Syst
         Row::Moves(1, 255, 1, Ok(())),
         Row::Offers(1, &LAST, Err(SystemFault::Held)),
         Row::Marks(2, 7),
-        Row::Releases(2, response(2, 7), 1),
+        Row::Releases(2, Response(2, 1, 7), 1),
         Row::Offers(1, &LAST, Ok(1)),
         Row::Forces(1, 255, Ok(())),
-        Row::Conversing(1, 255, Some(Assignment::Free { preferred: None })),
+        Row::Free(1, 255, None),
         Row::Offers(1, &LAST, Ok(2)),
     ];
-    plays_lists(&rt, rt.alloc(), given, &[&coming_up(), &rows])
+    let mut given = config(rt.alloc(), &[1, 2], 2)?;
+    given.first_marker = 7;
+    plays_lists(&rt, rt.alloc(), given, &[&COMING_UP, &ROWS])
 }
 
 #[test]
 fn four_more_bits_count_if_there_are_4096_conversations(
     rt: HostRuntime,
 ) -> Result<(), SystemFault> {
-    let mut given = config(rt.alloc(), &[1, 2], 2)?;
-    given.conversations = 4096;
-    let rows = [
+    const ROWS: [Row<'static>; 14] = [
         Row::Conversation(&WIDE, Some(304)),
         Row::Conversation(&LAST, Some(255)),
         Row::Offers(1, &WIDE, Ok(1)),
         Row::Conversing(1, 304, Some(Assignment::On(1))),
-        Row::Conversing(1, 48, Some(Assignment::Free { preferred: None })),
-        Row::Conversing(1, 4095, Some(Assignment::Free { preferred: None })),
+        Row::Free(1, 48, None),
+        Row::Free(1, 4095, None),
         Row::Conversing(1, 4096, None),
         Row::Moves(1, 4096, 1, Err(SystemFault::NotAssigned)),
         Row::Forces(1, 4096, Err(SystemFault::NotAssigned)),
         Row::Moves(1, 304, 2, Ok(())),
         Row::Offers(1, &WIDE, Err(SystemFault::Held)),
         Row::Marks(1, 1),
-        Row::Releases(1, response(1, 1), 1),
+        Row::Releases(1, Response(1, 1, 1), 1),
         Row::Offers(1, &WIDE, Ok(2)),
     ];
-    let rows = joined(rt.alloc(), &[&coming_up(), &rows])?;
+    let mut given = config(rt.alloc(), &[1, 2], 2)?;
+    given.conversations = 4096;
+    let rows = joined(rt.alloc(), &[&COMING_UP, &ROWS])?;
     plays(&rt, rt.alloc(), given, &rows)?;
     let given = config(rt.alloc(), &[1, 2], 2)?;
     plays(

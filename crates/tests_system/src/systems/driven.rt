@@ -1,11 +1,12 @@
 ghost use Rattle.distributor.specs.Calls.{PicksIndexes};
 
 use crate::comparing::same;
-use crate::systems::conversations::{coming_up, leaving};
+use crate::systems::conversations::{COMING_UP, LEAVING};
 use crate::systems::plan::{Plan, plan_of_all};
-use crate::systems::{DATA, PortFacts, Row, config, end, joined, look, marker, modulo, same_facts};
+use crate::systems::{
+    DATA, PortFacts, Response, Row, Side, config, joined, look, modulo, same_facts,
+};
 use lagsystem::{AggId, Received, System, SystemFault};
-use slowpdu::MarkerKind;
 use std::alloc::Global;
 use std::process::Abort;
 
@@ -69,32 +70,31 @@ fn is_driven(rt: &impl Abort, alloc: Global, lists: &[&[Row<'_>]]) -> Result<(),
 
 #[test]
 fn every_kind_of_call(rt: HostRuntime) -> Result<(), SystemFault> {
-    let theirs = end(2, 1, 1, 0x0d);
-    let rows = [
+    const ROWS: [Row<'static>; 17] = [
         Row::Link(1, true),
         Row::Link(2, true),
-        Row::Takes(1, theirs, end(1, 1, 1, 0x07)),
-        Row::Takes(2, end(2, 2, 1, 0x0d), end(1, 2, 1, 0x07)),
+        Row::Takes(1, Side::Of(2, 1, 1, 0x0d), Side::Of(1, 1, 1, 0x07)),
+        Row::Takes(2, Side::Of(2, 2, 1, 0x0d), Side::Of(1, 2, 1, 0x07)),
         Row::Ticks(20),
         Row::Hears(1, &DATA, Received::Up(AggId(1))),
         Row::Offers(1, &DATA, Ok(1)),
         Row::Moves(1, 48, 2, Ok(())),
-        Row::Sends(1, end(1, 1, 1, 0x3f), theirs),
+        Row::Sends(1, Side::Of(1, 1, 1, 0x3f), Side::Of(2, 1, 1, 0x0d)),
         Row::Marks(1, 1),
         Row::Offers(1, &DATA, Err(SystemFault::Held)),
-        Row::Releases(1, marker(MarkerKind::Response, 1, 1, 1), 1),
+        Row::Releases(1, Response(1, 1, 1), 1),
         Row::Offers(1, &DATA, Ok(2)),
         Row::Forces(1, 48, Ok(())),
         Row::Configures(2, 2, true),
         Row::Restart,
         Row::Silent(1),
     ];
-    is_driven(&rt, rt.alloc(), &[&rows])
+    is_driven(&rt, rt.alloc(), &[&ROWS])
 }
 
 #[test]
 fn a_conversation_leaves_a_port(rt: HostRuntime) -> Result<(), SystemFault> {
-    is_driven(&rt, rt.alloc(), &[&coming_up(), &leaving()])
+    is_driven(&rt, rt.alloc(), &[&COMING_UP, &LEAVING])
 }
 
 #[test]
@@ -104,6 +104,6 @@ fn no_call_has_no_reply(rt: HostRuntime) -> Result<(), SystemFault> {
 
 #[test]
 fn a_thousand_calls(rt: HostRuntime) -> Result<(), SystemFault> {
-    let rows = [Row::Link(1, true), Row::Ticks(1000), Row::Silent(2)];
-    is_driven(&rt, rt.alloc(), &[&rows])
+    const ROWS: [Row<'static>; 3] = [Row::Link(1, true), Row::Ticks(1000), Row::Silent(2)];
+    is_driven(&rt, rt.alloc(), &[&ROWS])
 }

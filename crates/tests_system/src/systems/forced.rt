@@ -1,4 +1,4 @@
-use crate::systems::{DATA, Row, config, end, joined, plays, plays_lists};
+use crate::systems::{DATA, Row, Side, config, joined, plays, plays_lists};
 use lagsystem::{Assignment, Config, NoMemory, SystemFault};
 use std::alloc::Global;
 
@@ -30,99 +30,84 @@ fn three_ports(alloc: Global) -> Result<Config, NoMemory> {
 }
 
 /// Ports 1 and 2 come to distribute in aggregator 1, and port 3 in aggregator 2.
-fn all_up() -> [Row<'static>; 9] {
-    [
-        Row::Link(1, true),
-        Row::Link(2, true),
-        Row::Link(3, true),
-        Row::Takes(1, end(2, 1, 1, 0x0d), end(1, 1, 1, 0x05)),
-        Row::Takes(2, end(2, 2, 1, 0x0d), end(1, 2, 1, 0x05)),
-        Row::Takes(3, end(3, 3, 1, 0x0d), end(1, 3, 1, 0x05)),
-        Row::Ticks(20),
-        Row::Distributing(1, &[1, 2]),
-        Row::Distributing(2, &[3]),
-    ]
-}
+const ALL_UP: [Row<'static>; 9] = [
+    Row::Link(1, true),
+    Row::Link(2, true),
+    Row::Link(3, true),
+    Row::Takes(1, Side::Of(2, 1, 1, 0x0d), Side::Of(1, 1, 1, 0x05)),
+    Row::Takes(2, Side::Of(2, 2, 1, 0x0d), Side::Of(1, 2, 1, 0x05)),
+    Row::Takes(3, Side::Of(3, 3, 1, 0x0d), Side::Of(1, 3, 1, 0x05)),
+    Row::Ticks(20),
+    Row::Distributing(1, &[1, 2]),
+    Row::Distributing(2, &[3]),
+];
 
 /// Conversations of aggregator 1 wait on both of its ports: of each port one behind its marker, and one for a marker.
-fn held_in_the_first() -> [Row<'static>; 14] {
-    [
-        Row::Offers(1, &FIRST, Ok(1)),
-        Row::Offers(1, &DATA, Ok(1)),
-        Row::Offers(1, &LAST_BUT_ONE, Ok(1)),
-        Row::Offers(1, &SECOND, Ok(2)),
-        Row::Offers(1, &FOURTH, Ok(2)),
-        Row::Offers(1, &LAST, Ok(2)),
-        Row::Moves(1, 0, 2, Ok(())),
-        Row::Moves(1, 3, 1, Ok(())),
-        Row::Sends(1, end(1, 1, 1, 0x3d), end(2, 1, 1, 0x0d)),
-        Row::Marks(1, 1),
-        Row::Sends(2, end(1, 2, 1, 0x3d), end(2, 2, 1, 0x0d)),
-        Row::Marks(2, 2),
-        Row::Moves(1, 48, 2, Ok(())),
-        Row::Moves(1, 255, 1, Ok(())),
-    ]
-}
+const HELD_IN_THE_FIRST: [Row<'static>; 14] = [
+    Row::Offers(1, &FIRST, Ok(1)),
+    Row::Offers(1, &DATA, Ok(1)),
+    Row::Offers(1, &LAST_BUT_ONE, Ok(1)),
+    Row::Offers(1, &SECOND, Ok(2)),
+    Row::Offers(1, &FOURTH, Ok(2)),
+    Row::Offers(1, &LAST, Ok(2)),
+    Row::Moves(1, 0, 2, Ok(())),
+    Row::Moves(1, 3, 1, Ok(())),
+    Row::Sends(1, Side::Of(1, 1, 1, 0x3d), Side::Of(2, 1, 1, 0x0d)),
+    Row::Marks(1, 1),
+    Row::Sends(2, Side::Of(1, 2, 1, 0x3d), Side::Of(2, 2, 1, 0x0d)),
+    Row::Marks(2, 2),
+    Row::Moves(1, 48, 2, Ok(())),
+    Row::Moves(1, 255, 1, Ok(())),
+];
 
 /// Port 1 goes over to aggregator 2, in which conversations come to wait on it and on port 3.
-fn held_in_the_second() -> [Row<'static>; 10] {
-    [
-        Row::Takes(1, end(3, 1, 1, 0x0d), end(1, 1, 1, 0x3d)),
-        Row::Ticks(20),
-        Row::Distributing(1, &[2]),
-        Row::Distributing(2, &[1, 3]),
-        Row::Offers(2, &FIRST, Ok(1)),
-        Row::Offers(2, &DATA, Ok(1)),
-        Row::Offers(2, &SECOND, Ok(3)),
-        Row::Offers(2, &FOURTH, Ok(3)),
-        Row::Moves(2, 48, 3, Ok(())),
-        Row::Moves(2, 3, 1, Ok(())),
-    ]
-}
+const HELD_IN_THE_SECOND: [Row<'static>; 10] = [
+    Row::Takes(1, Side::Of(3, 1, 1, 0x0d), Side::Of(1, 1, 1, 0x3d)),
+    Row::Ticks(20),
+    Row::Distributing(1, &[2]),
+    Row::Distributing(2, &[1, 3]),
+    Row::Offers(2, &FIRST, Ok(1)),
+    Row::Offers(2, &DATA, Ok(1)),
+    Row::Offers(2, &SECOND, Ok(3)),
+    Row::Offers(2, &FOURTH, Ok(3)),
+    Row::Moves(2, 48, 3, Ok(())),
+    Row::Moves(2, 3, 1, Ok(())),
+];
 
-/// A conversation that is Wanted on a port.
-fn wanted(agg: u16, conv: u16, port: u16, preferred: Option<u16>) -> Row<'static> {
-    Row::Conversing(agg, conv, Some(Assignment::Wanted { port, preferred }))
-}
+/// Conversation 0 waits behind marker 1 on port 1 since 20 ticks.
+const BEHIND_1: Assignment = Assignment::Flushing {
+    port: 1,
+    id: 1,
+    preferred: Some(2),
+    age: 20,
+};
 
-/// A conversation that is Flushing on a port, 20 ticks behind its marker.
-fn flushing(conv: u16, port: u16, id: u32, preferred: u16) -> Row<'static> {
-    let state = Assignment::Flushing {
-        port,
-        id,
-        preferred: Some(preferred),
-        age: 20,
-    };
-    Row::Conversing(1, conv, Some(state))
-}
-
-/// A conversation that is free.
-fn free(agg: u16, conv: u16, preferred: Option<u16>) -> Row<'static> {
-    Row::Conversing(agg, conv, Some(Assignment::Free { preferred }))
-}
+/// Conversation 3 waits behind marker 2 on port 2 since 20 ticks.
+const BEHIND_2: Assignment = Assignment::Flushing {
+    port: 2,
+    id: 2,
+    preferred: Some(1),
+    age: 20,
+};
 
 /// What waits on port 1.
-fn on_port_1() -> [Row<'static>; 4] {
-    [
-        flushing(0, 1, 1, 2),
-        wanted(1, 48, 1, Some(2)),
-        wanted(1, 254, 1, None),
-        wanted(2, 48, 1, Some(3)),
-    ]
-}
+const ON_PORT_1: [Row<'static>; 4] = [
+    Row::Conversing(1, 0, Some(BEHIND_1)),
+    Row::Wanted(1, 48, 1, Some(2)),
+    Row::Wanted(1, 254, 1, None),
+    Row::Wanted(2, 48, 1, Some(3)),
+];
 
 /// What is On its port, or waits on another port than port 1.
-fn elsewhere() -> [Row<'static>; 7] {
-    [
-        Row::Conversing(1, 1, Some(Assignment::On(2))),
-        flushing(3, 2, 2, 1),
-        wanted(1, 255, 2, Some(1)),
-        Row::Conversing(2, 0, Some(Assignment::On(1))),
-        Row::Conversing(2, 1, Some(Assignment::On(3))),
-        wanted(2, 3, 3, Some(1)),
-        Row::Next(Some(3)),
-    ]
-}
+const ELSEWHERE: [Row<'static>; 7] = [
+    Row::Conversing(1, 1, Some(Assignment::On(2))),
+    Row::Conversing(1, 3, Some(BEHIND_2)),
+    Row::Wanted(1, 255, 2, Some(1)),
+    Row::Conversing(2, 0, Some(Assignment::On(1))),
+    Row::Conversing(2, 1, Some(Assignment::On(3))),
+    Row::Wanted(2, 3, 3, Some(1)),
+    Row::Next(Some(3)),
+];
 
 /// There is no port 0 and no port 4.
 const NO_SUCH_PORT: [Row<'static>; 2] = [
@@ -131,57 +116,50 @@ const NO_SUCH_PORT: [Row<'static>; 2] = [
 ];
 
 /// What waited on port 1 is free, once.
-fn forced() -> [Row<'static>; 6] {
-    [
-        Row::ForcesPort(1, Ok(4)),
-        free(1, 0, Some(2)),
-        free(1, 48, Some(2)),
-        free(1, 254, None),
-        free(2, 48, Some(3)),
-        Row::ForcesPort(1, Ok(0)),
-    ]
-}
+const FORCED: [Row<'static>; 6] = [
+    Row::ForcesPort(1, Ok(4)),
+    Row::Free(1, 0, Some(2)),
+    Row::Free(1, 48, Some(2)),
+    Row::Free(1, 254, None),
+    Row::Free(2, 48, Some(3)),
+    Row::ForcesPort(1, Ok(0)),
+];
 
 /// Then it goes on other ports, and ports 2 and 3 are forced likewise.
-fn goes_on() -> [Row<'static>; 17] {
-    [
-        Row::Offers(1, &FIRST, Ok(2)),
-        Row::Offers(1, &DATA, Ok(2)),
-        Row::Offers(1, &LAST_BUT_ONE, Ok(2)),
-        Row::Offers(2, &DATA, Ok(3)),
-        Row::Offers(2, &FIRST, Ok(1)),
-        Row::Offers(1, &FOURTH, Err(SystemFault::Held)),
-        Row::Offers(2, &FOURTH, Err(SystemFault::Held)),
-        Row::ForcesPort(3, Ok(1)),
-        Row::Offers(2, &FOURTH, Ok(1)),
-        Row::Offers(1, &FOURTH, Err(SystemFault::Held)),
-        Row::ForcesPort(2, Ok(2)),
-        free(1, 3, Some(1)),
-        free(1, 255, Some(1)),
-        Row::Conversing(1, 1, Some(Assignment::On(2))),
-        // port 1 is preferred, but distributes in the other aggregator
-        Row::Offers(1, &FOURTH, Ok(2)),
-        Row::Offers(1, &LAST, Ok(2)),
-        Row::ForcesPort(2, Ok(0)),
-    ]
-}
+const GOES_ON: [Row<'static>; 17] = [
+    Row::Offers(1, &FIRST, Ok(2)),
+    Row::Offers(1, &DATA, Ok(2)),
+    Row::Offers(1, &LAST_BUT_ONE, Ok(2)),
+    Row::Offers(2, &DATA, Ok(3)),
+    Row::Offers(2, &FIRST, Ok(1)),
+    Row::Offers(1, &FOURTH, Err(SystemFault::Held)),
+    Row::Offers(2, &FOURTH, Err(SystemFault::Held)),
+    Row::ForcesPort(3, Ok(1)),
+    Row::Offers(2, &FOURTH, Ok(1)),
+    Row::Offers(1, &FOURTH, Err(SystemFault::Held)),
+    Row::ForcesPort(2, Ok(2)),
+    Row::Free(1, 3, Some(1)),
+    Row::Free(1, 255, Some(1)),
+    Row::Conversing(1, 1, Some(Assignment::On(2))),
+    // port 1 is preferred, but distributes in the other aggregator
+    Row::Offers(1, &FOURTH, Ok(2)),
+    Row::Offers(1, &LAST, Ok(2)),
+    Row::ForcesPort(2, Ok(0)),
+];
 
 /// The rows until conversations wait on both ports.
 fn before(alloc: Global) -> Result<Vec<Row<'static>>, NoMemory> {
-    joined(
-        alloc,
-        &[&all_up(), &held_in_the_first(), &held_in_the_second()],
-    )
+    joined(alloc, &[&ALL_UP, &HELD_IN_THE_FIRST, &HELD_IN_THE_SECOND])
 }
 
 /// What stays as it is where nothing is forced.
 fn stays(alloc: Global) -> Result<Vec<Row<'static>>, NoMemory> {
-    joined(alloc, &[&on_port_1(), &elsewhere()])
+    joined(alloc, &[&ON_PORT_1, &ELSEWHERE])
 }
 
 /// The rows of a port that is forced, and of what goes on.
 fn port_1_is_forced(alloc: Global) -> Result<Vec<Row<'static>>, NoMemory> {
-    joined(alloc, &[&forced(), &elsewhere(), &goes_on()])
+    joined(alloc, &[&FORCED, &ELSEWHERE, &GOES_ON])
 }
 
 /// All rows.
@@ -203,17 +181,17 @@ fn what_waits_on_a_port_is_forced(rt: HostRuntime) -> Result<(), SystemFault> {
 /// The conversation has a number above those of 256 conversations.
 #[test]
 fn a_conversation_above_255_is_forced(rt: HostRuntime) -> Result<(), SystemFault> {
-    let mut given = three_ports(rt.alloc())?;
-    given.conversations = 4096;
-    let rows = [
+    const ROWS: [Row<'static>; 8] = [
         Row::Offers(1, &WIDE, Ok(1)),
         Row::ForcesPort(1, Ok(0)),
         Row::Moves(1, 304, 2, Ok(())),
-        wanted(1, 304, 1, Some(2)),
+        Row::Wanted(1, 304, 1, Some(2)),
         Row::ForcesPort(2, Ok(0)),
         Row::ForcesPort(1, Ok(1)),
-        free(1, 304, Some(2)),
+        Row::Free(1, 304, Some(2)),
         Row::Offers(1, &WIDE, Ok(2)),
     ];
-    plays_lists(&rt, rt.alloc(), given, &[&all_up(), &rows])
+    let mut given = three_ports(rt.alloc())?;
+    given.conversations = 4096;
+    plays_lists(&rt, rt.alloc(), given, &[&ALL_UP, &ROWS])
 }

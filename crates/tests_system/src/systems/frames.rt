@@ -1,5 +1,5 @@
 use crate::systems::{
-    DATA, NOTHING, PortFacts, Row, config, end, lacpdu, mac, no_partner, plays, plays_with,
+    DATA, NOTHING, PortFacts, Row, Side, config, end, lacpdu, mac, no_partner, plays, plays_with,
     port_without_partner,
 };
 use bitflags::Flags;
@@ -34,69 +34,81 @@ pub(crate) fn response_frame() -> [u8; 124] {
     ])
 }
 
+/// The LACPDU of a peer that has not heard the port comes on it.
+const TAKES: Row<'static> = Row::Takes(1, Side::Of(2, 1, 1, 0x07), Side::Nobody(0));
+
+/// The port answers it.
+const ANSWERS: Row<'static> = Row::Sends(1, Side::Of(1, 1, 1, 0x07), Side::Of(2, 1, 1, 0x07));
+
+/// Three answers are sent at once, and a fourth only when the first leaves the window.
+const THREE_ANSWERS: [Row<'static>; 15] = [
+    Row::Link(1, true),
+    TAKES,
+    ANSWERS,
+    TAKES,
+    ANSWERS,
+    TAKES,
+    ANSWERS,
+    TAKES,
+    Row::Due(1, false),
+    Row::Silent(1),
+    Row::Quiet(1, 10),
+    Row::Ticks(1),
+    Row::Due(1, true),
+    ANSWERS,
+    Row::Restart,
+];
+
+/// After a restart.
+const ANEW: [Row<'static>; 4] = [
+    Row::Silent(1),
+    Row::Link(1, true),
+    Row::Ticks(10),
+    Row::Sends(1, Side::Of(1, 1, 1, 0xc7), Side::Nobody(0x02)),
+];
+
 #[test]
 fn three_answers_then_the_window_then_a_restart(rt: HostRuntime) -> Result<(), SystemFault> {
-    let theirs = end(2, 1, 1, 0x07);
-    let takes = Row::Takes(1, theirs, no_partner(0));
-    let answers = Row::Sends(1, end(1, 1, 1, 0x07), theirs);
-    let rows = [
-        Row::Shows(1, port_without_partner(1)),
-        Row::Link(1, true),
-        takes,
-        answers,
-        takes,
-        answers,
-        takes,
-        answers,
-        takes,
-        Row::Due(1, false),
-        Row::Silent(1),
-        Row::Quiet(1, 10),
-        Row::Ticks(1),
-        Row::Due(1, true),
-        answers,
-        Row::Restart,
-        Row::Shows(1, port_without_partner(1)),
-        Row::Silent(1),
-        Row::Link(1, true),
-        Row::Ticks(10),
-        Row::Sends(1, end(1, 1, 1, 0xc7), no_partner(0x02)),
-    ];
-    plays_with(&rt, rt.alloc(), &[1], 1, &[&rows])
+    let fresh = [Row::Shows(1, port_without_partner(1))];
+    plays_with(
+        &rt,
+        rt.alloc(),
+        &[1],
+        1,
+        &[&fresh, &THREE_ANSWERS, &fresh, &ANEW],
+    )
 }
 
 /// Two ports come up in aggregator 1; then the partner of port 1 has another key.
-pub(crate) fn other_key() -> [Row<'static>; 16] {
-    [
-        Row::Link(1, true),
-        Row::Link(2, true),
-        Row::Hears(1, &DATA, Received::Dropped),
-        Row::Takes(1, end(2, 1, 1, 0x0d), end(1, 1, 1, 0x07)),
-        Row::Takes(2, end(2, 2, 1, 0x0d), end(1, 2, 1, 0x07)),
-        Row::Ticks(19),
-        Row::Distributing(1, &[]),
-        Row::Hears(1, &DATA, Received::Dropped),
-        Row::Ticks(1),
-        Row::Distributing(1, &[1, 2]),
-        Row::Hears(1, &DATA, Received::Up(AggId(1))),
-        Row::Takes(1, end(2, 1, 2, 0x0d), end(1, 1, 1, 0x07)),
-        Row::Distributing(1, &[2]),
-        Row::Distributing(2, &[]),
-        Row::Chosen(1, Choice::Selected(AggId(2))),
-        Row::Mux(1, MuxState::Waiting),
-    ]
-}
+pub(crate) const OTHER_KEY: [Row<'static>; 16] = [
+    Row::Link(1, true),
+    Row::Link(2, true),
+    Row::Hears(1, &DATA, Received::Dropped),
+    Row::Takes(1, Side::Of(2, 1, 1, 0x0d), Side::Of(1, 1, 1, 0x07)),
+    Row::Takes(2, Side::Of(2, 2, 1, 0x0d), Side::Of(1, 2, 1, 0x07)),
+    Row::Ticks(19),
+    Row::Distributing(1, &[]),
+    Row::Hears(1, &DATA, Received::Dropped),
+    Row::Ticks(1),
+    Row::Distributing(1, &[1, 2]),
+    Row::Hears(1, &DATA, Received::Up(AggId(1))),
+    Row::Takes(1, Side::Of(2, 1, 2, 0x0d), Side::Of(1, 1, 1, 0x07)),
+    Row::Distributing(1, &[2]),
+    Row::Distributing(2, &[]),
+    Row::Chosen(1, Choice::Selected(AggId(2))),
+    Row::Mux(1, MuxState::Waiting),
+];
 
 #[test]
 fn another_key_of_the_partner(rt: HostRuntime) -> Result<(), SystemFault> {
-    plays_with(&rt, rt.alloc(), &[1, 2], 2, &[&other_key()])
+    plays_with(&rt, rt.alloc(), &[1, 2], 2, &[&OTHER_KEY])
 }
 
 #[test]
 fn an_lacpdu_of_the_own_system(rt: HostRuntime) -> Result<(), SystemFault> {
-    let rows = [
+    const ROWS: [Row<'static>; 13] = [
         Row::Link(1, true),
-        Row::Takes(1, end(1, 1, 1, 0x07), no_partner(0)),
+        Row::Takes(1, Side::Of(1, 1, 1, 0x07), Side::Nobody(0)),
         Row::Ticks(29),
         Row::Chosen(1, Choice::Unselected),
         Row::Distributing(1, &[]),
@@ -109,7 +121,7 @@ fn an_lacpdu_of_the_own_system(rt: HostRuntime) -> Result<(), SystemFault> {
         Row::Ticks(1),
         Row::Distributing(1, &[1]),
     ];
-    plays_with(&rt, rt.alloc(), &[1], 1, &[&rows])
+    plays_with(&rt, rt.alloc(), &[1], 1, &[&ROWS])
 }
 
 #[test]
@@ -165,20 +177,20 @@ fn a_port_is_given_another_key(rt: HostRuntime) -> Result<(), SystemFault> {
     };
     let rows = [
         Row::Link(1, true),
-        Row::Takes(1, theirs, no_partner(0)),
+        Row::Takes(1, Side::Of(2, 1, 1, 0x07), Side::Nobody(0)),
         Row::Shows(1, chosen),
         Row::Configures(1, 1, false),
         Row::Shows(1, chosen),
         Row::Configures(1, 2, true),
         Row::Shows(1, again),
-        Row::Sends(1, end(1, 1, 2, 0xc7), no_partner(0x02)),
+        Row::Sends(1, Side::Of(1, 1, 2, 0xc7), Side::Nobody(0x02)),
     ];
     plays_with(&rt, rt.alloc(), &[1], 1, &[&rows])
 }
 
 #[test]
 fn a_port_that_is_not_there(rt: HostRuntime) -> Result<(), SystemFault> {
-    let rows = [
+    const ROWS: [Row<'static>; 8] = [
         Row::Unknown(0),
         Row::Unknown(2),
         Row::Unknown(4),
@@ -188,17 +200,13 @@ fn a_port_that_is_not_there(rt: HostRuntime) -> Result<(), SystemFault> {
         Row::Has(&[1, 3], 1),
         Row::Distributing(2, &[]),
     ];
-    plays_with(&rt, rt.alloc(), &[1, 3], 1, &[&rows])
+    plays_with(&rt, rt.alloc(), &[1, 3], 1, &[&ROWS])
 }
 
 /// A passive port without a partner: its periodic machine stays in NO_PERIODIC, in which NTT is clear.
 #[test]
 fn a_port_in_no_periodic_sends_nothing(rt: HostRuntime) -> Result<(), SystemFault> {
-    let mut given = config(rt.alloc(), &[1], 1)?;
-    for port in given.ports.iter_mut() {
-        port.active = false;
-    }
-    let rows = [
+    const ROWS: [Row<'static>; 7] = [
         Row::Link(1, true),
         Row::Quiet(1, 49),
         Row::Distributing(1, &[]),
@@ -207,5 +215,9 @@ fn a_port_in_no_periodic_sends_nothing(rt: HostRuntime) -> Result<(), SystemFaul
         Row::Due(1, false),
         Row::Quiet(1, 20),
     ];
-    plays(&rt, rt.alloc(), given, &rows)
+    let mut given = config(rt.alloc(), &[1], 1)?;
+    for port in given.ports.iter_mut() {
+        port.active = false;
+    }
+    plays(&rt, rt.alloc(), given, &ROWS)
 }

@@ -1,4 +1,4 @@
-use crate::systems::{DATA, Row, lacpdu, mac, marker};
+use crate::systems::{DATA, Row, Side, lacpdu, mac, marker};
 use lagsystem::{AggId, Call, Key, NoMemory, PortChange, Received, Reply, SystemFault};
 use slowpdu::{Lacpdu, MarkerKind, frame};
 use std::alloc::Global;
@@ -97,13 +97,26 @@ fn heard(alloc: Global, port: u16, payload: &[u8; 110]) -> Result<Call, NoMemory
     Ok(Call::Receive(port, octets))
 }
 
+/// `receive` of an LACPDU that says this, from the peer.
+fn told(alloc: Global, port: u16, actor: Side, partner: Side) -> Result<Call, NoMemory> {
+    heard(alloc, port, &lacpdu(actor.info(), partner.info()))
+}
+
 /// The call that a row makes; None if it makes none.
 fn call_of(alloc: Global, row: Row<'_>) -> Result<Option<Call>, NoMemory> {
     let call = match row {
         Row::Link(port, up) => Call::SetLink(port, up),
         Row::Restart => Call::Restart,
-        Row::Takes(port, actor, partner) => heard(alloc, port, &lacpdu(actor, partner))?,
-        Row::Releases(port, response, _) => heard(alloc, port, &response.encode())?,
+        Row::Takes(port, actor, partner) => told(alloc, port, actor, partner)?,
+        Row::Joins(system, port) => {
+            let (actor, partner) = (Side::Of(system, port, 1, 0x0d), Side::Of(1, port, 1, 0x07));
+            told(alloc, port, actor, partner)?
+        }
+        Row::RankedJoins(system, port) => {
+            let (actor, partner) = (Side::Of(system, port, 1, 0x0d), Side::Ranked(port, 0x07));
+            told(alloc, port, actor, partner)?
+        }
+        Row::Releases(port, response, _) => heard(alloc, port, &response.marker().encode())?,
         Row::Hears(port, octets, _) | Row::Keeps(port, octets, _) => {
             Call::Receive(port, Vec::from_slice(alloc, octets)?)
         }
@@ -129,16 +142,18 @@ fn sent(port: u16, payload: &[u8; 110]) -> Reply {
 fn reply_of(row: Row<'_>) -> Reply {
     match row {
         Row::Link(_, _) => Reply::SetLink(Ok(())),
-        Row::Takes(_, _, _) => Reply::Receive(Ok(Received::TookLacpdu)),
+        Row::Takes(_, _, _) | Row::Joins(_, _) | Row::RankedJoins(_, _) => {
+            Reply::Receive(Ok(Received::TookLacpdu))
+        }
         Row::Releases(_, _, count) => Reply::Receive(Ok(Received::Released(count))),
         Row::Hears(_, _, answer) | Row::Keeps(_, _, answer) => Reply::Receive(Ok(answer)),
         Row::Configures(_, _, answer) => Reply::Configure(Ok(answer)),
         Row::Silent(_) => Reply::Transmit(Ok(None)),
-        Row::Sends(port, actor, partner) => sent(port, &lacpdu(actor, partner)),
+        Row::Sends(port, actor, partner) => sent(port, &lacpdu(actor.info(), partner.info())),
         Row::SendsWith(port, actor, partner, max_delay) => {
             let pdu = Lacpdu {
-                actor,
-                partner,
+                actor: actor.info(),
+                partner: partner.info(),
                 max_delay,
             };
             sent(port, &pdu.encode())

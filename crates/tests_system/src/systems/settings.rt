@@ -1,97 +1,70 @@
-use crate::systems::{DATA, Row, config, end, marker, no_partner, plays, plays_lists, plays_with};
-use lagsystem::{AggId, Assignment, BadConfig, Choice, Info, MuxState, PortStatus, SystemFault};
-use slowpdu::MarkerKind;
+use crate::systems::{DATA, Response, Row, Side, config, plays, plays_lists, plays_with};
+use lagsystem::{AggId, BadConfig, Choice, MuxState, PortStatus, SystemFault};
 
 const SELECTED: Choice = Choice::Selected(AggId(1));
 
 const STANDBY: Choice = Choice::Standby(AggId(1));
 
-/// What a port of system 2 says of itself: it is in its aggregator.
-fn theirs(port: u16) -> Info {
-    end(2, port, 1, 0x0d)
-}
-
-/// The information about a port of system 1.
-fn ours(port: u16, state: u8) -> Info {
-    end(1, port, 1, state)
-}
-
-/// An LACPDU of system 2 comes on a port.
-fn hears(port: u16) -> Row<'static> {
-    Row::Takes(port, theirs(port), ours(port, 0x07))
-}
-
 /// A data frame of conversation 50.
 const OTHER_DATA: [u8; 14] = [2, 0, 0, 0, 0, 0x22, 2, 0, 0, 0, 0, 0x10, 8, 0];
 
 /// Ports 3 and 4 come up, and distribute.
-fn two_up() -> [Row<'static>; 6] {
-    [
-        Row::Link(3, true),
-        Row::Link(4, true),
-        hears(3),
-        hears(4),
-        Row::Ticks(20),
-        Row::Distributing(1, &[3, 4]),
-    ]
-}
+const TWO_UP: [Row<'static>; 6] = [
+    Row::Link(3, true),
+    Row::Link(4, true),
+    Row::Joins(2, 3),
+    Row::Joins(2, 4),
+    Row::Ticks(20),
+    Row::Distributing(1, &[3, 4]),
+];
 
 #[test]
 fn a_port_is_held_before_its_link_comes_up(rt: HostRuntime) -> Result<(), SystemFault> {
-    let rows = [
+    const ROWS: [Row<'static>; 17] = [
         Row::Holds(1, true, Ok(())),
         Row::Status(1, PortStatus::LinkDown),
         Row::Link(1, true),
         Row::Status(1, PortStatus::Held),
-        hears(1),
+        Row::Joins(2, 1),
         Row::Ticks(20),
         Row::Chosen(1, Choice::Unselected),
         Row::Mux(1, MuxState::Detached),
         Row::Status(1, PortStatus::Held),
         // an LACPDU that does not name the port
-        Row::Takes(1, theirs(1), no_partner(0)),
-        Row::Sends(1, ours(1, 0x07), end(2, 1, 1, 0x05)),
-        hears(1),
+        Row::Takes(1, Side::Of(2, 1, 1, 0x0d), Side::Nobody(0)),
+        Row::Sends(1, Side::Of(1, 1, 1, 0x07), Side::Of(2, 1, 1, 0x05)),
+        Row::Joins(2, 1),
         Row::Holds(1, false, Ok(())),
         Row::Chosen(1, SELECTED),
         Row::Status(1, PortStatus::Waiting(20)),
         Row::Ticks(20),
         Row::Distributing(1, &[1]),
     ];
-    plays_with(&rt, rt.alloc(), &[1], 1, &[&rows])
+    plays_with(&rt, rt.alloc(), &[1], 1, &[&ROWS])
 }
 
 #[test]
 fn a_port_that_distributes_leaves_when_it_is_held(rt: HostRuntime) -> Result<(), SystemFault> {
-    let mut given = config(rt.alloc(), &[3, 4], 1)?;
-    given.first_marker = 5;
-    let held = [
+    const HELD: [Row<'static>; 15] = [
         Row::Offers(1, &DATA, Ok(3)),
         Row::Offers(1, &OTHER_DATA, Ok(3)),
-        Row::Sends(3, ours(3, 0x3f), theirs(3)),
+        Row::Sends(3, Side::Of(1, 3, 1, 0x3f), Side::Of(2, 3, 1, 0x0d)),
         Row::Holds(3, true, Ok(())),
         Row::Chosen(3, Choice::Unselected),
         Row::Mux(3, MuxState::Detached),
         Row::Status(3, PortStatus::Held),
         Row::Distributing(1, &[4]),
-        Row::Conversing(
-            1,
-            48,
-            Some(Assignment::Wanted {
-                port: 3,
-                preferred: None,
-            }),
-        ),
+        Row::Wanted(1, 48, 3, None),
         Row::Timers(3, 10, 0, true),
         Row::Offers(1, &DATA, Err(SystemFault::Held)),
-        Row::Sends(3, ours(3, 0x07), theirs(3)),
+        Row::Sends(3, Side::Of(1, 3, 1, 0x07), Side::Of(2, 3, 1, 0x0d)),
         Row::Marks(3, 5),
-        Row::Releases(3, marker(MarkerKind::Response, 3, 1, 5), 2),
+        Row::Releases(3, Response(3, 1, 5), 2),
         Row::Offers(1, &DATA, Ok(4)),
     ];
-    let let_go = [
+    const LET_GO: [Row<'static>; 9] = [
         // the peer's port has left its aggregator
-        Row::Takes(3, end(2, 3, 1, 0x05), ours(3, 0x07)),
+        Row::Takes(3, Side::Of(2, 3, 1, 0x05), Side::Of(1, 3, 1, 0x07)),
         Row::Timers(3, 30, 0, false),
         Row::Holds(3, true, Ok(())),
         Row::Timers(3, 30, 0, false),
@@ -101,12 +74,14 @@ fn a_port_that_distributes_leaves_when_it_is_held(rt: HostRuntime) -> Result<(),
         Row::Holds(3, false, Ok(())),
         Row::Status(3, PortStatus::Waiting(20)),
     ];
-    plays_lists(&rt, rt.alloc(), given, &[&two_up(), &held, &let_go])
+    let mut given = config(rt.alloc(), &[3, 4], 1)?;
+    given.first_marker = 5;
+    plays_lists(&rt, rt.alloc(), given, &[&TWO_UP, &HELD, &LET_GO])
 }
 
 #[test]
 fn a_restart_lets_each_port_go(rt: HostRuntime) -> Result<(), SystemFault> {
-    let rows = [
+    const ROWS: [Row<'static>; 11] = [
         Row::Holds(3, true, Ok(())),
         Row::Holds(4, true, Ok(())),
         Row::Distributing(1, &[]),
@@ -116,33 +91,29 @@ fn a_restart_lets_each_port_go(rt: HostRuntime) -> Result<(), SystemFault> {
         Row::Restart,
         Row::Link(3, true),
         Row::Status(3, PortStatus::NoLacpdu),
-        hears(3),
+        Row::Joins(2, 3),
         Row::Chosen(3, SELECTED),
     ];
-    plays_with(&rt, rt.alloc(), &[3, 4], 1, &[&two_up(), &rows])
+    plays_with(&rt, rt.alloc(), &[3, 4], 1, &[&TWO_UP, &ROWS])
 }
 
 /// Ports 1, 2 and 3 come up, with one link for each aggregator: port 1 is its member.
-fn one_of_three() -> [Row<'static>; 10] {
-    [
-        Row::Link(1, true),
-        Row::Link(2, true),
-        Row::Link(3, true),
-        hears(1),
-        hears(2),
-        hears(3),
-        Row::Ticks(20),
-        Row::Chosen(1, SELECTED),
-        Row::Chosen(2, STANDBY),
-        Row::Chosen(3, STANDBY),
-    ]
-}
+const ONE_OF_THREE: [Row<'static>; 10] = [
+    Row::Link(1, true),
+    Row::Link(2, true),
+    Row::Link(3, true),
+    Row::Joins(2, 1),
+    Row::Joins(2, 2),
+    Row::Joins(2, 3),
+    Row::Ticks(20),
+    Row::Chosen(1, SELECTED),
+    Row::Chosen(2, STANDBY),
+    Row::Chosen(3, STANDBY),
+];
 
 #[test]
 fn a_held_port_does_not_stand_by(rt: HostRuntime) -> Result<(), SystemFault> {
-    let mut given = config(rt.alloc(), &[1, 2, 3], 1)?;
-    given.max_links = Some(1);
-    let rows = [
+    const ROWS: [Row<'static>; 9] = [
         Row::Holds(2, true, Ok(())),
         Row::Chosen(2, Choice::Unselected),
         Row::Mux(2, MuxState::Detached),
@@ -153,17 +124,17 @@ fn a_held_port_does_not_stand_by(rt: HostRuntime) -> Result<(), SystemFault> {
         Row::Holds(3, true, Ok(())),
         Row::Chosen(2, SELECTED),
     ];
-    plays_lists(&rt, rt.alloc(), given, &[&one_of_three(), &rows])
+    let mut given = config(rt.alloc(), &[1, 2, 3], 1)?;
+    given.max_links = Some(1);
+    plays_lists(&rt, rt.alloc(), given, &[&ONE_OF_THREE, &ROWS])
 }
 
 #[test]
 fn a_limit_is_raised_and_lowered(rt: HostRuntime) -> Result<(), SystemFault> {
-    let mut given = config(rt.alloc(), &[1, 2, 3], 1)?;
-    given.max_links = Some(1);
-    let bad = Err(SystemFault::BadConfig(BadConfig::MaxLinks));
-    let raised = [
-        Row::Limit(Some(0), bad),
-        Row::Limit(Some(65), bad),
+    const BAD: Result<(), SystemFault> = Err(SystemFault::BadConfig(BadConfig::MaxLinks));
+    const RAISED: [Row<'static>; 17] = [
+        Row::Limit(Some(0), BAD),
+        Row::Limit(Some(65), BAD),
         Row::Limit(Some(2), Ok(())),
         Row::Chosen(2, SELECTED),
         Row::Chosen(3, STANDBY),
@@ -180,7 +151,7 @@ fn a_limit_is_raised_and_lowered(rt: HostRuntime) -> Result<(), SystemFault> {
         Row::Chosen(2, SELECTED),
         Row::Chosen(3, SELECTED),
     ];
-    let down = [
+    const DOWN: [Row<'static>; 5] = [
         // without a limit a port whose link is down stays a member; it does not count against a new one
         Row::Link(1, false),
         Row::Chosen(1, SELECTED),
@@ -188,75 +159,79 @@ fn a_limit_is_raised_and_lowered(rt: HostRuntime) -> Result<(), SystemFault> {
         Row::Chosen(1, Choice::Unselected),
         Row::Restart,
     ];
+    const AGAIN: [Row<'static>; 3] = [Row::Link(1, true), Row::Link(2, true), Row::Link(3, true)];
+    const JOINED: [Row<'static>; 5] = [
+        Row::Joins(2, 1),
+        Row::Joins(2, 2),
+        Row::Joins(2, 3),
+        Row::Chosen(2, SELECTED),
+        Row::Chosen(3, STANDBY),
+    ];
+    let mut given = config(rt.alloc(), &[1, 2, 3], 1)?;
+    given.max_links = Some(1);
     let lists: [&[Row<'_>]; 5] = [
-        &one_of_three(),
-        &raised,
-        &down,
+        &ONE_OF_THREE,
+        &RAISED,
+        &DOWN,
         // the limit stays as it was set
-        &[Row::Link(1, true), Row::Link(2, true), Row::Link(3, true)],
-        &[
-            hears(1),
-            hears(2),
-            hears(3),
-            Row::Chosen(2, SELECTED),
-            Row::Chosen(3, STANDBY),
-        ],
+        &AGAIN,
+        &JOINED,
     ];
     plays_lists(&rt, rt.alloc(), given, &lists)
 }
 
 #[test]
 fn a_port_gets_another_mode(rt: HostRuntime) -> Result<(), SystemFault> {
-    let rows = [
+    const ROWS: [Row<'static>; 16] = [
         Row::Link(1, true),
-        hears(1),
+        Row::Joins(2, 1),
         Row::Silent(1),
         Row::Mode(1, true, true, Ok(())),
         Row::Silent(1),
         Row::Mode(1, false, true, Ok(())),
-        Row::Sends(1, ours(1, 0x06), theirs(1)),
+        Row::Sends(1, Side::Of(1, 1, 1, 0x06), Side::Of(2, 1, 1, 0x0d)),
         Row::Mode(1, false, false, Ok(())),
-        Row::Sends(1, ours(1, 0x04), theirs(1)),
+        Row::Sends(1, Side::Of(1, 1, 1, 0x04), Side::Of(2, 1, 1, 0x0d)),
         Row::Timers(1, 30, 20, false),
-        hears(1),
+        Row::Joins(2, 1),
         Row::Timers(1, 900, 20, true),
         // a restart goes back to the configured mode
         Row::Restart,
         Row::Link(1, true),
         Row::Ticks(10),
-        Row::Sends(1, ours(1, 0xc7), no_partner(0x02)),
+        Row::Sends(1, Side::Of(1, 1, 1, 0xc7), Side::Nobody(0x02)),
     ];
-    plays_with(&rt, rt.alloc(), &[1], 1, &[&rows])
+    plays_with(&rt, rt.alloc(), &[1], 1, &[&ROWS])
 }
 
 #[test]
 fn a_passive_port_begins_to_send(rt: HostRuntime) -> Result<(), SystemFault> {
+    const ROWS: [Row<'static>; 4] = [
+        Row::Link(1, true),
+        Row::Quiet(1, 40),
+        Row::Mode(1, true, true, Ok(())),
+        Row::Sends(1, Side::Of(1, 1, 1, 0x47), Side::Nobody(0x08)),
+    ];
     let mut given = config(rt.alloc(), &[1], 1)?;
     for port in given.ports.iter_mut() {
         port.active = false;
     }
-    let rows = [
-        Row::Link(1, true),
-        Row::Quiet(1, 40),
-        Row::Mode(1, true, true, Ok(())),
-        Row::Sends(1, ours(1, 0x47), no_partner(0x08)),
-    ];
-    plays(&rt, rt.alloc(), given, &rows)
+    plays(&rt, rt.alloc(), given, &ROWS)
 }
 
 #[test]
 fn lacpdus_say_the_delay_that_is_set(rt: HostRuntime) -> Result<(), SystemFault> {
-    let rows = [
+    const ROWS: [Row<'static>; 10] = [
         Row::Link(1, true),
-        hears(1),
+        Row::Joins(2, 1),
         Row::Delay(27),
         Row::Silent(1),
         Row::Mode(1, true, false, Ok(())),
-        Row::SendsWith(1, ours(1, 0x05), theirs(1), 27),
+        Row::SendsWith(1, Side::Of(1, 1, 1, 0x05), Side::Of(2, 1, 1, 0x0d), 27),
         Row::Restart,
         Row::Link(1, true),
         Row::Ticks(10),
-        Row::SendsWith(1, ours(1, 0xc7), no_partner(0x02), 27),
+        Row::SendsWith(1, Side::Of(1, 1, 1, 0xc7), Side::Nobody(0x02), 27),
     ];
-    plays_with(&rt, rt.alloc(), &[1], 1, &[&rows])
+    plays_with(&rt, rt.alloc(), &[1], 1, &[&ROWS])
 }

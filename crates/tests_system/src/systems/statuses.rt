@@ -1,5 +1,5 @@
 use crate::comparing::same;
-use crate::systems::{Row, config, end, plays, plays_lists, plays_with};
+use crate::systems::{Row, Side, config, end, plays, plays_lists, plays_with};
 use lagsystem::{AggId, Choice, PortStatus, SystemFault};
 use std::alloc::AllocError;
 
@@ -40,96 +40,94 @@ fn a_port_without_a_peer_tells_why(rt: HostRuntime) -> Result<(), SystemFault> {
 
 /// Two ports of one group, of which the second hears its peer 6 ticks later. Its peer takes it for synchronized, so it asks
 /// to tell it otherwise.
-fn both_wait() -> [Row<'static>; 19] {
-    [
-        Row::Link(1, true),
-        Row::Link(2, true),
-        Row::Takes(1, end(2, 1, 1, 0x05), end(1, 1, 1, 0x07)),
-        Row::Status(1, PortStatus::Waiting(20)),
-        Row::Timers(1, 30, 20, false),
-        Row::Ticks(6),
-        Row::Status(2, PortStatus::NoLacpdu),
-        Row::Timers(2, 24, 0, false),
-        Row::Takes(2, end(2, 2, 1, 0x05), end(1, 2, 1, 0x0f)),
-        Row::Status(2, PortStatus::Waiting(20)),
-        Row::Timers(2, 30, 20, true),
-        Row::Ticks(8),
-        Row::Timers(1, 16, 6, false),
-        Row::Timers(2, 22, 12, true),
-        Row::Sends(2, end(1, 2, 1, 0x07), end(2, 2, 1, 0x05)),
-        Row::Timers(2, 22, 12, false),
-        Row::Ticks(5),
-        Row::Status(1, PortStatus::Waiting(1)),
-        Row::Status(2, PortStatus::Waiting(7)),
-    ]
-}
+const BOTH_WAIT: [Row<'static>; 19] = [
+    Row::Link(1, true),
+    Row::Link(2, true),
+    Row::Takes(1, Side::Of(2, 1, 1, 0x05), Side::Of(1, 1, 1, 0x07)),
+    Row::Status(1, PortStatus::Waiting(20)),
+    Row::Timers(1, 30, 20, false),
+    Row::Ticks(6),
+    Row::Status(2, PortStatus::NoLacpdu),
+    Row::Timers(2, 24, 0, false),
+    Row::Takes(2, Side::Of(2, 2, 1, 0x05), Side::Of(1, 2, 1, 0x0f)),
+    Row::Status(2, PortStatus::Waiting(20)),
+    Row::Timers(2, 30, 20, true),
+    Row::Ticks(8),
+    Row::Timers(1, 16, 6, false),
+    Row::Timers(2, 22, 12, true),
+    Row::Sends(2, Side::Of(1, 2, 1, 0x07), Side::Of(2, 2, 1, 0x05)),
+    Row::Timers(2, 22, 12, false),
+    Row::Ticks(5),
+    Row::Status(1, PortStatus::Waiting(1)),
+    Row::Status(2, PortStatus::Waiting(7)),
+];
 
 /// The first port waits for the second, then both for their peer; the second hears no more.
-fn both_attach() -> [Row<'static>; 19] {
-    [
-        Row::Ticks(1),
-        Row::Status(1, PortStatus::WaitingForMembers),
-        Row::Timers(1, 10, 0, false),
-        Row::Status(2, PortStatus::Waiting(6)),
-        Row::Takes(1, end(2, 1, 1, 0x05), end(1, 1, 1, 0x07)),
-        Row::Ticks(6),
-        Row::Status(1, PortStatus::PartnerNotSynchronized),
-        Row::Status(2, PortStatus::PartnerNotSynchronized),
-        Row::Timers(1, 24, 0, true),
-        Row::Timers(2, 10, 0, true),
-        Row::Takes(1, end(2, 1, 1, 0x0d), end(1, 1, 1, 0x0f)),
-        Row::Status(1, PortStatus::Distributing),
-        Row::Status(2, PortStatus::PartnerNotSynchronized),
-        Row::Ticks(10),
-        Row::Status(1, PortStatus::Distributing),
-        Row::Status(2, PortStatus::NoLacpdu),
-        Row::Timers(2, 30, 0, true),
-        Row::Link(1, false),
-        Row::Status(1, PortStatus::LinkDown),
-    ]
-}
+const BOTH_ATTACH: [Row<'static>; 19] = [
+    Row::Ticks(1),
+    Row::Status(1, PortStatus::WaitingForMembers),
+    Row::Timers(1, 10, 0, false),
+    Row::Status(2, PortStatus::Waiting(6)),
+    Row::Takes(1, Side::Of(2, 1, 1, 0x05), Side::Of(1, 1, 1, 0x07)),
+    Row::Ticks(6),
+    Row::Status(1, PortStatus::PartnerNotSynchronized),
+    Row::Status(2, PortStatus::PartnerNotSynchronized),
+    Row::Timers(1, 24, 0, true),
+    Row::Timers(2, 10, 0, true),
+    Row::Takes(1, Side::Of(2, 1, 1, 0x0d), Side::Of(1, 1, 1, 0x0f)),
+    Row::Status(1, PortStatus::Distributing),
+    Row::Status(2, PortStatus::PartnerNotSynchronized),
+    Row::Ticks(10),
+    Row::Status(1, PortStatus::Distributing),
+    Row::Status(2, PortStatus::NoLacpdu),
+    Row::Timers(2, 30, 0, true),
+    Row::Link(1, false),
+    Row::Status(1, PortStatus::LinkDown),
+];
 
 #[test]
 fn ports_with_a_peer_tell_why(rt: HostRuntime) -> Result<(), SystemFault> {
-    plays_with(&rt, rt.alloc(), &[1, 2], 1, &[&both_wait(), &both_attach()])
+    plays_with(&rt, rt.alloc(), &[1, 2], 1, &[&BOTH_WAIT, &BOTH_ATTACH])
 }
 
 /// Only ports in DETACHED and WAITING are waited for: a port in ATTACHED, whose peer is not synchronized, is not (6.4.14).
 #[test]
 fn a_port_in_attached_keeps_no_other_waiting(rt: HostRuntime) -> Result<(), SystemFault> {
-    let unsynchronized = Row::Takes(1, end(2, 1, 1, 0x05), end(1, 1, 1, 0x0f));
-    let rows = [
+    const UNSYNCHRONIZED: Row<'static> = Row::Takes(
+        1,
+        Side::Of(2, 1, 1, 0x05),
+        Side::Of(1, 1, 1, 0x0f),
+    );
+    const ROWS: [Row<'static>; 12] = [
         Row::Link(1, true),
-        unsynchronized,
+        UNSYNCHRONIZED,
         Row::Ticks(20),
         Row::Status(1, PortStatus::PartnerNotSynchronized),
         Row::Link(2, true),
-        Row::Takes(2, end(2, 2, 1, 0x0d), end(1, 2, 1, 0x07)),
-        unsynchronized,
+        Row::Takes(2, Side::Of(2, 2, 1, 0x0d), Side::Of(1, 2, 1, 0x07)),
+        UNSYNCHRONIZED,
         Row::Ticks(19),
         Row::Status(2, PortStatus::Waiting(1)),
         Row::Ticks(1),
         Row::Status(1, PortStatus::PartnerNotSynchronized),
         Row::Status(2, PortStatus::Distributing),
     ];
-    plays_with(&rt, rt.alloc(), &[1, 2], 1, &[&rows])
+    plays_with(&rt, rt.alloc(), &[1, 2], 1, &[&ROWS])
 }
 
 /// Ports 1 to 5 come up. Ports 2 and 3 have the same peer, and port 5 has the system itself as its peer.
-fn five_peers() -> [Row<'static>; 10] {
-    [
-        Row::Link(1, true),
-        Row::Link(2, true),
-        Row::Link(3, true),
-        Row::Link(4, true),
-        Row::Link(5, true),
-        Row::Takes(1, end(2, 1, 1, 0x0d), end(1, 1, 1, 0x07)),
-        Row::Takes(2, end(3, 2, 1, 0x0d), end(1, 2, 1, 0x07)),
-        Row::Takes(3, end(3, 3, 1, 0x0d), end(1, 3, 1, 0x07)),
-        Row::Takes(4, end(4, 4, 1, 0x0d), end(1, 4, 1, 0x07)),
-        Row::Takes(5, end(1, 9, 1, 0x0d), end(1, 5, 1, 0x07)),
-    ]
-}
+const FIVE_PEERS: [Row<'static>; 10] = [
+    Row::Link(1, true),
+    Row::Link(2, true),
+    Row::Link(3, true),
+    Row::Link(4, true),
+    Row::Link(5, true),
+    Row::Takes(1, Side::Of(2, 1, 1, 0x0d), Side::Of(1, 1, 1, 0x07)),
+    Row::Takes(2, Side::Of(3, 2, 1, 0x0d), Side::Of(1, 2, 1, 0x07)),
+    Row::Takes(3, Side::Of(3, 3, 1, 0x0d), Side::Of(1, 3, 1, 0x07)),
+    Row::Takes(4, Side::Of(4, 4, 1, 0x0d), Side::Of(1, 4, 1, 0x07)),
+    Row::Takes(5, Side::Of(1, 9, 1, 0x0d), Side::Of(1, 5, 1, 0x07)),
+];
 
 /// Of five ports the first two are links, and the others stay out of their aggregators, until no port hears any more.
 const THREE_OUT: [Row<'static>; 18] = [
@@ -157,7 +155,7 @@ const THREE_OUT: [Row<'static>; 18] = [
 fn ports_that_are_no_links_tell_why(rt: HostRuntime) -> Result<(), SystemFault> {
     let mut given = config(rt.alloc(), &[1, 2, 3, 4, 5], 2)?;
     given.max_links = Some(1);
-    plays_lists(&rt, rt.alloc(), given, &[&five_peers(), &THREE_OUT])
+    plays_lists(&rt, rt.alloc(), given, &[&FIVE_PEERS, &THREE_OUT])
 }
 
 /// The peer of the first port has the MAC address of the system and a higher priority: it is another system. That of the second
@@ -169,10 +167,10 @@ fn a_system_is_its_priority_and_address(rt: HostRuntime) -> Result<(), SystemFau
     let rows = [
         Row::Link(1, true),
         Row::Link(2, true),
-        Row::Takes(1, other, end(1, 1, 1, 0x07)),
+        Row::Takes(1, Side::Exactly(other), Side::Of(1, 1, 1, 0x07)),
         Row::Status(1, PortStatus::Waiting(20)),
         Row::Chosen(1, Choice::Selected(AggId(1))),
-        Row::Takes(2, end(1, 8, 7, 0x05), end(1, 2, 1, 0x07)),
+        Row::Takes(2, Side::Of(1, 8, 7, 0x05), Side::Of(1, 2, 1, 0x07)),
         Row::Status(2, PortStatus::OwnSystem),
         Row::Chosen(2, Choice::Unselected),
     ];
@@ -182,19 +180,19 @@ fn a_system_is_its_priority_and_address(rt: HostRuntime) -> Result<(), SystemFau
 /// Long_Timeout_Time is 900 ticks.
 #[test]
 fn a_long_timeout_runs_for_900_ticks(rt: HostRuntime) -> Result<(), SystemFault> {
-    let mut given = config(rt.alloc(), &[1], 1)?;
-    for port in given.ports.iter_mut() {
-        port.short = false;
-    }
-    let rows = [
+    const ROWS: [Row<'static>; 6] = [
         Row::Link(1, true),
-        Row::Takes(1, end(2, 1, 1, 0x05), end(1, 1, 1, 0x05)),
+        Row::Takes(1, Side::Of(2, 1, 1, 0x05), Side::Of(1, 1, 1, 0x05)),
         Row::Timers(1, 900, 20, false),
         Row::Ticks(3),
         Row::Timers(1, 897, 17, false),
         Row::Status(1, PortStatus::Waiting(17)),
     ];
-    plays(&rt, rt.alloc(), given, &rows)
+    let mut given = config(rt.alloc(), &[1], 1)?;
+    for port in given.ports.iter_mut() {
+        port.short = false;
+    }
+    plays(&rt, rt.alloc(), given, &ROWS)
 }
 
 /// The statuses of a port in the order of their numbers, from 0 on: the name of each, and its text.

@@ -1,5 +1,5 @@
 use crate::comparing::{same, same_in_row};
-use crate::systems::conversations::coming_up;
+use crate::systems::conversations::COMING_UP;
 use crate::systems::frames::response_frame;
 use crate::systems::plan::{Plan, plan_of_all};
 use crate::systems::{DATA, PortFacts, Row, config, joined, look, modulo, same_facts};
@@ -76,12 +76,12 @@ fn answer_to(count: usize) -> Received {
 
 /// Two ports come up, and a conversation waits for the response to the last marker.
 fn waiting(alloc: Global) -> Result<Plan, NoMemory> {
-    let rows = [
+    const ROWS: [Row<'static>; 3] = [
         Row::Offers(1, &DATA, Ok(1)),
         Row::Moves(1, 48, 2, Ok(())),
         Row::Marks(1, 4_294_967_295),
     ];
-    plan_of_all(alloc, &joined(alloc, &[&coming_up(), &rows])?)
+    plan_of_all(alloc, &joined(alloc, &[&COMING_UP, &ROWS])?)
 }
 
 /// A beginning of the response changes nothing that the readers return.

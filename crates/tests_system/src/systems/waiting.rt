@@ -1,135 +1,131 @@
-use crate::systems::{DATA, Row, end, no_partner, plays_with};
+use crate::systems::{DATA, Row, Side, plays_with};
 use lagsystem::SystemFault;
 
 /// A port with Short Timeout, whose partner has Long Timeout, comes up: its periodic timer, then wait_while, then
 /// current_while runs out first.
-fn one_comes_up() -> [Row<'static>; 24] {
-    [
-        Row::Waits(None),
-        Row::Link(1, true),
-        // Fast_Periodic_Time
-        Row::Waits(Some(10)),
-        Row::Ticks(9),
-        Row::Waits(Some(1)),
-        Row::Ticks(1),
-        Row::Waits(Some(0)),
-        Row::Sends(1, end(1, 1, 1, 0xc7), no_partner(0x02)),
-        Row::Waits(Some(10)),
-        Row::Takes(1, end(2, 1, 1, 0x05), end(1, 1, 1, 0x07)),
-        // Aggregate_Wait_Time, before 30 ticks of current_while and 300 of periodic_timer
-        Row::Waits(Some(20)),
-        Row::Ticks(19),
-        Row::Waits(Some(1)),
-        Row::Ticks(1),
-        Row::Waits(Some(0)),
-        Row::Sends(1, end(1, 1, 1, 0x0f), end(2, 1, 1, 0x05)),
-        Row::Waits(Some(10)),
-        Row::Takes(1, end(2, 1, 1, 0x05), end(1, 1, 1, 0x0f)),
-        // Short_Timeout_Time
-        Row::Waits(Some(30)),
-        Row::Ticks(29),
-        Row::Waits(Some(1)),
-        // EXPIRED: the partner has Short Timeout, so an LACPDU is due
-        Row::Ticks(1),
-        Row::Waits(Some(0)),
-        Row::Timers(1, 30, 0, true),
-    ]
-}
+const ONE_COMES_UP: [Row<'static>; 24] = [
+    Row::Waits(None),
+    Row::Link(1, true),
+    // Fast_Periodic_Time
+    Row::Waits(Some(10)),
+    Row::Ticks(9),
+    Row::Waits(Some(1)),
+    Row::Ticks(1),
+    Row::Waits(Some(0)),
+    Row::Sends(1, Side::Of(1, 1, 1, 0xc7), Side::Nobody(0x02)),
+    Row::Waits(Some(10)),
+    Row::Takes(1, Side::Of(2, 1, 1, 0x05), Side::Of(1, 1, 1, 0x07)),
+    // Aggregate_Wait_Time, before 30 ticks of current_while and 300 of periodic_timer
+    Row::Waits(Some(20)),
+    Row::Ticks(19),
+    Row::Waits(Some(1)),
+    Row::Ticks(1),
+    Row::Waits(Some(0)),
+    Row::Sends(1, Side::Of(1, 1, 1, 0x0f), Side::Of(2, 1, 1, 0x05)),
+    Row::Waits(Some(10)),
+    Row::Takes(1, Side::Of(2, 1, 1, 0x05), Side::Of(1, 1, 1, 0x0f)),
+    // Short_Timeout_Time
+    Row::Waits(Some(30)),
+    Row::Ticks(29),
+    Row::Waits(Some(1)),
+    // EXPIRED: the partner has Short Timeout, so an LACPDU is due
+    Row::Ticks(1),
+    Row::Waits(Some(0)),
+    Row::Timers(1, 30, 0, true),
+];
+
+/// The peer says that it sees the port otherwise than it is, so that an LACPDU is due.
+const OTHER_VIEW: Row<'static> = Row::Takes(1, Side::Of(2, 1, 1, 0x05), Side::Of(1, 1, 1, 0x0f));
+
+/// That LACPDU is sent.
+const SENT: Row<'static> = Row::Sends(1, Side::Of(1, 1, 1, 0x07), Side::Of(2, 1, 1, 0x05));
 
 /// Three LACPDUs are sent; a fourth has to wait until the first of them leaves the window.
-fn three_are_sent() -> [Row<'static>; 20] {
-    let other_view = Row::Takes(1, end(2, 1, 1, 0x05), end(1, 1, 1, 0x0f));
-    let sent = Row::Sends(1, end(1, 1, 1, 0x07), end(2, 1, 1, 0x05));
-    [
-        Row::Link(1, true),
-        other_view,
-        Row::Waits(Some(0)),
-        sent,
-        Row::Waits(Some(20)),
-        Row::Ticks(6),
-        other_view,
-        sent,
-        Row::Ticks(3),
-        other_view,
-        sent,
-        Row::Waits(Some(11)),
-        // their ages are 9, 3 and 0
-        other_view,
-        Row::Waits(Some(2)),
-        Row::Ticks(1),
-        // 10, 4 and 1
-        Row::Waits(Some(1)),
-        Row::Silent(1),
-        Row::Ticks(1),
-        Row::Waits(Some(0)),
-        sent,
-    ]
-}
+const THREE_ARE_SENT: [Row<'static>; 20] = [
+    Row::Link(1, true),
+    OTHER_VIEW,
+    Row::Waits(Some(0)),
+    SENT,
+    Row::Waits(Some(20)),
+    Row::Ticks(6),
+    OTHER_VIEW,
+    SENT,
+    Row::Ticks(3),
+    OTHER_VIEW,
+    SENT,
+    Row::Waits(Some(11)),
+    // their ages are 9, 3 and 0
+    OTHER_VIEW,
+    Row::Waits(Some(2)),
+    Row::Ticks(1),
+    // 10, 4 and 1
+    Row::Waits(Some(1)),
+    Row::Silent(1),
+    Row::Ticks(1),
+    Row::Waits(Some(0)),
+    SENT,
+];
 
 #[test]
 fn the_first_timer_of_a_port_is_told(rt: HostRuntime) -> Result<(), SystemFault> {
-    plays_with(&rt, rt.alloc(), &[1], 1, &[&one_comes_up()])
+    plays_with(&rt, rt.alloc(), &[1], 1, &[&ONE_COMES_UP])
 }
 
 #[test]
 fn room_in_the_window_is_told(rt: HostRuntime) -> Result<(), SystemFault> {
-    plays_with(&rt, rt.alloc(), &[1], 1, &[&three_are_sent()])
+    plays_with(&rt, rt.alloc(), &[1], 1, &[&THREE_ARE_SENT])
 }
 
 /// Two ports of one aggregator distribute, and hear their peer again.
-fn both_distribute() -> [Row<'static>; 15] {
-    [
-        Row::Link(1, true),
-        Row::Link(2, true),
-        Row::Takes(1, end(2, 1, 1, 0x0d), end(1, 1, 1, 0x07)),
-        Row::Takes(2, end(2, 2, 1, 0x0d), end(1, 2, 1, 0x07)),
-        Row::Waits(Some(20)),
-        Row::Ticks(20),
-        Row::Distributing(1, &[1, 2]),
-        Row::Waits(Some(0)),
-        Row::Sends(1, end(1, 1, 1, 0x3f), end(2, 1, 1, 0x0d)),
-        Row::Waits(Some(0)),
-        Row::Sends(2, end(1, 2, 1, 0x3f), end(2, 2, 1, 0x0d)),
-        Row::Waits(Some(10)),
-        Row::Takes(1, end(2, 1, 1, 0x3d), end(1, 1, 1, 0x3f)),
-        Row::Waits(Some(10)),
-        Row::Takes(2, end(2, 2, 1, 0x3d), end(1, 2, 1, 0x3f)),
-    ]
-}
+const BOTH_DISTRIBUTE: [Row<'static>; 15] = [
+    Row::Link(1, true),
+    Row::Link(2, true),
+    Row::Takes(1, Side::Of(2, 1, 1, 0x0d), Side::Of(1, 1, 1, 0x07)),
+    Row::Takes(2, Side::Of(2, 2, 1, 0x0d), Side::Of(1, 2, 1, 0x07)),
+    Row::Waits(Some(20)),
+    Row::Ticks(20),
+    Row::Distributing(1, &[1, 2]),
+    Row::Waits(Some(0)),
+    Row::Sends(1, Side::Of(1, 1, 1, 0x3f), Side::Of(2, 1, 1, 0x0d)),
+    Row::Waits(Some(0)),
+    Row::Sends(2, Side::Of(1, 2, 1, 0x3f), Side::Of(2, 2, 1, 0x0d)),
+    Row::Waits(Some(10)),
+    Row::Takes(1, Side::Of(2, 1, 1, 0x3d), Side::Of(1, 1, 1, 0x3f)),
+    Row::Waits(Some(10)),
+    Row::Takes(2, Side::Of(2, 2, 1, 0x3d), Side::Of(1, 2, 1, 0x3f)),
+];
 
 /// A conversation waits for the response to a marker, which never comes. Then both links go down.
-fn a_marker_is_lost() -> [Row<'static>; 25] {
-    [
-        Row::Waits(Some(30)),
-        Row::Offers(1, &DATA, Ok(1)),
-        Row::Waits(Some(30)),
-        Row::Moves(1, 48, 2, Ok(())),
-        Row::Waits(Some(0)),
-        Row::Marks(1, 1),
-        Row::Ticks(12),
-        Row::Takes(1, end(2, 1, 1, 0x3d), end(1, 1, 1, 0x3f)),
-        Row::Takes(2, end(2, 2, 1, 0x3d), end(1, 2, 1, 0x3f)),
-        // at the 30th tick after the marker
-        Row::Waits(Some(18)),
-        Row::Ticks(17),
-        Row::Waits(Some(1)),
-        Row::Ticks(1),
-        Row::Waits(Some(0)),
-        Row::Marks(1, 2),
-        // current_while
-        Row::Waits(Some(12)),
-        Row::Link(1, false),
-        Row::Link(2, false),
-        // Timers go on while the link is down: current_while has 12 ticks left, and periodic_timer 250.
-        Row::Waits(Some(12)),
-        Row::Ticks(12),
-        Row::Waits(Some(238)),
-        Row::Ticks(237),
-        Row::Waits(Some(1)),
-        Row::Ticks(1),
-        Row::Waits(None),
-    ]
-}
+const A_MARKER_IS_LOST: [Row<'static>; 25] = [
+    Row::Waits(Some(30)),
+    Row::Offers(1, &DATA, Ok(1)),
+    Row::Waits(Some(30)),
+    Row::Moves(1, 48, 2, Ok(())),
+    Row::Waits(Some(0)),
+    Row::Marks(1, 1),
+    Row::Ticks(12),
+    Row::Takes(1, Side::Of(2, 1, 1, 0x3d), Side::Of(1, 1, 1, 0x3f)),
+    Row::Takes(2, Side::Of(2, 2, 1, 0x3d), Side::Of(1, 2, 1, 0x3f)),
+    // at the 30th tick after the marker
+    Row::Waits(Some(18)),
+    Row::Ticks(17),
+    Row::Waits(Some(1)),
+    Row::Ticks(1),
+    Row::Waits(Some(0)),
+    Row::Marks(1, 2),
+    // current_while
+    Row::Waits(Some(12)),
+    Row::Link(1, false),
+    Row::Link(2, false),
+    // Timers go on while the link is down: current_while has 12 ticks left, and periodic_timer 250.
+    Row::Waits(Some(12)),
+    Row::Ticks(12),
+    Row::Waits(Some(238)),
+    Row::Ticks(237),
+    Row::Waits(Some(1)),
+    Row::Ticks(1),
+    Row::Waits(None),
+];
 
 #[test]
 fn the_wait_for_a_response_is_told(rt: HostRuntime) -> Result<(), SystemFault> {
@@ -138,6 +134,6 @@ fn the_wait_for_a_response_is_told(rt: HostRuntime) -> Result<(), SystemFault> {
         rt.alloc(),
         &[1, 2],
         1,
-        &[&both_distribute(), &a_marker_is_lost()],
+        &[&BOTH_DISTRIBUTE, &A_MARKER_IS_LOST],
     )
 }

@@ -1,4 +1,4 @@
-use crate::systems::{Row, config, end, plays};
+use crate::systems::{Row, config, plays};
 use lagsystem::{Assignment, NoMemory, SystemFault};
 use std::alloc::Global;
 use std::process::Abort;
@@ -27,29 +27,22 @@ fn port_of(conv: u16) -> u16 {
     }
 }
 
-/// An LACPDU of system 2, which is in its aggregator, comes on a port.
-fn hears<'a>(port: u16) -> Row<'a> {
-    Row::Takes(port, end(2, port, 1, 0x0d), end(1, port, 1, 0x07))
-}
-
 /// Ports 1, 3 and 9 come up, and distribute in aggregator 1.
-fn three_up<'a>() -> [Row<'a>; 8] {
-    [
-        Row::Link(1, true),
-        Row::Link(3, true),
-        Row::Link(9, true),
-        hears(1),
-        hears(3),
-        hears(9),
-        Row::Ticks(20),
-        Row::Distributing(1, &[1, 3, 9]),
-    ]
-}
+const THREE_UP: [Row<'static>; 8] = [
+    Row::Link(1, true),
+    Row::Link(3, true),
+    Row::Link(9, true),
+    Row::Joins(2, 1),
+    Row::Joins(2, 3),
+    Row::Joins(2, 9),
+    Row::Ticks(20),
+    Row::Distributing(1, &[1, 3, 9]),
+];
 
 /// Each frame is of its conversation and goes on its port, and each conversation stays there.
 fn offers<'a>(alloc: Global, frames: &'a [[u8; 14]]) -> Result<Vec<Row<'a>>, NoMemory> {
     let mut rows = Vec::new(alloc);
-    rows.extend_from_slice(&three_up())?;
+    rows.extend_from_slice(&THREE_UP)?;
     for (conv, octets) in (0..).zip(frames) {
         rows.push(Row::Conversation(octets, Some(conv)))?;
         rows.push(Row::Offers(1, octets, Ok(port_of(conv))))?;

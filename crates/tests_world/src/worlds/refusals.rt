@@ -159,7 +159,12 @@ fn compare_line_refusal(
     wanted: Option<WorldFault>,
 ) -> Result<(), WorldFault> {
     let came = line_refusal(rt, alloc, full)?;
-    assert_eq!(rt; came, wanted, "a line with items {full:?}");
+    same(
+        rt,
+        "items of a line, and its refusal",
+        &(full, came),
+        &(full, wanted),
+    );
     Ok(())
 }
 
@@ -330,11 +335,12 @@ fn tells_no_flow<F: Fn(u16, usize) -> usize + Drop>(
     let sent = world.sent(system, AggId(agg), conv).len();
     let collected = world.collected(system, AggId(agg), conv).len();
     let forced = world.forced(system, AggId(agg), conv);
-    let came = (sent, collected, forced);
-    assert_eq!(rt;
-        came,
-        (0, 0, false),
-        "system, aggregator and conversation {flow:?}"
+    let came = (flow, sent, collected, forced);
+    same(
+        rt,
+        "system, aggregator and conversation",
+        &came,
+        &(flow, 0, 0, false),
     );
 }
 
