@@ -88,6 +88,11 @@ const isUnheard = ({ rank }) => rank === 12;
 const ASIDE = ["away", "aggregators", "same-partner-port", "one-system", "note", "said"];
 
 const isCutIn = (text) => text.bundles.some((it) => it.isCut);
+/* That texts are cut, and where the first one of them is. */
+function cutSaid(texts) {
+    const [{ cut }] = texts.find(isCutIn).bundles.filter((it) => it.isCut);
+    return `The text is cut${cut ? `: ${cut}` : ""}. Nothing is named: give all of it, with the line behind it.`;
+}
 const causeOf = (given) => ({ kind: FAULT, lines: [], effects: [], ports: [], ...given });
 
 function causesOfRules(found, { bundles, form }) {
@@ -191,7 +196,7 @@ function howManySaid(lines, ports) {
 export function headlineOfTexts(texts, lines, causes) {
     const carry = lines.filter(({ how }) => how === CARRIES).length, all = lines.length, [cause] = causes.filter(({ kind }) => kind === FAULT);
     const head = howManySaid(lines, texts[0].bundles.flatMap((it) => it.ports));
-    if (texts.some(isCutIn)) return ["The text is cut: nothing is named. Give all of it, with the line behind it.", "bad"];
+    if (texts.some(isCutIn)) return [cutSaid(texts), "bad"];
     if (cause) return [`${head}${capitalized(cause.title)}.`, "bad"];
     if (!all) return ["No port of an LACP bundle is in this text.", "bad"];
     const away = causes.find(({ rank }) => rank === "away");
@@ -199,7 +204,7 @@ export function headlineOfTexts(texts, lines, causes) {
     if (carry < all) return [`${head}The text does not show why: give the text of the other end, or capture.`, ""];
     const twins = causes.find(({ rank }) => rank === "same-partner-port");
     if (twins) return [`${head}${capitalized(twins.title)}: right if switches act as one (MLAG).`, ""];
-    if (all === 1) return ["The one link of this bundle carries. If it is to have more, they are not in it: ip link set PORT master BOND.", ""];
+    if (all === 1) return ["The one link of this text carries. If the bundle has more, the text is cut: give all of it. If it is to have more, they are not in it (bonding: ip link set PORT master BOND).", ""];
     return [`${head}LACP is not your trouble${texts.length > 1 ? "" : ", if the other end says so, too"}. ${flowSaid(texts[0].bundles)}`, "good"];
 }
 

@@ -64,6 +64,7 @@ def of_unable(tests: Tests, browser: Browser, page: str) -> None:
     tests.same("without scripts a sentence says which browser can", shown, [True, False, False, False])
     browser.call("Emulation.setScriptExecutionDisabled", value=False)
     browser.go(page)
+    tests.same("the box for what a system prints is unfolded", browser.value("document.getElementById('here').offsetHeight > 0"), True)
 
 
 def of_findings(tests: Tests, browser: Browser) -> None:
@@ -86,6 +87,7 @@ def of_findings(tests: Tests, browser: Browser) -> None:
 def of_verdicts(tests: Tests, browser: Browser, folder: str) -> None:
     """A fault is told from what often follows from it, and from what calls for nothing."""
     browser.choose(UNEQUAL)
+    tests.same("beside a capture the box is folded", browser.value("document.getElementById('here').offsetHeight > 0"), False)
     tests.same("unequal keys are one fault", browser.value(VERDICT), ["1 of 2 links carries. Keys differ within one pair of systems.", "bad"])
     counts = browser.value("document.getElementById('counts').textContent")
     tests.same("it is told with its effects", counts, "1 fault, 2 likely effects, 1 remark, at 9 places")

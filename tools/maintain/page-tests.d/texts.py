@@ -181,3 +181,23 @@ def of_cuts(tests: Tests, browser: Browser) -> None:
             if first and not first.startswith("Remark: ") and "lacks the LACPDUs" not in first:
                 named.append(f"{turn} of {CUTS}: {verdict}")
         tests.told(f"{name}: where it is cut, no cause is named", "; ".join(named))
+    of_cut_bonds(tests)
+
+
+def of_cut_bonds(tests: Tests) -> None:
+    """A text of bonding that is cut behind its first port, or in the last line, is said to be cut, and where."""
+    both, apart = (read(os.path.join(STATUS, f"{it}-bonding.txt")) for it in ("healthy", "keys"))
+    first, begin, last = both.index("Slave Interface: p2"), apart.index("Slave Interface: p2"), apart.rstrip("\n")
+    cut = "The text is cut: {}. Nothing is named: give all of it, with the line behind it."
+    cases = {
+        "of two ports of one aggregator": (both[:first].rstrip(), 2, cut.format("of the ports in aggregator 1 it has 1 of 2")),
+        "in the line of a port": (apart[: begin + 9], 2, cut.format('"Slave Int" is its last line')),
+        "in a port": (apart[: begin + 60], 2, cut.format("the part of p2 is not whole")),
+        "in its last number": (last, 2, cut.format('its last line, "port state: 15", may go on')),
+        "behind a number that is whole": (last[: -len("15")] + "0", 1, "1 of 2 links carries. Keys differ within one pair of systems: p1, p2."),
+    }
+    for name, (text, status, said) in cases.items():
+        ended, told = told_of(text)
+        tests.same(f"a text of bonding that is cut {name}", [ended, told.partition("\n")[0]], [status, said])
+    ended, told = told_of(apart[:begin])
+    tests.same("of one port alone the page cannot tell, and says so", [ended, "If the bundle has more, the text is cut" in told], [0, True])
