@@ -525,8 +525,34 @@ def test_the_page_has_what_carries_the_tests() -> None:
 
 def test_pages_have_the_number_of_tests() -> None:
     """What the bench has now; the counts of runs stand with their dates."""
-    for name, wanted in ("../README.md", f": {len(TESTS)} tests of the LACP"), ("CONFORMANCE.md", f"The bench has {len(TESTS)} now"):
-        assert wanted in (page_of(name) or wanted)
+    wanted = f": {len(TESTS)} tests of the LACP"
+    assert wanted in (page_of("../README.md") or wanted)
+    counts = {links: [len(options.selected(None, long, links)) for long in (False, True)] for links in (1, 2, 3, 4)}
+    assert counts[3] == counts[4] and counts[4][1] == len(TESTS)
+    rows = [f"|{name}|{counts[links][0]}|{counts[links][1]}{more}|" for name, links, more in (("one", 1, ""), ("two", 2, ""), ("three or four", 3, ": all"))]
+    newer = f"|{counts[2][0] - 2}|the {counts[2][0]} without TX-10 and TX-11, which are newer|"
+    text = page_of("CONFORM.md")
+    assert not text or not [it for it in (*rows, newer) if f"{it}\n" not in text]
+
+
+def test_the_page_says_what_makes_the_counts_differ() -> None:
+    text = page_of("CONFORM.md")
+    if not text:
+        return
+    long, three = ([it.id for it in TESTS if those(it)] for those in (lambda it: it.is_long, lambda it: it.links == 3))
+    assert f"`--long` adds {listed(long)}, which take more than {LONG} s each. Three links add {listed(three)}." in " ".join(text.split())
+    device = Device()
+    b = Bench(World(device))
+    meet(b)
+    wanted = [run_one(b, it) for it in TESTS if it.hooks and it.links < 3]
+    assert f"`--hook`, {listed([it.test.id for it in wanted if it.verdict == SKIPPED]).replace('RX-13', 'RX-13 (but with `--flap`)')} are skipped" in " ".join(text.split())
+    b.close()
+    device.stop()
+
+
+def listed(names: Sequence[str]) -> str:
+    """Names as sentences have them."""
+    return f"{', '.join(names[:-1])} and {names[-1]}"
 
 
 def test_pages_have_the_time_of_a_run_and_which_tests_are_long() -> None:
@@ -534,8 +560,6 @@ def test_pages_have_the_time_of_a_run_and_which_tests_are_long() -> None:
     said = f" tests on 2 links, some {round(sum(it.takes for it in short) / 60)} min"  # how many: of the run that the page shows
     assert said in (page_of("CONFORM.md") or said)
     for name, wanted in (
-        ("CONFORM.md", f"those of more than {LONG} s;"),
-        ("CONFORMANCE.md", f"of more than {LONG} s were not run"),
         ("PEERS.md", f"that take at most {LONG} s each"),
     ):
         assert wanted in (page_of(name) or wanted)

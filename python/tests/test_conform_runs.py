@@ -28,6 +28,7 @@ BY_NAME = {it.id: it for it in TESTS}
 # What stands behind the counts in the last line.
 LAST = f". {CAVEAT}\n"
 EXAMPLES = Path(__file__).parents[2] / "examples" / "conform"
+PAGE = Path(__file__).parents[2] / "docs" / "CONFORM.md"
 HEADER = Path(__file__).parents[2] / "crates" / "lagffi" / "include"
 
 
@@ -310,6 +311,25 @@ def test_the_example_in_python_passes_all(capsys: pytest.CaptureFixture[str]) ->
     assert said.startswith(f"{len(TESTS)} tests on 3 links\n") and said.endswith(f"{len(TESTS) - 1} pass, 0 fail, 1 not applicable{LAST}")
     assert command.main(["--memory", str(EXAMPLES / "device.py"), "--links", "1", "--only", "FM-01", "--repeat", "2"]) == 0
     assert capsys.readouterr().out.startswith("1 test on 1 link, each 2 times\n")
+
+
+@pytest.mark.skipif(not PAGE.exists(), reason="no page")
+def test_the_first_fail_is_as_the_page_has_it(tmp_path: Path, monkeypatch: pytest.MonkeyPatch, capsys: pytest.CaptureFixture[str]) -> None:
+    told = re.split(r"^##+ ", PAGE.read_text().partition("### A first fail\n")[2], flags=re.M)[0]
+    commands, printed = re.findall(r"(?:^    .*\n)+", told, re.M)
+    edit, run = commands.strip().split("\n")
+    begin, end = edit.split("'")[1].split("/")[1:3]
+    monkeypatch.chdir(tmp_path)
+    (tmp_path / "out").mkdir()
+    text = (EXAMPLES / "device.py").read_text()
+    assert begin in text and edit.split("'")[2].split() == ["examples/conform/device.py", ">", "out/many.py"]
+    (tmp_path / "out" / "many.py").write_text(text.replace(begin, end))
+    assert command.main(run.split()[1:]) == 1
+    lines = iter(capsys.readouterr().out.splitlines())
+    assert not [it for it in printed.splitlines() if it.strip() != ".." and it.removeprefix("    ") not in lines]  # in their order
+    numbers = list(map(int, re.findall(r"packets (\d+), (\d+)", printed)[0]))
+    blocks = (tmp_path / "out" / "many.pcapng").read_bytes().split(b"MK-06 fails: 40 Marker PDUs")
+    assert len(blocks) == 1 + len(numbers) and (tmp_path / "out" / "many.html").read_text().count('class="a bad"') >= len(numbers)
 
 
 @pytest.mark.skipif(not HEADER.exists() or not shutil.which("cc") or "NIWHOPERA_LIBRARY" not in os.environ, reason="no C compiler, or no library")
