@@ -1,5 +1,7 @@
 /* What a rule says of a text: its title where a status is one moment, what is seen, and what to do, in the words of the program whose text it is. */
 
+import { TWO_BOXES } from "./keys.js";
+
 /* For each form of a text how its program counts LACPDUs, and what gives its ports one key. */
 const BONDING = { counts: "it counts no LACPDUs, so capture at both ends (tcpdump -i PORT 'ether proto 0x8809')", key: "one speed, and full duplex" };
 const PROGRAMS = new Map([
@@ -53,7 +55,7 @@ export const areTwinsApart = (ports) => isSeveral(portsNamedAlike(ports), (it) =
 
 function adviceOnKeys({ ports, form }) {
     if (areTwinsApart(ports)) {
-        return `${namesIn(portsNamedAlike(ports))} name one port of one system, so two boxes have one system: an MLAG pair (give both the same MLAG number; bonding: the same ad_user_port_key), or two machines with one system address (give each its own).`;
+        return `${namesIn(portsNamedAlike(ports))} name one port of one system, so ${TWO_BOXES}`;
     }
     const sides = sidesWithKeys(ports), there = "one group there (switch: one channel-group; bonding: one bond, one speed, duplex and ad_user_port_key; Open vSwitch: one bond; teamd: one lacp_key)";
     const ways = sides.map((side) => side === "actor" ? `give these ports of this end ${PROGRAMS.get(form).key}` : `put the other ends of these ports into ${there}`).join(", and ");
