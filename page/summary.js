@@ -123,7 +123,7 @@ function lagsOf(lines) {
     return [...lags.values()];
 }
 
-const APART = "If they are to be one, give them one key at each end; else LACP is not your trouble.";
+const MEANT_AS_ONE = "If they are to be one, give them one key at each end; else LACP is not your trouble.";
 
 /* That all links carry: since when, where it was not so before, and what was the cause; else of one link, of a bundle, or of several. */
 function ofHealthy(lines, causes) {
@@ -135,7 +135,7 @@ function ofHealthy(lines, causes) {
     if (twins) return [`${links}, both ways${since}. ${capitalized(twins.title)}: right if they are an MLAG pair.`, ""];
     if (lags.length > 1) {
         const named = lags.length > MOST_LAGS ? "" : `: ${lags.map(joinedBy).join("; ")}`, flow = lags.some((it) => it.length > 1) ? ` ${flowSaid([])}` : "";
-        return [`${links}, both ways${since}, as ${lags.length} bundles${named}. ${APART}${flow}`, ""];
+        return [`${links}, both ways${since}, as ${lags.length} bundles${named}. ${MEANT_AS_ONE}${flow}`, ""];
     }
     return [all === 1 ? `${links}, both ways${since}. ${ONE}` : `${links}, both ways${since}: LACP is not your trouble. ${flowSaid([])}`, "good"];
 }
