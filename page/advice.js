@@ -62,15 +62,24 @@ function adviceOnKeys({ ports, form }) {
     return ways ? `${ways[0].toUpperCase()}${ways.slice(1)}; or these are two bundles, and cables are crossed.` : null;
 }
 
+/* Whether the partners of ports have one address, and several priorities. */
+const isOfOneAddress = (ports) => !isSeveral(heardIn(ports), (it) => it.partner.system) && isSeveral(heardIn(ports), (it) => it.partner.priority);
+
+/* What names the partner of a port: its address, with the priority where that is what differs. */
+const systemSaid = (ports) => ({ partner }) => !partner.system ? "a system that is not named" : `${isOfOneAddress(ports) ? `priority ${partner.priority} of ` : ""}${dashed(partner.system)}`;
+
 /* What rules say of texts; what stands not here is said as of a capture. `ports` are those of the text, `isLasting` is whether one of those that
- * are meant churns, `isImplied` whether all are the other ends; for these `implied` has the title. */
+ * are meant churns, `isImplied` whether all are the other ends; for these `implied` has the title. `case` has another title where one is due. */
 export const RULES = new Map([
     [5, { title: "both ends are passive" }],
     [12, {
         title: "a port hears nobody", said: ({ ports, form }) => aloneSaid(ports, form),
         advice: (it) => `${asLong(it)}look whether the port at the other end is in a bundle with LACP (switch: channel-group, mode active, not on; Linux bonding: mode=802.3ad). If it is, no status says who is deaf: ${PROGRAMS.get(it.form).counts}.`,
     }],
-    [14, { title: "one end is individual" }],
+    [14, {
+        title: "one end is individual",
+        advice: (it) => `Set the port of ${it.isImplied ? "the other end" : "this end"} to full duplex, and let it be aggregated, not individual: it may not be aggregated with others.`,
+    }],
     [15, {
         title: "keys differ within one pair of systems", advice: adviceOnKeys,
         said: ({ ports }) => sidesWithKeys(ports).map((side) => `${side === "actor" ? "this end" : "the other end"} has several keys: ${eachOf(ports, (it) => `key ${it[side].key}`)}`),
@@ -83,6 +92,10 @@ export const RULES = new Map([
         title: "it is attached, and the other end has not attached it", implied: (names) => `the partner of ${names} says that it is synchronized, and this end does not`,
         advice: (it) => `${asLong(it)}${it.isImplied ? "this end" : "the other end"} has chosen another aggregator, or has links enough (switch: max links).${it.isImplied ? "" : " Look at its status."}`,
     }],
-    [29, { title: "links lead to two systems", said: ({ ports }) => [eachOf(ports, (it) => it.partner.system ? dashed(it.partner.system) : "a system that is not named")] }],
+    [29, {
+        title: "links lead to two systems", said: ({ ports }) => [eachOf(ports, systemSaid(ports))],
+        case: ({ ports }) => isOfOneAddress(ports) ? "links lead to one address with several system priorities" : null,
+        advice: ({ ports }) => isOfOneAddress(ports) ? "These are priorities of one address: give the far end one LACP system priority; of an MLAG pair both switches the same." : null,
+    }],
     [30, { title: "the partner is this system itself" }],
 ]);

@@ -123,7 +123,8 @@ const ofRelapse = ({ at }, { link }) => {
 /* An end that says Individual in its last LACPDU, or before a silence, and did not before: its port is taken out. */
 function ofSingle(finding, { link }) {
     const { at } = finding, frame = frameOf(finding), lacpdus = at.frames.filter((it) => it.kind === "lacpdu"), place = lacpdus.indexOf(frame), [before, next] = [lacpdus[place - 1], lacpdus[place + 1]];
-    if (finding.rule !== 14 || !before || !has(before, "aggregatable") || (next && next.seconds - frame.seconds <= SHORT_TIMEOUT)) return {};
+    if (finding.rule !== 14) return {};
+    if (!before || !has(before, "aggregatable") || (next && next.seconds - frame.seconds <= SHORT_TIMEOUT)) return { lines: [`${at.short} says Individual`] };
     return {
         isFirst: true, title: "a port is taken out of its bundle",
         lines: [`${at.short} says Individual at ${roundedSeconds(frame.seconds)}, and nothing ${next ? `up to ${roundedSeconds(next.seconds)}` : `more on ${linkName(link)}`}: so does a port that leaves its bond`],

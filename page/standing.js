@@ -57,7 +57,7 @@ function partnerFacts({ name, ports }) {
             advice: `Both ends speak there: it has another partner, or another key (another speed or duplex). As root, cat /proc/net/bonding/${name} names it.` },
         { name: "own-address", ports: alike, title: `the partner of ${namesIn(alike)} has this end's MAC address, with another priority`,
             advice: "Linux drops such LACPDUs: give each system its own address." },
-        { name: "same-partner-port", ports: twins, title: `${namesIn(twins)} name one port of one system`, advice: "Right with switches that act as one (MLAG); else two machines have one system." },
+        { name: "same-partner-port", ports: twins, title: `one port of one system is the partner of ${namesIn(twins)}`, advice: "Right with switches that act as one (MLAG); else two machines have one system." },
     ];
 }
 
@@ -100,7 +100,7 @@ function causesOfRules(found, { bundles, form }) {
     return rules.map((list) => {
         const [{ rule, clause, name, advice }] = list, own = RULES.get(rule) ?? {}, here = list.filter((it) => !it.isImplied), meant = list.map((it) => it.port);
         const who = here.length ? namesIn(here.map((it) => it.port)) : `the other end of ${namesIn(meant)}`, seen = { ports, form, isLasting: meant.some((it) => it.isLasting), isImplied: !here.length };
-        const title = (!here.length && own.implied?.(namesIn(meant))) || `${own.title ?? name}: ${who}`;
+        const title = (!here.length && own.implied?.(namesIn(meant))) || `${own.case?.(seen) ?? own.title ?? name}: ${who}`;
         return causeOf({ rank: rule, rule, clause, title, advice: own.advice?.(seen) ?? advice, lines: own.said?.(seen) ?? [], ports: meant });
     });
 }
@@ -136,6 +136,8 @@ export function causesOfTexts(texts, { found, left }) {
 function howApart(port, used) {
     if (port.partner.system && used.partner?.system !== port.partner.system) return `its partner is ${dashed(port.partner.system)}`;
     if (port.speed !== used.speed) return `its speed and duplex are ${port.speed}, and those of ${used.name} ${used.speed}`;
+    if (used.partner && isSeveral([port, used], (it) => it.partner.priority)) return `its partner has the system priority ${port.partner.priority}, and ${used.partner.priority} on ${used.name}`;
+    if (!bitsOf(port.partner.state).includes("aggregatable")) return "the other end is individual";
     const isOtherKey = used.partner && port.partner.key !== null && used.partner.key !== port.partner.key;
     return isOtherKey ? `its partner has key ${port.partner.key}, and ${used.partner.key} on ${used.name}` : "";
 }

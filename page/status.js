@@ -106,7 +106,7 @@ const noLacp = (text, mode) => ({ name: "no-lacp", text: `${text}: its mode is "
 function cutOf(text, members, active, least) {
     const part = members.find(({ isWhole }) => !isWhole), there = members.filter(({ port }) => port.aggregator === active).length, last = text.trimEnd().split("\n").at(-1);
     if (part) return `the part of ${part.port.name} is not whole`;
-    if (!members.length) return "it has no port; or the bond has none";
+    if (!members.length) return "it ends before the first port, if the bond has one";
     if (there < least) return `of the ports in aggregator ${active} it has ${there} of ${least}`;
     return SLAVE.startsWith(last) ? `"${last}" is its last line` : "";
 }
