@@ -69,4 +69,4 @@ def as_markdown(results: Sequence[Result], tests: Sequence[Test]) -> str:
 
 def of_nothing(why: str) -> str:
     """The matrix of a run in which no test ran."""
-    return f"No test ran: {why}\n"
+    return f"No test has a result: {why}\n"

@@ -198,7 +198,7 @@ def beginning(device: str, said: str) -> list[str]:
 
 def of_nothing(device: str, why: str) -> str:
     """The page of a run in which no test ran."""
-    return "\n".join([*beginning(device, f"No test ran: {why}"), "</html>"]) + "\n"
+    return "\n".join([*beginning(device, f"No test has a result: {why}"), "</html>"]) + "\n"
 
 
 def as_html(run: Run, titles: dict[str, str], tests: Sequence[Test]) -> str:
