@@ -66,7 +66,8 @@ function adviceOnKeys({ ports, form }) {
 const isOfOneAddress = (ports) => !isSeveral(heardIn(ports), (it) => it.partner.system) && isSeveral(heardIn(ports), (it) => it.partner.priority);
 
 /* What names the partner of a port: its address, with the priority where that is what differs. */
-const systemSaid = (ports) => ({ partner }) => !partner.system ? "a system that is not named" : `${isOfOneAddress(ports) ? `priority ${partner.priority} of ` : ""}${dashed(partner.system)}`;
+const systemSaid = (ports) => ({ partner: { system, priority } }) =>
+    system ? `${isOfOneAddress(ports) ? `priority ${priority} of ` : ""}${dashed(system)}` : "a system that is not named";
 
 /* What rules say of texts; what stands not here is said as of a capture. `ports` are those of the text, `isLasting` is whether one of those that
  * are meant churns, `isImplied` whether all are the other ends; for these `implied` has the title. `case` has another title where one is due. */
@@ -78,7 +79,8 @@ export const RULES = new Map([
     }],
     [14, {
         title: "one end is individual",
-        advice: (it) => `Set the port of ${it.isImplied ? "the other end" : "this end"} to full duplex, and let it be aggregated, not individual: it may not be aggregated with others.`,
+        advice: (it) => `Set the port of ${it.isImplied ? "the other end" : "this end"} to full duplex, and let it be aggregated, not individual: `
+            + "it may not be aggregated with others.",
     }],
     [15, {
         title: "keys differ within one pair of systems", advice: adviceOnKeys,
@@ -95,7 +97,8 @@ export const RULES = new Map([
     [29, {
         title: "links lead to two systems", said: ({ ports }) => [eachOf(ports, systemSaid(ports))],
         case: ({ ports }) => isOfOneAddress(ports) ? "links lead to one address with several system priorities" : null,
-        advice: ({ ports }) => isOfOneAddress(ports) ? "These are priorities of one address: give the far end one LACP system priority; of an MLAG pair both switches the same." : null,
+        advice: ({ ports }) => isOfOneAddress(ports)
+            ? "These are priorities of one address: give the far end one LACP system priority; of an MLAG pair both switches the same." : null,
     }],
     [30, { title: "the partner is this system itself" }],
 ]);

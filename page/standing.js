@@ -57,7 +57,8 @@ function partnerFacts({ name, ports }) {
             advice: `Both ends speak there: it has another partner, or another key (another speed or duplex). As root, cat /proc/net/bonding/${name} names it.` },
         { name: "own-address", ports: alike, title: `the partner of ${namesIn(alike)} has this end's MAC address, with another priority`,
             advice: "Linux drops such LACPDUs: give each system its own address." },
-        { name: "same-partner-port", ports: twins, title: `one port of one system is the partner of ${namesIn(twins)}`, advice: "Right with switches that act as one (MLAG); else two machines have one system." },
+        { name: "same-partner-port", ports: twins, title: `one port of one system is the partner of ${namesIn(twins)}`,
+            advice: "Right with switches that act as one (MLAG); else two machines have one system." },
     ];
 }
 
@@ -136,7 +137,8 @@ export function causesOfTexts(texts, { found, left }) {
 function howApart(port, used) {
     if (port.partner.system && used.partner?.system !== port.partner.system) return `its partner is ${dashed(port.partner.system)}`;
     if (port.speed !== used.speed) return `its speed and duplex are ${port.speed}, and those of ${used.name} ${used.speed}`;
-    if (used.partner && isSeveral([port, used], (it) => it.partner.priority)) return `its partner has the system priority ${port.partner.priority}, and ${used.partner.priority} on ${used.name}`;
+    const isOtherPriority = used.partner && isSeveral([port, used], (it) => it.partner.priority);
+    if (isOtherPriority) return `its partner has the system priority ${port.partner.priority}, and ${used.partner.priority} on ${used.name}`;
     if (!bitsOf(port.partner.state).includes("aggregatable")) return "the other end is individual";
     const isOtherKey = used.partner && port.partner.key !== null && used.partner.key !== port.partner.key;
     return isOtherKey ? `its partner has key ${port.partner.key}, and ${used.partner.key} on ${used.name}` : "";
@@ -194,6 +196,9 @@ function howManySaid(lines, ports) {
     return carry ? `${howManyCarry(carry, all)}, and ${who}, ${is} in use. ` : `${alone} of ${counted(all, "link")} ${is} in use by ${itself}: ${who}. `;
 }
 
+const ONE_OF_TEXT = "The one link of this text carries. If the bundle has more, the text is cut: give all of it. If it is to have more, they are not in it "
+    + "(bonding: ip link set PORT master BOND).";
+
 /* The headline, and how it looks. */
 export function headlineOfTexts(texts, lines, causes) {
     const carry = lines.filter(({ how }) => how === CARRIES).length, all = lines.length, [cause] = causes.filter(({ kind }) => kind === FAULT);
@@ -206,7 +211,7 @@ export function headlineOfTexts(texts, lines, causes) {
     if (carry < all) return [`${head}The text does not show why: give the text of the other end, or capture.`, ""];
     const twins = causes.find(({ rank }) => rank === "same-partner-port");
     if (twins) return [`${head}${capitalized(twins.title)}: right if switches act as one (MLAG).`, ""];
-    if (all === 1) return ["The one link of this text carries. If the bundle has more, the text is cut: give all of it. If it is to have more, they are not in it (bonding: ip link set PORT master BOND).", ""];
+    if (all === 1) return [ONE_OF_TEXT, ""];
     return [`${head}LACP is not your trouble${texts.length > 1 ? "" : ", if the other end says so, too"}. ${flowSaid(texts[0].bundles)}`, "good"];
 }
 

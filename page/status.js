@@ -2,10 +2,11 @@
  * tried with texts of the programs; examples/status has some.
  *
  * A text gives `{ form, bundles, notes }`. A bundle has a name, how it is told, ports, `hash` (what names it, and its words; null: not said), and
- * whether the text is cut in it (`cut` says where, if that is known). A port has `name`, `link` (true, false or null: not said), `source`, `actor` and `partner`, `aggregator`,
- * `isUsed` (whether the text says that it carries data; null: not said), `isAlone` (whether it does so without a partner), `isLasting` (whether
- * an end has not been synchronized for 60 s), `speed`, and `facts`, texts of what no LACPDU has. A note has what is so, and what to do. A party has `priority`, `system`, `key`, `portPriority`, `port` and `state`; what the text
- * does not have is null; `partner` is null where none is heard. */
+ * whether the text is cut in it (`cut` says where, if that is known). A port has `name`, `link` (true, false or null: not said), `source`, `actor`
+ * and `partner`, `aggregator`, `isUsed` (whether the text says that it carries data; null: not said), `isAlone` (whether it does so without a
+ * partner), `isLasting` (whether an end has not been synchronized for 60 s), `speed`, and `facts`, texts of what no LACPDU has. A note has what is
+ * so, and what to do. A party has `priority`, `system`, `key`, `portPriority`, `port` and `state`; what the text does not have is null; `partner`
+ * is null where none is heard. */
 
 export const NO_ADDRESS = "00:00:00:00:00:00";
 /* What programs call the bits of a state, from the first. */
@@ -104,7 +105,8 @@ const noLacp = (text, mode) => ({ name: "no-lacp", text: `${text}: its mode is "
 
 /* Where the text of a bond is cut; nothing where it is whole. The driver says of the active aggregator how many ports it has. */
 function cutOf(text, members, active, least) {
-    const part = members.find(({ isWhole }) => !isWhole), there = members.filter(({ port }) => port.aggregator === active).length, last = text.trimEnd().split("\n").at(-1);
+    const part = members.find(({ isWhole }) => !isWhole), there = members.filter(({ port }) => port.aggregator === active).length;
+    const last = text.trimEnd().split("\n").at(-1);
     if (part) return `the part of ${part.port.name} is not whole`;
     if (!members.length) return "it ends before the first port, if the bond has one";
     if (there < least) return `of the ports in aggregator ${active} it has ${there} of ${least}`;
@@ -113,7 +115,8 @@ function cutOf(text, members, active, least) {
 
 function bondOf(text) {
     const [head, ...parts] = text.split(/^(?=Slave Interface: )/m), said = valuesIn(head), notes = [], mode = said.get("Bonding Mode") ?? "";
-    if (!/^Bonding Mode: .*\n/m.test(head)) return { bundles: [bundleOfText("the bond", "the bond", [], { isCut: true, cut: "it ends before the mode of the bond" })], notes };
+    const early = { isCut: true, cut: "it ends before the mode of the bond" };
+    if (!/^Bonding Mode: .*\n/m.test(head)) return { bundles: [bundleOfText("the bond", "the bond", [], early)], notes };
     if (!mode.includes("802.3ad")) return { bundles: [], notes: [noLacp("this bond does not speak LACP", mode)] };
     const found = /Active Aggregator Info:\s*\n\s*Aggregator ID: (\d+)[\s\S]*?Number of ports: (\d+)/.exec(head), active = found ? Number(found[1]) : null;
     const hash = /^(\S+)/.exec(said.get("Transmit Hash Policy") ?? "")?.[1], isHeard = macOf(said.get("Partner Mac Address")) !== NO_ADDRESS;

@@ -19,7 +19,7 @@ from conform_device import Device, World
 from conform_faults import KeyUnchecked, NoWait, SystemUnchecked
 from conform_frames import NoMarkers
 
-from lagconform import causes, command, files, known, listing, options, pics, refusals, report
+from lagconform import causes, command, files, known, listing, options, page, pics, refusals, report
 from lagconform.bench import Bench, most_within
 from lagconform.groups import GROUPS, TESTS
 from lagconform.memory import Done
@@ -199,7 +199,7 @@ def test_a_report_that_fails_costs_no_other_one(run, tmp_path: Path, capsys: pyt
     def breaks(*_: object) -> str:
         raise ValueError("it broke")
 
-    monkeypatch.setattr(command.page, "as_html", breaks)
+    monkeypatch.setattr(page, "as_html", breaks)
     monkeypatch.setattr(command, "compare", breaks)
     words = ["--only", "FM-01", "--shadow", "--json", "/dev/full", "--report", "r.html", "--junit", "r.xml"]
     assert run(Device, *words) == 2
@@ -525,8 +525,8 @@ def test_the_page_has_what_carries_the_tests() -> None:
 
 def test_pages_have_the_number_of_tests() -> None:
     """What the bench has now; the counts of runs stand with their dates."""
-    wanted = f": {len(TESTS)} tests of the LACP"
-    assert wanted in (page_of("../README.md") or wanted)
+    readme = page_of("../README.md")
+    assert not readme or re.search(rf": \[?{len(TESTS)} tests\b", readme)
     counts = {links: [len(options.selected(None, long, links)) for long in (False, True)] for links in (1, 2, 3, 4)}
     assert counts[3] == counts[4] and counts[4][1] == len(TESTS)
     rows = [f"|{name}|{counts[links][0]}|{counts[links][1]}{more}|" for name, links, more in (("one", 1, ""), ("two", 2, ""), ("three or four", 3, ": all"))]
@@ -539,13 +539,14 @@ def test_the_page_says_what_makes_the_counts_differ() -> None:
     text = page_of("CONFORM.md")
     if not text:
         return
-    long, three = ([it.id for it in TESTS if those(it)] for those in (lambda it: it.is_long, lambda it: it.links == 3))
-    assert f"`--long` adds {listed(long)}, which take more than {LONG} s each. Three links add {listed(three)}." in " ".join(text.split())
+    long, three = listed([it.id for it in TESTS if it.is_long]), listed([it.id for it in TESTS if it.links == 3])
+    assert f"`--long` adds {long}, which take more than {LONG} s each. Three links add {three}." in " ".join(text.split())
     device = Device()
     b = Bench(World(device))
     meet(b)
     wanted = [run_one(b, it) for it in TESTS if it.hooks and it.links < 3]
-    assert f"`--hook`, {listed([it.test.id for it in wanted if it.verdict == SKIPPED]).replace('RX-13', 'RX-13 (but with `--flap`)')} are skipped" in " ".join(text.split())
+    skipped = listed([it.test.id for it in wanted if it.verdict == SKIPPED]).replace("RX-13", "RX-13 (but with `--flap`)")
+    assert f"without `--hook`, {skipped} are skipped" in " ".join(text.split())
     b.close()
     device.stop()
 

@@ -44,8 +44,8 @@ def of_keys(tests: Tests, browser: Browser, folder: str) -> None:
     path, up = os.path.join(folder, "keys.pcap"), "carries, both ways"
     for keys in [(10, 10), (10, 10), (20, 20), (20, 20)], [(10, 20), (10, 20), (20, 10), (20, 10)]:
         made.keyed(path, keys)
-        wanted = [f"4 links carry, both ways, as 2 bundles: ports 1-1 and ports 2-2; ports 3-3 and ports 4-4. {APART} {HASH.partition('. ')[2]}"]
-        tests.same(f"two bundles, {keys}", said_of(browser, path), [*wanted, [], [link(port, up) for port in range(1, 5)]])
+        head = f"4 links carry, both ways, as 2 bundles: ports 1-1 and ports 2-2; ports 3-3 and ports 4-4. {APART} {HASH.partition('. ')[2]}"
+        tests.same(f"two bundles, {keys}", said_of(browser, path), [head, [], [link(port, up) for port in range(1, 5)]])
     made.keyed(path, [(10, 10), (20, 20)])
     tests.same("two links that are two bundles", said_of(browser, path)[0], f"2 links carry, both ways, as 2 bundles: ports 1-1; ports 2-2. {APART}")
     made.keyed(path, [(10, 10), (10, 10), (10, 30)], (10, 10))
@@ -176,11 +176,12 @@ def of_one_system(tests: Tests, browser: Browser, folder: str) -> None:
     one, far, twin, itself = made.Party(1, 7, 1, made.FAST), made.Party(2, 5, 1, made.FAST), made.Party(2, 6, 1, made.FAST), made.Party(1, 7, 2, made.FAST_DOWN)
     second = one._replace(port=2)
     made.pcap(paths[0], made.exchange(one, far, range(20)))
-    told = [(time + way / 250, made.frame(source, payload)) for time in range(20) for way, (source, payload) in enumerate(((second.source(), made.lacpdu(second, twin)), (bytes([2, 0, 0, 0, 3, 1]), made.lacpdu(twin, second))))]
-    made.pcap(paths[1], told)
+    frames = made.frame(second.source(), made.lacpdu(second, twin)), made.frame(bytes([2, 0, 0, 0, 3, 1]), made.lacpdu(twin, second))
+    made.pcap(paths[1], [(time + way / 250, frames[way]) for time in range(20) for way in (0, 1)])
     browser.begin(*paths)
     browser.shown()
-    tests.same("two boxes with one system and two keys are told as that", "The far ends of eth1 and eth2 call themselves one port of one system, so two boxes" in browser.value(ADVICE), True)
+    said = "The far ends of eth1 and eth2 call themselves one port of one system, so two boxes"
+    tests.same("two boxes with one system and two keys are told as that", said in browser.value(ADVICE), True)
     looped = [(time + way / 250, made.frame(itself.source(), made.lacpdu(itself, itself))) for time in range(20) for way in (0, 1)]
     made.pcap(paths[1], looped)
     browser.begin(*paths)

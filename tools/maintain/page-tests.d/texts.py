@@ -126,8 +126,10 @@ def of_partners(tests: Tests) -> None:
     own, partner = last.replace("oper key: 143", "oper key: 79").rsplit("details partner", 1)
     partner = partner.replace("port number: 1", "port number: 2")
     cases = {
-        "Links lead to one address with several system priorities: p1, p2.": (partner.replace("65535", "4096"), "its partner has the system priority 4096, and 65535 on p1", "give the far end one LACP system priority"),
-        "One end is individual: the other end of p2.": (partner.replace("state: 15", "state: 11"), "1 is in use: the other end is individual", "Set the port of the other end to full duplex"),
+        "Links lead to one address with several system priorities: p1, p2.":
+            (partner.replace("65535", "4096"), "its partner has the system priority 4096, and 65535 on p1", "give the far end one LACP system priority"),
+        "One end is individual: the other end of p2.":
+            (partner.replace("state: 15", "state: 11"), "1 is in use: the other end is individual", "Set the port of the other end to full duplex"),
     }
     for first, (there, line, advice) in cases.items():
         said = told_of(f"{head}Slave Interface: p2{own}details partner{there}")[1]
