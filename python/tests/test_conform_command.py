@@ -293,7 +293,7 @@ def test_a_run_that_never_began_leaves_no_report_of_another(tmp_path: Path, monk
     assert (tmp_path / "r.tap").read_text() == f"TAP version 14\nBail out! {NONE}\n"
     told = json.loads((tmp_path / "r.json").read_text())
     assert told["about"]["incomplete"] == NONE and told["about"]["begun"] and not told["tests"] and not any(told["counts"].values())
-    assert (tmp_path / "r.md").read_text() == f"No test has a result: {NONE}\n" and f"No test ran: {NONE}" in (tmp_path / "r.html").read_text()
+    assert (tmp_path / "r.md").read_text() == f"No test has a result: {NONE}\n" and f"No test has a result: {NONE}" in (tmp_path / "r.html").read_text()
 
 
 def test_a_run_that_is_killed_leaves_no_report_of_another(tmp_path: Path, monkeypatch: pytest.MonkeyPatch) -> None:
