@@ -1,5 +1,7 @@
 /* What a rule says of a text: its title where a status is one moment, what is seen, and what to do, in the words of the program whose text it is. */
 
+import { TWO_BOXES } from "./keys.js";
+
 /* For each form of a text how its program counts LACPDUs, and what gives its ports one key. */
 const BONDING = { counts: "it counts no LACPDUs, so capture at both ends (tcpdump -i PORT 'ether proto 0x8809')", key: "one speed, and full duplex" };
 const PROGRAMS = new Map([
@@ -53,22 +55,33 @@ export const areTwinsApart = (ports) => isSeveral(portsNamedAlike(ports), (it) =
 
 function adviceOnKeys({ ports, form }) {
     if (areTwinsApart(ports)) {
-        return `${namesIn(portsNamedAlike(ports))} name one port of one system, so two boxes have one system: an MLAG pair (give both the same MLAG number; bonding: the same ad_user_port_key), or two machines with one system address (give each its own).`;
+        return `${namesIn(portsNamedAlike(ports))} name one port of one system, so ${TWO_BOXES}`;
     }
     const sides = sidesWithKeys(ports), there = "one group there (switch: one channel-group; bonding: one bond, one speed, duplex and ad_user_port_key; Open vSwitch: one bond; teamd: one lacp_key)";
     const ways = sides.map((side) => side === "actor" ? `give these ports of this end ${PROGRAMS.get(form).key}` : `put the other ends of these ports into ${there}`).join(", and ");
     return ways ? `${ways[0].toUpperCase()}${ways.slice(1)}; or these are two bundles, and cables are crossed.` : null;
 }
 
+/* Whether the partners of ports have one address, and several priorities. */
+const isOfOneAddress = (ports) => !isSeveral(heardIn(ports), (it) => it.partner.system) && isSeveral(heardIn(ports), (it) => it.partner.priority);
+
+/* What names the partner of a port: its address, with the priority where that is what differs. */
+const systemSaid = (ports) => ({ partner: { system, priority } }) =>
+    system ? `${isOfOneAddress(ports) ? `priority ${priority} of ` : ""}${dashed(system)}` : "a system that is not named";
+
 /* What rules say of texts; what stands not here is said as of a capture. `ports` are those of the text, `isLasting` is whether one of those that
- * are meant churns, `isImplied` whether all are the other ends; for these `implied` has the title. */
+ * are meant churns, `isImplied` whether all are the other ends; for these `implied` has the title. `case` has another title where one is due. */
 export const RULES = new Map([
     [5, { title: "both ends are passive" }],
     [12, {
         title: "a port hears nobody", said: ({ ports, form }) => aloneSaid(ports, form),
         advice: (it) => `${asLong(it)}look whether the port at the other end is in a bundle with LACP (switch: channel-group, mode active, not on; Linux bonding: mode=802.3ad). If it is, no status says who is deaf: ${PROGRAMS.get(it.form).counts}.`,
     }],
-    [14, { title: "one end is individual" }],
+    [14, {
+        title: "one end is individual",
+        advice: (it) => `Set the port of ${it.isImplied ? "the other end" : "this end"} to full duplex, and let it be aggregated, not individual: `
+            + "it may not be aggregated with others.",
+    }],
     [15, {
         title: "keys differ within one pair of systems", advice: adviceOnKeys,
         said: ({ ports }) => sidesWithKeys(ports).map((side) => `${side === "actor" ? "this end" : "the other end"} has several keys: ${eachOf(ports, (it) => `key ${it[side].key}`)}`),
@@ -81,6 +94,11 @@ export const RULES = new Map([
         title: "it is attached, and the other end has not attached it", implied: (names) => `the partner of ${names} says that it is synchronized, and this end does not`,
         advice: (it) => `${asLong(it)}${it.isImplied ? "this end" : "the other end"} has chosen another aggregator, or has links enough (switch: max links).${it.isImplied ? "" : " Look at its status."}`,
     }],
-    [29, { title: "links lead to two systems", said: ({ ports }) => [eachOf(ports, (it) => it.partner.system ? dashed(it.partner.system) : "a system that is not named")] }],
+    [29, {
+        title: "links lead to two systems", said: ({ ports }) => [eachOf(ports, systemSaid(ports))],
+        case: ({ ports }) => isOfOneAddress(ports) ? "links lead to one address with several system priorities" : null,
+        advice: ({ ports }) => isOfOneAddress(ports)
+            ? "These are priorities of one address: give the far end one LACP system priority; of an MLAG pair both switches the same." : null,
+    }],
     [30, { title: "the partner is this system itself" }],
 ]);

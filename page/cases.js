@@ -123,7 +123,8 @@ const ofRelapse = ({ at }, { link }) => {
 /* An end that says Individual in its last LACPDU, or before a silence, and did not before: its port is taken out. */
 function ofSingle(finding, { link }) {
     const { at } = finding, frame = frameOf(finding), lacpdus = at.frames.filter((it) => it.kind === "lacpdu"), place = lacpdus.indexOf(frame), [before, next] = [lacpdus[place - 1], lacpdus[place + 1]];
-    if (finding.rule !== 14 || !before || !has(before, "aggregatable") || (next && next.seconds - frame.seconds <= SHORT_TIMEOUT)) return {};
+    if (finding.rule !== 14) return {};
+    if (!before || !has(before, "aggregatable") || (next && next.seconds - frame.seconds <= SHORT_TIMEOUT)) return { lines: [`${at.short} says Individual`] };
     return {
         isFirst: true, title: "a port is taken out of its bundle",
         lines: [`${at.short} says Individual at ${roundedSeconds(frame.seconds)}, and nothing ${next ? `up to ${roundedSeconds(next.seconds)}` : `more on ${linkName(link)}`}: so does a port that leaves its bond`],
@@ -147,11 +148,15 @@ function ofOneWay({ at }) {
         + "a bridge or switch between drops LACPDUs." };
 }
 
-/* A third system that ended before the partner of now began is the partner of before. */
-function ofThird({ at }, { link, records }) {
+/* A third system that ended before the partner of now began is the partner of before. Two ends of one system are told as that (rule 30). */
+function ofThird({ at, rule }, { link, records }) {
+    if (rule === 16 && isOfOneSystem(link)) return { isEffect: true };
     const others = othersBeside(link, at, records), ends = link.ends.filter(Boolean), began = Math.max(...ends.map((it) => it.record?.first ?? -Infinity));
     return others.length && others.every((it) => it.record && it.record.last < began) ? { isEffect: true, title: "another system answers than before" } : {};
 }
+
+/* Whether both ends of a link have one system. */
+const isOfOneSystem = ({ ends: [one, other] }) => Boolean(one?.system) && one.system === other?.system;
 
 const DOUBLED = { title: "each LACPDU of an end is there twice", advice: "A device between doubles frames, or the capture has each of them twice (a mirror of both directions, or -i any)." };
 const ofRate = ({ at, seconds }) => comesTwice(at) ? DOUBLED : at.record && seconds !== null && seconds - at.record.first < START
@@ -169,6 +174,7 @@ const ofSplit = (finding, { link, bundles, groups }) => {
         title: "links lead to one address with several system priorities", lines: own.map((it) => `${it.name}: ${it.last.partner.system.replace("/", ", ")}`),
         advice: "Give the far end one LACP system priority; of an MLAG pair both switches the same.",
     };
+    if (partners.includes(system) && partners.length === 2) return { isEffect: true }; // a loop, which rule 30 tells
     const more = partners.length > 1 && links.every((it) => it.carries) ? " Each of them carries by itself: if they are two bundles on purpose, nothing is wrong." : "";
     return { advice: `${finding.advice}${more}` };
 };

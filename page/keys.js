@@ -122,12 +122,25 @@ function ofCables(group) {
     };
 }
 
+/* What is said where two boxes have one system, and two keys. */
+export const TWO_BOXES = "two boxes have one system: an MLAG pair (give both the same MLAG number; bonding: the same ad_user_port_key), "
+    + "or two machines with one system address (give each its own).";
+
+/* The links on which two machines speak for one port of a system, each with a key of its own. */
+function twinsAmong(group, system) {
+    const ends = group.map(({ link }) => link.ends.find((it) => it?.last && it.system === system)).filter(Boolean);
+    const isTwin = (one) => ends.some((it) => it.short === one.short && it.source !== one.source && it.last.actor.key !== one.last.actor.key);
+    return group.filter(({ link }) => link.ends.some((it) => ends.includes(it) && isTwin(it)));
+}
+
 /* What is said of links of two systems where one end has one key, and the other several. */
 function ofSeveralKeys(group) {
     const way = side(group, 0).length > 1 ? 0 : 1, keys = byNumber(distinct(group.map((it) => it.keys[way]))), [{ systems, keys: own }] = group, who = addressOf(systems[way]);
+    const twins = twinsAmong(group, systems[way]);
     return {
         lines: [`${who} has keys ${joinedBy(keys)}, where ${addressOf(systems[1 - way])} has ${own[1 - way]}`, ...keys.map((key) => `key ${key}: ${listOf(group.filter((it) => it.keys[way] === key))}`)],
-        advice: `Give the ports of ${who} on these links one key: put them into one group (switch: same channel-group; bonding: it follows speed, duplex, `
+        advice: twins.length ? `The far ends of ${listOf(twins)} call themselves one port of one system, so ${TWO_BOXES}`
+            : `Give the ports of ${who} on these links one key: put them into one group (switch: same channel-group; bonding: it follows speed, duplex, `
             + "ad_user_port_key; Open vSwitch: one bond; teamd: lacp_key). Or a cable ends there in a port of another bundle: move it. If they are to be two bundles, give the other end two groups as well.",
     };
 }

@@ -146,6 +146,7 @@ function refuse(name, error) {
 
 async function show(lagtool, name, files) {
     clear(name);
+    byId("texts").open = false; // what is said of captures stands near the top
     try {
         await explain(lagtool, name, files);
     } catch (error) {

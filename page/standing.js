@@ -57,7 +57,8 @@ function partnerFacts({ name, ports }) {
             advice: `Both ends speak there: it has another partner, or another key (another speed or duplex). As root, cat /proc/net/bonding/${name} names it.` },
         { name: "own-address", ports: alike, title: `the partner of ${namesIn(alike)} has this end's MAC address, with another priority`,
             advice: "Linux drops such LACPDUs: give each system its own address." },
-        { name: "same-partner-port", ports: twins, title: `${namesIn(twins)} name one port of one system`, advice: "Right with switches that act as one (MLAG); else two machines have one system." },
+        { name: "same-partner-port", ports: twins, title: `one port of one system is the partner of ${namesIn(twins)}`,
+            advice: "Right with switches that act as one (MLAG); else two machines have one system." },
     ];
 }
 
@@ -88,6 +89,11 @@ const isUnheard = ({ rank }) => rank === 12;
 const ASIDE = ["away", "aggregators", "same-partner-port", "one-system", "note", "said"];
 
 const isCutIn = (text) => text.bundles.some((it) => it.isCut);
+/* That texts are cut, and where the first one of them is. */
+function cutSaid(texts) {
+    const [{ cut }] = texts.find(isCutIn).bundles.filter((it) => it.isCut);
+    return `The text is cut${cut ? `: ${cut}` : ""}. Nothing is named: give all of it, with the line behind it.`;
+}
 const causeOf = (given) => ({ kind: FAULT, lines: [], effects: [], ports: [], ...given });
 
 function causesOfRules(found, { bundles, form }) {
@@ -95,7 +101,7 @@ function causesOfRules(found, { bundles, form }) {
     return rules.map((list) => {
         const [{ rule, clause, name, advice }] = list, own = RULES.get(rule) ?? {}, here = list.filter((it) => !it.isImplied), meant = list.map((it) => it.port);
         const who = here.length ? namesIn(here.map((it) => it.port)) : `the other end of ${namesIn(meant)}`, seen = { ports, form, isLasting: meant.some((it) => it.isLasting), isImplied: !here.length };
-        const title = (!here.length && own.implied?.(namesIn(meant))) || `${own.title ?? name}: ${who}`;
+        const title = (!here.length && own.implied?.(namesIn(meant))) || `${own.case?.(seen) ?? own.title ?? name}: ${who}`;
         return causeOf({ rank: rule, rule, clause, title, advice: own.advice?.(seen) ?? advice, lines: own.said?.(seen) ?? [], ports: meant });
     });
 }
@@ -131,6 +137,9 @@ export function causesOfTexts(texts, { found, left }) {
 function howApart(port, used) {
     if (port.partner.system && used.partner?.system !== port.partner.system) return `its partner is ${dashed(port.partner.system)}`;
     if (port.speed !== used.speed) return `its speed and duplex are ${port.speed}, and those of ${used.name} ${used.speed}`;
+    const isOtherPriority = used.partner && isSeveral([port, used], (it) => it.partner.priority);
+    if (isOtherPriority) return `its partner has the system priority ${port.partner.priority}, and ${used.partner.priority} on ${used.name}`;
+    if (!bitsOf(port.partner.state).includes("aggregatable")) return "the other end is individual";
     const isOtherKey = used.partner && port.partner.key !== null && used.partner.key !== port.partner.key;
     return isOtherKey ? `its partner has key ${port.partner.key}, and ${used.partner.key} on ${used.name}` : "";
 }
@@ -187,11 +196,14 @@ function howManySaid(lines, ports) {
     return carry ? `${howManyCarry(carry, all)}, and ${who}, ${is} in use. ` : `${alone} of ${counted(all, "link")} ${is} in use by ${itself}: ${who}. `;
 }
 
+const ONE_OF_TEXT = "The one link of this text carries. If the bundle has more, the text is cut: give all of it. If it is to have more, they are not in it "
+    + "(bonding: ip link set PORT master BOND).";
+
 /* The headline, and how it looks. */
 export function headlineOfTexts(texts, lines, causes) {
     const carry = lines.filter(({ how }) => how === CARRIES).length, all = lines.length, [cause] = causes.filter(({ kind }) => kind === FAULT);
     const head = howManySaid(lines, texts[0].bundles.flatMap((it) => it.ports));
-    if (texts.some(isCutIn)) return ["The text is cut: nothing is named. Give all of it, with the line behind it.", "bad"];
+    if (texts.some(isCutIn)) return [cutSaid(texts), "bad"];
     if (cause) return [`${head}${capitalized(cause.title)}.`, "bad"];
     if (!all) return ["No port of an LACP bundle is in this text.", "bad"];
     const away = causes.find(({ rank }) => rank === "away");
@@ -199,7 +211,7 @@ export function headlineOfTexts(texts, lines, causes) {
     if (carry < all) return [`${head}The text does not show why: give the text of the other end, or capture.`, ""];
     const twins = causes.find(({ rank }) => rank === "same-partner-port");
     if (twins) return [`${head}${capitalized(twins.title)}: right if switches act as one (MLAG).`, ""];
-    if (all === 1) return ["The one link of this bundle carries. If it is to have more, they are not in it: ip link set PORT master BOND.", ""];
+    if (all === 1) return [ONE_OF_TEXT, ""];
     return [`${head}LACP is not your trouble${texts.length > 1 ? "" : ", if the other end says so, too"}. ${flowSaid(texts[0].bundles)}`, "good"];
 }
 

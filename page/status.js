@@ -2,10 +2,11 @@
  * tried with texts of the programs; examples/status has some.
  *
  * A text gives `{ form, bundles, notes }`. A bundle has a name, how it is told, ports, `hash` (what names it, and its words; null: not said), and
- * whether the text is cut in it. A port has `name`, `link` (true, false or null: not said), `source`, `actor` and `partner`, `aggregator`,
- * `isUsed` (whether the text says that it carries data; null: not said), `isAlone` (whether it does so without a partner), `isLasting` (whether
- * an end has not been synchronized for 60 s), `speed`, and `facts`, texts of what no LACPDU has. A note has what is so, and what to do. A party has `priority`, `system`, `key`, `portPriority`, `port` and `state`; what the text
- * does not have is null; `partner` is null where none is heard. */
+ * whether the text is cut in it (`cut` says where, if that is known). A port has `name`, `link` (true, false or null: not said), `source`, `actor`
+ * and `partner`, `aggregator`, `isUsed` (whether the text says that it carries data; null: not said), `isAlone` (whether it does so without a
+ * partner), `isLasting` (whether an end has not been synchronized for 60 s), `speed`, and `facts`, texts of what no LACPDU has. A note has what is
+ * so, and what to do. A party has `priority`, `system`, `key`, `portPriority`, `port` and `state`; what the text does not have is null; `partner`
+ * is null where none is heard. */
 
 export const NO_ADDRESS = "00:00:00:00:00:00";
 /* What programs call the bits of a state, from the first. */
@@ -18,8 +19,10 @@ export const TIMEOUT_BIT = 2;
 export const DISTRIBUTING_BIT = 32;
 export const DEFAULTED_BIT = 64;
 export const EXPIRED_BIT = 128;
-/* What follows a state that is told by words in the last line of a text that ends there. */
+/* What follows a state in the last line of a text that ends there. */
 const LAST_STATE = /(?:partner state|port state): *(.*)$/;
+/* Whether such words, or such a number of an octet, may go on. */
+const mayGoOn = (state) => /^\d+$/.test(state) ? Number(state) > 0 && Number(state) <= 25 : !state.endsWith("distributing");
 
 /* The octet of such words; null where one is no word of a state. */
 function octetOf(words) {
@@ -47,7 +50,7 @@ const tooFew = (told, carrying, least, option) => ({
 });
 
 /* A bundle with what a form has of it. */
-const bundleOfText = (name, told, ports, given) => ({ name, told, ports, hash: null, isCut: false, ...given });
+const bundleOfText = (name, told, ports, given) => ({ name, told, ports, hash: null, isCut: false, cut: "", ...given });
 
 /* A port with what a form has of it. */
 const portOfText = (given) => ({
@@ -96,11 +99,24 @@ function memberOfBonding(part, active, isHeard) {
     return { port, isWhole: it.has("Partner Churned Count") && (active === null || (actor !== null && partner !== null)) };
 }
 
+/* What each part of a port begins with. */
+const SLAVE = "Slave Interface: ";
 const noLacp = (text, mode) => ({ name: "no-lacp", text: `${text}: its mode is "${mode}"`, advice: "LACP is mode=802.3ad (802.3ad in sysfs and ip, too)." });
+
+/* Where the text of a bond is cut; nothing where it is whole. The driver says of the active aggregator how many ports it has. */
+function cutOf(text, members, active, least) {
+    const part = members.find(({ isWhole }) => !isWhole), there = members.filter(({ port }) => port.aggregator === active).length;
+    const last = text.trimEnd().split("\n").at(-1);
+    if (part) return `the part of ${part.port.name} is not whole`;
+    if (!members.length) return "it ends before the first port, if the bond has one";
+    if (there < least) return `of the ports in aggregator ${active} it has ${there} of ${least}`;
+    return SLAVE.startsWith(last) ? `"${last}" is its last line` : "";
+}
 
 function bondOf(text) {
     const [head, ...parts] = text.split(/^(?=Slave Interface: )/m), said = valuesIn(head), notes = [], mode = said.get("Bonding Mode") ?? "";
-    if (!/^Bonding Mode: .*\n/m.test(head)) return { bundles: [bundleOfText("the bond", "the bond", [], { isCut: true })], notes };
+    const early = { isCut: true, cut: "it ends before the mode of the bond" };
+    if (!/^Bonding Mode: .*\n/m.test(head)) return { bundles: [bundleOfText("the bond", "the bond", [], early)], notes };
     if (!mode.includes("802.3ad")) return { bundles: [], notes: [noLacp("this bond does not speak LACP", mode)] };
     const found = /Active Aggregator Info:\s*\n\s*Aggregator ID: (\d+)[\s\S]*?Number of ports: (\d+)/.exec(head), active = found ? Number(found[1]) : null;
     const hash = /^(\S+)/.exec(said.get("Transmit Hash Policy") ?? "")?.[1], isHeard = macOf(said.get("Partner Mac Address")) !== NO_ADDRESS;
@@ -109,8 +125,8 @@ function bondOf(text) {
     const members = parts.map((it) => memberOfBonding(it, active, isHeard)), ports = members.map(({ port }) => port);
     const carrying = ports.filter((it) => it.isUsed).length, least = Number(said.get("Min links") ?? 0);
     if (said.get("MII Status") === "down" && carrying && carrying < least) notes.push(tooFew("the bond", carrying, least, "min_links"));
-    const isCut = !ports.length || members.some(({ isWhole }) => !isWhole) || (found && ports.filter((it) => it.aggregator === active).length < Number(found[2]));
-    return { bundles: [bundleOfText("the bond", "the bond", ports, { isCut: Boolean(isCut), hash: hash ? ["xmit_hash_policy", hash] : null })], notes };
+    const cut = cutOf(text, members, active, found ? Number(found[2]) : 0);
+    return { bundles: [bundleOfText("the bond", "the bond", ports, { isCut: cut !== "", cut, hash: hash ? ["xmit_hash_policy", hash] : null })], notes };
 }
 
 /* One text, or several one behind the other (cat /proc/net/bonding/*); it does not have the names of the bonds. */
@@ -336,14 +352,19 @@ function ofJson(text) {
     return values[0].lagd ? lagdJson(values) : teamOf(values);
 }
 
+/* The text ends within the last line of a bundle. */
+function cutBehind(bundle, text) {
+    bundle.isCut = true;
+    bundle.cut ||= `its last line, "${text.split("\n").at(-1).trim()}", may go on`;
+}
+
 /* What a text says; null where it has none of the forms, or is cut so that it has none. */
 export function statusIn(text) {
     const plain = plainText(text), json = /^[[{][\s\S]*[\]}]\s*$/m.exec(plain)?.[0].trim() ?? "";
     try {
         if (/^[[{]["\s{[]/.test(json)) return ofJson(json);
         const found = FORMS.find(([shape]) => shape.test(plain))?.[1](plain) ?? null, last = LAST_STATE.exec(plain)?.[1];
-        /* Where the text ends with a state, and no line ends there, its words or digits may go on. */
-        if (found?.bundles.length && last !== undefined && !/distributing$|^6[0-3]$/.test(last)) found.bundles.at(-1).isCut = true;
+        if (found?.bundles.length && last !== undefined && mayGoOn(last)) cutBehind(found.bundles.at(-1), plain);
         return found;
     } catch (error) {
         if (error instanceof SyntaxError || error instanceof TypeError) return null; // JSON that is cut, or another program's

@@ -1,7 +1,7 @@
 /* What is said before all else: of each link in one line whether it carries, and why not; and a headline. */
 
 import { addressOf, isKnown, isSilent, machinesOf, namesLast, roundedSeconds } from "./records.js";
-import { astrayIn, capitalized, counted, groupOf, isCrossed, joinedBy, keyGroups } from "./keys.js";
+import { astrayIn, capitalized, counted, groupOf, isCrossed, joinedBy, keyGroups, linkName } from "./keys.js";
 import { CAUSELESS, EFFECT, FAULT, PAST, REMARK } from "./causes.js";
 import { flowSaid } from "./hashes.js";
 
@@ -10,6 +10,8 @@ export const CARRIES_APART = "carries apart";
 export const ALONE = "is in use by itself";
 export const IDLE = "does not carry";
 export const UNKNOWN = "not seen";
+/* Of more bundles a headline does not name the links. */
+const MOST_LAGS = 4;
 /* So many seconds apart two ends that hear nobody lost each other together. */
 const TOGETHER = 2;
 
@@ -100,7 +102,8 @@ export function linesOf(records, bundles) {
     const groups = keyGroups(bundles), ofBundle = ({ links }) => links.filter((it) => !it.isPast).map((it) => lineOf(it, groups, records.lacpdus.last, links));
     const lines = bundles.flatMap(ofBundle).filter(Boolean);
     lines.sort((one, other) => one.port - other.port);
-    if (lines.length) lines.push(...records.silent.map((name) => ({ link: null, name, how: IDLE, why: `no LACPDU is in the file ${name}: neither end sends on that link` })));
+    const whyOf = (name) => `no LACPDU is in the file ${name}: neither end sends on that link, as where LACP is off, or both ends are passive`;
+    if (lines.length) lines.push(...records.silent.map((name) => ({ link: null, name, how: IDLE, why: whyOf(name) })));
     return [IDLE, CARRIES_APART, UNKNOWN, CARRIES].flatMap((how) => lines.filter((it) => it.how === how));
 }
 
@@ -111,13 +114,30 @@ export const textOfLine = ({ name, how, why }) => `${name}: ${how}${[CARRIES_APA
 export const howManyCarry = (carry, all) => `${carry} of ${counted(all, "link")} ${carry === 1 || all === 1 ? "carries" : "carry"}`;
 const ONE = "It is one link: of a bundle capture all links, since keys and partners are compared between them.";
 
-/* That all links carry: since when, where it was not so before, and what was the cause; else of one link, or of a bundle. */
-function ofHealthy(all, causes) {
+/* The links of each bundle, by the systems and keys of both ends; of lines whose links carry. */
+function lagsOf(lines) {
+    const lags = new Map();
+    for (const { link } of lines) {
+        const name = link.ends.map((it) => `${it.system} ${it.last.actor.key}`).sort().join(" ");
+        lags.set(name, [...lags.get(name) ?? [], linkName(link)]);
+    }
+    return [...lags.values()];
+}
+
+const MEANT_AS_ONE = "If they are to be one, give them one key at each end; else LACP is not your trouble.";
+
+/* That all links carry: since when, where it was not so before, and what was the cause; else of one link, of a bundle, or of several. */
+function ofHealthy(lines, causes) {
+    const all = lines.length, lags = lagsOf(lines);
     const past = causes.filter(({ kind }) => kind === PAST), links = all === 1 ? "The link carries" : `${all} links carry`, cause = past.find((it) => it.wasFault);
     const since = past.length ? `, since ${roundedSeconds(Math.max(...past.map((it) => it.until)))}` : "";
     if (cause) return [`${links}, both ways${since}. Before, ${cause.title}.`, ""];
     const twins = causes.find(({ kind, rule }) => kind === REMARK && rule === null);
     if (twins) return [`${links}, both ways${since}. ${capitalized(twins.title)}: right if they are an MLAG pair.`, ""];
+    if (lags.length > 1) {
+        const named = lags.length > MOST_LAGS ? "" : `: ${lags.map(joinedBy).join("; ")}`, flow = lags.some((it) => it.length > 1) ? ` ${flowSaid([])}` : "";
+        return [`${links}, both ways${since}, as ${lags.length} bundles${named}. ${MEANT_AS_ONE}${flow}`, ""];
+    }
     return [all === 1 ? `${links}, both ways${since}. ${ONE}` : `${links}, both ways${since}: LACP is not your trouble. ${flowSaid([])}`, "good"];
 }
 
@@ -132,7 +152,7 @@ export function headlineOf(lines, causes) {
     if (idle) return [`${head}. ${capitalized(idle.why)}; ${CAUSELESS}`, ""];
     if (carry - apart < all) return [`${head}. No cause is in this capture: ask both ends, and capture all links.`, ""];
     if (causes.some(({ kind }) => kind === EFFECT)) return [`${all === 1 ? "The link carries" : `${all} links carry`}, both ways, at the end.`, ""];
-    return ofHealthy(all, causes);
+    return ofHealthy(lines, causes);
 }
 
 /* How many causes, effects and remarks there are, and at how many places. */

@@ -9,20 +9,21 @@ import os
 import signal
 import sys
 import time
+import traceback
 from typing import Callable, Optional, Sequence
 
 from niwhopera import __version__
-from niwhopera._library import library_text
+from niwhopera._library import functions, library_text
 
-from . import capture, files, junit, known, matrix, pics, report
+from . import capture, files, junit, known, matrix, page, pics, report
 from .bench import Bench
-from .files import read_text, tell, undisturbed, written
+from .files import are_same, read_text, tell, undisturbed, written
 from .groups import GROUPS, TESTS
 from .listing import as_markdown, as_text
 from .memory import UNKNOWN, World, loaded
-from .model import FAIL, INCONCLUSIVE, PASS, NotHere, Result, Test
+from .model import CAVEAT, FAIL, INCONCLUSIVE, PASS, NotHere, Result, Test
 from .options import MEMORY_LINKS, check_words, reader, selected
-from .page import as_html
+from .pdus import number_of
 from .refusals import MOST_LINKS, Refused, check_interfaces
 from .report import Run
 from .resume import taken
@@ -61,12 +62,18 @@ class Progress:
         self.show()
 
 
+def moment(seconds: float) -> str:
+    """A time since 1970, as reports have it."""
+    return time.strftime("%Y-%m-%dT%H:%M:%SZ", time.gmtime(seconds))
+
+
 def about(given: argparse.Namespace, b: Bench, results: Sequence[Result]) -> dict[str, str]:
     """What the run was."""
-    begun = time.strftime("%Y-%m-%dT%H:%M:%SZ", time.gmtime(b.wire.started))
+    begun = moment(b.wire.started)
     late = max((it.late for it in results), default=0.0)
     told = {"device": given.device, **report.about_device(b), "begun": begun, "slack": f"{given.slack:g} s, beside the 0.25 s of a timer (6.4.4)"}
-    told.update({"the bench was late": f"{late:.3f} s at most", "seed": str(given.seed)})
+    told.update({"the bench was late": f"{late:.3f} s at most", "seed": str(given.seed), "rules": CAVEAT})
+    told.update({"times": "seconds of the clock of the stack: nobody waited for them"} if given.memory else {})
     return {**told, "capture": os.path.basename(given.pcap)} if given.pcap else told
 
 
@@ -79,7 +86,7 @@ def write_all(given: argparse.Namespace, run: Run) -> bool:
         (given.junit, lambda: junit.as_junit(run).encode()),
         (given.tap, lambda: junit.as_tap(run).encode("utf-8", "replace")),
         (given.matrix, lambda: matrix.as_markdown(run.results, TESTS).encode()),
-        (given.report, lambda: as_html(run, TITLES).encode("utf-8", "replace")),
+        (given.report, lambda: page.as_html(run, TITLES, TESTS).encode("utf-8", "replace")),
         (given.pcap, lambda: capture.octets(b.wire.started, b.wire.names, b.frames, comments)),
     ]
     for it in run.results if given.captures else ():
@@ -88,15 +95,24 @@ def write_all(given: argparse.Namespace, run: Run) -> bool:
     return all([written(path, make) for path, make in files if path])
 
 
-def write_nothing(given: argparse.Namespace, why: str) -> None:
-    """Has JUnit and TAP say that no test ran: what stands there of a run before would pass for this one."""
-    files: list[tuple[Optional[str], Callable[[], bytes]]] = [
+def write_nothing(given: argparse.Namespace, why: str, over: bool = False) -> None:
+    """Has the reports say that no test ran: what stands there of a run before would pass for this one. With `over` only those that are there do.
+    A file that --resume reads stays, and so do captures."""
+    told = {"device": given.device, "begun": moment(time.time()), "incomplete": why}
+    reports: list[tuple[Optional[str], Callable[[], bytes]]] = [
+        (given.json, lambda: report.json_of_nothing(told).encode()),
         (given.junit, lambda: junit.junit_of_nothing(given.device, why).encode()),
         (given.tap, lambda: junit.tap_of_nothing(why).encode("utf-8", "replace")),
+        (given.matrix, lambda: matrix.of_nothing(why).encode("utf-8", "replace")),
+        (given.report, lambda: page.of_nothing(given.device, why).encode("utf-8", "replace")),
     ]
-    for path, make in files:
-        if path and os.path.isdir(os.path.dirname(os.path.realpath(path))) and not os.path.isdir(path):
+    for path, make in reports:
+        if not path or not os.path.isdir(os.path.dirname(os.path.realpath(path))) or os.path.isdir(path) or over and not os.path.isfile(path):
+            continue
+        if not given.resume or not are_same(path, given.resume):
             written(path, make)
+        elif not over:
+            tell(f"lagconform: {path} stays as it was: --resume names it", to=sys.stderr)
 
 
 def stand(given: argparse.Namespace) -> Bench:
@@ -172,7 +188,7 @@ def beginning(given: argparse.Namespace, tests: Sequence[Test], links: int) -> s
     """How many tests run, and how long; in memory no time passes that anybody waits for."""
     minutes = max(1, round(sum(it.takes for it in tests) * given.repeat / 60))
     times = f", each {given.repeat} times" if given.repeat > 1 else ""
-    return f"{len(tests)} tests on {links} link{'s' if links > 1 else ''}{times}" + ("" if given.memory else f", some {minutes} min")
+    return f"{number_of(len(tests), 'test')} on {number_of(links, 'link')}{times}" + ("" if given.memory else f", some {minutes} min")
 
 
 def compared(b: Bench) -> Optional[Shadow]:
@@ -228,6 +244,8 @@ def main(words: Optional[Sequence[str]] = None) -> int:
             taken(given.resume, read_text(given.resume, files.MOST_OF_A_RUN), tests)
         gc.disable()  # no pauses
         signal.signal(signal.SIGTERM, interrupt)
+        functions()  # without the library no stack is to blame
+        write_nothing(given, "the run did not come to its end", over=True)
         b = stand(given)
     except (Refused, NoDevice, pics.BadPics, known.BadKnown, Gone, ImportError, OSError) as why:
         file = given.pics if isinstance(why, pics.BadPics) else given.known if isinstance(why, known.BadKnown) else None
@@ -238,6 +256,10 @@ def main(words: Optional[Sequence[str]] = None) -> int:
     except KeyboardInterrupt:
         write_nothing(given, "interrupted before the first test")
         return 130
+    except Exception as why:  # status 1 would tell of a device that fails
+        traceback.print_exc()
+        write_nothing(given, f"the bench has a fault: {type(why).__name__}: {why}")
+        return 2
     try:
         return run_tests(given, b, tests, claimed, reasons)
     finally:

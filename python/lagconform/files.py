@@ -44,6 +44,11 @@ def check_writable(paths: Sequence[Optional[str]]) -> None:
             raise Refused(f"{path} can't be written: no right to, or the file system is read-only")
 
 
+def are_same(path: str, other: str) -> bool:
+    """Whether both paths lead to one file."""
+    return os.path.realpath(path) == os.path.realpath(other)
+
+
 def written(path: str, make: Callable[[], bytes]) -> bool:
     """Writes what is made into a file; answers whether it stands there. What keeps it from that is told."""
     try:

@@ -9,7 +9,7 @@ from html import escape
 from typing import Iterable, Sequence
 from xml.sax.saxutils import quoteattr
 
-from .model import FAIL, INCONCLUSIVE, PASS, Result
+from .model import CAVEAT, FAIL, INCONCLUSIVE, PASS, Result
 from .pdus import told
 from .report import Run
 
@@ -125,7 +125,7 @@ def bail_out(why: str) -> str:
 def as_tap(run: Run) -> str:
     """The whole run as TAP, version 14."""
     points, why = [line for number, it in enumerate(run.results, 1) for line in point(run, number, it)], run.about.get("incomplete", "")
-    return "\n".join(["TAP version 14", f"1..{len(run.results)}", *points, *([bail_out(why)] if why else [])]) + "\n"
+    return "\n".join(["TAP version 14", f"1..{len(run.results)}", *points, f"# {CAVEAT}", *([bail_out(why)] if why else [])]) + "\n"
 
 
 def tap_of_nothing(why: str) -> str:

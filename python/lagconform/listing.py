@@ -4,7 +4,8 @@ from __future__ import annotations
 
 from typing import Sequence
 
-from .model import Test
+from .model import CAVEAT, Test
+from .pdus import number_of
 
 HEADS = "| test | clause | carried by | purpose | steps | passes if | tolerance |"
 
@@ -23,12 +24,12 @@ def as_text(tests: Sequence[Test], titles: dict[str, str]) -> str:
     for group in dict.fromkeys(it.group for it in tests):
         out += ["", f"{group}  {titles[group]}"]
         out += [f"  {it.id:7} {it.clause:34} {it.title}{marks(it)}" for it in tests if it.group == group]
-    return "\n".join([*out[1:], "", f"{len(tests)} tests"])
+    return "\n".join([*out[1:], "", number_of(len(tests), "test")])
 
 
 def as_markdown(tests: Sequence[Test], titles: dict[str, str]) -> str:
     """Tests as tables of Markdown."""
-    out = [f"# The {len(tests)} tests of lagconform", "", "Made by `lagconform --list --markdown`."]
+    out = [f"# lagconform: {number_of(len(tests), 'test')}", "", f"Made by `lagconform --list --markdown`. {CAVEAT}"]
     for group in dict.fromkeys(it.group for it in tests):
         out += ["", f"## {group}: {titles[group]}", "", HEADS, "|---|---|---|---|---|---|---|"]
         for it in tests:

@@ -5,10 +5,12 @@ from __future__ import annotations
 import re
 from typing import Iterable, Sequence
 
-from .model import FAIL, INCONCLUSIVE, NOT_APPLICABLE, PASS, SKIPPED, Result, Test
+from .model import CAVEAT, FAIL, INCONCLUSIVE, NOT_APPLICABLE, PASS, SKIPPED, Result, Test
 
 # The verdict of a clause is the first of these that a test of it has.
 WORST = (FAIL, INCONCLUSIVE, PASS, SKIPPED, NOT_APPLICABLE)
+# The verdicts that are an answer.
+ANSWERS = (PASS, FAIL)
 
 
 def clauses(test: Test) -> list[str]:
@@ -38,6 +40,12 @@ def worst(results: Sequence[Result]) -> str:
     return next(it for it in WORST if it in there)
 
 
+def told(verdict: str, own: Sequence[Result], left: Sequence[str]) -> str:
+    """The verdict of a clause, which is partial where not each test of it that applies came to pass or fail; `left` did not run."""
+    answered, applies = sum(it.verdict in ANSWERS for it in own), sum(it.verdict != NOT_APPLICABLE for it in own) + len(left)
+    return f"{verdict} (partial: {answered} of {applies} tests)" if verdict in ANSWERS and answered < applies else verdict
+
+
 def not_run(clause: str, own: Sequence[Result], tests: Iterable[Test]) -> list[str]:
     """The tests of a clause that did not run."""
     ran = {it.test.id for it in own}
@@ -54,6 +62,11 @@ def as_markdown(results: Sequence[Result], tests: Sequence[Test]) -> str:
     out = ["| clause | verdict | tests |", "|---|---|---|"]
     for clause, verdict, own in rows(results):
         left = not_run(clause, own, tests)
-        told = ", ".join([*map(cell, own), *(f"{it} (not run)" for it in left)])
-        out.append(f"| {clause} | {verdict}{f', {len(own)} of {len(own) + len(left)} tests ran' if left else ''} | {told} |")
-    return "\n".join(out) + "\n"
+        listed = ", ".join([*map(cell, own), *(f"{it} (not run)" for it in left)])
+        out.append(f"| {clause} | {told(verdict, own, left)} | {listed} |")
+    return "\n".join([*out, "", CAVEAT]) + "\n"
+
+
+def of_nothing(why: str) -> str:
+    """The matrix of a run in which no test ran."""
+    return f"No test has a result: {why}\n"

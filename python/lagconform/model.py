@@ -14,6 +14,8 @@ PASS, FAIL, INCONCLUSIVE, SKIPPED, NOT_APPLICABLE = "pass", "fail", "inconclusiv
 VERDICTS = (PASS, FAIL, INCONCLUSIVE, SKIPPED, NOT_APPLICABLE)
 # What carries the rule of a test: docs/PROFILE.md; two devices that nobody of this project wrote, which do so; or memory of the standard.
 PROFILE, DEVICES, MEMORY = "PROFILE", "two devices", "memory"
+# What stands with each report.
+CAVEAT = "Nobody compared the rules of the tests with the text of the standard."
 # A test that takes more seconds is long, and runs with --long alone.
 LONG = 25
 

@@ -7,7 +7,7 @@ from typing import Iterable, Sequence, Union
 
 from . import causes, matrix
 from .bench import Bench
-from .model import FAIL, INCONCLUSIVE, VERDICTS, Frame, Result
+from .model import CAVEAT, FAIL, INCONCLUSIVE, VERDICTS, Frame, Result, Test
 from .pdus import SLOW, end, told
 from .refusals import MOST_LINKS
 from .report import Run, summary, why
@@ -169,11 +169,13 @@ def unanswered(results: Sequence[Result]) -> str:
     return f"<h2>Without an answer</h2><ul>{''.join(out)}</ul>" if out else ""
 
 
-def clauses(results: Sequence[Result]) -> str:
-    """The matrix of clauses."""
+def clauses(results: Sequence[Result], tests: Sequence[Test]) -> str:
+    """The matrix of clauses, of all tests that there are."""
     out = ["<tr><th>clause</th><th>verdict</th><th>tests</th></tr>"]
     for clause, worst, own in matrix.rows(results):
-        out.append(f'<tr class="{worst.split()[0]}"><td>{escape(clause)}</td><td><span class="v">{worst}</span></td><td>{", ".join(map(link_to, own))}</td></tr>')
+        left = matrix.not_run(clause, own, tests)
+        listed, said = ", ".join([*map(link_to, own), *(f"{it} (not run)" for it in left)]), matrix.told(worst, own, left)
+        out.append(f'<tr class="{worst.split()[0]}"><td>{escape(clause)}</td><td><span class="v">{said}</span></td><td>{listed}</td></tr>')
     return f"<h2>Clauses</h2><table>{''.join(out)}</table>"
 
 
@@ -187,12 +189,21 @@ def filters(results: Sequence[Result]) -> str:
     )
 
 
-def as_html(run: Run, titles: dict[str, str]) -> str:
-    """The whole run as a page, which begins with what failed; `titles` has those of the groups."""
-    device = run.about.get("device", "device")
+def beginning(device: str, said: str) -> list[str]:
+    """The first lines of a page: the device, and what came of it in all."""
     head = '<meta charset="utf-8"><meta name="viewport" content="width=device-width, initial-scale=1">'
-    out = [f'<!DOCTYPE html><html lang="en">{head}<title>{escape(device)}: LACP and Marker protocol</title><style>{STYLE}</style>', TIP]
-    out += [f"<h1>{escape(device)}</h1><p><b>{summary(run.results)}</b></p>", fails(run.results), unanswered(run.results)]
+    first = f'<!DOCTYPE html><html lang="en">{head}<title>{escape(device)}: LACP and Marker protocol</title><style>{STYLE}</style>'
+    return [first, TIP, f"<h1>{escape(device)}</h1><p><b>{escape(said)}</b></p>"]
+
+
+def of_nothing(device: str, why: str) -> str:
+    """The page of a run in which no test ran."""
+    return "\n".join([*beginning(device, f"No test has a result: {why}"), "</html>"]) + "\n"
+
+
+def as_html(run: Run, titles: dict[str, str], tests: Sequence[Test]) -> str:
+    """The whole run as a page, which begins with what failed; `titles` has those of the groups, and `tests` are all that there are."""
+    out = [*beginning(run.about.get("device", "device"), summary(run.results)), fails(run.results), unanswered(run.results)]
     out.append(rows(run.about.items()))
     if run.shadow:
         differences = "".join(f"<li>packet {it.frame.number}: {escape(it.what)}</li>" for it in run.shadow.differences[:100])
@@ -203,4 +214,4 @@ def as_html(run: Run, titles: dict[str, str]) -> str:
         for it in run.results:
             if it.test.group == group:
                 out += section(run.bench, it)
-    return "\n".join([*out, "</div>", clauses(run.results), "</html>"]) + "\n"
+    return "\n".join([*out, "</div>", clauses(run.results, tests), f"<p>{CAVEAT}</p>", "</html>"]) + "\n"

@@ -88,6 +88,11 @@ def read(frame: bytes) -> tuple[Optional[Pdu], str]:
         return None, f"{why.fault.name}: {f'{why.at} octets' if why.fault.name == 'SHORT' else f'octet {why.at} is {why.found}'}"
 
 
+def number_of(count: int, what: str) -> str:
+    """So many of something."""
+    return f"{count} {what}{'' if count == 1 else 's'}"
+
+
 def words(state: int) -> str:
     """The bits of a state octet that are 1, in words."""
     return ",".join(word for bit, word in enumerate(WORDS) if state >> bit & 1) or "none"

@@ -4,11 +4,11 @@ from __future__ import annotations
 
 import json
 from dataclasses import dataclass
-from typing import Optional, Sequence
+from typing import Mapping, Optional, Sequence
 
 from . import causes, matrix
 from .bench import Bench
-from .model import FAIL, PROFILE, VERDICTS, Result, Test
+from .model import CAVEAT, FAIL, PROFILE, VERDICTS, Result, Test
 from .pdus import end, mac
 from .shadow import Shadow
 
@@ -31,10 +31,12 @@ def why(it: Result) -> str:
 
 
 def line(it: Result) -> str:
-    """A result as one line, or two."""
+    """A result as one line; behind it why, and of a fail which packets show it."""
     known = f" (known: {it.known})" if it.known else ""
     rule = f"{it.test.clause}, by {it.test.basis}: " if it.verdict == FAIL else ""
-    return f"{it.verdict:15}{it.test.id:7} {it.test.title}{known}" + (f"\n{'':23}{rule}{why(it)}" if it.why else "")
+    shown = ", ".join(str(number) for number, holds in it.packets.items() if it.verdict == FAIL and not holds)
+    more = [*([f"{rule}{why(it)}"] if it.why else []), *([f"packets {shown}"] if shown else [])]
+    return "\n".join([f"{it.verdict:15}{it.test.id:7} {it.test.title}{known}", *(f"{'':23}{text}" for text in more)])
 
 
 def counts(results: Sequence[Result]) -> dict[str, int]:
@@ -89,14 +91,20 @@ def as_json(run: Run, tests: Sequence[Test]) -> str:
     """The whole run as JSON, of all tests that there are."""
     grouped = {it.name: [one.test.id for one in it.explains] for it in causes.grouped(run.results)}
     rows = {
-        clause: {"verdict": verdict, "tests": [it.test.id for it in own], "not run": matrix.not_run(clause, own, tests)}
+        clause: {"verdict": verdict, "told": matrix.told(verdict, own, left), "tests": [it.test.id for it in own], "not run": left}
         for clause, verdict, own in matrix.rows(run.results)
+        for left in [matrix.not_run(clause, own, tests)]
     }
     whole: dict[str, object] = {"about": run.about, "counts": counts(run.results), "causes": grouped, "clauses": rows}
     if run.shadow:
         differences = [{"packet": it.frame.number, "what": it.what} for it in run.shadow.differences]
         whole["shadow"] = {"compared": run.shadow.compared, "differences": differences}
     return json.dumps({**whole, "tests": [record(run.bench, it) for it in run.results]}, indent=1) + "\n"
+
+
+def json_of_nothing(about: Mapping[str, str]) -> str:
+    """JSON of a run in which no test ran; `about` has why."""
+    return json.dumps({"about": about, "counts": counts([]), "causes": {}, "clauses": {}, "tests": []}, indent=1) + "\n"
 
 
 def comments(results: Sequence[Result]) -> dict[int, str]:
@@ -119,4 +127,4 @@ def closing(run: Run) -> list[str]:
         out.append(f"shadow: {run.shadow.text}")
         for it in run.shadow.differences[:5]:
             out.append(f"shadow: packet {it.frame.number}: {it.what}")
-    return [*out, summary(run.results)]
+    return [*out, f"{summary(run.results)}. {CAVEAT}"]

@@ -201,9 +201,9 @@ def run_times(b: Bench, test: Test, claimed: Optional[Mapping[str, bool]], repea
     result = min(found, key=lambda it: WORST.index(it.verdict))
     if len(found) > 1:
         result.times = {verdict: count for verdict in WORST if (count := sum(it.verdict == verdict for it in found))}
-        result.notes.append(f"of {len(found)} times: {', '.join(f'{count} {verdict}' for verdict, count in result.times.items())}")
+        result.notes.append(f"of {len(found)} runs: {', '.join(f'{count} {verdict}' for verdict, count in result.times.items())}")
         if result.why:
-            result.why += f" ({result.times[result.verdict]} of {len(found)} times)"
+            result.why += f" (in {result.times[result.verdict]} of {len(found)} runs)"
         result.first, result.begin, result.last, result.end = found[0].first, found[0].begin, found[-1].last, found[-1].end
         result.late = max(it.late for it in found)
     return result

@@ -27,7 +27,7 @@ def _loaded() -> ctypes.CDLL:
     try:
         return ctypes.CDLL(_name())
     except OSError as why:
-        raise ImportError(f"{why}: the package liblag0 has it, make builds it in a clone, and NIWHOPERA_LIBRARY may name another file") from None
+        raise ImportError(f"{why}: the package liblag0 has it, `make library` builds it in a clone, and NIWHOPERA_LIBRARY may name another file") from None
 
 
 @functools.lru_cache(maxsize=None)

@@ -19,17 +19,19 @@ from conform_device import Device, World
 from conform_faults import KeyUnchecked, NoWait, SystemUnchecked
 from conform_frames import NoMarkers
 
-from lagconform import causes, command, files, known, listing, options, pics, refusals, report
+from lagconform import causes, command, files, known, listing, options, page, pics, refusals, report
 from lagconform.bench import Bench, most_within
 from lagconform.groups import GROUPS, TESTS
 from lagconform.memory import Done
-from lagconform.model import DEVICES, FAIL, INCONCLUSIVE, LONG, MEMORY, NOT_APPLICABLE, PASS, PROFILE, SKIPPED, Claim, Result
+from lagconform.model import CAVEAT, DEVICES, FAIL, INCONCLUSIVE, LONG, MEMORY, NOT_APPLICABLE, PASS, PROFILE, SKIPPED, Claim, Result
 from lagconform.model import Test as Case
 from lagconform.runner import NoDevice, judge, meet, run_one
 from lagconform.shadow import compare
 from lagconform.sockets import Command
 
 BY_NAME = {it.id: it for it in TESTS}
+# What stands behind the counts in the last line.
+LAST = f". {CAVEAT}\n"
 
 
 class LongTimeouts(Device):
@@ -81,12 +83,16 @@ def test_reports(run, tmp_path: Path, capsys: pytest.CaptureFixture[str]) -> Non
     files = ["--json", "r.json", "--junit", "r.xml", "--report", "r.html", "--pcap", "r.pcapng"]
     assert run(KeyUnchecked, *words, *files) == 1
     said = capsys.readouterr().out
-    assert "fail           RX-07c" in said and said.endswith("1 pass, 2 fail\n") and "shadow: " in said
+    assert "fail           RX-07c" in said and said.endswith(f"1 pass, 2 fail{LAST}") and "shadow: " in said
     told = json.loads((tmp_path / "r.json").read_text())
-    assert told["counts"]["fail"] == 2 and told["tests"][1]["claims"][0]["holds"] is False
+    assert told["counts"]["fail"] == 2 and told["tests"][1]["claims"][0]["holds"] is False and told["about"]["rules"] == CAVEAT
+    assert [it.get("value") for it in xml.parse(tmp_path / "r.xml").getroot().iter("property") if it.get("name") == "rules"] == [CAVEAT] * 3
+    shown = ", ".join(map(str, told["tests"][1]["claims"][0]["packets"]))
+    assert f"\n{'':23}packets {shown}\n" in said
     tree = xml.parse(tmp_path / "r.xml").getroot()
     assert tree.get("name") == "a <device>" and tree.get("failures") == "2" and len(tree.findall(".//testcase")) == 3
     page = (tmp_path / "r.html").read_text()
+    assert page.endswith(f"<p>{CAVEAT}</p>\n</html>\n") and "RX-07c (not run)" not in page and "RX-07a (not run)" in page and "(partial: 1 of " in page
     assert "a &lt;device&gt;" in page and page.count("<svg") == 4 and "the rule is carried by PROFILE" in page
     found = blocks((tmp_path / "r.pcapng").read_bytes())
     assert [kind for kind, _ in found[:3]] == [0x0A0D0D0A, 1, 1] and {kind for kind, _ in found[3:]} == {6}
@@ -99,7 +105,7 @@ def test_known_fails(run, tmp_path: Path, capsys: pytest.CaptureFixture[str]) ->
     words = ["--only", "RX-07c", "--only", "FM-01", "--known", str(tmp_path / "known"), "--junit", "r.xml"]
     assert run(KeyUnchecked, *words) == 0
     said = capsys.readouterr().out
-    assert "(known: compares no key)" in said and "known fail FM-01 did not fail" in said and said.endswith("1 pass, 1 fail (1 known)\n")
+    assert "(known: compares no key)" in said and "known fail FM-01 did not fail" in said and said.endswith(f"1 pass, 1 fail (1 known){LAST}")
     assert xml.parse(tmp_path / "r.xml").getroot().get("failures") == "0"
     assert run(KeyUnchecked, *words, "--only", "TX-02c") == 1
 
@@ -121,13 +127,13 @@ def test_what_a_statement_claims_holds(run, kind: Type[Device], claims: str, las
     words = ["--pics", str(tmp_path / "pics"), "--only", "MK-01", "--only", "FM-08"]
     assert run(kind, *words) == (1 if "1 fail" in last else 0)
     said = capsys.readouterr().out
-    assert said.endswith(f"{last}\n") and why in said
+    assert said.endswith(f"{last}{LAST}") and why in said
 
 
 def test_what_a_device_does_not_have_is_not_looked_at(run, tmp_path: Path, capsys: pytest.CaptureFixture[str]) -> None:  # type: ignore[no-untyped-def]
     (tmp_path / "pics").write_text("two-ports no\n")
     assert run(Individual, "--pics", str(tmp_path / "pics"), "--only", "SL-01", "--only", "FM-01", "--json", "r.json") == 0
-    assert capsys.readouterr().out.endswith("1 pass, 0 fail, 1 not applicable\n")
+    assert capsys.readouterr().out.endswith(f"1 pass, 0 fail, 1 not applicable{LAST}")
     assert "both links may join" in json.loads((tmp_path / "r.json").read_text())["tests"][1]["why"]
 
 
@@ -193,7 +199,7 @@ def test_a_report_that_fails_costs_no_other_one(run, tmp_path: Path, capsys: pyt
     def breaks(*_: object) -> str:
         raise ValueError("it broke")
 
-    monkeypatch.setattr(command, "as_html", breaks)
+    monkeypatch.setattr(page, "as_html", breaks)
     monkeypatch.setattr(command, "compare", breaks)
     words = ["--only", "FM-01", "--shadow", "--json", "/dev/full", "--report", "r.html", "--junit", "r.xml"]
     assert run(Device, *words) == 2
@@ -246,7 +252,7 @@ def test_a_file_that_is_no_text_is_refused(tmp_path: Path) -> None:
 
 def test_one_link_runs_tests_of_one_link(run, capsys: pytest.CaptureFixture[str]) -> None:  # type: ignore[no-untyped-def]
     assert run(Device, "--only", "SL-*", links=1) == 0
-    assert capsys.readouterr().out.endswith("1 pass, 0 fail\n")
+    assert capsys.readouterr().out.endswith(f"1 pass, 0 fail{LAST}")
 
 
 @pytest.mark.parametrize(
@@ -273,14 +279,59 @@ def test_refusals(words: list[str], why: str, capsys: pytest.CaptureFixture[str]
 NONE = "there is no interface none0: `ip link` lists them"
 
 
-def test_a_run_that_never_began_leaves_no_report_of_another(tmp_path: Path) -> None:
-    xml_path, tap = tmp_path / "r.xml", tmp_path / "r.tap"
-    for it in xml_path, tap:
-        it.write_text("of the run before")
-    assert command.main(["none0", "--junit", str(xml_path), "--tap", str(tap)]) == 2
-    root = xml.parse(xml_path).getroot()
+REPORTS = {"--json": "r.json", "--junit": "r.xml", "--tap": "r.tap", "--matrix": "r.md", "--report": "r.html"}
+WORDS = [word for pair in REPORTS.items() for word in pair]
+
+
+def test_a_run_that_never_began_leaves_no_report_of_another(tmp_path: Path, monkeypatch: pytest.MonkeyPatch) -> None:
+    monkeypatch.chdir(tmp_path)
+    for it in REPORTS.values():
+        (tmp_path / it).write_text("of the run before")
+    assert command.main(["none0", *WORDS]) == 2
+    root = xml.parse(tmp_path / "r.xml").getroot()
     assert root.get("errors") == "1" and [it.get("message") for it in root.iter("error")] == [NONE]
-    assert tap.read_text() == f"TAP version 14\nBail out! {NONE}\n"
+    assert (tmp_path / "r.tap").read_text() == f"TAP version 14\nBail out! {NONE}\n"
+    told = json.loads((tmp_path / "r.json").read_text())
+    assert told["about"]["incomplete"] == NONE and told["about"]["begun"] and not told["tests"] and not any(told["counts"].values())
+    assert (tmp_path / "r.md").read_text() == f"No test has a result: {NONE}\n" and f"No test has a result: {NONE}" in (tmp_path / "r.html").read_text()
+
+
+def test_a_run_that_is_killed_leaves_no_report_of_another(tmp_path: Path, monkeypatch: pytest.MonkeyPatch) -> None:
+    """What stands there while it runs is what stays behind SIGKILL."""
+    monkeypatch.chdir(tmp_path)
+    (tmp_path / "r.json").write_text("of the run before")
+    seen: list[dict[str, str]] = []
+
+    def stand(_: object) -> Bench:
+        seen.append({it.name: it.read_text() for it in tmp_path.iterdir()})
+        raise NoDevice("none")
+
+    monkeypatch.setattr(command, "stand", stand)
+    assert command.main(["link1", *WORDS]) == 2
+    assert [*seen[0]] == ["r.json"] and json.loads(seen[0]["r.json"])["about"]["incomplete"] == "the run did not come to its end"
+
+
+def test_a_run_that_never_began_leaves_what_it_was_to_resume(run, tmp_path: Path, capsys: pytest.CaptureFixture[str], monkeypatch: pytest.MonkeyPatch) -> None:  # type: ignore[no-untyped-def]
+    assert run(Device, "--only", "FM-0*", "--json", "r.json") == 0
+    before = (tmp_path / "r.json").read_text()
+    monkeypatch.undo()
+    monkeypatch.chdir(tmp_path)
+    assert command.main(["none0", "--resume", "./r.json", *WORDS]) == 2
+    assert (tmp_path / "r.json").read_text() == before and "r.json stays as it was" in capsys.readouterr().err
+    assert f"No test has a result: {NONE}" in (tmp_path / "r.html").read_text()
+    assert run(Device, "--only", "FM-0*", "--only", "MK-01", "--resume", "r.json", "--json", "r.json") == 0
+    assert json.loads((tmp_path / "r.json").read_text())["counts"]["pass"] == 10
+
+
+def test_a_fault_of_the_bench_before_the_first_test_is_no_fail(tmp_path: Path, monkeypatch: pytest.MonkeyPatch, capsys: pytest.CaptureFixture[str]) -> None:
+    def stand(_: object) -> Bench:
+        raise ZeroDivisionError("of the bench")
+
+    monkeypatch.chdir(tmp_path)
+    monkeypatch.setattr(command, "stand", stand)
+    assert command.main(["link1", *WORDS]) == 2
+    told = "the bench has a fault: ZeroDivisionError: of the bench"
+    assert json.loads((tmp_path / "r.json").read_text())["about"]["incomplete"] == told and "in stand" in capsys.readouterr().err
 
 
 class Waits:
@@ -474,8 +525,35 @@ def test_the_page_has_what_carries_the_tests() -> None:
 
 def test_pages_have_the_number_of_tests() -> None:
     """What the bench has now; the counts of runs stand with their dates."""
-    for name, wanted in ("../README.md", f": {len(TESTS)} tests of the LACP"), ("CONFORMANCE.md", f"The bench has {len(TESTS)} now"):
-        assert wanted in (page_of(name) or wanted)
+    readme = page_of("../README.md")
+    assert not readme or re.search(rf": \[?{len(TESTS)} tests\b", readme)
+    counts = {links: [len(options.selected(None, long, links)) for long in (False, True)] for links in (1, 2, 3, 4)}
+    assert counts[3] == counts[4] and counts[4][1] == len(TESTS)
+    rows = [f"|{name}|{counts[links][0]}|{counts[links][1]}{more}|" for name, links, more in (("one", 1, ""), ("two", 2, ""), ("three or four", 3, ": all"))]
+    newer = f"|{counts[2][0] - 2}|the {counts[2][0]} without TX-10 and TX-11, which are newer|"
+    text = page_of("CONFORM.md")
+    assert not text or not [it for it in (*rows, newer) if f"{it}\n" not in text]
+
+
+def test_the_page_says_what_makes_the_counts_differ() -> None:
+    text = page_of("CONFORM.md")
+    if not text:
+        return
+    long, three = listed([it.id for it in TESTS if it.is_long]), listed([it.id for it in TESTS if it.links == 3])
+    assert f"`--long` adds {long}, which take more than {LONG} s each. Three links add {three}." in " ".join(text.split())
+    device = Device()
+    b = Bench(World(device))
+    meet(b)
+    wanted = [run_one(b, it) for it in TESTS if it.hooks and it.links < 3]
+    skipped = listed([it.test.id for it in wanted if it.verdict == SKIPPED]).replace("RX-13", "RX-13 (but with `--flap`)")
+    assert f"without `--hook`, {skipped} are skipped" in " ".join(text.split())
+    b.close()
+    device.stop()
+
+
+def listed(names: Sequence[str]) -> str:
+    """Names as sentences have them."""
+    return f"{', '.join(names[:-1])} and {names[-1]}"
 
 
 def test_pages_have_the_time_of_a_run_and_which_tests_are_long() -> None:
@@ -483,8 +561,6 @@ def test_pages_have_the_time_of_a_run_and_which_tests_are_long() -> None:
     said = f" tests on 2 links, some {round(sum(it.takes for it in short) / 60)} min"  # how many: of the run that the page shows
     assert said in (page_of("CONFORM.md") or said)
     for name, wanted in (
-        ("CONFORM.md", f"those of more than {LONG} s;"),
-        ("CONFORMANCE.md", f"of more than {LONG} s were not run"),
         ("PEERS.md", f"that take at most {LONG} s each"),
     ):
         assert wanted in (page_of(name) or wanted)

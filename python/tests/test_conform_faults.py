@@ -62,7 +62,7 @@ def test_a_right_device_of_long_timeouts_fails_nothing() -> None:
 
 def test_the_page_has_how_many_faults_there_are() -> None:
     page = Path(__file__).parents[2] / "docs" / "CONFORM.md"
-    assert not page.exists() or f": {len(FAULTS)} devices with one fault each" in page.read_text()
+    assert not page.exists() or f": {len(FAULTS)} devices with one fault each." in page.read_text()
     assert len({it.__name__ for it in FAULTS}) == len(FAULTS)
 
 

@@ -21,11 +21,14 @@ from conform_machines import NoNtt
 from lagconform import causes, child, command, floods, matrix
 from lagconform.bench import Bench
 from lagconform.groups import TESTS
-from lagconform.model import FAIL, INCONCLUSIVE, PASS, SURE, Claim, Result
+from lagconform.model import CAVEAT, FAIL, INCONCLUSIVE, NOT_APPLICABLE, PASS, SKIPPED, SURE, Claim, Result
 from lagconform.runner import IN_TURN, CameToNothing, Flood, judge, meet, ordered, run_all, run_times
 
 BY_NAME = {it.id: it for it in TESTS}
+# What stands behind the counts in the last line.
+LAST = f". {CAVEAT}\n"
 EXAMPLES = Path(__file__).parents[2] / "examples" / "conform"
+PAGE = Path(__file__).parents[2] / "docs" / "CONFORM.md"
 HEADER = Path(__file__).parents[2] / "crates" / "lagffi" / "include"
 
 
@@ -169,10 +172,10 @@ def test_a_late_bench_excuses_no_count_of_lacpdus(bench) -> None:  # type: ignor
     assert flooded.verdict == INCONCLUSIVE
 
 
-def test_status_junit_and_tap_agree_on_what_has_no_answer(run, tmp_path: Path, capsys: pytest.CaptureFixture[str]) -> None:  # type: ignore[no-untyped-def]
+def test_status_junit_and_tap_agree_on_what_has_no_answer(tmp_path: Path, monkeypatch: pytest.MonkeyPatch, capsys: pytest.CaptureFixture[str]) -> None:
     words = ["--only", "FM-01", "--only", "SL-06", "--junit", "r.xml", "--tap", "r.tap"]
     (tmp_path / "device.py").write_text("from conform_device import Device as Right\n\nclass Device(Right):\n    def data(self, on):\n        raise NotImplementedError\n")
-    os.chdir(tmp_path)
+    monkeypatch.chdir(tmp_path)
     for strict, status, tag, point in ((), 0, "skipped", "ok 2 - SL-06"), (("--strict",), 1, "errors", "not ok 2 - SL-06"):
         assert command.main(["--memory", "device.py", *words, *strict]) == status
         root = xml.parse(tmp_path / "r.xml").getroot()
@@ -194,14 +197,17 @@ def test_junit_and_tap_have_what_the_device_said(run, tmp_path: Path) -> None:  
 def test_a_matrix_has_each_clause(run, tmp_path: Path) -> None:  # type: ignore[no-untyped-def]
     assert run(VersionChecked, "--only", "VN-0*", "--only", "FM-05", "--matrix", "m.md", "--json", "r.json") == 1
     lines = (tmp_path / "m.md").read_text().splitlines()
-    assert lines[2:4] == ["| 6.3.2 | pass, 1 of 3 tests ran | FM-05, SL-02 (not run), SL-05 (not run) |", "| 6.3.4 | pass, 1 of 2 tests ran | FM-05, SL-02 (not run) |"]
-    ran = re.fullmatch(r"\| 6\.4\.12 \| fail, 9 of (\d+) tests ran \| VN-01, VN-02 \(fail\), .* \|", lines[-1])
-    assert ran and lines[-1].count("(not run)") == int(ran[1]) - 9 and "RX-08 (not run)" not in lines[-1]
-    assert json.loads((tmp_path / "r.json").read_text())["clauses"]["6.4.2.4"] == {"verdict": "fail", "tests": ["VN-05"], "not run": ["VN-10"]}
+    assert lines[2:4] == ["| 6.3.2 | pass (partial: 1 of 3 tests) | FM-05, SL-02 (not run), SL-05 (not run) |", "| 6.3.4 | pass (partial: 1 of 2 tests) | FM-05, SL-02 (not run) |"]
+    ran = re.fullmatch(r"\| 6\.4\.12 \| fail \(partial: 9 of (\d+) tests\) \| VN-01, VN-02 \(fail\), .* \|", lines[-3])
+    assert ran and lines[-3].count("(not run)") == int(ran[1]) - 9 and "RX-08 (not run)" not in lines[-3] and lines[-2:] == ["", CAVEAT]
+    assert json.loads((tmp_path / "r.json").read_text())["clauses"]["6.4.2.4"] == {"verdict": "fail", "told": "fail (partial: 1 of 2 tests)", "tests": ["VN-05"], "not run": ["VN-10"]}
     (tmp_path / "known").write_text("VN-02 of the chip\n")
     assert run(VersionChecked, "--only", "VN-02", "--known", "known", "--matrix", "m.md") == 0
     assert "VN-02 (fail, known), " in (tmp_path / "m.md").read_text()
     assert matrix.clauses(BY_NAME["RX-06"]) == ["6.4.12", "6.4.9"]
+    own = [Result(BY_NAME["FM-01"], it) for it in (PASS, NOT_APPLICABLE, SKIPPED)]
+    told = [matrix.told(PASS, own[:2], []), matrix.told(PASS, own, ["FM-02"]), matrix.told(INCONCLUSIVE, own, [])]
+    assert told == ["pass", "pass (partial: 1 of 3 tests)", "inconclusive"]
     assert sorted(["802.3 57A", "6.4.12", "6.4.9", "6.4.2.3"], key=matrix.order) == ["6.4.2.3", "6.4.9", "6.4.12", "802.3 57A"]
 
 
@@ -225,7 +231,7 @@ def test_a_repeated_test_has_its_worst_verdict(bench) -> None:  # type: ignore[n
     meet(b)
     found = run_times(b, BY_NAME["FM-02"], None, 4)
     assert found.verdict == FAIL and found.times[FAIL] + found.times[PASS] == 4 and found.times[PASS] > 0
-    assert found.why.endswith(f"({found.times[FAIL]} of 4 times)") and found.first == 1 + len([it for it in b.frames if it.number < found.first])
+    assert found.why.endswith(f"(in {found.times[FAIL]} of 4 runs)") and found.first == 1 + len([it for it in b.frames if it.number < found.first])
 
 
 def test_a_run_goes_on_where_another_one_ended(run, tmp_path: Path, capsys: pytest.CaptureFixture[str]) -> None:  # type: ignore[no-untyped-def]
@@ -233,7 +239,7 @@ def test_a_run_goes_on_where_another_one_ended(run, tmp_path: Path, capsys: pyte
     capsys.readouterr()
     assert run(KeyUnchecked, "--only", "FM-0*", "--only", "RX-07*", "--resume", "one.json", "--json", "two.json", "--report", "r.html") == 1
     said = capsys.readouterr().out
-    assert said.startswith("6 tests on 3 links") and said.endswith("15 pass, 1 fail\n")
+    assert said.startswith("6 tests on 3 links") and said.endswith(f"15 pass, 1 fail{LAST}")
     told = {it["id"]: it for it in json.loads((tmp_path / "two.json").read_text())["tests"]}
     assert len(told) == 16 and told["RX-07c"]["notes"] == ["of the run in one.json"] and told["RX-07c"]["verdict"] == "fail"
     (tmp_path / "bad.json").write_text("[]")
@@ -302,9 +308,28 @@ def test_a_stack_that_raises_ends_the_run_with_its_trace(tmp_path: Path, monkeyp
 def test_the_example_in_python_passes_all(capsys: pytest.CaptureFixture[str]) -> None:
     assert command.main(["--memory", str(EXAMPLES / "device.py"), "--strict"]) == 0
     said = capsys.readouterr().out
-    assert said.startswith(f"{len(TESTS)} tests on 3 links\n") and said.endswith(f"{len(TESTS) - 1} pass, 0 fail, 1 not applicable\n")
+    assert said.startswith(f"{len(TESTS)} tests on 3 links\n") and said.endswith(f"{len(TESTS) - 1} pass, 0 fail, 1 not applicable{LAST}")
     assert command.main(["--memory", str(EXAMPLES / "device.py"), "--links", "1", "--only", "FM-01", "--repeat", "2"]) == 0
-    assert capsys.readouterr().out.startswith("1 tests on 1 link, each 2 times\n")
+    assert capsys.readouterr().out.startswith("1 test on 1 link, each 2 times\n")
+
+
+@pytest.mark.skipif(not PAGE.exists(), reason="no page")
+def test_the_first_fail_is_as_the_page_has_it(tmp_path: Path, monkeypatch: pytest.MonkeyPatch, capsys: pytest.CaptureFixture[str]) -> None:
+    told = re.split(r"^##+ ", PAGE.read_text().partition("### A first fail\n")[2], flags=re.M)[0]
+    commands, printed = re.findall(r"(?:^    .*\n)+", told, re.M)
+    edit, run = commands.strip().split("\n")
+    begin, end = edit.split("'")[1].split("/")[1:3]
+    monkeypatch.chdir(tmp_path)
+    (tmp_path / "out").mkdir()
+    text = (EXAMPLES / "device.py").read_text()
+    assert begin in text and edit.split("'")[2].split() == ["examples/conform/device.py", ">", "out/many.py"]
+    (tmp_path / "out" / "many.py").write_text(text.replace(begin, end))
+    assert command.main(run.split()[1:]) == 1
+    lines = iter(capsys.readouterr().out.splitlines())
+    assert not [it for it in printed.splitlines() if it.strip() != ".." and it.removeprefix("    ") not in lines]  # in their order
+    numbers = list(map(int, re.findall(r"packets (\d+), (\d+)", printed)[0]))
+    blocks = (tmp_path / "out" / "many.pcapng").read_bytes().split(b"MK-06 fails: 40 Marker PDUs")
+    assert len(blocks) == 1 + len(numbers) and (tmp_path / "out" / "many.html").read_text().count('class="a bad"') >= len(numbers)
 
 
 @pytest.mark.skipif(not HEADER.exists() or not shutil.which("cc") or "NIWHOPERA_LIBRARY" not in os.environ, reason="no C compiler, or no library")
@@ -313,13 +338,13 @@ def test_the_example_in_c_passes_all(tmp_path: Path, capsys: pytest.CaptureFixtu
     line = ["cc", "-Wall", "-Wextra", "-Wconversion", "-Werror", "-shared", "-fPIC", f"-I{HEADER}", "-o", made, str(EXAMPLES / "device.c")]
     subprocess.run([*line, os.environ["NIWHOPERA_LIBRARY"]], check=True)
     assert command.main(["--memory", made, "--strict"]) == 0
-    assert f"\n{len(TESTS) - 1} pass, 0 fail, 1 not applicable\n" in capsys.readouterr().out
+    assert f"\n{len(TESTS) - 1} pass, 0 fail, 1 not applicable{LAST}" in capsys.readouterr().out
 
 
 def test_a_fail_that_the_profile_does_not_carry_has_a_mark(run, tmp_path: Path, capsys: pytest.CaptureFixture[str]) -> None:  # type: ignore[no-untyped-def]
     assert run(VersionChecked, "--only", "VN-02", "--junit", "r.xml", "--tap", "r.tap") == 1
     said = capsys.readouterr().out
-    assert said.endswith("0 pass, 1 fail (1 not by PROFILE)\n") and "by two devices: " in said
+    assert said.endswith(f"0 pass, 1 fail (1 not by PROFILE){LAST}") and "by two devices: " in said
     assert [it.get("type") for it in xml.parse(tmp_path / "r.xml").getroot().iter("failure")] == ["fail by two devices"]
     assert "  basis: two devices\n" in (tmp_path / "r.tap").read_text()
 

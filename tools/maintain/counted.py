@@ -120,10 +120,9 @@ def counts_of_records(pages: Read) -> list[str]:
 
 
 def tests_that_pass(pages: Read) -> list[str]:
-    """Of the tests of lagconform those that pass beside the daemon, those of that run, and all that there are."""
-    run, all_of_them = pages.table(PEERS, "Conformance", "tests", "lagd"), pages.table(CONFORM, "The groups", "group", "tests")
-    there, played = sum(map(int, all_of_them.cells("*", "tests"))), sum(map(int, run.cells("[*]*[*]", "lagd")))
-    return [run.cell("[*]pass[*]", "lagd"), str(played), str(there)]
+    """Of the tests of lagconform those that pass beside the daemon, and those of that run."""
+    run = pages.table(PEERS, "Conformance", "tests", "lagd")
+    return [run.cell("[*]pass[*]", "lagd"), str(sum(map(int, run.cells("[*]*[*]", "lagd"))))]
 
 
 def tests_beside_open_vswitch(pages: Read) -> list[str]:
@@ -229,7 +228,10 @@ QUOTES: tuple[Quote, ...] = (
           lines_of_a_move),
     Quote(CONFORM, "{} tests on 2 links, some 12 min", tests_played),
     Quote(CONFORM, "{} pass, {} fail, {} inconclusive, {} skipped", tests_beside_open_vswitch),
-    Quote(CONFORMANCE, "[{} of {} tests pass](PEERS.md#conformance). The bench has {} now, of which those of more than 25 s were not run", tests_that_pass),
+    Quote(CONFORM, "|[PEERS](PEERS.md#conformance), of 28 November 2026: `lagd`, Open vSwitch, bonding, teamd|{}|", tests_played),
+    Quote(CONFORM, "as they are|{}|two links, without `--long` and `--hook`|", figures_of(PEERS, r"^\|lagconform, \[?(\d+) tests\b")),
+    Quote(CONFORM, "of 26 November 2026: testpmd|{}|", figures_of(PEERS, r"testpmd ran on 26 November alone, with \[?(\d+) tests")),
+    Quote(CONFORMANCE, "[{} of {} tests pass](PEERS.md#conformance). [How many tests]", tests_that_pass),
     Quote(EXAMPLES, "the driver, which starts {} s later|", later_speaker),
     Quote(LAGD, "is 0 if the port distributes, 1 to {} for [the reason why not]", last_status),
     Quote(MEASURED, "one aggregator of 256 conversations, which take {} octets", octets_of_conversations),

@@ -8,7 +8,7 @@ from niwhopera import Info, Lacpdu, State
 
 from ..bench import Bench
 from ..model import SURE, Frame, Group
-from ..pdus import PAYLOAD, SIX, SLOW, is_of_lag, put, read, value
+from ..pdus import PAYLOAD, SIX, SLOW, is_of_lag, number_of, put, read, value
 
 group = Group("IV", "All frames of the run")
 # The first octets of the systems that the bench is.
@@ -100,7 +100,7 @@ def rate(b: Bench) -> None:
         found = list(b.heard(link, 0))
         spans = [found[at + 3].time - found[at].time for at in range(len(found) - 3)]
         high = [at for at, span in enumerate(spans) if span < 0.75]
-        text = f"link {link}: four or more LACPDUs within 0.75 s, {len(high)} times of {len(found)}; has to be never"
+        text = f"link {link}: four or more LACPDUs within 0.75 s, {number_of(len(high), 'time')} of {len(found)}; has to be never"
         b.claim(not high, text, *(found[high[0] : high[0] + 4] if high else ()), bears=SURE)
         if not high and (near := [span for span in spans if span < 0.98]):
-            b.note(f"link {link}: four or more within 0.98 s, {len(near)} times")
+            b.note(f"link {link}: four or more within 0.98 s, {number_of(len(near), 'time')}")

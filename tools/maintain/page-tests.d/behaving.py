@@ -64,6 +64,7 @@ def of_unable(tests: Tests, browser: Browser, page: str) -> None:
     tests.same("without scripts a sentence says which browser can", shown, [True, False, False, False])
     browser.call("Emulation.setScriptExecutionDisabled", value=False)
     browser.go(page)
+    tests.same("the box for what a system prints is unfolded", browser.value("document.getElementById('texts').open"), True)
 
 
 def of_findings(tests: Tests, browser: Browser) -> None:
@@ -86,6 +87,7 @@ def of_findings(tests: Tests, browser: Browser) -> None:
 def of_verdicts(tests: Tests, browser: Browser, folder: str) -> None:
     """A fault is told from what often follows from it, and from what calls for nothing."""
     browser.choose(UNEQUAL)
+    tests.same("beside a capture the box is folded", browser.value("document.getElementById('texts').open"), False)
     tests.same("unequal keys are one fault", browser.value(VERDICT), ["1 of 2 links carries. Keys differ within one pair of systems.", "bad"])
     counts = browser.value("document.getElementById('counts').textContent")
     tests.same("it is told with its effects", counts, "1 fault, 2 likely effects, 1 remark, at 9 places")
@@ -155,8 +157,8 @@ def of_copies(tests: Tests, browser: Browser, folder: str) -> None:
     copied = os.path.join(folder, "copied.pcap")
     made.copied(copied)
     browser.choose(copied)
-    tests.same("each end is a place of a copied system", browser.value("document.getElementById('counts').textContent"), "2 faults, at 5 places")
-    tests.same("it stands before what follows from it", browser.value(TITLES), ["The partner's system is the end's own", "Two actors on one segment"])
+    tests.same("each end is a place of a copied system", browser.value("document.getElementById('counts').textContent"), "1 fault, 1 likely effect, at 5 places")
+    tests.same("what follows from it is no fault", browser.value(TITLES), ["The partner's system is the end's own"])
     ends = browser.value("[...document.querySelectorAll('#links svg .name')].map((it) => it.textContent)")
     alone = ["02-00-00-00-01-02 port 2", "the other end is not heard"]
     tests.same("a port that hears itself has no other end", ends, ["02-00-00-00-01-01 port 1", "02-00-00-00-09-01 port 1", *alone])

@@ -14,6 +14,7 @@ HEADLINE = "document.getElementById('verdict').textContent"
 CAUSES = "[...document.querySelectorAll('#findings > li')].map((it) => it.querySelector('strong, summary').firstChild.textContent)"
 ADVICE = "[...document.querySelectorAll('#findings > li > span')].map((it) => it.textContent).join(' ')"
 HASH = "LACP is not your trouble. One flow has the speed of one link: the hash chooses it."
+APART = "If they are to be one, give them one key at each end; else LACP is not your trouble."
 SYSTEM = "02-00-00-00-00-0"
 
 
@@ -43,7 +44,10 @@ def of_keys(tests: Tests, browser: Browser, folder: str) -> None:
     path, up = os.path.join(folder, "keys.pcap"), "carries, both ways"
     for keys in [(10, 10), (10, 10), (20, 20), (20, 20)], [(10, 20), (10, 20), (20, 10), (20, 10)]:
         made.keyed(path, keys)
-        tests.same(f"two bundles, {keys}", said_of(browser, path), [f"4 links carry, both ways: {HASH}", [], [link(port, up) for port in range(1, 5)]])
+        head = f"4 links carry, both ways, as 2 bundles: ports 1-1 and ports 2-2; ports 3-3 and ports 4-4. {APART} {HASH.partition('. ')[2]}"
+        tests.same(f"two bundles, {keys}", said_of(browser, path), [head, [], [link(port, up) for port in range(1, 5)]])
+    made.keyed(path, [(10, 10), (20, 20)])
+    tests.same("two links that are two bundles", said_of(browser, path)[0], f"2 links carry, both ways, as 2 bundles: ports 1-1; ports 2-2. {APART}")
     made.keyed(path, [(10, 10), (10, 10), (10, 30)], (10, 10))
     idle = link(3, f"does not carry: {SYSTEM}2 has key 30 there, and 10 on the links that carry")
     tests.same("two groups at one end", said_of(browser, path), ["2 of 3 links carry. Keys differ within one pair of systems.", ["Keys differ within one pair of systems"], [idle, link(1, up), link(2, up)]])
@@ -141,10 +145,11 @@ def of_files(tests: Tests, browser: Browser, folder: str) -> None:
     places = browser.value("[...document.querySelectorAll('#findings a')].map((it) => it.textContent)")
     tests.same("a packet is named by its file", [it.split(" packet ")[0] for it in places], ["eth1.pcap", "eth1.pcap"])
     of_doubled(tests, browser, folder)
+    of_one_system(tests, browser, os.path.join(folder, "one-system"))
     empty = os.path.join(folder, "eth4.pcap")
     made.pcap(empty, [])
     browser.begin(paths[0], empty)
-    silent = "does not carry: no LACPDU is in the file eth4: neither end sends on that link"
+    silent = "does not carry: no LACPDU is in the file eth4: neither end sends on that link, as where LACP is off, or both ends are passive"
     wanted = [0, "1 of 2 links carries. No LACPDU is in the file eth4: neither end", f"eth4: {silent}"]
     tests.same("a file without an LACPDU is a link that does not carry", [browser.shown()["status"], *browser.value(f"[{HEADLINE}.slice(0, 64), {LINES}[0]]")], wanted)
     broken = os.path.join(folder, "eth3.pcap.gz")
@@ -162,6 +167,27 @@ def of_files(tests: Tests, browser: Browser, folder: str) -> None:
     browser.value("document.querySelectorAll('#links details').forEach((it) => { it.open = true; }), 1")
     browser.settle()
     tests.same("a comment stands at its packet", browser.value("[...document.querySelectorAll('.frames em')].map((it) => it.textContent)"), [" look <b>here"])
+
+
+def of_one_system(tests: Tests, browser: Browser, folder: str) -> None:
+    """What two boxes with one system are, and a loop beside a link."""
+    os.makedirs(folder, exist_ok=True)
+    paths = [os.path.join(folder, it) for it in ("eth1.pcap", "eth2.pcap")]
+    one, far, twin, itself = made.Party(1, 7, 1, made.FAST), made.Party(2, 5, 1, made.FAST), made.Party(2, 6, 1, made.FAST), made.Party(1, 7, 2, made.FAST_DOWN)
+    second = one._replace(port=2)
+    made.pcap(paths[0], made.exchange(one, far, range(20)))
+    frames = made.frame(second.source(), made.lacpdu(second, twin)), made.frame(bytes([2, 0, 0, 0, 3, 1]), made.lacpdu(twin, second))
+    made.pcap(paths[1], [(time + way / 250, frames[way]) for time in range(20) for way in (0, 1)])
+    browser.begin(*paths)
+    browser.shown()
+    said = "The far ends of eth1 and eth2 call themselves one port of one system, so two boxes"
+    tests.same("two boxes with one system and two keys are told as that", said in browser.value(ADVICE), True)
+    looped = [(time + way / 250, made.frame(itself.source(), made.lacpdu(itself, itself))) for time in range(20) for way in (0, 1)]
+    made.pcap(paths[1], looped)
+    browser.begin(*paths)
+    browser.shown()
+    wanted = ["1 of 2 links carries. The partner's system is the end's own.", ["The partner's system is the end's own"]]
+    tests.same("a loop beside a link is one cause", browser.value(f"[{HEADLINE}, {CAUSES}]"), wanted)
 
 
 def of_doubled(tests: Tests, browser: Browser, folder: str) -> None:

@@ -120,6 +120,22 @@ def of_speeds(tests: Tests) -> None:
     tests.same("keys that differ at one speed come first", other.partition("\n")[0], "1 of 2 links carries. Keys differ within one pair of systems: p1, p2.")
 
 
+def of_partners(tests: Tests) -> None:
+    """How the partner of a port that is not used differs: its system priority, or it is individual."""
+    head, last = read(os.path.join(STATUS, "keys-bonding.txt")).split("Slave Interface: p2")
+    own, partner = last.replace("oper key: 143", "oper key: 79").rsplit("details partner", 1)
+    partner = partner.replace("port number: 1", "port number: 2")
+    cases = {
+        "Links lead to one address with several system priorities: p1, p2.":
+            (partner.replace("65535", "4096"), "its partner has the system priority 4096, and 65535 on p1", "give the far end one LACP system priority"),
+        "One end is individual: the other end of p2.":
+            (partner.replace("state: 15", "state: 11"), "1 is in use: the other end is individual", "Set the port of the other end to full duplex"),
+    }
+    for first, (there, line, advice) in cases.items():
+        said = told_of(f"{head}Slave Interface: p2{own}details partner{there}")[1]
+        tests.same(f"of a partner: {first}", [said.partition("\n")[0], line in said, advice in said], [f"1 of 2 links carries. {first}", True, True])
+
+
 def of_hashes(tests: Tests) -> None:
     """The policy of the hash that a text names, and what it means."""
     def head(name: str) -> str:
@@ -153,7 +169,7 @@ def of_texts(tests: Tests, browser: Browser) -> None:
     of_ways(tests, browser)
     of_cuts(tests, browser)
     of_explain(tests, browser)
-    for it in of_words, of_endings, of_programs, of_away, of_speeds, of_hashes:
+    for it in of_words, of_endings, of_programs, of_away, of_speeds, of_partners, of_hashes:
         it(tests)
     passive = read(os.path.join(STATUS, "healthy-bonding.txt")).replace("port state: 63", "port state: 62")
     tests.same("two passive ends do not carry, as in a capture", pasted(browser, passive)[0], "0 of 2 links carry. Both ends are passive: p1, p2.")
@@ -181,3 +197,23 @@ def of_cuts(tests: Tests, browser: Browser) -> None:
             if first and not first.startswith("Remark: ") and "lacks the LACPDUs" not in first:
                 named.append(f"{turn} of {CUTS}: {verdict}")
         tests.told(f"{name}: where it is cut, no cause is named", "; ".join(named))
+    of_cut_bonds(tests)
+
+
+def of_cut_bonds(tests: Tests) -> None:
+    """A text of bonding that is cut behind its first port, or in the last line, is said to be cut, and where."""
+    both, apart = (read(os.path.join(STATUS, f"{it}-bonding.txt")) for it in ("healthy", "keys"))
+    first, begin, last = both.index("Slave Interface: p2"), apart.index("Slave Interface: p2"), apart.rstrip("\n")
+    cut = "The text is cut: {}. Nothing is named: give all of it, with the line behind it."
+    cases = {
+        "of two ports of one aggregator": (both[:first].rstrip(), 2, cut.format("of the ports in aggregator 1 it has 1 of 2")),
+        "in the line of a port": (apart[: begin + 9], 2, cut.format('"Slave Int" is its last line')),
+        "in a port": (apart[: begin + 60], 2, cut.format("the part of p2 is not whole")),
+        "in its last number": (last, 2, cut.format('its last line, "port state: 15", may go on')),
+        "behind a number that is whole": (last[: -len("15")] + "0", 1, "1 of 2 links carries. Keys differ within one pair of systems: p1, p2."),
+    }
+    for name, (text, status, said) in cases.items():
+        ended, told = told_of(text)
+        tests.same(f"a text of bonding that is cut {name}", [ended, told.partition("\n")[0]], [status, said])
+    ended, told = told_of(apart[:begin])
+    tests.same("of one port alone the page cannot tell, and says so", [ended, "If the bundle has more, the text is cut" in told], [0, True])

@@ -70,10 +70,9 @@ def test_ticks_of_a_report_are_those_between_two_lines() -> None:
         counted.coming_up(read(two=REPORT, one=REPORT.replace("25", "26")))
 
 
-def test_tests_that_pass_are_told_beside_those_of_the_run_and_all_there_are() -> None:
-    run = "# Conformance\n|tests|lagd|Open vSwitch|\n|---|---|---|\n|*pass*|7|3|\n|*fail*|0|4|\n|RX-01|pass|**fail**|\n"
-    groups = "# The groups\n|group|tests|\n|---|---|\n|FM|4|\n|RX|5|\n"
-    assert counted.tests_that_pass(read(PEERS=run, CONFORM=groups)) == ["7", "7", "9"]
+def test_tests_that_pass_are_told_beside_those_of_the_run() -> None:
+    run = "# Conformance\n|tests|lagd|Open vSwitch|\n|---|---|---|\n|*pass*|7|3|\n|*fail*|1|4|\n|RX-01|pass|**fail**|\n"
+    assert counted.tests_that_pass(read(PEERS=run)) == ["7", "8"]
     assert counted.tests_played(read(PEERS=run)) == ["7"]
 
 
