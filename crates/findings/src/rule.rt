@@ -316,7 +316,7 @@ impl Rule {
     // contract: `Rule::number`, `name`, `clause`, `advice` (`Rules`)
     /// The number of the rule, from 1.
     pub fn number(&self) -> u8
-        ensures { result ≡ rule_number self.now }
+        ensures of_table { result ≡ rule_number self.now }
         ensures in_order { all_numbers ≡ range_with_len 1 30 }
     {
         self.row().number
