@@ -86,7 +86,7 @@ same_address e x = bytes_eq e.lacpdu.actor.system.mac x.lacpdu.actor.system.mac
 -- more (6.4.12): LACPDUs come, and it records none
 abbrev pub records_none : LastSent → Bool
 records_none s =
-    (bits_of s.lacpdu.actor.state).defaulted && (bits_of s.lacpdu.actor.state).expired && is_past (nanoseconds 3) s.first s.time
+    (bits_of s.lacpdu.actor.state).defaulted && ((bits_of s.lacpdu.actor.state).expired && is_past (nanoseconds 3) s.first s.time)
 
 -- two ends that hear nobody were partners, or have one system, the LACPDUs of which one of them records not
 abbrev pub lost_each_other : LastSent → LastSent → Bool

@@ -1,4 +1,5 @@
-ghost use Rattle.std.specs.Prelude.{◌≡◌};
+ghost use Rattle.std.specs.Prelude.{◌≡◌, option_map};
+ghost use Rattle.lagtool_capture.specs.declared.links.Apart.TheVariants.{Individual};
 ghost use Rattle.lagtool_capture.specs.Links.{agreed, apart_at, apart_by, apart_of, awaited, carries, carrying, deaf, evidence, evidence_there, far_after, far_end, far_sender, had_as_partner, has_as_partner, has_other_link, hears, idle, individual, is_apart, is_before, is_likelier, is_other_link, is_own_system, is_passive, is_past, is_periodic, is_sender, is_silent, is_told, is_told_at, is_told_beside, is_true, is_up, key_apart, keys_apart, last_sent, link_counts, link_of, lost_before, lost_each_other, of_both, of_one, partnered, records_none, same_actor, same_address, share_interface, single_or_waiting, speaking, state_of, until_of, waiting, with_link};
 
 use crate::ends::{LacpduSender, hears_partner, longer};
@@ -271,8 +272,8 @@ impl LastSent {
         ensures { result ≡ records_none self.now }
     {
         let state = self.lacpdu.actor.state;
-        let is_both = state.is_defaulted() && state.is_expired();
-        is_both && is_past(SHORT_TIMEOUT, self.first, self.time)
+        state.is_defaulted()
+            && (state.is_expired() && is_past(SHORT_TIMEOUT, self.first, self.time))
     }
 
     /// Whether both hear nobody, and were partners, or have one system.
@@ -332,11 +333,22 @@ fn is_likelier(end: &LastSent, far: &LastSent, other: &LastSent) -> bool
 fn far_after(end: &LastSent, far: Option<LastSent>, other: LastSent) -> Option<LastSent>
     ensures { result ≡ far_after end.now far other }
 {
-    let is_other = match far {
-        Some(far) => is_likelier(end, &far, &other),
-        None => 0 < evidence_there(end, &other),
-    };
-    if is_other { Some(other) } else { far }
+    match far {
+        Some(far) => {
+            if is_likelier(end, &far, &other) {
+                Some(other)
+            } else {
+                Some(far)
+            }
+        }
+        None => {
+            if 0 < evidence_there(end, &other) {
+                Some(other)
+            } else {
+                None
+            }
+        }
+    }
 }
 
 /// The other end of its link: the likeliest of these.
@@ -477,14 +489,23 @@ fn keys_apart(all: &[LacpduSender], near: &LastSent, far: &LastSent) -> Option<K
 }
 
 impl Apart {
+    /// An end that is individual, if there is one.
+    fn single(end: Option<LinkEnd>) -> Option<Apart>
+        ensures { result ≡ option_map Individual end }
+    {
+        match end {
+            Some(end) => Some(Apart::Individual(end)),
+            None => None,
+        }
+    }
+
     /// Why a link is no part of a group with others: a key, or, where there are others, an end that is individual.
     fn by(key: Option<KeyApart>, others: bool, single: Option<LinkEnd>) -> Option<Apart>
         ensures { result ≡ apart_by key others single }
     {
-        match (key, single) {
-            (Some(key), _) => Some(Apart::Key(key)),
-            (None, Some(end)) if others => Some(Apart::Individual(end)),
-            _ => None,
+        match key {
+            Some(key) => Some(Apart::Key(key)),
+            None => { if others { Apart::single(single) } else { None } }
         }
     }
 
