@@ -110,7 +110,7 @@ evidence e x =
 abbrev pub evidence_there : LastSent → LastSent → ℕ
 evidence_there e x = if share_interface e x then evidence e x else 0
 
--- for this end (third one) there is more evidence, or as much, and it spoke later
+-- more says that x is the other end of e than that y is, or as much, and x spoke later
 abbrev pub is_likelier : LastSent → LastSent → LastSent → Bool
 is_likelier e y x =
     nat_lt (evidence_there e y) (evidence_there e x)
@@ -132,8 +132,8 @@ far_end es e = far_from e None es
 abbrev pub is_before : List LacpduSender → LinkEnd → LinkEnd → Bool
 is_before es s t = and_if (λ x. same_end x.sender s) (find (λ x. same_end x.sender s || same_end x.sender t) es)
 
--- the link of an end and its other end, which has this one as its other end, is told elsewhere: at the first of both in the
--- capture; or at an end that began when this one sent no more
+-- the link of an end (e) and its other end (x), which has y as its other end, is told elsewhere: if y is e, at the first of both in
+-- the capture; if y is another one, which began when e sent no more, there
 abbrev pub is_told_at : List LacpduSender → LastSent → LastSent → Option LastSent → Bool
 is_told_at all e x None = false
 is_told_at all e x (Some y) = if same_end y.sender e.sender then is_before all x.sender e.sender else is_past 0 e.time y.first

@@ -374,7 +374,7 @@ fn is_before(ends: &[LacpduSender], end: &LinkEnd, other: &LinkEnd) -> bool
     false
 }
 
-/// Whether the link of an end and its other end, which has this one as its other end, is told elsewhere.
+/// Whether the link of an end and its other end, which has this one (`near`) as its own other end, is told elsewhere.
 fn is_told_at(all: &[LacpduSender], end: &LastSent, far: &LastSent, near: Option<LastSent>) -> bool
     ensures { result ≡ is_told_at all.now end.now far.now near }
 {
