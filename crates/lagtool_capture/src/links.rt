@@ -1,6 +1,6 @@
 ghost use Rattle.std.specs.Prelude.{◌≡◌, option_map};
 ghost use Rattle.lagtool_capture.specs.declared.links.Apart.TheVariants.{Individual};
-ghost use Rattle.lagtool_capture.specs.Links.{agreed, apart_at, apart_by, apart_of, awaited, carries, carrying, deaf, evidence, evidence_there, far_after, far_end, far_sender, had_as_partner, has_as_partner, has_other_link, hears, idle, individual, is_apart, is_before, is_likelier, is_other_link, is_own_system, is_passive, is_past, is_periodic, is_sender, is_silent, is_told, is_told_at, is_told_beside, is_true, is_up, key_apart, keys_apart, last_sent, link_counts, link_of, lost_before, lost_each_other, of_both, of_one, partnered, records_none, same_actor, same_address, share_interface, single_or_waiting, speaking, state_of, until_of, waiting, with_link};
+ghost use Rattle.lagtool_capture.specs.Links.{agreed, apart_at, apart_by, apart_of, awaited, carries, carrying, deaf, evidence, evidence_there, far_after, far_end, far_sender, had_as_partner, has_as_partner, has_other_link, hears, idle, individual, is_apart, is_before, is_likelier, is_other_link, is_own_system, is_passive, is_past, is_periodic, is_silent, is_told, is_told_at, is_told_beside, is_true, is_up, key_apart, keys_apart, last_sent, link_counts, link_of, lost_before, lost_each_other, of_both, of_one, partnered, records_none, same_actor, same_address, share_interface, single_or_waiting, speaking, state_of, until_of, waiting, with_link};
 
 use crate::ends::{LacpduSender, hears_partner, longer};
 use findings::LinkEnd;
