@@ -59,7 +59,8 @@ function ofOneEnd(end, until, beside) {
 function ofBothEnds(link, groups, until, beside) {
     const { ends } = link, silent = ends.filter((it) => isSilent(it, until)), deaf = deafEnds(ends), keys = keyDifference(link, groups);
     if (link.carries) return keys ? [CARRIES_APART, `both ways: ${keys}`] : [CARRIES, "both ways"];
-    if (ends[0].system === ends[1].system || (deaf.length && addressOf(ends[0].system) === addressOf(ends[1].system))) return [IDLE, "both ends have one system: a loop, or a copied identifier"];
+    const [one, other] = ends.map((it) => it.system), isOwn = one === other || (deaf.length > 0 && addressOf(one) === addressOf(other));
+    if (isOwn) return [IDLE, "both ends have one system: a loop, or a copied identifier"];
     if (ends.every((it) => !it.has("active"))) return [IDLE, "both ends are passive"];
     if (silent.length === 1) return [IDLE, `${silent[0].short} sends nothing after ${roundedSeconds(silent[0].record.last)}`];
     if (silent.length) return [IDLE, `nothing is sent on it after ${roundedSeconds(Math.max(...silent.map((it) => it.record.last)))}`];
