@@ -325,6 +325,20 @@ fn ends_of_one_system_make_a_link(rt: HostRuntime) -> Result<(), Fail> {
     Ok(())
 }
 
+/// Two ends that carry, of which the second loses its partner at second 3, and the first at this one.
+fn lost(second: u32) -> [Sent; 6] {
+    let (one, two) = (End(1, 1, 1, UP), End(2, 1, 1, UP));
+    let (deaf, other) = (End(1, 1, 1, 0x87), End(2, 1, 1, 0x87));
+    [
+        Sent(0, one, two),
+        Sent(0, two, one),
+        Sent(3, other, one),
+        Sent(second, deaf, other),
+        Sent(9, End(1, 1, 1, 0x47), NOBODY),
+        Sent(9, End(2, 1, 1, 0x47), NOBODY),
+    ]
+}
+
 // A receiver that is dead: its end sends each 30 s on defaults, so the other one loses it, too (6.4.13).
 #[test]
 fn ends_that_lost_each_other_make_a_link(rt: HostRuntime) -> Result<(), Fail> {
@@ -341,16 +355,6 @@ links 1 carrying 0
 link 02-00-00-00-00-02 port 1 - 02-00-00-00-00-01 port 1: does not carry: 02-00-00-00-00-02 hears nobody
 ";
     begins(&rt, rt.alloc(), &never_heard, lines)?;
-    let lost = |second| {
-        [
-            Sent(0, one(UP), two(UP)),
-            Sent(0, two(UP), one(UP)),
-            Sent(3, two(0x87), one(UP)),
-            Sent(second, one(0x87), two(0x87)),
-            Sent(9, one(0x47), NOBODY),
-            Sent(9, two(0x47), NOBODY),
-        ]
-    };
     let lines = "\
 links 1 carrying 0
 link 02-00-00-00-00-01 port 1 - 02-00-00-00-00-02 port 1: does not carry: 02-00-00-00-00-02 hears nobody
