@@ -218,10 +218,10 @@ const byTime = (one, other) => one.seconds === null || other.seconds === null ? 
     : one.seconds - other.seconds || one.packet - other.packet;
 const findingsFirst = (list) => [...list.filter((it) => it.findings.length), ...list.filter((it) => !it.findings.length)];
 
-/* The other end of a link whose ends hear nobody, and so name nobody: of two that are alone on an interface. */
+/* The other end of a link whose ends hear nobody, and so name nobody: of two that are alone on an interface. Two of one system may be of two links. */
 function otherUnheard(end, ends) {
-    const here = ends.filter((it) => it.interface === end.interface && it.last);
-    return here.length === 2 && here.includes(end) && here.every((it) => !it.hasHeard) ? here.find((it) => it !== end) : null;
+    const here = ends.filter((it) => it.interface === end.interface && it.last), other = here.find((it) => it !== end && addressOf(it.system) !== addressOf(end.system));
+    return other && here.length === 2 && here.includes(end) && here.every((it) => !it.hasHeard) ? other : null;
 }
 
 /* Whether an end named another one last, as its partner. */

@@ -61,7 +61,8 @@ function ofOneEnd(end, until, beside) {
 function ofBothEnds(link, groups, until, beside) {
     const { ends } = link, silent = ends.filter((it) => isSilent(it, until)), deaf = deafEnds(ends), keys = keyDifference(link, groups);
     if (link.carries) return keys ? [CARRIES_APART, `both ways: ${keys}`] : [CARRIES, "both ways"];
-    if (ends[0].system === ends[1].system) return [IDLE, "both ends have one system: a loop, or a copied identifier"];
+    const [one, other] = ends.map((it) => it.system), isOwn = one === other || (deaf.length > 0 && addressOf(one) === addressOf(other));
+    if (isOwn) return [IDLE, "both ends have one system: a loop, or a copied identifier"];
     if (ends.every((it) => !it.has("active"))) return [IDLE, "both ends are passive"];
     if (silent.length === 1) return [IDLE, `${silent[0].short} sends nothing after ${roundedSeconds(silent[0].record.last)}`];
     if (silent.length) return [IDLE, `nothing is sent on it after ${roundedSeconds(Math.max(...silent.map((it) => it.record.last)))}`];
@@ -83,8 +84,8 @@ function ofOtherGroup(link, beside) {
 /* The same of two ends that hear each other, and have keys that agree. */
 function ofStates(ends) {
     const single = ends.filter((it) => !it.has("aggregatable")), waits = ends.filter((it) => !it.has("synchronized"));
-    if (single.length === 1) return [IDLE, `${single[0].short} is individual`];
     if (waits.length === 1) return [IDLE, `${waits[0].short} has not attached it: another aggregator is in use there, or it has links enough`];
+    if (single.length === 1) return [IDLE, `${single[0].short} is individual`];
     return [IDLE, ends.map((it) => `${it.short} is ${machinesOf(it.last.actor.state).mux}`).join(", "), "is vague"];
 }
 

@@ -67,49 +67,37 @@ none_wait = record {
   beyond = false;
 }
 
+-- the places in turn: what is kept in each one, and what is left for those behind it; and, by what none of them took, whether
+-- nothing is known of a marker
+abbrev pub in_turn : {A : Type 0} → (Option Asked → Option A → Option Asked) → (Option Asked → Option A → Option A) → (Bool → Option A → Bool)
+    → Option A → Waiting → Waiting
+in_turn kept left beyond a w =
+    let a2 = left w.first a in
+    let a3 = left w.second a2 in
+    let a4 = left w.third a3 in
+    let a5 = left w.fourth a4 in
+    let a6 = left w.fifth a5 in
+    let a7 = left w.sixth a6 in
+    let a8 = left w.seventh a7 in
+    record {
+      first = kept w.first a;
+      second = kept w.second a2;
+      third = kept w.third a3;
+      fourth = kept w.fourth a4;
+      fifth = kept w.fifth a5;
+      sixth = kept w.sixth a6;
+      seventh = kept w.seventh a7;
+      eighth = kept w.eighth a8;
+      beyond = beyond w.beyond (left w.eighth a8);
+    }
+
 -- one more marker waits: it takes the first free place
 abbrev pub with_marker : Option Asked → Waiting → Waiting
-with_marker m w =
-    let m2 = unplaced w.first m in
-    let m3 = unplaced w.second m2 in
-    let m4 = unplaced w.third m3 in
-    let m5 = unplaced w.fourth m4 in
-    let m6 = unplaced w.fifth m5 in
-    let m7 = unplaced w.sixth m6 in
-    let m8 = unplaced w.seventh m7 in
-    record {
-      first = placed w.first m;
-      second = placed w.second m2;
-      third = placed w.third m3;
-      fourth = placed w.fourth m4;
-      fifth = placed w.fifth m5;
-      sixth = placed w.sixth m6;
-      seventh = placed w.seventh m7;
-      eighth = placed w.eighth m8;
-      beyond = w.beyond || is_some (unplaced w.eighth m8);
-    }
+with_marker m w = in_turn placed unplaced (λ beyond left. beyond || is_some left) m w
 
 -- a response frees the first place whose marker it is to
 abbrev pub with_response : Option Marker → Waiting → Waiting
-with_response r w =
-    let r2 = unpaired w.first r in
-    let r3 = unpaired w.second r2 in
-    let r4 = unpaired w.third r3 in
-    let r5 = unpaired w.fourth r4 in
-    let r6 = unpaired w.fifth r5 in
-    let r7 = unpaired w.sixth r6 in
-    let r8 = unpaired w.seventh r7 in
-    record {
-      first = freed w.first r;
-      second = freed w.second r2;
-      third = freed w.third r3;
-      fourth = freed w.fourth r4;
-      fifth = freed w.fifth r5;
-      sixth = freed w.sixth r6;
-      seventh = freed w.seventh r7;
-      eighth = freed w.eighth r8;
-      beyond = w.beyond;
-    }
+with_response r w = in_turn freed unpaired (λ beyond left. beyond) r w
 
 -- the response, unless it is to a marker that waits
 abbrev pub unasked_by : Waiting → Option Marker → Option Marker

@@ -55,3 +55,7 @@ rule_advice = text_among (map (λ row. row.advice.now) ROWS)
 -- all rules, in the order of their numbers
 abbrev pub all_rules : List Rule
 all_rules = ALL
+
+-- the numbers of all rules, in their order
+abbrev pub all_numbers : List ℕ
+all_numbers = map rule_number all_rules

@@ -1,5 +1,6 @@
 ghost use Rattle.std.specs.Prelude.{◌≡◌, Some};
-ghost use Rattle.findings.specs.Rules.{rule_advice, rule_clause, rule_name, rule_number};
+ghost use Rattle.std.specs.List.{range_with_len};
+ghost use Rattle.findings.specs.Rules.{all_numbers, rule_advice, rule_clause, rule_name, rule_number};
 
 use std::fmt;
 
@@ -311,11 +312,12 @@ impl Rule {
         ROWS[*self as usize]
     }
 
-    // promise: a rule's number, name, section and advice are those of one table
+    // promise: a rule's number, name, section and advice are those of one table; all rules have the numbers 1 to 30, each once and in order
     // contract: `Rule::number`, `name`, `clause`, `advice` (`Rules`)
     /// The number of the rule, from 1.
     pub fn number(&self) -> u8
-        ensures { result ≡ rule_number self.now }
+        ensures of_table { result ≡ rule_number self.now }
+        ensures in_order { all_numbers ≡ range_with_len 1 30 }
     {
         self.row().number
     }

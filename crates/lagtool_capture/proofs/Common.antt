@@ -31,7 +31,7 @@ pub use Rattle.lagtool_capture.specs.Counting.{one_more, sum_of}
 pub use Rattle.lagtool_capture.specs.Ends.{Sent, end_index, end_index_from, gap_between, gaps_between, latest_time, named_by}
 pub use Rattle.lagtool_capture.specs.Gaps.{IsMedianOf, count_up_to, gaps_of, median, tenths_of, tenths_up_to}
 pub use Rattle.lagtool_capture.specs.Json.{ends_records, findings_records}
-pub use Rattle.lagtool_capture.specs.Links.{counted_from, far_end, is_told, key_apart, link_counts, until_from, until_of}
+pub use Rattle.lagtool_capture.specs.Links.{counted_from, far_end, far_from, has_other_link, is_before, key_apart, link_counts, until_from, until_of}
 pub use Rattle.lagtool_capture.specs.Names.{identity_of, names_text, number_from, number_of}
 pub use Rattle.lagtool_capture.specs.Noticing.{Agrees, Follows, IsKnown, Log, finding_by, findings_by, findings_in, if_timed, logged, logged_all}
 pub use Rattle.lagtool_capture.specs.Noticing.{logged_next, nothing_logged}

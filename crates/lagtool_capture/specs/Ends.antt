@@ -1,6 +1,7 @@
 -- The ends of links, by the source address and the actor's port of the LACPDUs that they sent.
 use Rattle.std.specs.Prelude.{◌==◌, ◌&&◌, ◌+◌, ◌-◌, ◌++◌, ℕ, Bool, false, not, List, [], ◌∷◌, Option, Some, None, length, nat_le, nat_lt, option_map, slice_get, slice_set, if◌then◌else◌}
 use Rattle.std.specs.List.{cons_option}
+use Rattle.slowpdu.specs.declared.pdu.Info.{Info}
 use Rattle.slowpdu.specs.declared.pdu.Lacpdu.{Lacpdu}
 use Rattle.findings.specs.declared.slow_frame.LinkEnd.{LinkEnd}
 use Rattle.findings.specs.Ends.{same_end}
@@ -54,6 +55,14 @@ longer (Some one) (Some other) = Some (if nat_lt one other then other else one)
 longer (Some one) None = Some one
 longer None other = other
 
+-- its sender hears its partner: it is neither Defaulted nor Expired (6.4.2.3)
+abbrev pub hears_partner : Lacpdu → Bool
+hears_partner v = not (bits_of v.actor.state).defaulted && not (bits_of v.actor.state).expired
+
+-- the partner that its sender has, or had when it last heard one
+abbrev pub partner_after : Lacpdu → Option Info → Option Info
+partner_after v before = if hears_partner v then Some v.partner else before
+
 -- the end whose first LACPDU is this one
 abbrev pub first_seen : LinkEnd → Option ℕ → Lacpdu → LacpduSender
 first_seen s time v = record {
@@ -67,6 +76,8 @@ first_seen s time v = record {
   synchronized = first_phase (bits_of v.actor.state).synchronization time;
   collecting = first_phase (bits_of v.actor.state).collecting time;
   distributing = first_phase (bits_of v.actor.state).distributing time;
+  hearing = first_phase (hears_partner v) time;
+  partner = partner_after v None;
   last = v;
 }
 
@@ -83,6 +94,8 @@ seen_again time v e = record {
   synchronized = next_phase (bits_of e.last.actor.state).synchronization (bits_of v.actor.state).synchronization time e.synchronized;
   collecting = next_phase (bits_of e.last.actor.state).collecting (bits_of v.actor.state).collecting time e.collecting;
   distributing = next_phase (bits_of e.last.actor.state).distributing (bits_of v.actor.state).distributing time e.distributing;
+  hearing = next_phase (hears_partner e.last) (hears_partner v) time e.hearing;
+  partner = partner_after v e.partner;
   last = v;
 }
 

@@ -2,6 +2,8 @@
 use Rattle.std.specs.Prelude.{◌++◌, ℕ, List, [], Option, Some, None, codes, decimal}
 use Rattle.findings.specs.declared.slow_frame.LinkEnd.{LinkEnd}
 use Rattle.lagtypes.specs.Texts.{mac_text}
+use Rattle.lagtool_capture.specs.declared.links.Apart.{Apart}
+use Rattle.lagtool_capture.specs.declared.links.Apart.TheVariants as as_apart
 use Rattle.lagtool_capture.specs.declared.links.KeyApart.{KeyApart}
 use Rattle.lagtool_capture.specs.declared.links.LastSent.{LastSent}
 use Rattle.lagtool_capture.specs.declared.links.Link.{Link}
@@ -16,22 +18,27 @@ unfoldable pub key_part : KeyApart → List ℕ
 key_part k =
     mac_text k.end.source ++ (codes " has key " ++ (decimal k.here.0 ++ (codes " here, and " ++ (decimal k.there.0 ++ codes " on a link in use"))))
 
+abbrev pub apart_part : Apart → List ℕ
+apart_part (as_apart.Key k) = key_part k
+apart_part (as_apart.Individual e) = mac_text e.source ++ codes " is individual"
+
 -- whether a link carries, and why not, with times from the first of the capture
 abbrev pub state_text : Option ℕ → LinkState → List ℕ
 state_text first is.Carries = codes "carries, both ways"
-state_text first (is.CarriesApart k) = codes "carries, both ways, apart: " ++ key_part k
-state_text first (is.OtherKey k) = codes "does not carry: " ++ key_part k
-state_text first is.OneSystem = codes "does not carry: both ends have one system, a loop or a copied identifier"
+state_text first (is.CarriesApart a) = codes "carries, both ways, apart: " ++ apart_part a
+state_text first (is.OtherGroup a) = codes "does not carry: " ++ apart_part a
+state_text first is.OneSystem = codes "does not carry: both ends have one system address, a loop or a copied identifier"
 state_text first is.BothPassive = codes "does not carry: both ends are passive"
 state_text first is.Quiet = codes "does not carry: neither end sends any more"
 state_text first (is.Silent s) = codes "does not carry: " ++ (mac_text s.sender.source ++ (codes " sends nothing after " ++ since_text first s.time))
 state_text first (is.HearsNobody s) = codes "does not carry: " ++ (mac_text s.source ++ codes " hears nobody")
+state_text first is.BothDeaf = codes "does not carry: neither end hears the other"
 state_text first (is.OtherPartner s) = codes "does not carry: " ++ (mac_text s.source ++ codes " has another partner")
-state_text first (is.Individual s) = codes "does not carry: " ++ (mac_text s.source ++ codes " is individual")
 state_text first (is.Unattached s) =
     codes "does not carry: " ++ (mac_text s.source ++ codes " has not attached it: it uses another aggregator, or has links enough")
 state_text first is.Waiting = codes "does not carry: its ends do not collect and distribute"
 state_text first is.Alone = codes "not seen: its other end is not in the capture"
+state_text first is.PassiveAlone = codes "not seen: nobody answers, and its end is passive: one end has to be active"
 state_text first is.Unanswered = codes "not seen: nobody answers, and its end may use it alone"
 
 -- an end of a link: its source address and its port

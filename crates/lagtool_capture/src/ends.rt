@@ -1,10 +1,10 @@
 ghost use Rattle.std.specs.Prelude.{◌≡◌, ◌<◌, ◌^◌, List, length, IfSome};
-ghost use Rattle.lagtool_capture.specs.Ends.{Sent, end_of, end_index, first_phase, first_seen, gap_between, gaps_between, is_named_by, last_of, longer, named_by, next_phase, seen_again, shorter};
+ghost use Rattle.lagtool_capture.specs.Ends.{Sent, end_of, end_index, first_phase, first_seen, gap_between, gaps_between, partner_after, hears_partner, is_named_by, last_of, longer, named_by, next_phase, seen_again, shorter};
 ghost use Rattle.lagtool_capture.specs.Gaps.{IsMedianOf, median};
 
 use crate::gaps::Gaps;
 use findings::LinkEnd;
-use slowpdu::Lacpdu;
+use slowpdu::{Info, Lacpdu};
 
 /// When a bit of a state octet began and ended to be 1.
 #[derive(Clone, Copy, Debug, PartialEq, Eq)]
@@ -92,8 +92,31 @@ pub struct LacpduSender {
     pub collecting: Phase,
     /// When Distributing of the actor was 1.
     pub distributing: Phase,
+    /// When it heard its partner: it was neither Defaulted nor Expired.
+    pub hearing: Phase,
+    /// The partner that it has, or had when it last heard one.
+    pub partner: Option<Info>,
     /// The last of them.
     pub last: Lacpdu,
+}
+
+/// Whether the sender of this LACPDU hears its partner: it is neither Defaulted nor Expired (6.4.2.3).
+pub(crate) fn hears_partner(lacpdu: &Lacpdu) -> bool
+    ensures { result ≡ hears_partner lacpdu.now }
+{
+    let state = lacpdu.actor.state;
+    !state.is_defaulted() && !state.is_expired()
+}
+
+/// The partner that the sender of this LACPDU has, or had when it last heard one.
+fn partner_after(lacpdu: &Lacpdu, before: Option<Info>) -> Option<Info>
+    ensures { result ≡ partner_after lacpdu.now before }
+{
+    if hears_partner(lacpdu) {
+        Some(lacpdu.partner)
+    } else {
+        before
+    }
 }
 
 /// The index of the end with this sender, from 0.
@@ -158,6 +181,8 @@ impl LacpduSender {
             synchronized: Phase::first(state.is_synchronized(), time),
             collecting: Phase::first(state.is_collecting(), time),
             distributing: Phase::first(state.is_distributing(), time),
+            hearing: Phase::first(hears_partner(&lacpdu), time),
+            partner: partner_after(&lacpdu, None),
             last: lacpdu,
         }
     }
@@ -193,6 +218,9 @@ impl LacpduSender {
         self.distributing = self
             .distributing
             .then(was.is_distributing(), is.is_distributing(), time);
+        let heard = hears_partner(&self.last);
+        self.hearing = self.hearing.then(heard, hears_partner(&lacpdu), time);
+        self.partner = partner_after(&lacpdu, self.partner);
         self.last = lacpdu;
     }
 }

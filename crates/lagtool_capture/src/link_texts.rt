@@ -1,9 +1,9 @@
 ghost use Rattle.std.specs.Prelude.{Some};
-ghost use Rattle.lagtool_capture.specs.LinkTexts.{far_part, key_part, link_counts_text, link_line, place_text, state_text};
+ghost use Rattle.lagtool_capture.specs.LinkTexts.{apart_part, far_part, key_part, link_counts_text, link_line, place_text, state_text};
 
 use crate::finding_texts::PortPart;
 use crate::line::{InterfacePart, SinceText};
-use crate::links::{KeyApart, LastSent, Link, LinkCounts, LinkState};
+use crate::links::{Apart, KeyApart, LastSent, Link, LinkCounts, LinkState};
 use findings::LinkEnd;
 use lagtypes::MacText;
 use std::fmt;
@@ -28,6 +28,21 @@ impl fmt::Display for KeyPart {
     }
 }
 
+/// Why a link is no part of a group with another one.
+#[derive(Clone, Copy)]
+struct ApartPart(Apart);
+
+impl fmt::Display for ApartPart {
+    ghost output = { λ t. Some (apart_part t.0) };
+
+    fn fmt<W: fmt::Write>(&self, f: &mut fmt::Formatter<W>) -> fmt::Result {
+        match self.0 {
+            Apart::Key(key) => write!(f, "{}", KeyPart(key)),
+            Apart::Individual(end) => write!(f, "{} is individual", MacText(&end.source)),
+        }
+    }
+}
+
 /// Whether a link carries, and why not, with times from the first of the capture.
 #[derive(Clone, Copy)]
 pub(crate) struct StateText {
@@ -42,11 +57,11 @@ impl fmt::Display for StateText {
         match self.state {
             LinkState::Carries => f.write_str("carries, both ways"),
             LinkState::CarriesApart(apart) => {
-                write!(f, "carries, both ways, apart: {}", KeyPart(apart))
+                write!(f, "carries, both ways, apart: {}", ApartPart(apart))
             }
-            LinkState::OtherKey(apart) => write!(f, "does not carry: {}", KeyPart(apart)),
+            LinkState::OtherGroup(apart) => write!(f, "does not carry: {}", ApartPart(apart)),
             LinkState::OneSystem => f.write_str(
-                "does not carry: both ends have one system, a loop or a copied identifier",
+                "does not carry: both ends have one system address, a loop or a copied identifier",
             ),
             LinkState::BothPassive => f.write_str("does not carry: both ends are passive"),
             LinkState::Quiet => f.write_str("does not carry: neither end sends any more"),
@@ -64,14 +79,12 @@ impl fmt::Display for StateText {
             LinkState::HearsNobody(end) => {
                 write!(f, "does not carry: {} hears nobody", MacText(&end.source))
             }
+            LinkState::BothDeaf => f.write_str("does not carry: neither end hears the other"),
             LinkState::OtherPartner(end) => write!(
                 f,
                 "does not carry: {} has another partner",
                 MacText(&end.source)
             ),
-            LinkState::Individual(end) => {
-                write!(f, "does not carry: {} is individual", MacText(&end.source))
-            }
             LinkState::Unattached(end) => write!(
                 f,
                 "does not carry: {} has not attached it: it uses another aggregator, or has links enough",
@@ -81,6 +94,9 @@ impl fmt::Display for StateText {
                 f.write_str("does not carry: its ends do not collect and distribute")
             }
             LinkState::Alone => f.write_str("not seen: its other end is not in the capture"),
+            LinkState::PassiveAlone => f.write_str(
+                "not seen: nobody answers, and its end is passive: one end has to be active",
+            ),
             LinkState::Unanswered => {
                 f.write_str("not seen: nobody answers, and its end may use it alone")
             }

@@ -1,7 +1,8 @@
-ghost use Rattle.std.specs.Prelude.{◌≡◌};
-ghost use Rattle.lagtool_capture.specs.Links.{apart_at, awaited, carries, carrying, faces, far_end, far_sender, has_as_partner, heard, hears, idle, is_apart, is_other_link, is_passive, is_past, is_sender, is_silent, is_told, is_true, is_up, key_apart, keys_apart, last_sent, link_counts, link_of, of_both, of_one, partnered, speaking, state_of, until_of, waiting, with_link};
+ghost use Rattle.std.specs.Prelude.{◌≡◌, option_map};
+ghost use Rattle.lagtool_capture.specs.declared.links.Apart.TheVariants.{Individual};
+ghost use Rattle.lagtool_capture.specs.Links.{agreed, apart_at, apart_by, apart_of, awaited, carries, carrying, deaf, evidence, evidence_there, far_after, far_end, far_sender, had_as_partner, has_as_partner, has_other_link, hears, idle, individual, is_apart, is_before, is_likelier, is_other_link, is_own_system, is_passive, is_past, is_periodic, is_silent, is_told, is_told_at, is_told_beside, is_true, is_up, key_apart, keys_apart, last_sent, link_counts, link_of, lost_before, lost_each_other, of_both, of_one, partnered, records_none, same_actor, same_address, share_interface, single_or_waiting, speaking, state_of, until_of, waiting, with_link};
 
-use crate::ends::{LacpduSender, is_named_by, longer};
+use crate::ends::{LacpduSender, hears_partner, longer};
 use findings::LinkEnd;
 use lagtypes::Key;
 use slowpdu::{Info, Lacpdu};
@@ -11,14 +12,23 @@ const SHORT_TIMEOUT: u64 = 3_000_000_000;
 
 const LONG_TIMEOUT: u64 = 90_000_000_000;
 
-/// The last LACPDU of an end.
+/// The nanoseconds in which two ends lose each other together.
+const TOGETHER: u64 = 2_000_000_000;
+
+/// The last LACPDU of an end, and what is known of those before it.
 #[derive(Clone, Copy, Debug, PartialEq, Eq)]
 pub struct LastSent {
     /// The end that sent it.
     pub sender: LinkEnd,
-    /// Its time, in nanoseconds.
+    /// The time of its first LACPDU, in nanoseconds.
+    pub first: Option<u64>,
+    /// The time of the last, in nanoseconds.
     pub time: Option<u64>,
-    /// The LACPDU.
+    /// The partner that it has, or had when it last heard one.
+    pub partner: Option<Info>,
+    /// The time of the LACPDU in which it last lost its partner, in nanoseconds.
+    pub lost: Option<u64>,
+    /// The last LACPDU.
     pub lacpdu: Lacpdu,
 }
 
@@ -33,16 +43,25 @@ pub struct KeyApart {
     pub there: Key,
 }
 
+/// Why a link is no part of a group with another one that is up (6.3.5, 6.3.6).
+#[derive(Clone, Copy, Debug, PartialEq, Eq)]
+pub enum Apart {
+    /// An end has another key.
+    Key(KeyApart),
+    /// This end alone is Individual.
+    Individual(LinkEnd),
+}
+
 /// Whether a link carries data, by the last LACPDUs of its ends, and why not.
 #[derive(Clone, Copy, Debug, PartialEq, Eq)]
 pub enum LinkState {
     /// Both ends collect and distribute, and each has the other as its partner.
     Carries,
-    /// The same, and so does a link on which one end has another key.
-    CarriesApart(KeyApart),
-    /// An end has another key than on a link that is up.
-    OtherKey(KeyApart),
-    /// Both ends have one system.
+    /// The same, and so does a link of another group.
+    CarriesApart(Apart),
+    /// It is no part of a group with a link that is up; or one end alone is Individual.
+    OtherGroup(Apart),
+    /// Both ends have one system, or its MAC address and an end that hears nobody.
     OneSystem,
     /// Both ends are passive (6.4.13).
     BothPassive,
@@ -52,16 +71,18 @@ pub enum LinkState {
     Silent(LastSent),
     /// This end is Defaulted or Expired (6.4.12).
     HearsNobody(LinkEnd),
+    /// Both ends are Defaulted or Expired since one time.
+    BothDeaf,
     /// This end has another partner than the other end (6.4.2.3).
     OtherPartner(LinkEnd),
-    /// This end alone is Individual (6.3.5).
-    Individual(LinkEnd),
     /// This end alone is not in Synchronization (6.4.15).
     Unattached(LinkEnd),
     /// Its ends do not collect and distribute.
     Waiting,
     /// Its other end is not in the capture, and hears this one.
     Alone,
+    /// Its other end is not in the capture, and this one hears nobody, and is passive (6.4.13).
+    PassiveAlone,
     /// Its other end is not in the capture, and this one hears nobody: it may use the link by itself.
     Unanswered,
 }
@@ -87,14 +108,14 @@ pub struct LinkCounts {
 }
 
 impl LinkState {
-    /// Whether the link carries; None if its other end is not seen.
+    /// Whether the link carries; None if its other end is not in the capture, unless it is silent or names its own system.
     pub(crate) fn carries(&self) -> Option<bool>
         ensures { result ≡ carries self.now }
     {
         match self {
             LinkState::Carries => Some(true),
             LinkState::CarriesApart(_) => Some(true),
-            LinkState::Alone | LinkState::Unanswered => None,
+            LinkState::Alone | LinkState::PassiveAlone | LinkState::Unanswered => None,
             _ => Some(false),
         }
     }
@@ -151,6 +172,13 @@ fn is_past(most: u64, from: Option<u64>, to: Option<u64>) -> bool
     }
 }
 
+/// Whether this is one system and one port of it.
+fn same_actor(partner: &Info, actor: &Info) -> bool
+    ensures { result ≡ same_actor partner.now actor.now }
+{
+    partner.system == actor.system && partner.port == actor.port
+}
+
 impl LastSent {
     /// The last LACPDU of an end.
     fn of(end: &LacpduSender) -> LastSent
@@ -158,7 +186,10 @@ impl LastSent {
     {
         LastSent {
             sender: end.sender,
+            first: end.first,
             time: end.latest,
+            partner: end.partner,
+            lost: end.hearing.ended,
             lacpdu: end.last,
         }
     }
@@ -167,8 +198,7 @@ impl LastSent {
     fn hears(&self) -> bool
         ensures { result ≡ hears self.now }
     {
-        let state = self.lacpdu.actor.state;
-        !state.is_defaulted() && !state.is_expired()
+        hears_partner(&self.lacpdu)
     }
 
     /// Whether it collects and distributes, and hears its partner.
@@ -183,8 +213,24 @@ impl LastSent {
     fn has_as_partner(&self, other: &LastSent) -> bool
         ensures { result ≡ has_as_partner self.now other.now }
     {
-        let (partner, actor) = (self.lacpdu.partner, other.lacpdu.actor);
-        partner.system == actor.system && partner.port == actor.port
+        same_actor(&self.lacpdu.partner, &other.lacpdu.actor)
+    }
+
+    /// Whether it had the other end as its partner when it last heard one.
+    fn had_as_partner(&self, other: &LastSent) -> bool
+        ensures { result ≡ had_as_partner self.now other.now }
+    {
+        match self.partner {
+            Some(partner) => same_actor(&partner, &other.lacpdu.actor),
+            None => false,
+        }
+    }
+
+    /// Whether its system has the MAC address of that of the other end.
+    fn same_address(&self, other: &LastSent) -> bool
+        ensures { result ≡ same_address self.now other.now }
+    {
+        self.lacpdu.actor.system.mac == other.lacpdu.actor.system.mac
     }
 
     /// Whether it is passive.
@@ -206,56 +252,147 @@ impl LastSent {
         }
     }
 
+    /// Whether it has to send.
+    fn is_periodic(&self) -> bool
+        ensures { result ≡ is_periodic self.now }
+    {
+        self.lacpdu.actor.state.is_active() || self.lacpdu.partner.state.is_active()
+    }
+
     /// Whether it sends nothing more, if the capture goes on until this time.
     fn is_silent(&self, until: Option<u64>) -> bool
         ensures { result ≡ is_silent until self.now }
     {
-        is_past(self.awaited(), self.time, until)
+        self.is_periodic() && is_past(self.awaited(), self.time, until)
+    }
+
+    /// Whether LACPDUs come to it, and it records none.
+    #[tactic(auto, unfolding(crate::specs::Links::nanoseconds))]
+    fn records_none(&self) -> bool
+        ensures { result ≡ records_none self.now }
+    {
+        let state = self.lacpdu.actor.state;
+        state.is_defaulted()
+            && (state.is_expired() && is_past(SHORT_TIMEOUT, self.first, self.time))
+    }
+
+    /// Whether both hear nobody, and were partners, or have one system.
+    fn lost_each_other(&self, other: &LastSent) -> bool
+        ensures { result ≡ lost_each_other self.now other.now }
+    {
+        let were_partners = self.had_as_partner(other) || other.had_as_partner(self);
+        let record_none = self.records_none() || other.records_none();
+        let is_own = self.same_address(other) && record_none;
+        (!self.hears() && !other.hears()) && (were_partners || is_own)
     }
 }
 
-/// Whether these are two ends of one link.
-fn faces(end: &LacpduSender, other: &LacpduSender) -> bool
-    ensures { result ≡ faces end.now other.now }
+/// Whether these are two ends on one interface.
+fn share_interface(end: &LastSent, other: &LastSent) -> bool
+    ensures { result ≡ share_interface end.now other.now }
 {
-    !other.sender.is(&end.sender) && (is_named_by(end, other) || is_named_by(other, end))
+    other.sender.interface == end.sender.interface && !other.sender.is(&end.sender)
 }
 
-/// The other end of its link: the first of these.
-fn far_end(ends: &[LacpduSender], end: &LacpduSender) -> Option<LastSent>
-    ensures { result ≡ far_end ends.now end.now }
+/// How much says that two ends on one interface make a link: 3 if each has the other as its partner, 2 if one has, 1 if they lost
+/// each other, else 0.
+fn evidence(end: &LastSent, other: &LastSent) -> u8
+    ensures { result ≡ evidence end.now other.now }
 {
-    for other in ends {
-        if faces(end, other) {
-            return Some(LastSent::of(other));
+    if end.has_as_partner(other) && other.has_as_partner(end) {
+        3
+    } else if end.has_as_partner(other) || other.has_as_partner(end) {
+        2
+    } else if end.lost_each_other(other) {
+        1
+    } else {
+        0
+    }
+}
+
+/// The same of any two ends.
+fn evidence_there(end: &LastSent, other: &LastSent) -> u8
+    ensures { result ≡ evidence_there end.now other.now }
+{
+    if share_interface(end, other) {
+        evidence(end, other)
+    } else {
+        0
+    }
+}
+
+/// Whether more says of this end that it is the other one, or as much, and it spoke later.
+fn is_likelier(end: &LastSent, far: &LastSent, other: &LastSent) -> bool
+    ensures { result ≡ is_likelier end.now far.now other.now }
+{
+    let (so_far, more) = (evidence_there(end, far), evidence_there(end, other));
+    so_far < more || (so_far == more && is_past(0, far.time, other.time))
+}
+
+/// The likelier one of the other end so far and this one.
+fn far_after(end: &LastSent, far: Option<LastSent>, other: LastSent) -> Option<LastSent>
+    ensures { result ≡ far_after end.now far other }
+{
+    match far {
+        Some(far) => {
+            if is_likelier(end, &far, &other) {
+                Some(other)
+            } else {
+                Some(far)
+            }
+        }
+        None => {
+            if 0 < evidence_there(end, &other) {
+                Some(other)
+            } else {
+                None
+            }
         }
     }
-    None
 }
 
-/// Whether it is this end that sent it.
-fn is_sender(end: &LinkEnd, sent: Option<LastSent>) -> bool
-    ensures { result ≡ is_sender end.now sent }
+/// The other end of its link: the likeliest of these.
+fn far_end(ends: &[LacpduSender], end: &LastSent) -> Option<LastSent>
+    ensures { result ≡ far_end ends.now end.now }
 {
-    match sent {
-        Some(sent) => sent.sender.is(end),
+    let mut far = None;
+    for other in ends {
+        far = far_after(end, far, LastSent::of(other));
+    }
+    far
+}
+
+/// Whether this end stands before the other one.
+fn is_before(ends: &[LacpduSender], end: &LinkEnd, other: &LinkEnd) -> bool
+    ensures { result ≡ is_before ends.now end.now other.now }
+{
+    for one in ends {
+        if one.sender.is(end) || one.sender.is(other) {
+            return one.sender.is(end);
+        }
+    }
+    false
+}
+
+/// Whether the link of an end and its other end, which has this one (`near`) as its own other end, is told elsewhere.
+fn is_told_at(all: &[LacpduSender], end: &LastSent, far: &LastSent, near: Option<LastSent>) -> bool
+    ensures { result ≡ is_told_at all.now end.now far.now near }
+{
+    match near {
+        Some(near) if near.sender.is(&end.sender) => is_before(all, &far.sender, &end.sender),
+        Some(near) => is_past(0, end.time, near.first),
         None => false,
     }
 }
 
-/// Whether an end before this one has it as its other end.
-fn is_told(all: &[LacpduSender], end: &LinkEnd) -> bool
-    ensures { result ≡ is_told all.now all.now end.now }
+/// Whether the link of an end is told at another one.
+fn is_told(all: &[LacpduSender], end: &LastSent) -> bool
+    ensures { result ≡ is_told all.now end.now }
 {
-    for other in all {
-        if other.sender.is(end) {
-            return false;
-        }
-        if is_sender(end, far_end(all, other)) {
-            return true;
-        }
+    match far_end(all, end) {
+        Some(far) => is_told_at(all, end, &far, far_end(all, &far)),
+        None => false,
     }
-    false
 }
 
 /// The time of the last LACPDU of these ends, in nanoseconds.
@@ -298,6 +435,32 @@ fn key_apart(all: &[LacpduSender], near: &Info, far: &Info) -> Option<Key>
     None
 }
 
+/// Whether there is another link of these two systems that is up.
+fn has_other_link(all: &[LacpduSender], near: &Info, far: &Info) -> bool
+    ensures { result ≡ has_other_link all.now near.now far.now }
+{
+    for other in all {
+        if is_other_link(near, far, other) || is_other_link(far, near, other) {
+            return true;
+        }
+    }
+    false
+}
+
+/// Of two ends the one that alone is individual.
+fn individual(near: &LastSent, far: &LastSent) -> Option<LinkEnd>
+    ensures { result ≡ individual near.now far.now }
+{
+    let (one, other) = (near.lacpdu.actor.state, far.lacpdu.actor.state);
+    if !one.is_aggregatable() && other.is_aggregatable() {
+        Some(near.sender)
+    } else if one.is_aggregatable() && !other.is_aggregatable() {
+        Some(far.sender)
+    } else {
+        None
+    }
+}
+
 /// That an end has another key there, if it has.
 fn apart_at(sent: &LastSent, there: Option<Key>) -> Option<KeyApart>
     ensures { result ≡ apart_at sent.now there }
@@ -325,9 +488,57 @@ fn keys_apart(all: &[LacpduSender], near: &LastSent, far: &LastSent) -> Option<K
     }
 }
 
+impl Apart {
+    /// An end that is individual, if there is one.
+    fn single(end: Option<LinkEnd>) -> Option<Apart>
+        ensures { result ≡ option_map Individual end }
+    {
+        match end {
+            Some(end) => Some(Apart::Individual(end)),
+            None => None,
+        }
+    }
+
+    /// Why a link is no part of a group with others: a key, or, where there are others, an end that is individual.
+    fn by(key: Option<KeyApart>, others: bool, single: Option<LinkEnd>) -> Option<Apart>
+        ensures { result ≡ apart_by key others single }
+    {
+        match key {
+            Some(key) => Some(Apart::Key(key)),
+            None => { if others { Apart::single(single) } else { None } }
+        }
+    }
+
+    /// The same of a link with these ends among all.
+    fn of(all: &[LacpduSender], near: &LastSent, far: &LastSent) -> Option<Apart>
+        ensures { result ≡ apart_of all.now near.now far.now }
+    {
+        let (one, other) = (near.lacpdu.actor, far.lacpdu.actor);
+        let others = has_other_link(all, &one, &other);
+        Apart::by(keys_apart(all, near, far), others, individual(near, far))
+    }
+}
+
+/// Whether this end, which hears nobody, lost the other one before that lost it.
+#[tactic(auto, unfolding(crate::specs::Links::nanoseconds))]
+fn lost_before(end: &LastSent, other: &LastSent) -> bool
+    ensures { result ≡ lost_before end.now other.now }
+{
+    let is_first = end.partner.is_none() && other.partner.is_some();
+    is_first || is_past(TOGETHER, end.lost, other.lost)
+}
+
+/// Whether both ends have one system, or its MAC address and an end that hears nobody.
+fn is_own_system(near: &LastSent, far: &LastSent) -> bool
+    ensures { result ≡ is_own_system near.now far.now }
+{
+    let is_one = near.lacpdu.actor.system == far.lacpdu.actor.system;
+    is_one || (near.same_address(far) && !(near.hears() && far.hears()))
+}
+
 impl LinkState {
-    /// Of a link that carries, by a key that differs.
-    fn carrying(apart: Option<KeyApart>) -> LinkState
+    /// Of a link that carries, by what keeps it apart.
+    fn carrying(apart: Option<Apart>) -> LinkState
         ensures { result ≡ carrying apart }
     {
         match apart {
@@ -336,36 +547,42 @@ impl LinkState {
         }
     }
 
-    /// Of a link whose ends hear each other.
+    /// Of a link whose ends hear each other, by the end that alone is individual.
+    fn single_or_waiting(single: Option<LinkEnd>) -> LinkState
+        ensures { result ≡ single_or_waiting single }
+    {
+        match single {
+            Some(end) => LinkState::OtherGroup(Apart::Individual(end)),
+            None => LinkState::Waiting,
+        }
+    }
+
+    /// The same, by who has attached it.
     fn waiting(near: &LastSent, far: &LastSent) -> LinkState
         ensures { result ≡ waiting near.now far.now }
     {
         let (one, other) = (near.lacpdu.actor.state, far.lacpdu.actor.state);
-        if !one.is_aggregatable() && other.is_aggregatable() {
-            LinkState::Individual(near.sender)
-        } else if one.is_aggregatable() && !other.is_aggregatable() {
-            LinkState::Individual(far.sender)
-        } else if !one.is_synchronized() && other.is_synchronized() {
+        if !one.is_synchronized() && other.is_synchronized() {
             LinkState::Unattached(near.sender)
         } else if one.is_synchronized() && !other.is_synchronized() {
             LinkState::Unattached(far.sender)
         } else {
-            LinkState::Waiting
+            LinkState::single_or_waiting(individual(near, far))
         }
     }
 
-    /// The same, by a key that differs.
-    fn heard(apart: Option<KeyApart>, near: &LastSent, far: &LastSent) -> LinkState
-        ensures { result ≡ heard apart near.now far.now }
+    /// The same, by what keeps it apart.
+    fn agreed(apart: Option<Apart>, near: &LastSent, far: &LastSent) -> LinkState
+        ensures { result ≡ agreed apart near.now far.now }
     {
         match apart {
-            Some(apart) => LinkState::OtherKey(apart),
+            Some(apart) => LinkState::OtherGroup(apart),
             None => LinkState::waiting(near, far),
         }
     }
 
     /// The same, by who is their partner.
-    fn partnered(apart: Option<KeyApart>, near: &LastSent, far: &LastSent) -> LinkState
+    fn partnered(apart: Option<Apart>, near: &LastSent, far: &LastSent) -> LinkState
         ensures { result ≡ partnered apart near.now far.now }
     {
         if !near.has_as_partner(far) {
@@ -373,15 +590,30 @@ impl LinkState {
         } else if !far.has_as_partner(near) {
             LinkState::OtherPartner(far.sender)
         } else {
-            LinkState::heard(apart, near, far)
+            LinkState::agreed(apart, near, far)
+        }
+    }
+
+    /// Of a link both ends of which hear nobody.
+    fn deaf(near: &LastSent, far: &LastSent) -> LinkState
+        ensures { result ≡ deaf near.now far.now }
+    {
+        if lost_before(near, far) {
+            LinkState::HearsNobody(near.sender)
+        } else if lost_before(far, near) {
+            LinkState::HearsNobody(far.sender)
+        } else {
+            LinkState::BothDeaf
         }
     }
 
     /// Of a link that does not carry, though both ends send.
-    fn idle(apart: Option<KeyApart>, near: &LastSent, far: &LastSent) -> LinkState
+    fn idle(apart: Option<Apart>, near: &LastSent, far: &LastSent) -> LinkState
         ensures { result ≡ idle apart near.now far.now }
     {
-        if !near.hears() {
+        if !near.hears() && !far.hears() {
+            LinkState::deaf(near, far)
+        } else if !near.hears() {
             LinkState::HearsNobody(near.sender)
         } else if !far.hears() {
             LinkState::HearsNobody(far.sender)
@@ -391,7 +623,7 @@ impl LinkState {
     }
 
     /// Of a link both ends of which send.
-    fn speaking(apart: Option<KeyApart>, near: &LastSent, far: &LastSent) -> LinkState
+    fn speaking(apart: Option<Apart>, near: &LastSent, far: &LastSent) -> LinkState
         ensures { result ≡ speaking apart near.now far.now }
     {
         let are_partners = near.has_as_partner(far) && far.has_as_partner(near);
@@ -411,7 +643,7 @@ impl LinkState {
     ) -> LinkState
         ensures { result ≡ of_both all.now until near.now far.now }
     {
-        if near.lacpdu.actor.system == far.lacpdu.actor.system {
+        if is_own_system(near, far) {
             LinkState::OneSystem
         } else if near.is_passive() && far.is_passive() {
             LinkState::BothPassive
@@ -422,7 +654,7 @@ impl LinkState {
         } else if far.is_silent(until) {
             LinkState::Silent(*far)
         } else {
-            LinkState::speaking(keys_apart(all, near, far), near, far)
+            LinkState::speaking(Apart::of(all, near, far), near, far)
         }
     }
 
@@ -436,6 +668,8 @@ impl LinkState {
             LinkState::Silent(*near)
         } else if near.hears() {
             LinkState::Alone
+        } else if near.is_passive() {
+            LinkState::PassiveAlone
         } else {
             LinkState::Unanswered
         }
@@ -459,16 +693,16 @@ impl LinkState {
 
 // promise: a link is said to carry only if the last LACPDUs of both ends say that they collect and distribute, hear their partner, and have each other as partner
 // contract: `link_of` (`link_of`, `of_both`)
-/// The link of an end among all ends of a capture whose last LACPDU has this time; None if it is told at an end before it.
+/// The link of an end among all ends of a capture whose last LACPDU has this time; None if it is told at another one.
 #[tactic(auto, unfolding(crate::specs::Links::link_of))]
 pub(crate) fn link_of(all: &[LacpduSender], until: Option<u64>, end: &LacpduSender) -> Option<Link>
     ensures { result ≡ link_of all.now until end.now }
 {
-    if is_told(all, &end.sender) {
+    let near = LastSent::of(end);
+    if is_told(all, &near) {
         return None;
     }
-    let near = LastSent::of(end);
-    let far = far_end(all, end);
+    let far = far_end(all, &near);
     let state = LinkState::of(all, until, &near, far);
     Some(Link { near, far, state })
 }

@@ -15,9 +15,13 @@ const ATTACHED: u8 = 0x0f;
 
 const UP: u8 = 0x3f;
 
-/// One end of a link: its system, key, port and state.
+/// One end of a link: its system, key, port and state. A system has the MAC address of the one that is 128 lower, and is another
+/// machine; 64 in it is another system priority.
 #[derive(Clone, Copy)]
 struct End(u8, u16, u16, u8);
+
+/// The partner of an end on defaults.
+const NOBODY: End = End(0, 0, 0, 0);
 
 /// An LACPDU of one end to another, at this second.
 #[derive(Clone, Copy)]
@@ -27,8 +31,8 @@ fn info(end: End) -> Info {
     let End(system, key, port, state) = end;
     Info {
         system: SystemId {
-            priority: 32768,
-            mac: [0x02, 0, 0, 0, 0, system],
+            priority: if system & 64 == 0 { 32768 } else { 4096 },
+            mac: [0x02, 0, 0, 0, 0, system & 63],
         },
         key: Key(key),
         port: PortId {
@@ -49,7 +53,7 @@ fn said(alloc: Global, all: &[Sent]) -> Result<Vec<u8>, AllocError> {
             partner: info(*partner),
             max_delay: 0,
         };
-        let octets = frame(lacpdu.actor.system.mac, &lacpdu.encode());
+        let octets = frame([0x02, 0, 0, 0, 0, actor.0], &lacpdu.encode());
         put_packet(
             &mut file,
             Order::Big,
@@ -224,7 +228,7 @@ fn a_state_says_why_a_link_does_not_carry(rt: HostRuntime) -> Result<(), Fail> {
         one_link(&rt, rt.alloc(), near(one), far(other), is)?;
     }
     let looped = End(1, 1, 2, UP);
-    let is = "does not carry: both ends have one system, a loop or a copied identifier";
+    let is = "does not carry: both ends have one system address, a loop or a copied identifier";
     one_link(&rt, rt.alloc(), near(UP), looped, is)
 }
 
@@ -251,7 +255,7 @@ link 02-00-00-00-00-01 port 1: not seen: its other end is not in the capture
     let looped = [Sent(0, End(1, 1, 1, UP), End(1, 1, 1, UP))];
     let lines = "\
 links 1 carrying 0
-link 02-00-00-00-00-01 port 1: does not carry: both ends have one system, a loop or a copied identifier
+link 02-00-00-00-00-01 port 1: does not carry: both ends have one system address, a loop or a copied identifier
 ";
     begins(&rt, rt.alloc(), &looped, lines)
 }
@@ -259,10 +263,11 @@ link 02-00-00-00-00-01 port 1: does not carry: both ends have one system, a loop
 // As of bonding beside a static channel: it uses port 1 alone, which its LACPDUs do not say.
 #[test]
 fn a_link_that_nobody_answers_may_be_used_alone(rt: HostRuntime) -> Result<(), Fail> {
-    let nobody = End(0, 0, 0, 0);
     let all = [
-        Sent(0, End(1, 15, 1, 0x4f), nobody),
-        Sent(0, End(1, 15, 2, 0x47), nobody),
+        Sent(0, End(1, 15, 1, 0x4f), NOBODY),
+        Sent(0, End(1, 15, 2, 0x47), NOBODY),
+        Sent(4, End(1, 15, 1, 0x4f), NOBODY),
+        Sent(4, End(1, 15, 2, 0x47), NOBODY),
     ];
     let lines = "\
 links 2 carrying 0
@@ -270,4 +275,165 @@ link 02-00-00-00-00-01 port 1: not seen: nobody answers, and its end may use it 
 link 02-00-00-00-00-01 port 2: not seen: nobody answers, and its end may use it alone
 ";
     begins(&rt, rt.alloc(), &all, lines)
+}
+
+// 6.4.13: without an active partner it sends nothing, however long the capture goes on.
+#[test]
+fn an_end_that_is_passive_waits_to_be_asked(rt: HostRuntime) -> Result<(), Fail> {
+    let all = [
+        Sent(0, End(1, 15, 1, 0xc6), NOBODY),
+        Sent(0, End(1, 15, 2, UP), End(2, 7, 2, UP)),
+        Sent(99, End(1, 15, 2, UP), End(2, 7, 2, UP)),
+    ];
+    let lines = "\
+links 2 carrying 0
+link 02-00-00-00-00-01 port 1: not seen: nobody answers, and its end is passive: one end has to be active
+link 02-00-00-00-00-01 port 2: not seen: its other end is not in the capture
+";
+    begins(&rt, rt.alloc(), &all, lines)
+}
+
+// As of bonding, which drops LACPDUs of its own system, and stays Defaulted and Expired then (6.4.12): two machines, a cable
+// between two ports of one machine, and a machine beside one with another priority that hears it.
+#[test]
+fn ends_of_one_system_make_a_link(rt: HostRuntime) -> Result<(), Fail> {
+    let drops = |system, port| {
+        [
+            Sent(0, End(system, 15, port, 0xc7), NOBODY),
+            Sent(4, End(system, 15, port, 0xcf), NOBODY),
+        ]
+    };
+    let ([one, later], [copy, copy_later]) = (drops(1, 1), drops(0x81, 1));
+    let ([port, port_later], hears) = (drops(1, 2), End(0xc1, 1, 1, 0x37));
+    let is = ": does not carry: both ends have one system address, a loop or a copied identifier\n";
+    for (all, ends) in [
+        ([one, copy, later, copy_later], "81 port 1"),
+        ([one, port, later, port_later], "01 port 2"),
+        (
+            [one, Sent(1, hears, one.1), later, Sent(4, hears, later.1)],
+            "c1 port 1",
+        ),
+    ] {
+        let octets = said(rt.alloc(), &all)?;
+        let text = str::from_utf8(&octets).unwrap_or("");
+        let behind = text.strip_prefix(
+            "links 1 carrying 0\nlink 02-00-00-00-00-01 port 1 - 02-00-00-00-00-",
+        );
+        let state = behind.unwrap_or("").strip_prefix(ends).unwrap_or("");
+        assert!(rt; state.starts_with(is), "{text}");
+    }
+    Ok(())
+}
+
+/// Two ends that carry, of which the second loses its partner at second 3, and the first at this one.
+fn lost(second: u32) -> [Sent; 6] {
+    let (one, two) = (End(1, 1, 1, UP), End(2, 1, 1, UP));
+    let (deaf, other) = (End(1, 1, 1, 0x87), End(2, 1, 1, 0x87));
+    [
+        Sent(0, one, two),
+        Sent(0, two, one),
+        Sent(3, other, one),
+        Sent(second, deaf, other),
+        Sent(9, End(1, 1, 1, 0x47), NOBODY),
+        Sent(9, End(2, 1, 1, 0x47), NOBODY),
+    ]
+}
+
+// A receiver that is dead: its end sends each 30 s on defaults, so the other one loses it, too (6.4.13).
+#[test]
+fn ends_that_lost_each_other_make_a_link(rt: HostRuntime) -> Result<(), Fail> {
+    let (one, two) = (|state| End(1, 1, 1, state), |state| End(2, 1, 1, state));
+    let never_heard = [
+        Sent(0, two(0xc7), NOBODY),
+        Sent(1, one(FAST), two(0xc7)),
+        Sent(4, two(0x47), NOBODY),
+        Sent(7, one(0x8f), two(0x47)),
+        Sent(10, one(0x47), NOBODY),
+    ];
+    let lines = "\
+links 1 carrying 0
+link 02-00-00-00-00-02 port 1 - 02-00-00-00-00-01 port 1: does not carry: 02-00-00-00-00-02 hears nobody
+";
+    begins(&rt, rt.alloc(), &never_heard, lines)?;
+    let lines = "\
+links 1 carrying 0
+link 02-00-00-00-00-01 port 1 - 02-00-00-00-00-02 port 1: does not carry: 02-00-00-00-00-02 hears nobody
+";
+    begins(&rt, rt.alloc(), &lost(6), lines)?;
+    let lines = "\
+links 1 carrying 0
+link 02-00-00-00-00-01 port 1 - 02-00-00-00-00-02 port 1: does not carry: neither end hears the other
+";
+    begins(&rt, rt.alloc(), &lost(5), lines)
+}
+
+// As of Open vSwitch whose bridge is made anew: its ports have other numbers then.
+#[test]
+fn an_end_that_starts_anew_with_another_number_is_told_once(rt: HostRuntime) -> Result<(), Fail> {
+    let (one, before, since) = (End(1, 1, 1, UP), End(2, 1, 1, UP), End(2, 1, 3, UP));
+    let all = [
+        Sent(0, before, one),
+        Sent(0, one, before),
+        Sent(8, before, one),
+        Sent(12, End(1, 1, 1, 0x8f), before),
+        Sent(18, since, one),
+        Sent(18, one, since),
+        Sent(19, since, one),
+    ];
+    let lines = "\
+links 1 carrying 1
+link 02-00-00-00-00-01 port 1 - 02-00-00-00-00-02 port 3: carries, both ways
+";
+    begins(&rt, rt.alloc(), &all, lines)
+}
+
+// Of three on one interface the link of two that have each other is told, whoever spoke first.
+#[test]
+fn a_third_end_hides_no_link(rt: HostRuntime) -> Result<(), Fail> {
+    let (one, two, three) = (End(1, 1, 1, UP), End(2, 1, 1, UP), End(3, 1, 1, UP));
+    let all = [Sent(0, three, one), Sent(0, one, two), Sent(0, two, one)];
+    let lines = "\
+links 2 carrying 1
+link 02-00-00-00-00-03 port 1 - 02-00-00-00-00-01 port 1: does not carry: 02-00-00-00-00-01 has another partner
+link 02-00-00-00-00-01 port 1 - 02-00-00-00-00-02 port 1: carries, both ways
+";
+    begins(&rt, rt.alloc(), &all, lines)
+}
+
+// As of Open vSwitch: one bond leads to two switches, each with one port that is individual (6.3.5).
+#[test]
+fn an_individual_end_is_told_beside_a_link_in_use(rt: HostRuntime) -> Result<(), Fail> {
+    let (single, waits) = (0x3b, 0x0b);
+    let all = [
+        Sent(0, End(1, 1, 1, UP), End(2, 1, 1, single)),
+        Sent(0, End(2, 1, 1, single), End(1, 1, 1, UP)),
+        Sent(0, End(1, 1, 2, FAST), End(3, 1, 1, waits)),
+        Sent(0, End(3, 1, 1, waits), End(1, 1, 2, FAST)),
+    ];
+    let lines = "\
+links 2 carrying 1
+link 02-00-00-00-00-01 port 1 - 02-00-00-00-00-02 port 1: carries, both ways
+link 02-00-00-00-00-01 port 2 - 02-00-00-00-00-03 port 1: does not carry: 02-00-00-00-00-01 has not attached it: it uses another aggregator, or has links enough
+";
+    begins(&rt, rt.alloc(), &all, lines)?;
+    let beside = |near, far| {
+        [
+            Sent(0, End(1, 1, 1, UP), End(2, 7, 7, UP)),
+            Sent(0, End(2, 7, 7, UP), End(1, 1, 1, UP)),
+            Sent(0, End(1, 1, 2, near), End(2, 7, 8, far)),
+            Sent(0, End(2, 7, 8, far), End(1, 1, 2, near)),
+        ]
+    };
+    let lines = "\
+links 2 carrying 2
+link 02-00-00-00-00-01 port 1 - 02-00-00-00-00-02 port 7: carries, both ways
+link 02-00-00-00-00-01 port 2 - 02-00-00-00-00-02 port 8: carries, both ways, apart: 02-00-00-00-00-02 is individual
+";
+    begins(&rt, rt.alloc(), &beside(UP, single), lines)?;
+    let lines = "\
+links 2 carrying 1
+link 02-00-00-00-00-01 port 1 - 02-00-00-00-00-02 port 7: carries, both ways
+link 02-00-00-00-00-01 port 2 - 02-00-00-00-00-02 port 8: does not carry: 02-00-00-00-00-02 is individual
+";
+    begins(&rt, rt.alloc(), &beside(FAST, waits), lines)
 }
