@@ -1,12 +1,7 @@
 /* The MAC address of the first interface: `system=auto` makes it that of the system. */
-#define _GNU_SOURCE
-#include <errno.h>
-#include <net/if_arp.h>
-#include <stdio.h>
-#include <string.h>
-
 #include "netlink.h"
-#include "lagd.h"
+
+#include <net/if_arp.h>
 
 /* Whether a system may have the address of an interface. */
 static bool has_system_address(const struct interface *interface) {

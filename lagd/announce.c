@@ -1,18 +1,13 @@
 /* Tells neighbours where this host is, once data goes another way, so that bridges learn its MAC addresses there: gratuitous ARP, and
  * unsolicited neighbour advertisements (RFC 4861, 7.2.6), of the TAP device and of what stands above it. The kernel does not do so of itself
  * for such a device. */
-#define _GNU_SOURCE
-#include <errno.h>
+#include "carry.h"
+#include "netlink.h"
+
 #include <linux/if_packet.h>
 #include <linux/netconf.h>
 #include <linux/rtnetlink.h>
 #include <netinet/in.h>
-#include <string.h>
-#include <sys/socket.h>
-#include <unistd.h>
-
-#include "netlink.h"
-#include "carry.h"
 
 /* The most frames of an announcement: so many fit into what a socket may send at once. */
 #define MOST_ANNOUNCED 256
@@ -194,8 +189,8 @@ static void find_places(struct carry *carry) {
     struct announce_private *own = carry->announce;
     unsigned before = 0;
     memset(own->places, 0, sizeof own->places);
-    own->places[0].index = tap_index(carry->parts.device);
-    own->place_count = read_tap_mac(carry->parts.device, own->places[0].mac) ? 1 : 0;
+    own->places[0].index = tap_index(carry->device);
+    own->place_count = read_tap_mac(carry->device, own->places[0].mac) ? 1 : 0;
     for (unsigned level = 0; level < MOST_LEVELS && before != own->place_count; level++) {
         before = level == 0 ? 0 : own->place_count; /* the first one tells the bridge of the device alone, where that has a lower number */
         (void)ask_all(own, RTM_GETLINK, AF_UNSPEC);
@@ -215,7 +210,7 @@ static void announce(struct carry *carry) {
         done = ask_all(own, RTM_GETADDR, AF_UNSPEC);
     }
     if (!done)
-        (void)say(carry->parts.process, LOG_WARNING | ABOUT_CARRIER, "carry %s: its addresses were not announced: %s", carry->parts.settings->carry,
+        (void)say(carry->process, LOG_WARNING | ABOUT_CARRIER, "carry %s: its addresses were not announced: %s", carry->settings->carry,
             strerror(errno));
     if (own->sender >= 0) close(own->sender);
     own->sender = -1;
@@ -230,7 +225,7 @@ void announce_soon(struct announce_private *own) {
 /* 100 ms passed. While the device has no carrier, nothing that is sent there goes. */
 void pass_announcing_tick(struct carry *carry) {
     struct announce_private *own = carry->announce;
-    if (own->times == 0 || !has_carrier(carry->parts.device)) return;
+    if (own->times == 0 || !has_carrier(carry->device)) return;
     if (own->wait_ticks > 0 && --own->wait_ticks > 0) return;
     announce(carry);
     own->times--;

@@ -1,19 +1,9 @@
 /* Asks the daemons of this network namespace: for their status, for their counts, or for each change. */
-#define _GNU_SOURCE
-#include <dirent.h>
-#include <errno.h>
-#include <fcntl.h>
-#include <poll.h>
-#include <stdio.h>
-#include <stdlib.h>
-#include <string.h>
-#include <sys/socket.h>
-#include <sys/stat.h>
-#include <sys/un.h>
-#include <time.h>
-#include <unistd.h>
-
 #include "control.h"
+
+#include <dirent.h>
+#include <poll.h>
+#include <sys/un.h>
 
 /* How long a daemon may take for its answer, in milliseconds. */
 #define PATIENCE 2000
@@ -177,7 +167,7 @@ static _Noreturn void refuse_all(const struct asking_private *own, const char *f
 /* Prints what came of a daemon that is watched. */
 static void print_lines_of(struct control *control, unsigned daemon, char *text, size_t length) {
     text[length] = 0;
-    if (!is_refusal(control->parts.process, control->asking->daemons[daemon].path, text)) print(control->asking, text, length);
+    if (!is_refusal(control->process, control->asking->daemons[daemon].path, text)) print(control->asking, text, length);
 }
 
 /* Prints what the daemons say, one after the other as each has a line, until they end. */
@@ -218,8 +208,8 @@ static bool ask_one(struct control *control, unsigned daemon, const struct optio
     int fd = ask(control->asking, path, question_of(options));
     own->daemons[daemon].may_ask = fd != -EACCES && fd != -EPERM;
     if (!own->daemons[daemon].may_ask) own->denied = path;
-    if (fd < 0) complain(control->parts.process, "%s: its daemon does not answer: %s", path, strerror(-fd));
-    if (fd >= 0) own->daemons[daemon].answer = read_answer(control->parts.process, fd, path);
+    if (fd < 0) complain(control->process, "%s: its daemon does not answer: %s", path, strerror(-fd));
+    if (fd >= 0) own->daemons[daemon].answer = read_answer(control->process, fd, path);
     if (fd >= 0) close(fd);
     own->daemons[daemon].fd = watched && fd >= 0 ? ask(control->asking, path, options->json ? "watch-json\n" : "watch\n") : -1;
     return watched ? own->daemons[daemon].fd >= 0 : own->daemons[daemon].answer != NULL;
@@ -233,7 +223,7 @@ static char *tell_order(struct control *control, const char *path, const char *w
         stop(WRONG_WORD, "expected the name of an interface", interface);
     fd = ask(control->asking, path, order);
     if (fd < 0) stop(REFUSED, path, strerror(-fd));
-    answer = read_answer(control->parts.process, fd, path);
+    answer = read_answer(control->process, fd, path);
     close(fd);
     if (answer) answer[strcspn(answer, "\n")] = 0;
     return answer;

@@ -1,17 +1,12 @@
 /* What the kernel tells of interfaces: at the start, and each interface. */
-#define _GNU_SOURCE
-#include <errno.h>
+#include "device.h"
+#include "netlink.h"
+
 #include <linux/if.h>
 #include <linux/pkt_sched.h>
 #include <linux/rtnetlink.h>
 #include <net/if_arp.h>
 #include <poll.h>
-#include <stdio.h>
-#include <string.h>
-#include <sys/socket.h>
-
-#include "netlink.h"
-#include "device.h"
 
 #define ROOM 65536
 /* How long the kernel may take for an answer at the start, in milliseconds, and how often it is asked then. */

@@ -1,5 +1,4 @@
 /* A daemon is made, and goes. */
-#define _GNU_SOURCE
 #include "daemon.h"
 
 /* Has a function called as the program ends, as atexit does; that hands it nothing. Where there is no room, the program does not start. */

@@ -1,17 +1,10 @@
 /* The TAP device, by which the host hands over its data and takes what comes. */
-#define _GNU_SOURCE
-#include <errno.h>
-#include <fcntl.h>
+#include "tap/tap.h"
+
 #include <linux/if_tun.h>
 #include <net/if.h>
 #include <net/if_arp.h>
-#include <string.h>
 #include <sys/ioctl.h>
-#include <sys/socket.h>
-#include <sys/stat.h>
-#include <unistd.h>
-
-#include "tap/tap.h"
 
 /* Of Linux 5.2, and not in older headers: the network namespace of a device. */
 #ifndef TUNGETDEVNETNS
@@ -237,8 +230,7 @@ static bool open_inherited(struct device *own, const char *name, const uint8_t *
     struct ifreq device = {0};
     int fd = claim_stored(own->process->store, "tap", 0);
     if (fd < 0) return false;
-    if (!is_here(fd, &device)
-        || (own->process->inherited->tap == 0 ? strcmp(device.ifr_name, name) != 0 : index_of(own,
+    if (!is_here(fd, &device) || (own->process->inherited->tap == 0 ? strcmp(device.ifr_name, name) != 0 : index_of(own,
             device.ifr_name) != own->process->inherited->tap)) {
         close_stored(own->process->store, "tap", 0, fd);
         return false;

@@ -1,15 +1,7 @@
 /* A file of a bundle, in the form of systemd's units: a section [Bundle] and a section [Port INTERFACE] for each port. */
-#define _GNU_SOURCE
-#include <errno.h>
-#include <fcntl.h>
-#include <ini.h>
-#include <stdio.h>
-#include <stdlib.h>
-#include <string.h>
-#include <sys/stat.h>
-#include <unistd.h>
-
 #include "lagd.h"
+
+#include <ini.h>
 
 /* The most octets of a file and of a line. The library takes lines of 197 octets. */
 #define LONGEST_FILE 65536

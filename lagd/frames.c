@@ -1,12 +1,8 @@
 /* Frames of the slow protocols that come: which are looked at, whose LACPDUs are taken, and what becomes of them. */
-#define _GNU_SOURCE
-#include <inttypes.h>
+#include "lagd.h"
+
 #include <linux/if_packet.h>
 #include <net/ethernet.h>
-#include <string.h>
-#include <sys/socket.h>
-
-#include "lagd.h"
 
 #define LONGEST_FRAME 2048
 /* Where an LACPDU has its actor's system priority and system (IEEE 802.1AX-2014, 6.4.2.3). */

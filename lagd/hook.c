@@ -1,14 +1,9 @@
 /* The program that is run where the bundle is up, degraded or down. Nobody waits for it. */
-#define _GNU_SOURCE
-#include <fcntl.h>
+#include "lagd.h"
+
 #include <signal.h>
 #include <spawn.h>
-#include <stdio.h>
-#include <string.h>
 #include <sys/prctl.h>
-#include <unistd.h>
-
-#include "lagd.h"
 
 /* It has no signal blocked or ignored, and a session of its own. */
 static void set_attributes(posix_spawnattr_t *attributes) {

@@ -1,11 +1,8 @@
 /* What a message of the kernel tells of an interface. */
-#define _GNU_SOURCE
-#include <errno.h>
+#include "netlink.h"
+
 #include <linux/if_link.h>
 #include <linux/rtnetlink.h>
-#include <string.h>
-
-#include "netlink.h"
 
 static int parse_kind(const struct nlattr *attribute, void *into) {
     struct interface *interface = into;

@@ -1,8 +1,4 @@
 /* The status, and each change, as JSON. */
-#define _GNU_SOURCE
-#include <inttypes.h>
-#include <string.h>
-
 #include "control.h"
 
 static void add_mac(struct report *report, const char *name, const uint8_t *mac) {
@@ -20,11 +16,11 @@ static void add_time(struct report *report, time_t time) {
 
 static void add_bundle(struct control *control) {
     add(control->report, "\"bundle\":");
-    add_string(control->report, control->parts.settings->name);
+    add_string(control->report, control->settings->name);
     add(control->report, ",\"state\":\"%s\",\"links\":%u,\"carrying\":%u,\"away\":%u,\"aggregator\":%u",
-        bundle_state_text(control->parts.protocol->bundle.state), control->parts.protocol->bundle.links,
-        control->parts.protocol->bundle.carrying, count_away(control->parts.ports), control->parts.protocol->bundle.aggregator);
-    add_time(control->report, control->parts.protocol->bundle.changed_at);
+        bundle_state_text(control->protocol->bundle.state), control->protocol->bundle.links,
+        control->protocol->bundle.carrying, count_away(control->ports), control->protocol->bundle.aggregator);
+    add_time(control->report, control->protocol->bundle.changed_at);
 }
 
 static void add_state(struct report *report, uint8_t state) {
@@ -41,8 +37,7 @@ static void add_state(struct report *report, uint8_t state) {
 static void add_both_ends(struct report *report, const struct view *view) {
     add(report, ",\"actor\":{\"key\":%u,\"port_priority\":%u,\"port\":%u", view->own.key, view->own.port_priority, view->own.port);
     add_state(report, view->state);
-    add(report, ",\"partner\":{\"defaulted\":%s,\"system_priority\":%u,", view->facts.defaulted ? "true" : "false",
-        view->partner.system_priority);
+    add(report, ",\"partner\":{\"defaulted\":%s,\"system_priority\":%u,", view->facts.defaulted ? "true" : "false", view->partner.system_priority);
     add_mac(report, "system", view->partner.system_mac);
     add(report, ",\"key\":%u,\"port_priority\":%u,\"port\":%u", view->partner.key, view->partner.port_priority, view->partner.port);
     add_state(report, view->partner.state);
@@ -54,7 +49,7 @@ static void add_strangers(struct control *control, const struct link *link) {
     add(control->report, link->pinned ? "\"%s\"" : "null", system_text(&link->partner, system));
     add(control->report, ",\"same_partner_port\":");
     if (link->twin > 0)
-        add_string(control->report, control->parts.ports->links[link->twin - 1].name);
+        add_string(control->report, control->ports->links[link->twin - 1].name);
     else
         add(control->report, "null");
     add(control->report, ",\"other_system\":");
@@ -77,13 +72,13 @@ static void add_counts(struct report *report, const struct link *link) {
 static void add_member(struct control *control, const struct link *link) {
     struct view view;
     char speed[40];
-    if (!view_of(control->parts.protocol, link, &view)) return;
+    if (!view_of(control->protocol, link, &view)) return;
     add(control->report, "{\"port\":%u,\"interface\":", link->settings.number);
     add_string(control->report, link->name);
     add(control->report, link->socket < 0 ? ",\"index\":null" : ",\"index\":%d", link->index);
     add(control->report, ",\"key\":%u", link->key);
     add(control->report, ",\"link\":\"%s\",\"status\":\"%s\",\"carries\":%s,", link_name(link), status_text(view.facts.status),
-        carries(control->parts.protocol, link) ? "true" : "false");
+        carries(control->protocol, link) ? "true" : "false");
     add_mac(control->report, "address", link->mac);
     add(control->report, ",\"aggregator\":%u,\"receive\":\"%s\",\"mux\":\"%s\"", view.facts.aggregator,
         niw_receive_state_text((uint32_t)view.receive),
@@ -96,7 +91,7 @@ static void add_member(struct control *control, const struct link *link) {
     add_both_ends(control->report, &view);
     add_strangers(control, link);
     add_counts(control->report, link);
-    CALL(control->parts.plane->carrying->show_member, control, link, AS_JSON);
+    CALL(control->plane->carrying->show_member, control, link, AS_JSON);
     add(control->report, ",\"trouble\":");
     add_string(control->report, link->trouble ? strerror(link->trouble) : "");
     add(control->report, "}");
@@ -107,15 +102,15 @@ void write_json(struct control *control) {
     const char *between = "";
     add(control->report, "{\"lagd\":\"%s\",", VERSION);
     add_bundle(control);
-    add(control->report, ",\"system_priority\":%u,", control->parts.settings->config.priority);
-    add_mac(control->report, "system", control->parts.settings->config.mac);
-    add(control->report, ",\"key\":%u,\"collector_max_delay\":%u", control->parts.settings->key, control->parts.settings->config.max_delay);
+    add(control->report, ",\"system_priority\":%u,", control->settings->config.priority);
+    add_mac(control->report, "system", control->settings->config.mac);
+    add(control->report, ",\"key\":%u,\"collector_max_delay\":%u", control->settings->key, control->settings->config.max_delay);
     add(control->report, ",\"min_links\":%u,\"max_links\":%u,\"select\":\"%s\",\"follows_peer\":%s,\"seconds\":%" PRIu64 ",",
-        control->parts.settings->min_links, control->parts.settings->config.max_links, selection_text(control->parts.settings->select),
-        is_following(control->parts.protocol->selection) ? "true" : "false", seconds_passed(control->parts.protocol->system));
-    CALL(control->parts.plane->carrying->show, control, AS_JSON);
+        control->settings->min_links, control->settings->config.max_links, selection_text(control->settings->select),
+        is_following(control->protocol->selection) ? "true" : "false", seconds_passed(control->protocol->system));
+    CALL(control->plane->carrying->show, control, AS_JSON);
     add(control->report, "\"ports\":[");
-    EACH_LINK(link, control->parts.ports) {
+    EACH_LINK(link, control->ports) {
         if (!link->used) continue;
         add(control->report, "%s", between);
         add_member(control, link);
@@ -130,7 +125,7 @@ void write_json_event(struct control *control, const struct link *link) {
     add(control->report, "{\"time\":\"%sZ\",\"event\":\"%s\",", time_text(time(NULL), text), link ? "port" : "bundle");
     if (link) {
         add(control->report, "\"bundle\":");
-        add_string(control->report, control->parts.settings->name);
+        add_string(control->report, control->settings->name);
         add(control->report, ",\"port\":");
         add_member(control, link);
     } else {

@@ -1,12 +1,5 @@
 /* What members had before they became members, in a file of each beside the status socket until they have it again: of a daemon that was
  * killed the next one knows it. A file of another boot, or of another interface with that number, counts for nothing. */
-#define _GNU_SOURCE
-#include <errno.h>
-#include <fcntl.h>
-#include <stdio.h>
-#include <string.h>
-#include <unistd.h>
-
 #include "tap/tap.h"
 
 /* What a file has: it is whole if its last line is. */

@@ -1,14 +1,10 @@
 /* The keys of ports and aggregators. Where links of another speed or duplex are to share no group, each speed has a key of its own. */
-#define _GNU_SOURCE
-#include <inttypes.h>
+#include "lagd.h"
+
 #include <linux/ethtool.h>
 #include <linux/sockios.h>
 #include <net/if.h>
-#include <stdio.h>
-#include <string.h>
 #include <sys/ioctl.h>
-
-#include "lagd.h"
 
 /* The most speeds of one key, and the most words of the masks of link modes, which are of no interest here. */
 #define MOST_SPEEDS 4
@@ -156,8 +152,7 @@ bool write_speed(int socket, const char *name, uint32_t megabits) {
 
 /* Gives a port its key. */
 static void give_key(struct protocol *protocol, struct link *link) {
-    struct niw_change change = {.key = choose_key(protocol, link), .priority = link->settings.priority,
-        .aggregatable = link->settings.aggregatable};
+    struct niw_change change = {.key = choose_key(protocol, link), .priority = link->settings.priority, .aggregatable = link->settings.aggregatable};
     if (!is_done(protocol->process, niw_configure(&protocol->own_system, link->settings.number, &change).status, "niw_configure")) return;
     link->settings.key = change.key;
 }

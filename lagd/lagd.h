@@ -2,14 +2,24 @@
 #ifndef LAGD_H
 #define LAGD_H
 
+#ifndef _GNU_SOURCE
+#define _GNU_SOURCE
+#endif
+
 #include <errno.h>
+#include <fcntl.h>
+#include <inttypes.h>
 #include <stdbool.h>
 #include <stddef.h>
 #include <stdint.h>
 #include <stdio.h>
 #include <stdlib.h>
+#include <string.h>
+#include <sys/socket.h>
+#include <sys/stat.h>
 #include <syslog.h>
 #include <time.h>
+#include <unistd.h>
 
 #include "counts.h"
 #include "lag.h"
@@ -246,15 +256,18 @@ struct protocol {
 };
 EACH_FILE_OF_PROTOCOL(MAKES)
 
-/* What each part above the protocol knows: data, its planes, and who asks. */
-struct parts {
-    struct process *process;
-    const struct settings *settings;
-    struct ports *ports;
-    struct protocol *protocol;
-    struct device *device;
+/* What each part above the protocol knows: data, its planes, and who asks. These are its own fields, and one that is given as a whole. */
+#define PARTS \
+    struct process *process; \
+    const struct settings *settings; \
+    struct ports *ports; \
+    struct protocol *protocol; \
+    struct device *device; \
     struct plane *plane;
+struct parts {
+    PARTS
 };
+#define KNOWS_PARTS union { struct parts parts; struct { PARTS }; };
 
 /* Room for what a file keeps, of zeros. There is no daemon without it. */
 static inline void *make_room(size_t octets) {

@@ -1,17 +1,8 @@
 /* Lines for whoever reads them, printed only where that cannot stop the daemon. */
-#define _GNU_SOURCE
-#include <errno.h>
-#include <fcntl.h>
-#include <inttypes.h>
+#include "lagd.h"
+
 #include <poll.h>
 #include <stdarg.h>
-#include <stdio.h>
-#include <stdlib.h>
-#include <string.h>
-#include <sys/stat.h>
-#include <unistd.h>
-
-#include "lagd.h"
 
 /* A pipe with room has at least so many octets of it. */
 #define LONGEST_LINE 512

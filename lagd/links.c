@@ -1,21 +1,13 @@
 /* Interfaces: the lock and the packet socket of each, its carrier, and what is sent there. */
-#define _GNU_SOURCE
-#include <errno.h>
-#include <fcntl.h>
+#include "lagd.h"
+
 #include <linux/if_packet.h>
 #include <linux/pkt_sched.h>
 #include <linux/sockios.h>
 #include <net/ethernet.h>
 #include <net/if.h>
 #include <netinet/in.h>
-#include <stdio.h>
-#include <stdlib.h>
-#include <string.h>
 #include <sys/ioctl.h>
-#include <sys/socket.h>
-#include <unistd.h>
-
-#include "lagd.h"
 
 /* How many ticks a failure is told of, so that a queue that is full now and then is one line. */
 #define TROUBLE_TICKS 50
@@ -28,8 +20,7 @@ static int open_socket(struct process *process, int index) {
     if (opened < 0) return opened;
     (void)setsockopt(opened, SOL_SOCKET, SO_PRIORITY, &(int){TC_PRIO_CONTROL}, sizeof(int)); /* before data */
     (void)setsockopt(opened, SOL_PACKET, PACKET_IGNORE_OUTGOING, &(int){1}, sizeof(int));
-    if (setsockopt(opened, SOL_PACKET, PACKET_AUXDATA, &(int){1}, sizeof(int)) == 0
-        && bind(opened, (struct sockaddr *)&address, sizeof address) == 0
+    if (setsockopt(opened, SOL_PACKET, PACKET_AUXDATA, &(int){1}, sizeof(int)) == 0 && bind(opened, (struct sockaddr *)&address, sizeof address) == 0
         && setsockopt(opened, SOL_PACKET, PACKET_ADD_MEMBERSHIP, &member, sizeof member) == 0)
         return opened;
     close_stored(process->store, "lacp", index, opened);

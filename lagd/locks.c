@@ -1,16 +1,10 @@
 /* Locks of interfaces, so that no two daemons have one, whatever folders they have: a packet socket that takes nothing, bound to the
  * interface with a protocol that no frame has. The kernel lists those of the network namespace, and lets nobody make one who may not
  * make the sockets of a daemon. */
-#define _GNU_SOURCE
-#include <errno.h>
+#include "lagd.h"
+
 #include <linux/if_packet.h>
 #include <netinet/in.h>
-#include <stdio.h>
-#include <sys/socket.h>
-#include <sys/stat.h>
-#include <unistd.h>
-
-#include "lagd.h"
 
 /* Below 0x0600 there are lengths in a frame, and no types; the kernel has no use of its own for this one. */
 #define PROTOCOL 0x05ac

@@ -6,18 +6,13 @@
  *
  * It ticks every 100 ms, carries the control frames of the interfaces, follows what the kernel tells of them, and prints each
  * change of a port in one line. Data frames stay with the kernel, or go by a device of its own (carry). `lagd --help` tells the options. */
-#define _GNU_SOURCE
-#include <errno.h>
-#include <fcntl.h>
+#include "daemon.h"
+
 #include <signal.h>
-#include <string.h>
 #include <sys/epoll.h>
 #include <sys/prctl.h>
 #include <sys/signalfd.h>
 #include <sys/timerfd.h>
-#include <unistd.h>
-
-#include "daemon.h"
 
 /* The most events of a turn. */
 #define MOST_EVENTS TAGS
@@ -136,7 +131,7 @@ static void serve_all_data(struct tap_plane *tap, const struct epoll_event *even
         host |= events[i].data.u32 == HOST;
         if (events[i].data.u32 >= MEMBERS) serve_data(tap, events[i].data.u32);
     }
-    settle_carry(tap->parts.plane);
+    settle_carry(tap->plane);
     if (host) serve_data(tap, HOST);
 }
 
@@ -190,7 +185,7 @@ static int wait_for(struct tap_plane *tap, struct epoll_event *events) {
     if (tap->carry->taken >= MANY && !tap->carry->more_waits) (void)nanosleep(&(struct timespec){0, GATHERS}, NULL);
     tap->carry->taken = 0;
     tap->carry->more_waits = false;
-    return epoll_wait(tap->parts.process->epoll_file, events, MOST_EVENTS, is_cutting(tap) ? 0 : -1);
+    return epoll_wait(tap->process->epoll_file, events, MOST_EVENTS, is_cutting(tap) ? 0 : -1);
 }
 
 /* Waits, and serves what comes. The first signal that ends it, or a refusal of the library, makes it tell the peers; it ends when they

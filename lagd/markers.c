@@ -1,11 +1,8 @@
 /* Marker PDUs that come: which responses are taken, and how many markers are answered. Who can send frames on a link can name any system
  * in them, and any number. The source of a frame and the number of a marker are what a sender has to know that sees nothing of the link. */
-#define _GNU_SOURCE
-#include <inttypes.h>
-#include <net/ethernet.h>
-#include <string.h>
-
 #include "lagd.h"
+
+#include <net/ethernet.h>
 
 /* The milliseconds of a slot. The slots of a second are looked at, and the one that passes, so that no second has more responses. */
 #define SLOT 100

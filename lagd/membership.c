@@ -1,15 +1,11 @@
 /* Ports that come and go while the daemon runs. The system of the library has room for more ports than there are interfaces, so that none negotiates
  * anew: a port that comes takes a free number, and one that goes leaves it free. Its peer is told first: the port is held until its conversations
  * have left it and the peer sends nothing more there, or for a while. */
-#define _GNU_SOURCE
-#include <errno.h>
-#include <net/if_arp.h>
-#include <stdio.h>
-#include <string.h>
-
-#include "netlink.h"
-#include "device.h"
 #include "state.h"
+#include "device.h"
+#include "netlink.h"
+
+#include <net/if_arp.h>
 
 /* For how long a port that goes still answers the markers of its peer, once nothing is on its way any more, in milliseconds. */
 #define LINGERS 1000
@@ -291,8 +287,7 @@ void follow_port(struct protocol *protocol, const struct interface *interface) {
     struct port_settings settings = unset_port();
     struct interface now;
     uint16_t port = 1;
-    if (!protocol->settings->follow || interface->master == 0 || interface->master != tap_index(protocol->device)
-        || interface->type != ARPHRD_ETHER)
+    if (!protocol->settings->follow || interface->master == 0 || interface->master != tap_index(protocol->device) || interface->type != ARPHRD_ETHER)
         return;
     if (!ask_interface(interface->index, NULL, &now) || now.master != interface->master) return;
     while (port <= protocol->ports->slots && protocol->ports->links[port - 1].used) port++;

@@ -1,8 +1,4 @@
 /* Counts and states in the text form of Prometheus. */
-#define _GNU_SOURCE
-#include <inttypes.h>
-#include <stdio.h>
-
 #include "control.h"
 
 void add_head(struct report *report, const char *name, const char *kind, const char *help) {
@@ -28,12 +24,12 @@ void add_value_of(struct report *report, const char *name, const char *bundle, u
 
 void add_bundle_value(struct control *control, const char *name, const char *kind, const char *help, uint64_t value) {
     add_head(control->report, name, kind, help);
-    add_value_of(control->report, name, control->parts.settings->name, value);
+    add_value_of(control->report, name, control->settings->name, value);
 }
 
 void add_port_value(struct control *control, const char *name, const struct link *link, uint64_t value) {
     add(control->report, "lagd_%s{", name);
-    add_label(control->report, "bundle", control->parts.settings->name);
+    add_label(control->report, "bundle", control->settings->name);
     add(control->report, ",");
     add_label(control->report, "interface", link->name);
     add(control->report, ",port=\"%u\"} %" PRIu64 "\n", link->settings.number, value);
@@ -43,14 +39,14 @@ static void add_bundle_states(struct control *control) {
     add_head(control->report, "bundle_state", "gauge", "1 for the state of the bundle, 0 for the others");
     for (unsigned state = 0; state < BUNDLE_STATES; state++) {
         add(control->report, "lagd_bundle_state{");
-        add_label(control->report, "bundle", control->parts.settings->name);
-        add(control->report, ",state=\"%s\"} %u\n", bundle_state_text(state), state == control->parts.protocol->bundle.state);
+        add_label(control->report, "bundle", control->settings->name);
+        add(control->report, ",state=\"%s\"} %u\n", bundle_state_text(state), state == control->protocol->bundle.state);
     }
     add_head(control->report, "bundle_state_changes_total", "counter", "how often the bundle came to be so");
     for (unsigned state = 0; state < BUNDLE_STATES; state++) {
         add(control->report, "lagd_bundle_state_changes_total{");
-        add_label(control->report, "bundle", control->parts.settings->name);
-        add(control->report, ",state=\"%s\"} %" PRIu64 "\n", bundle_state_text(state), control->parts.protocol->bundle.counts[state]);
+        add_label(control->report, "bundle", control->settings->name);
+        add(control->report, ",state=\"%s\"} %" PRIu64 "\n", bundle_state_text(state), control->protocol->bundle.counts[state]);
     }
 }
 
@@ -109,24 +105,24 @@ static const struct {
 /* All of it. */
 void write_metrics(struct control *control) {
     add_bundle_states(control);
-    add_bundle_value(control, "bundle_links", "gauge", "how many links the bundle has", control->parts.protocol->bundle.links);
-    add_bundle_value(control, "bundle_links_carrying", "gauge", "how many of them carry", control->parts.protocol->bundle.carrying);
+    add_bundle_value(control, "bundle_links", "gauge", "how many links the bundle has", control->protocol->bundle.links);
+    add_bundle_value(control, "bundle_links_carrying", "gauge", "how many of them carry", control->protocol->bundle.carrying);
     add_bundle_value(control, "bundle_links_away", "gauge", "how many count as up by delay-down, while their carriers are away",
-        count_away(control->parts.ports));
-    add_bundle_value(control, "bundle_min_links", "gauge", "with fewer the bundle is down", control->parts.settings->min_links);
+        count_away(control->ports));
+    add_bundle_value(control, "bundle_min_links", "gauge", "with fewer the bundle is down", control->settings->min_links);
     add_bundle_value(control, "bundle_last_change_timestamp_seconds", "gauge", "when the state of the bundle changed last",
-        (uint64_t)control->parts.protocol->bundle.changed_at);
+        (uint64_t)control->protocol->bundle.changed_at);
     for (size_t gauge = 0; gauge < sizeof GAUGES / sizeof *GAUGES; gauge++) {
         add_head(control->report, GAUGES[gauge].name, "gauge", GAUGES[gauge].help);
-        EACH_LINK(link, control->parts.ports)
-            if (link->used) add_port_value(control, GAUGES[gauge].name, link, GAUGES[gauge].value(control->parts.protocol, link));
+        EACH_LINK(link, control->ports)
+            if (link->used) add_port_value(control, GAUGES[gauge].name, link, GAUGES[gauge].value(control->protocol, link));
     }
     for (unsigned count = 0; count < ALL_COUNTS; count++) {
         char name[64];
         snprintf(name, sizeof name, "port_%s_total", count_name(count));
         add_head(control->report, name, "counter", count_help(count));
-        EACH_LINK(link, control->parts.ports)
+        EACH_LINK(link, control->ports)
             if (link->used) add_port_value(control, name, link, count_at(link, count));
     }
-    CALL(control->parts.plane->carrying->show, control, AS_METRICS);
+    CALL(control->plane->carrying->show, control, AS_METRICS);
 }

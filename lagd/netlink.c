@@ -1,13 +1,8 @@
 /* Questions to the kernel by netlink, and the attributes of its answers. libmnl has the layout of messages; this file has what the daemon
  * asks of them. */
-#define _GNU_SOURCE
-#include <errno.h>
-#include <linux/rtnetlink.h>
-#include <string.h>
-#include <sys/socket.h>
-
 #include "netlink.h"
-#include "lagd.h"
+
+#include <linux/rtnetlink.h>
 
 /* The octets of a part of an answer: the kernel makes none longer. */
 #define PART_ROOM 65536

@@ -2,9 +2,9 @@
 #ifndef LAGD_NETLINK_H
 #define LAGD_NETLINK_H
 
-#include <libmnl/libmnl.h>
-
 #include "lagd.h"
+
+#include <libmnl/libmnl.h>
 
 /* A message to the kernel, of which a program has most octets. */
 union message {

@@ -1,14 +1,9 @@
 /* The command line. Its options have the names of the keys of a bundle. */
-#define _GNU_SOURCE
-#include <getopt.h>
-#include <stdio.h>
-#include <stdlib.h>
-#include <string.h>
-
 #include "control.h"
 
-static const char HELP_BEGINS[] =
-    "lagd: Link Aggregation Control Protocol for interfaces of Linux\n"
+#include <getopt.h>
+
+static const char HELP_BEGINS[] = "lagd: Link Aggregation Control Protocol for interfaces of Linux\n"
     "\n"
     "  lagd --config FILE [--folder FOLDER]\n"
     "  lagd --check FILE\n"
@@ -20,8 +15,7 @@ static const char HELP_BEGINS[] =
     "and SIGHUP tell the peers and end it; with --config SIGHUP reads the file again. SIGUSR1 has the next lagd go on from here.\n"
     "\n";
 
-static const char HELP_ENDS[] =
-    "  -h, --help      -V, --version\n"
+static const char HELP_ENDS[] = "  -h, --help      -V, --version\n"
     "\n"
     "Words of an interface stand over the options: %s.\n"
     "Status: 0; 1: the kernel or another lagd is in the way, or none answers; 2: a wrong word or file.\n";
@@ -88,8 +82,7 @@ static void make_rows(struct options_private *own) {
     for (size_t i = 0; i < sizeof BEFORE_KEYS / sizeof *BEFORE_KEYS; i++) own->rows[own->row_count++] = BEFORE_KEYS[i];
     for (size_t i = 0; bundle_key(i); i++)
         if (bundle_key(i)->letter)
-            own->rows[own->row_count++] = (struct option_text){bundle_key(i)->letter, bundle_key(i)->name, bundle_key(i)->value,
-                bundle_key(i)->help};
+            own->rows[own->row_count++] = (struct option_text){bundle_key(i)->letter, bundle_key(i)->name, bundle_key(i)->value, bundle_key(i)->help};
     for (size_t i = 0; i < sizeof BEHIND_KEYS / sizeof *BEHIND_KEYS; i++) own->rows[own->row_count++] = BEHIND_KEYS[i];
 }
 
@@ -114,7 +107,7 @@ static void print_help(struct control *control) {
     fputs(HELP_BEGINS, stdout);
     for (size_t i = 0; i < own->row_count; i++)
         if (own->rows[i].help) print_row(&own->rows[i]);
-    printf(HELP_ENDS, list_words(&control->parts.process->words, port_word, PORT_WORD_COUNT, ", ", ""));
+    printf(HELP_ENDS, list_words(&control->process->words, port_word, PORT_WORD_COUNT, ", ", ""));
 }
 
 /* A command line is one line. */
@@ -136,7 +129,7 @@ static void apply_option(struct control *control, int letter, const char *text) 
     while (row->letter != letter) row++;
     text = row->value ? text : "yes";
     own->has_words = true;
-    expect(set_bundle(&control->parts.process->words, &own->options.settings, row->name, text, THE_LINE), row->name, text);
+    expect(set_bundle(&control->process->words, &own->options.settings, row->name, text, THE_LINE), row->name, text);
 }
 
 static void choose(struct options_private *own, enum action action) {
@@ -224,7 +217,7 @@ static void read_link(struct control *control, char *text) {
     char *rest = text[length] ? text + length + 1 : NULL;
     expect(add_port(&own->options.settings, text, length), NULL, text);
     for (char *word; (word = strsep(&rest, ","));)
-        expect(read_port_word(&control->parts.process->words, word, &own->options.settings.ports[own->options.settings.port_count - 1]), NULL, word);
+        expect(read_port_word(&control->process->words, word, &own->options.settings.ports[own->options.settings.port_count - 1]), NULL, word);
 }
 
 /* KEY PRIORITY,MAC INTERFACE[:WORD,..].. */
@@ -232,8 +225,8 @@ static void read_words(struct control *control, int count, char **words) {
     struct settings *given = &control->options->options.settings;
     struct lack lack;
     if (count < 3) stop(WRONG_WORD, "usage", "lagd [OPTION..] KEY PRIORITY,MAC INTERFACE.., or lagd --config FILE; lagd --help tells more");
-    expect(set_bundle(&control->parts.process->words, given, "key", words[0], THE_LINE), "KEY", words[0]);
-    expect(set_bundle(&control->parts.process->words, given, "system", words[1], THE_LINE), "system", words[1]);
+    expect(set_bundle(&control->process->words, given, "key", words[0], THE_LINE), "KEY", words[0]);
+    expect(set_bundle(&control->process->words, given, "system", words[1], THE_LINE), "system", words[1]);
     for (int i = 2; i < count; i++) read_link(control, words[i]);
     lack = lack_of(given);
     expect(lack.expected, NULL, lack.key);
@@ -265,7 +258,7 @@ struct options *read_options(struct control *control, int argc, char **argv) {
         stop(WRONG_WORD, "usage", "lagd --status --json, or lagd --watch --json");
     if ((own->options.action != RUN || own->options.file) && (optind < argc || own->has_words))
         stop(WRONG_WORD, "usage", "a file has all of its bundle, and a question has none of it; lagd --help tells more");
-    if (own->options.file && !read_file(control->parts.process, own->options.file, &own->options.settings)) exit(WRONG_WORD);
+    if (own->options.file && !read_file(control->process, own->options.file, &own->options.settings)) exit(WRONG_WORD);
     if (own->options.action == RUN && !own->options.file) read_words(control, argc - optind, argv + optind);
     return &own->options;
 }

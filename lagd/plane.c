@@ -1,5 +1,4 @@
 /* The tables of what carries the data, and the switch that chooses them. */
-#define _GNU_SOURCE
 #include "control.h"
 
 static const struct carrying NO_DEVICE = {0};

@@ -1,9 +1,4 @@
 /* What is told of ports: how each one is, and a line for each change. */
-#define _GNU_SOURCE
-#include <errno.h>
-#include <stdio.h>
-#include <string.h>
-
 #include "lagd.h"
 
 /* The status of a port, with what the library does not know of it. */
@@ -97,8 +92,7 @@ static bool print_facts(struct protocol *protocol, const struct link *link, cons
     char whose[96] = "no partner", system[32], trouble[128];
     int level = (facts->status == NIW_PORT_STATUS_DISTRIBUTING ? LOG_NOTICE : LOG_WARNING) | (watched ? WATCHED : 0) | ABOUT_PORT;
     if (!facts->defaulted)
-        snprintf(whose, sizeof whose, "partner %s key %u port %u", system_text(&facts->partner, system), facts->partner_key,
-            facts->partner_port);
+        snprintf(whose, sizeof whose, "partner %s key %u port %u", system_text(&facts->partner, system), facts->partner_key, facts->partner_port);
     return say(protocol->process, level, "port %u %s: %s, aggregator %u, %s%s", link->settings.number, link->name, status_text(facts->status),
         facts->aggregator, whose, trouble_text(protocol->ports, link, trouble, sizeof trouble));
 }

@@ -1,7 +1,4 @@
 /* A file that is read again: what the library can change is changed, and of the rest a line says that it needs a restart. */
-#define _GNU_SOURCE
-#include <string.h>
-
 #include "lagd.h"
 
 /* What cannot be changed without a restart, or NULL. */

@@ -1,9 +1,7 @@
 /* What is written for whoever asks, and what the library tells of a port. */
-#define _GNU_SOURCE
-#include <stdarg.h>
-#include <stdio.h>
-
 #include "control.h"
+
+#include <stdarg.h>
 
 /* Adds to the report, as far as there is room. */
 void add(struct report *report, const char *format, ...) {
@@ -12,8 +10,7 @@ void add(struct report *report, const char *format, ...) {
     va_start(given, format);
     length = vsnprintf(report->text + report->length, sizeof report->text - report->length, format, given);
     va_end(given);
-    report->length += (size_t)length < sizeof report->text - report->length ? (size_t)length
-        : sizeof report->text - report->length - 1;
+    report->length += (size_t)length < sizeof report->text - report->length ? (size_t)length : sizeof report->text - report->length - 1;
 }
 
 /* Adds a string of JSON. The kernel allows any octets in a name. */

@@ -1,7 +1,4 @@
 /* How a daemon goes on where the last one was: the peer hears of no other state, and each conversation stays on its link. */
-#define _GNU_SOURCE
-#include <string.h>
-
 #include "tap/tap.h"
 #include "team/team.h"
 
@@ -72,10 +69,10 @@ static void set_other_links(struct protocol *protocol, const bool *back) {
 
 /* What were members, and are no more, get what they had. */
 void release_former_members(struct plane *plane) {
-    const struct inherited *inherited = plane->carry->parts.process->inherited;
+    const struct inherited *inherited = plane->carry->process->inherited;
     for (const struct inherited_link *was = inherited->links; was < inherited->links + inherited->link_count; was++) {
         bool stays = false;
-        EACH_LINK(link, plane->carry->parts.ports) stays = stays || (link->socket >= 0 && link->index == was->index);
+        EACH_LINK(link, plane->carry->ports) stays = stays || (link->socket >= 0 && link->index == was->index);
         if (stays) continue;
         leave_team_port(plane->team, was->index);
         put_back(plane->tap, was->index, was->mac);
@@ -125,7 +122,7 @@ unsigned resume(struct protocol *protocol) {
 
 /* A conversation stays on the interface that it was on. */
 static void stay(struct carry *carry, uint16_t number, uint16_t port) {
-    if (niw_adopt(&carry->parts.protocol->own_system, carry->active, number, port) != NIW_OK) return;
+    if (niw_adopt(&carry->protocol->own_system, carry->active, number, port) != NIW_OK) return;
     carry->conversations[number].home = carry->active;
     carry->conversations[number].port = port;
     carry->conversations[number].last = carry->time;
@@ -133,10 +130,9 @@ static void stay(struct carry *carry, uint16_t number, uint16_t port) {
 
 /* The port of an interface that carries in the active aggregator, or 0. */
 static uint16_t port_on(struct carry *carry, int index) {
-    EACH_LINK(link, carry->parts.ports)
-        if (index != 0 && link->socket >= 0 && link->index == index
-            && link->view.aggregator == carry->active
-            && is_distributing(carry->parts.protocol, link->settings.number))
+    EACH_LINK(link, carry->ports)
+        if (index != 0 && link->socket >= 0 && link->index == index && link->view.aggregator == carry->active
+            && is_distributing(carry->protocol, link->settings.number))
             return link->settings.number;
     return 0;
 }
@@ -145,12 +141,12 @@ static uint16_t port_on(struct carry *carry, int index) {
 void resume_conversations(struct plane *plane, bool goes_on) {
     struct carry *carry = plane->carry;
     if (goes_on) {
-        go_on_in(carry, carry->parts.process->inherited->bundle.aggregator);
-        go_on_answering(carry, (enum answering)carry->parts.process->inherited->answering);
+        go_on_in(carry, carry->process->inherited->bundle.aggregator);
+        go_on_answering(carry, (enum answering)carry->process->inherited->answering);
     }
     for (uint16_t number = 0; goes_on && number < CONVERSATIONS; number++) {
         int member = ASK(plane->carrying->member_of, 0, plane, number);
-        uint16_t port = port_on(carry, member != 0 ? member : carry->parts.process->inherited->members[number]);
+        uint16_t port = port_on(carry, member != 0 ? member : carry->process->inherited->members[number]);
         if (port != 0) stay(carry, number, port);
     }
     CALL(plane->passing->resume, plane->tap);

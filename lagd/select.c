@@ -1,7 +1,7 @@
 /* Which aggregator carries: what each is worth by `select`, and that of a peer which sends in another one alone. */
-#include <linux/ethtool.h>
-
 #include "lagd.h"
+
+#include <linux/ethtool.h>
 
 /* For how long the peer may send in another aggregator alone, in milliseconds of ticks in which a frame came there. */
 #define PATIENCE 3000

@@ -1,13 +1,11 @@
 /* The manager of services, if one started the daemon: it is told when the daemon is ready, what it does, and that it lives. */
-#define _GNU_SOURCE
 #include "lagd.h"
 
 #ifdef HAVE_SYSTEMD
 #include <systemd/sd-daemon.h>
 
 static void notify_bundle(const struct bundle *bundle, const char *head) {
-    (void)sd_notifyf(0, "%sSTATUS=%s, %u of %u links carry", head, bundle_state_text(bundle->state), bundle->carrying,
-        bundle->links);
+    (void)sd_notifyf(0, "%sSTATUS=%s, %u of %u links carry", head, bundle_state_text(bundle->state), bundle->carrying, bundle->links);
 }
 
 /* The interfaces that are there were taken up, or the file was read again. */

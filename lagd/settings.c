@@ -1,15 +1,8 @@
 /* The keys of a bundle and of a port, and their values. The command line and the file have the same ones. */
-#define _GNU_SOURCE
+#include "lagd.h"
 #include "settings.h"
 
 #include <ctype.h>
-#include <stdio.h>
-#include <stdlib.h>
-#include <string.h>
-#include <sys/stat.h>
-#include <unistd.h>
-
-#include "lagd.h"
 
 #define EACH_KEY_ONCE "each key once"
 #define A_NUMBER "a number from 0 to 65535"

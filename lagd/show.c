@@ -1,8 +1,4 @@
 /* The status as text, laid out as Open vSwitch lays out `ovs-appctl lacp/show`. */
-#define _GNU_SOURCE
-#include <inttypes.h>
-#include <string.h>
-
 #include "control.h"
 
 static void add_time(struct report *report, const char *name, time_t time) {
@@ -34,22 +30,21 @@ static void add_selection(struct report *report, struct protocol *protocol) {
 }
 
 static void add_bundle(struct control *control) {
-    const struct settings *settings = control->parts.settings;
-    const struct bundle *bundle = &control->parts.protocol->bundle;
+    const struct settings *settings = control->settings;
+    const struct bundle *bundle = &control->protocol->bundle;
     char mac[32];
     add(control->report, "---- %s ----\n", settings->name);
     add(control->report, "  status: %s, %u of %u links carry", bundle_state_text(bundle->state), bundle->carrying, bundle->links);
-    EACH_LINK(link, control->parts.ports)
+    EACH_LINK(link, control->ports)
         if (link->away) add(control->report, ", but the carrier of %s is away", link->name);
     add(control->report, "\n");
     add(control->report, "  sys_id: %s\n  sys_priority: %u\n", mac_text(settings->config.mac, mac), settings->config.priority);
     add(control->report, "  aggregation key: %u\n  lacp_time: %s\n", settings->key, settings->short_timeout ? "fast" : "slow");
-    add(control->report, "  aggregator: %u\n  min_links: %u\n  max_links: %u\n", bundle->aggregator, settings->min_links,
-        settings->config.max_links);
-    add_selection(control->report, control->parts.protocol);
+    add(control->report, "  aggregator: %u\n  min_links: %u\n  max_links: %u\n", bundle->aggregator, settings->min_links, settings->config.max_links);
+    add_selection(control->report, control->protocol);
     add_policy(control->report, settings);
     add_time(control->report, "last change", bundle->changed_at);
-    add(control->report, "  uptime: %" PRIu64 " s, lagd %s\n", seconds_passed(control->parts.protocol->system), VERSION);
+    add(control->report, "  uptime: %" PRIu64 " s, lagd %s\n", seconds_passed(control->protocol->system), VERSION);
 }
 
 /* One end of a port. */
@@ -66,7 +61,7 @@ static void add_side(struct report *report, const char *whose, const uint8_t *ma
 static void add_strangers(struct control *control, const struct link *link) {
     char system[32], source[32];
     if (link->pinned) add(control->report, "  pinned to: %s\n", system_text(&link->partner, system));
-    if (link->twin > 0) add(control->report, "  partner port: that of %s, too\n", control->parts.ports->links[link->twin - 1].name);
+    if (link->twin > 0) add(control->report, "  partner port: that of %s, too\n", control->ports->links[link->twin - 1].name);
     if (!link->strangers.seen) return;
     add(control->report, "  other system: %s from %s\n", system_text(&link->strangers.system, system), mac_text(link->strangers.source, source));
 }
@@ -84,16 +79,14 @@ static void add_member(struct control *control, const struct link *link) {
     const struct niw_actor *own = &view.own;
     const struct niw_info *partner = &view.partner;
     char mac[32], speed[40];
-    if (!view_of(control->parts.protocol, link, &view)) return;
+    if (!view_of(control->protocol, link, &view)) return;
     add(control->report, "\nmember: %s: %s, %s\n", link->name, niw_receive_state_text((uint32_t)view.receive),
         niw_mux_state_text((uint32_t)view.mux));
-    add(control->report, "  status: %s\n  may_enable: %s\n", status_text(view.facts.status),
-        carries(control->parts.protocol, link) ? "true" : "false");
+    add(control->report, "  status: %s\n  may_enable: %s\n", status_text(view.facts.status), carries(control->protocol, link) ? "true" : "false");
     if (link->trouble) add(control->report, "  trouble: %s\n", strerror(link->trouble));
     add(control->report, "  link: %s", link_name(link));
     if (link->away)
-        add(control->report, " for %" PRIu64 " of %u ms, while it counts as up", milliseconds() - link->carried_at,
-            control->parts.settings->delay_down);
+        add(control->report, " for %" PRIu64 " of %u ms, while it counts as up", milliseconds() - link->carried_at, control->settings->delay_down);
     add(control->report, "\n  address: %s\n", mac_text(link->mac, mac));
     add(control->report, "  port_id: %u\n  port_priority: %u\n", own->port, own->port_priority);
     add(control->report, "  aggregator: %u\n", view.facts.aggregator);
@@ -107,25 +100,25 @@ static void add_member(struct control *control, const struct link *link) {
     add_side(control->report, "partner", partner->system_mac,
         (unsigned[]){partner->system_priority, partner->port, partner->port_priority, partner->key}, partner->state);
     add_counts(control->report, link);
-    CALL(control->parts.plane->carrying->show_member, control, link, AS_TEXT);
+    CALL(control->plane->carrying->show_member, control, link, AS_TEXT);
 }
 
 /* The whole status. */
 void write_text(struct control *control) {
     add_bundle(control);
-    CALL(control->parts.plane->carrying->show, control, AS_TEXT);
-    EACH_LINK(link, control->parts.ports)
+    CALL(control->plane->carrying->show, control, AS_TEXT);
+    EACH_LINK(link, control->ports)
         if (link->used) add_member(control, link);
 }
 
 /* The settings that hold now, as a file has them: without ports that leave, and those that the device alone has. */
 void write_config(struct control *control) {
     char text[LINE_ROOM];
-    add(control->report, "# %s\n[Bundle]\n", control->parts.settings->name);
-    for (size_t i = 0; write_bundle_key(control->parts.settings, i, text); i++)
+    add(control->report, "# %s\n[Bundle]\n", control->settings->name);
+    for (size_t i = 0; write_bundle_key(control->settings, i, text); i++)
         if (text[0]) add(control->report, "%s\n", text);
-    EACH_LINK(link, control->parts.ports) {
-        const struct port_settings *port = &control->parts.settings->ports[link - control->parts.ports->links];
+    EACH_LINK(link, control->ports) {
+        const struct port_settings *port = &control->settings->ports[link - control->ports->links];
         if (!link->used || link->leaving || link->followed) continue;
         add(control->report, "\n[Port %s]\n", port->name);
         for (size_t i = 0; write_port_key(port, i, text); i++)

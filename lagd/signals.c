@@ -1,11 +1,8 @@
 /* Signals: which ones end the daemon, after its peers are told, and which do not. */
-#define _GNU_SOURCE
-#include <errno.h>
-#include <signal.h>
-#include <string.h>
-#include <sys/signalfd.h>
-
 #include "lagd.h"
+
+#include <signal.h>
+#include <sys/signalfd.h>
 
 /* Signals that would end the program at once, but for those of a fault in it. */
 static const int ENDS[] = {SIGHUP, SIGINT, SIGQUIT, SIGALRM, SIGVTALRM, SIGPROF, SIGIO, SIGPWR, SIGXCPU, SIGSTKFLT};

@@ -1,17 +1,9 @@
 /* The state that a daemon leaves to the next one: a file beside the status socket, written each second and at the end. A line is added to it
  * before the first frame of a conversation goes on another link. It goes with each stop of which the peers are told. With state-dir a daemon
  * that leaves writes a copy, for the first one after a reboot: that knows interfaces by their names, and times by the clock on the wall. */
-#define _GNU_SOURCE
-#include <errno.h>
-#include <fcntl.h>
-#include <inttypes.h>
-#include <net/if.h>
-#include <stdio.h>
-#include <string.h>
-#include <sys/stat.h>
-#include <unistd.h>
-
 #include "team/team.h"
+
+#include <net/if.h>
 
 /* It rises with each change of the file, and of what programs of the kernel share with the daemon. */
 #define FORM_VERSION 3
@@ -101,30 +93,29 @@ static void write_conversations(struct state *own, FILE *file) {
     for (uint16_t number = 0; number < CONVERSATIONS; number++) {
         struct niw_assignment assigned;
         uint16_t home = own->carry->conversations[number].home;
-        if (home == 0 || !ask_state(own->carry->parts.protocol, home, number, &assigned) || assigned.what == NIW_CONVERSATION_FREE) continue;
-        if (assigned.port == 0 || assigned.port > own->carry->parts.ports->count) continue;
-        own->members[number] = own->carry->parts.ports->links[assigned.port - 1].index;
+        if (home == 0 || !ask_state(own->carry->protocol, home, number, &assigned) || assigned.what == NIW_CONVERSATION_FREE) continue;
+        if (assigned.port == 0 || assigned.port > own->carry->ports->count) continue;
+        own->members[number] = own->carry->ports->links[assigned.port - 1].index;
         fprintf(file, "on %u %d\n", number, own->members[number]);
     }
 }
 
 static void write_state(struct state *own, FILE *file) {
-    struct plane *plane = own->carry->parts.plane;
-    struct niw_marker marker = niw_next_marker(&own->carry->parts.protocol->own_system);
+    struct plane *plane = own->carry->plane;
+    struct niw_marker marker = niw_next_marker(&own->carry->protocol->own_system);
     char boot[BOOT_ROOM], room[WAY_ROOM];
-    fprintf(file, "lagd %u\nboot %s\nway %s\n", FORM_VERSION, boot_id(boot), way(own->carry->parts.settings, room));
+    fprintf(file, "lagd %u\nboot %s\nway %s\n", FORM_VERSION, boot_id(boot), way(own->carry->settings, room));
     fprintf(file, "space %" PRIu64 "\nwritten %" PRIu64 "\n", own->space, boottime());
     if (own->kept_folder >= 0) fprintf(file, "wall %" PRIu64 "\n", wall_time());
-    fprintf(file, "marker %" PRIu32 "\n", is_done(own->carry->parts.process, marker.status, "niw_next_marker") && marker.left ? marker.id : 0);
-    fprintf(file, "bundle %u %u %lld\n", own->carry->parts.protocol->bundle.state, own->carry->parts.protocol->bundle.aggregator,
-        (long long)own->carry->parts.protocol->bundle.changed_at);
-    if (is_following(own->carry->parts.protocol->selection)) fputs("follows\n", file);
-    if (tap_index(own->carry->parts.device) != 0)
-        fprintf(file, "tap %d %d %" PRIu32 " %u\n", tap_index(own->carry->parts.device),
-            ASK(plane->carrying->has_made_device, false, plane),
-            mtu_of_administrator(own->carry->parts.device), peer_answering(own->carry->probe));
-    write_ports(own->carry->parts.ports, file);
-    EACH_LINK(link, own->carry->parts.ports)
+    fprintf(file, "marker %" PRIu32 "\n", is_done(own->carry->process, marker.status, "niw_next_marker") && marker.left ? marker.id : 0);
+    fprintf(file, "bundle %u %u %lld\n", own->carry->protocol->bundle.state, own->carry->protocol->bundle.aggregator,
+        (long long)own->carry->protocol->bundle.changed_at);
+    if (is_following(own->carry->protocol->selection)) fputs("follows\n", file);
+    if (tap_index(own->carry->device) != 0)
+        fprintf(file, "tap %d %d %" PRIu32 " %u\n", tap_index(own->carry->device), ASK(plane->carrying->has_made_device, false, plane),
+            mtu_of_administrator(own->carry->device), peer_answering(own->carry->probe));
+    write_ports(own->carry->ports, file);
+    EACH_LINK(link, own->carry->ports)
         if (link->socket >= 0) write_link(file, link);
     memset(own->members, 0, sizeof own->members);
     write_conversations(own, file);
@@ -152,7 +143,7 @@ static int replace_file(struct state *own, int folder, const char *name, bool la
     }
     write_state(own, file);
     kept = fflush(file) == 0 && !ferror(file) && (!lasts || fsync(fd) == 0) ? fcntl(fd, F_DUPFD_CLOEXEC, 0) : -1;
-    if (fclose(file) == 0 && kept >= 0 && !own->carry->parts.process->broken && renameat(folder, new_name, folder, name) == 0) return kept;
+    if (fclose(file) == 0 && kept >= 0 && !own->carry->process->broken && renameat(folder, new_name, folder, name) == 0) return kept;
     fd = last_fault();
     if (kept >= 0) close(kept);
     (void)unlinkat(folder, new_name, 0);
@@ -162,15 +153,15 @@ static int replace_file(struct state *own, int folder, const char *name, bool la
 /* It could not be written: there is none. */
 static void lose_file(struct state *own, int fault) {
     if (!own->failed)
-        (void)say(own->carry->parts.process, LOG_WARNING | ABOUT_HANDOVER, "its state cannot be kept, so the next daemon starts anew: %s",
+        (void)say(own->carry->process, LOG_WARNING | ABOUT_HANDOVER, "its state cannot be kept, so the next daemon starts anew: %s",
             strerror(-fault));
     own->failed = true;
-    (void)unlinkat(own->carry->parts.process->folder, own->name, 0);
+    (void)unlinkat(own->carry->process->folder, own->name, 0);
 }
 
 /* The next frame of a conversation goes on this port: a daemon that goes on from here has to know. */
 void keep_port(struct state *own, uint16_t number, uint16_t port) {
-    int index = own->carry->parts.ports->links[port - 1].index;
+    int index = own->carry->ports->links[port - 1].index;
     char line[32];
     int length;
     if (own->file < 0 || own->members[number] == index) return;
@@ -188,7 +179,7 @@ static void remove_state(struct state *own, int folder, const char *name) {
     if (emptied >= 0)
         close(emptied);
     else
-        (void)say(own->carry->parts.process, LOG_ERR | ABOUT_HANDOVER,
+        (void)say(own->carry->process, LOG_ERR | ABOUT_HANDOVER,
             "its state cannot be removed: %s: remove %s, or start no daemon for as long as a partner is waited for", strerror(errno), name);
 }
 
@@ -199,15 +190,15 @@ static void save_copy(struct state *own, bool leaves) {
     if (copy >= 0)
         close(copy);
     else if (leaves)
-        (void)say(own->carry->parts.process, LOG_WARNING | ABOUT_HANDOVER, "its state cannot be kept in %s, so a start after a reboot begins anew: %s",
-            own->carry->parts.settings->state_dir, strerror(-copy));
+        (void)say(own->carry->process, LOG_WARNING | ABOUT_HANDOVER, "its state cannot be kept in %s, so a start after a reboot begins anew: %s",
+            own->carry->settings->state_dir, strerror(-copy));
     if (copy < 0 && own->has_copy) remove_state(own, own->kept_folder, own->kept_name);
     own->has_copy = copy >= 0;
 }
 
 /* Writes the state; answers whether it did. Where that fails there is none. */
 bool save_state(struct state *own, bool leaves) {
-    struct process *process = own->carry->parts.process;
+    struct process *process = own->carry->process;
     int file;
     if (own->over || process->broken || !process->has_started) return false;
     file = replace_file(own, process->folder, own->name, false);
@@ -222,7 +213,7 @@ bool save_state(struct state *own, bool leaves) {
 void end_state(struct state *own) {
     own->over = true;
     keep_file(own, -1);
-    remove_state(own, own->carry->parts.process->folder, own->name);
+    remove_state(own, own->carry->process->folder, own->name);
     if (own->kept_folder >= 0) remove_state(own, own->kept_folder, own->kept_name);
 }
 
@@ -285,8 +276,7 @@ static bool read_bundle(struct inherited *inherited, FILE *file) {
     long long changed;
     if (fscanf(file, "%u %u %lld", &state, &aggregator, &changed) != 3 || state >= BUNDLE_STATES || aggregator > NIW_MOST_PORTS)
         return false;
-    inherited->bundle = (struct bundle){.state = (enum bundle_state)state, .aggregator = (uint16_t)aggregator,
-        .changed_at = (time_t)changed};
+    inherited->bundle = (struct bundle){.state = (enum bundle_state)state, .aggregator = (uint16_t)aggregator, .changed_at = (time_t)changed};
     return true;
 }
 
@@ -303,8 +293,7 @@ static bool read_rest(struct inherited *inherited, FILE *file) {
         if (strcmp(word, "bundle") == 0) read = read_bundle(inherited, file);
         if (strcmp(word, "follows") == 0) read = inherited->follows = true;
         if (strcmp(word, "tap") == 0)
-            read = fscanf(file, "%d %d %" SCNu32 " %u", &inherited->tap, &inherited->persists, &inherited->mtu,
-                &inherited->answering) == 4
+            read = fscanf(file, "%d %d %" SCNu32 " %u", &inherited->tap, &inherited->persists, &inherited->mtu, &inherited->answering) == 4
                 && inherited->answering <= MUTE;
         if (strcmp(word, "port") == 0) read = read_port_number(inherited, file);
         if (strcmp(word, "link") == 0) read = read_link_line(inherited, file);
@@ -317,7 +306,7 @@ static bool read_rest(struct inherited *inherited, FILE *file) {
 /* By other settings nothing goes on: what stays to be done is to put back what the last daemon changed. It has a line once these interfaces
  * are found. */
 static void keep_interfaces(struct state *own, bool team) {
-    struct inherited *inherited = own->carry->parts.process->inherited;
+    struct inherited *inherited = own->carry->process->inherited;
     inherited->others = true;
     if (team)
         leave_team(own->team, inherited->tap, inherited->persists);
@@ -362,7 +351,7 @@ static const char *bring_over(struct inherited *inherited) {
 
 /* Reads a state; answers NULL, or why it counts for nothing. In another network namespace its numbers of interfaces are those of others. */
 static const char *read_state(struct state *own, FILE *file, bool is_kept) {
-    struct inherited *inherited = own->carry->parts.process->inherited;
+    struct inherited *inherited = own->carry->process->inherited;
     unsigned version;
     char boot[BOOT_ROOM], now[BOOT_ROOM], given[WAY_ROOM], room[WAY_ROOM];
     bool is_same_way;
@@ -371,7 +360,7 @@ static const char *read_state(struct state *own, FILE *file, bool is_kept) {
     if (fscanf(file, " boot %63s way %95s", boot, given) != 2) return "it is cut off";
     if (!is_kept && strcmp(boot, boot_id(now)) != 0) return "it is of another boot";
     if (!read_rest(inherited, file)) return "it is cut off, or wrong";
-    is_same_way = strcmp(given, way(own->carry->parts.settings, room)) == 0;
+    is_same_way = strcmp(given, way(own->carry->settings, room)) == 0;
     if (is_kept) return is_same_way ? bring_over(inherited) : "it belongs to other settings";
     if (inherited->space != 0 && inherited->space != own->space) return "it is of another network namespace";
     read_changes(inherited, file);
@@ -393,18 +382,18 @@ static FILE *open_state(int folder, const char *name) {
 
 /* Opens state-dir. A bundle goes on without the copy. */
 static void open_kept_folder(struct state *own) {
-    const char *folder = own->carry->parts.settings->state_dir, *fault;
+    const char *folder = own->carry->settings->state_dir, *fault;
     if (!folder[0] || own->kept_folder >= 0) return;
     own->kept_folder = try_folder(folder, &fault);
     own->has_copy = own->kept_folder >= 0;
     if (own->kept_folder < 0)
-        (void)say(own->carry->parts.process, LOG_WARNING | ABOUT_HANDOVER, "no state is kept in %s, so a start after a reboot begins anew: %s", folder,
+        (void)say(own->carry->process, LOG_WARNING | ABOUT_HANDOVER, "no state is kept in %s, so a start after a reboot begins anew: %s", folder,
             fault ? fault : strerror(errno));
 }
 
 /* Reads what the last daemon left. What counts for nothing has a line, and the daemon starts anew. */
 void recall_state(struct state *own) {
-    const struct settings *settings = own->carry->parts.settings;
+    const struct settings *settings = own->carry->settings;
     const char *fault;
     FILE *file;
     bool is_kept;
@@ -412,15 +401,15 @@ void recall_state(struct state *own) {
     snprintf(own->kept_name, sizeof own->kept_name, "%s.state", settings->name);
     own->space = namespace_cookie();
     open_kept_folder(own);
-    file = open_state(own->carry->parts.process->folder, own->name);
+    file = open_state(own->carry->process->folder, own->name);
     is_kept = !file && own->kept_folder >= 0;
     if (is_kept) file = open_state(own->kept_folder, own->kept_name);
     if (!file) return;
     fault = read_state(own, file, is_kept);
     fclose(file);
     if (!fault) return;
-    *own->carry->parts.process->inherited = (struct inherited){0};
-    (void)say(own->carry->parts.process, LOG_WARNING | ABOUT_HANDOVER, "the state that the last daemon left is not used: %s", fault);
+    *own->carry->process->inherited = (struct inherited){0};
+    (void)say(own->carry->process, LOG_WARNING | ABOUT_HANDOVER, "the state that the last daemon left is not used: %s", fault);
 }
 
 /* Whether there was no daemon for a moment only: what waits in sockets and in the TAP device is still of use. */

@@ -1,15 +1,7 @@
 /* Whoever asks: a Unix socket, of which each connection has one question, a line, and one answer; or it watches. */
-#define _GNU_SOURCE
-#include <errno.h>
-#include <stdio.h>
-#include <stdlib.h>
-#include <string.h>
-#include <sys/socket.h>
-#include <sys/stat.h>
-#include <sys/un.h>
-#include <unistd.h>
-
 #include "control.h"
+
+#include <sys/un.h>
 
 /* The most connections of one user, so that none takes all of them; how many of these may watch, so that the others can ask; and how many
  * of all are root's alone. */
@@ -142,7 +134,7 @@ static void obey(struct control *control, struct caller *caller) {
     if (caller->user != 0) {
         refuse(caller->fd, "root alone may change a bundle");
     } else {
-        answer_order(control->parts.protocol, caller->question, answer);
+        answer_order(control->protocol, caller->question, answer);
         (void)send(caller->fd, answer, strlen(answer), MSG_NOSIGNAL | MSG_DONTWAIT);
     }
     close_caller(caller);
@@ -151,7 +143,7 @@ static void obey(struct control *control, struct caller *caller) {
 /* Answers a question, a word of one line, or an order. */
 static void answer_caller(struct control *control, struct caller *caller) {
     const char *asked = caller->question;
-    unsigned watching = count_of(control->parts.process->status, caller->user, true);
+    unsigned watching = count_of(control->process->status, caller->user, true);
     if (is_order(asked)) {
         obey(control, caller);
         return;
@@ -169,24 +161,24 @@ static void answer_caller(struct control *control, struct caller *caller) {
     if (strcmp(asked, "config") == 0) write_config(control);
     if (strcmp(asked, "json") == 0) write_json(control);
     if (strcmp(asked, "metrics") == 0) write_metrics(control);
-    if (control->parts.process->broken) control->report->length = 0; /* what the library refuses to tell is not told half */
+    if (control->process->broken) control->report->length = 0; /* what the library refuses to tell is not told half */
     caller->rest = control->report->length > 0 ? malloc(control->report->length) : NULL;
     caller->answer_length = control->report->length;
     if (caller->rest) memcpy(caller->rest, control->report->text, control->report->length);
     if (caller->rest)
-        send_rest(control->parts.process, caller);
+        send_rest(control->process, caller);
     else
         close_caller(caller);
 }
 
 /* Takes what somebody sends, or goes on with an answer. Who watches sends nothing more, but for the end. */
 void serve_caller(struct control *control, uint32_t number) {
-    struct caller *caller = &control->parts.process->status->callers[number];
+    struct caller *caller = &control->process->status->callers[number];
     char *end, scrap[64];
     ssize_t got;
     if (caller->fd < 0) return;
     if (caller->rest) {
-        send_rest(control->parts.process, caller);
+        send_rest(control->process, caller);
         return;
     }
     if (caller->watches) {
@@ -230,13 +222,13 @@ void tell_watchers(struct status_private *own, const char *line, size_t length) 
 
 /* Tells those who watch in JSON how a port is now, or the bundle, where `link` is null. */
 void tell_watchers_of(struct control *control, const struct link *link) {
-    struct status_private *own = control->parts.process->status;
+    struct status_private *own = control->process->status;
     bool any = false;
     for (unsigned i = 0; i < MOST_CALLERS; i++) any = any || (own->callers[i].fd >= 0 && own->callers[i].watches && own->callers[i].json);
     if (!any) return;
     control->report->length = 0;
     write_json_event(control, link);
-    if (!control->parts.process->broken) tell(control->parts.process->status, control->report->text, control->report->length, true);
+    if (!control->process->broken) tell(control->process->status, control->report->text, control->report->length, true);
 }
 
 static void remove_socket(void *given) {
@@ -267,8 +259,7 @@ void open_status(struct process *process, const char *folder) {
     (void)unlinkat(process->folder, own->own_name, 0);
     own->listener = socket(AF_UNIX, SOCK_STREAM | SOCK_NONBLOCK | SOCK_CLOEXEC, 0);
     mask = umask(0117);
-    fault = own->listener < 0 || bind(own->listener, (struct sockaddr *)&address, sizeof address) < 0 || listen(own->listener, 64) < 0
-        ? errno : 0;
+    fault = own->listener < 0 || bind(own->listener, (struct sockaddr *)&address, sizeof address) < 0 || listen(own->listener, 64) < 0 ? errno : 0;
     umask(mask);
     if (fault) stop(REFUSED, folder, strerror(fault));
     call_at_exit(process, remove_socket, process);

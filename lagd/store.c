@@ -1,6 +1,7 @@
 /* The store of the manager of services: files that it keeps open while no daemon runs, so that the next one goes on with them. Each has the
  * name of its kind, of its network namespace, and a number, mostly that of an interface. */
-#define _GNU_SOURCE
+#include "lagd.h"
+
 #ifdef HAVE_SYSTEMD
 #include <systemd/sd-daemon.h>
 #define HAS_LIBRARY true
@@ -11,16 +12,8 @@
 #define sd_listen_fds_with_names(...) 0
 #define SD_LISTEN_FDS_START 3
 #endif
-#include <errno.h>
 #include <linux/if_packet.h>
 #include <netinet/in.h>
-#include <stdio.h>
-#include <stdlib.h>
-#include <string.h>
-#include <sys/socket.h>
-#include <unistd.h>
-
-#include "lagd.h"
 
 #define NAME_OF_FILE 64
 /* What the unit lets it keep. */

@@ -1,10 +1,7 @@
 /* The system of the library: time and links go in, frames come out. */
-#define _GNU_SOURCE
-#include <string.h>
-#include <sys/random.h>
-#include <unistd.h>
-
 #include "lagd.h"
+
+#include <sys/random.h>
 
 struct system_private {
     uint64_t ticks;

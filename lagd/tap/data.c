@@ -1,14 +1,11 @@
 /* Data: on which port each frame of the host goes, which frames wait, and what is handed up. */
-#define _GNU_SOURCE
-#include <string.h>
-
 #include "tap.h"
 
 /* Has a frame wait until its conversation goes on. Where there is no room the oldest one of it is lost, or else this one. */
 static void keep(struct tap_plane *tap, uint16_t number, const uint8_t *packet, size_t length) {
     bool kept = put_held(tap, number, packet, length);
     uint64_t waiting;
-    if (!kept && !tap->parts.process->broken && drop_held(tap, number, QUEUE_FULL)) kept = put_held(tap, number, packet, length);
+    if (!kept && !tap->process->broken && drop_held(tap, number, QUEUE_FULL)) kept = put_held(tap, number, packet, length);
     tap->carry->counts[kept ? HELD_FRAMES : QUEUE_FULL]++;
     if (count_held(tap, number, &waiting) && waiting > tap->carry->counts[LONGEST_QUEUE]) tap->carry->counts[LONGEST_QUEUE] = waiting;
 }
@@ -19,10 +16,10 @@ enum offered { WAITS, LOST, GOES };
 static enum offered offer(struct carry *carry, struct conversation *conversation, uint16_t number) {
     struct niw_number answer;
     if (carry->time < conversation->fast.not_before) return WAITS;
-    answer = niw_offer_conversation_in_active_aggregator(&carry->parts.protocol->own_system, carry->active, number);
+    answer = niw_offer_conversation_in_active_aggregator(&carry->protocol->own_system, carry->active, number);
     if (answer.status == NIW_HELD) return WAITS;
     if (answer.status == NIW_NONE_DISTRIBUTING) return LOST;
-    if (!is_done(carry->parts.process, answer.status, "niw_offer_conversation_in_active_aggregator")) return WAITS;
+    if (!is_done(carry->process, answer.status, "niw_offer_conversation_in_active_aggregator")) return WAITS;
     conversation->home = carry->active;
     conversation->port = (uint16_t)answer.number;
     conversation->since = 0;
@@ -39,8 +36,7 @@ static void send_on(struct tap_plane *tap, const struct conversation *conversati
 /* Whether a frame of the host may go: of a right length, which each member takes, and none of the slow protocols. */
 static bool is_fit(const struct device *own, const uint8_t *packet, size_t length) {
     const uint8_t *frame = packet + head_octets();
-    return has_right_length(packet, length, longest_payload(own))
-        && ((unsigned)frame[12] << 8 | frame[13]) != ETH_P_SLOW;
+    return has_right_length(packet, length, longest_payload(own)) && ((unsigned)frame[12] << 8 | frame[13]) != ETH_P_SLOW;
 }
 
 /* A frame of a conversation came. It overtakes none that waits. */
@@ -64,15 +60,14 @@ void accept_from_host(struct tap_plane *tap, uint8_t *packet, size_t length) {
         tap->carry->counts[UNFIT]++;
         return;
     }
-    if (!is_told(tap->parts.process, conversation_of(tap->parts.protocol, packet + head_octets(), length - head_octets()), "niw_conversation",
-        &number)) {
+    if (!is_told(tap->process, conversation_of(tap->protocol, packet + head_octets(), length - head_octets()), "niw_conversation", &number)) {
         tap->carry->counts[UNFIT]++;
         return;
     }
     conversation = &tap->carry->conversations[number % CONVERSATIONS];
     note_taken(conversation, count_segments(packet, length));
     if (has_segments(packet)) tap->carry->counts[SEGMENTED]++;
-    if (is_fit(tap->parts.device, packet, length))
+    if (is_fit(tap->device, packet, length))
         accept_fit(tap, conversation, (uint16_t)number, packet, length);
     else
         tap->carry->counts[UNFIT]++;
@@ -124,14 +119,14 @@ static void release(struct tap_plane *tap) {
     }
     tap->carry->waiting = any_left;
     flush_data(tap);
-    CALL(tap->parts.plane->passing->pass_on, tap);
+    CALL(tap->plane->passing->pass_on, tap);
 }
 
 /* The host sees how fast the ports are that carry, and a carrier where there are some. */
 void tell_speed_and_carrier(struct plane *plane) {
     struct tap_plane *tap = plane->tap;
-    set_speed(tap->parts.device, sum_speeds(tap));
-    set_carrier(tap->parts.device, tap->carry->active != 0);
+    set_speed(tap->device, sum_speeds(tap));
+    set_carrier(tap->device, tap->carry->active != 0);
 }
 
 /* What goes on of the frames that come here, and the next moves. */

@@ -1,9 +1,8 @@
 /* Frames of one stream of TCP that came in a row from a member go up as one of several segments, as the kernel puts them together (generic
  * receive offload): each packet that goes up costs a call. No frame overtakes another one, and what cannot go up so goes up frame by frame. */
-#define _GNU_SOURCE
-#include <sys/uio.h>
-
 #include "segments.h"
+
+#include <sys/uio.h>
 
 /* The octets of the headers of a packet at most. */
 #define MOST_HEADERS 256

@@ -1,6 +1,5 @@
 /* Frames of several segments that came from the host, where members get none: they are cut as the kernel would cut them (generic segmentation
  * offload), which hands over fewer packets so. */
-#define _GNU_SOURCE
 #include "segments.h"
 
 /* Whether a packet of this kind, as the kernel tells it, has this version of IP. */

@@ -1,6 +1,7 @@
 /* The conversation of a frame of the host: frames of one keep their order. */
+#include "lagd.h"
+
 #include <netinet/in.h>
-#include <string.h>
 
 struct frame {
     const uint8_t *octets;

@@ -1,10 +1,8 @@
 /* Packets: a frame, and before it the virtio_net_hdr by which the kernel tells what was left to a card: how the frame is cut into
  * segments, and where its checksum is still to be put. */
-#define _GNU_SOURCE
-#include <errno.h>
-#include <sys/mman.h>
-
 #include "segments.h"
+
+#include <sys/mman.h>
 
 /* The octets of a packet of several segments, without its head: those of an IP packet, and of its header of Ethernet with two tags. */
 #define LONGEST_SEGMENTED (65536 + ETH_HLEN + USUAL_TAGS * TAG_OCTETS)

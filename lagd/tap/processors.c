@@ -1,13 +1,8 @@
 /* Which processors send and receive by the queues of an interface: what the kernel has of it in /sys. */
-#define _GNU_SOURCE
+#include "tap.h"
+
 #include <dirent.h>
 #include <net/if.h>
-#include <stdio.h>
-#include <stdlib.h>
-#include <string.h>
-#include <unistd.h>
-
-#include "tap.h"
 
 /* The most processors that are named for RPS. */
 #define MOST_PROCESSORS 32

@@ -1,10 +1,6 @@
 /* The queues of a member, where it keeps all of them: by which one a conversation goes, and the markers of each. A frame in one queue may
  * overtake those in others. So a marker goes by each queue that may have frames before it, with the number of the queue in its
  * identifier, and the library has the last of its responses. */
-#define _GNU_SOURCE
-#include <string.h>
-#include <sys/socket.h>
-
 #include "tap.h"
 
 /* Where a Marker PDU has the identifier of its requester (IEEE 802.1AX-2014, 6.5.3.3), and which of its bits are the queue. */

@@ -1,15 +1,9 @@
 /* A member that keeps all its queues. Each conversation goes by one of them, so nothing but the daemon may choose the queue of a frame: XPS
  * is off. What comes by one of them is taken by one processor. What the queues had is in a file beside the status socket until they
  * have it again. */
-#define _GNU_SOURCE
-#include <errno.h>
-#include <fcntl.h>
-#include <net/if.h>
-#include <stdio.h>
-#include <string.h>
-#include <unistd.h>
-
 #include "tap.h"
+
+#include <net/if.h>
 
 /* The head of the file; then each line has a setting and what it was. */
 #define HEAD "boot=%s\nmac=%s\n"
@@ -34,9 +28,9 @@ struct spread_private *make_spread_private(void) {
 /* Loads the program that chooses queues, while the daemon may, and opens what wakes it for responses. */
 void start_all_queues(struct tap_plane *tap) {
     struct spread_private *own = tap->spread;
-    int fault = fault_of_programs(tap->parts.settings);
+    int fault = fault_of_programs(tap->settings);
     if (fault != 0) stop(REFUSED, "queues=all: no program of an interface, which Linux has from 6.6 on", strerror(-fault));
-    own->program = load_program(tap->parts.settings, "chooser", NULL);
+    own->program = load_program(tap->settings, "chooser", NULL);
     if (own->program < 0) stop(REFUSED, "queues=all: the kernel takes no program", program_fault());
     start_answers(tap);
 }
@@ -173,16 +167,16 @@ bool may_spread(int folder, const struct link *link) {
 /* Lets a member keep all its queues, where it can. */
 void spread(struct tap_plane *tap, const struct link *link, struct guard *guard) {
     unsigned count = count_entries(link->index, "tx-");
-    const char *fault = fault_of_spreading(tap->parts.process->folder, link, guard, count);
+    const char *fault = fault_of_spreading(tap->process->folder, link, guard, count);
     guard->queues = fault ? 1 : count < MOST_QUEUES ? count : MOST_QUEUES;
     if (guard->queues > 1 && guard->chooser < 0) /* a program chooses the queue of each frame that the daemon sends there */
-        guard->chooser = attach_stored(tap->parts.process->store, "queues", tap->spread->program, link->index, true);
+        guard->chooser = attach_stored(tap->process->store, "queues", tap->spread->program, link->index, true);
     if (guard->queues > 1 && guard->chooser < 0) fault = strerror(-guard->chooser);
     guard->spread = !fault;
     if (!fault) return;
     guard->queues = 1;
-    stop_spreading(tap->parts.process->store, link, guard);
-    (void)say(tap->parts.process, LOG_WARNING | ABOUT_DATA, "port %u %s: it gets one queue: %s", link->settings.number, link->name, fault);
+    stop_spreading(tap->process->store, link, guard);
+    (void)say(tap->process, LOG_WARNING | ABOUT_DATA, "port %u %s: it gets one queue: %s", link->settings.number, link->name, fault);
 }
 
 /* Frames of the daemon go by any queue again. */
@@ -206,8 +200,7 @@ bool is_spread_anew(const struct system_private *own, const struct link *link, c
     for (enum setting setting = 0; guard->spread && setting < SETTINGS; setting++) {
         unsigned queue = (unsigned)seconds_passed(own) % (setting == TAKEN_BY ? channels & 0xffff : channels >> 16);
         name_setting(setting, queue, name);
-        if (path_of_queue(link->index, name, path, sizeof path)
-            && read_processors(path, now, sizeof now)
+        if (path_of_queue(link->index, name, path, sizeof path) && read_processors(path, now, sizeof now)
             && wanted_of(link, setting, queue, now, mask))
             return true;
     }
@@ -215,7 +208,7 @@ bool is_spread_anew(const struct system_private *own, const struct link *link, c
 }
 
 static bool has_any_fast(struct tap_plane *tap) {
-    for (uint16_t port = 1; port <= tap->parts.ports->count; port++)
+    for (uint16_t port = 1; port <= tap->ports->count; port++)
         if (has_fast_member(tap->members, port)) return true;
     return false;
 }
@@ -237,8 +230,7 @@ void gather_back(int folder, const struct link *link, bool whole) {
     while (fscanf(file, READ_LINE, name, mask) == 2) {
         if (!is_setting(name) || !path_of_queue(link->index, name, path, sizeof path)) continue;
         if (write_processors(path, mask)) continue;
-        if (read_processors(path, now, sizeof now)
-            && strcmp(now, mask) != 0)
+        if (read_processors(path, now, sizeof now) && strcmp(now, mask) != 0)
             done = false;
     }
     fclose(file);

@@ -1,6 +1,4 @@
 /* The checksum of IP, TCP and UDP (RFC 1071). */
-#include <string.h>
-
 #include "tap.h"
 
 /* Adds octets as words of this processor, whose order does not matter to the sum. */

@@ -2,10 +2,10 @@
 #ifndef LAGD_TAP_H
 #define LAGD_TAP_H
 
+#include "carry.h"
+
 #include <linux/ethtool.h>
 #include <net/ethernet.h>
-
-#include "carry.h"
 
 /* The library takes a frame of so many octets at most: of a longer one it is shown the beginning. */
 #define LONGEST_SHOWN (ETH_HLEN + ETH_DATA_LEN + TAG_OCTETS)
@@ -15,7 +15,7 @@
     DO(answers, answers) DO(fast, fast) DO(flight, flight) DO(gro, gro) DO(held, held) DO(host, host) \
     DO(members, members) DO(queues, queues) DO(spread, spread)
 struct tap_plane {
-    struct parts parts;
+    KNOWS_PARTS
     struct carry *carry;
     int dropper; /* the program that keeps data from the stack of a member, or -1 */
     EACH_FILE_OF_TAP(KEEPS)

@@ -1,14 +1,12 @@
 /* What the kernel does with frames at a member beside its programs (traffic control): the queueing discipline of what it sends, and a
  * classifier of what it receives. */
-#define _GNU_SOURCE
+#include "tap.h"
+#include "netlink.h"
+
 #include <linux/pkt_cls.h>
 #include <linux/pkt_sched.h>
 #include <linux/rtnetlink.h>
 #include <netinet/in.h>
-#include <string.h>
-
-#include "netlink.h"
-#include "tap.h"
 
 /* What waits at a member: the octets of 50 ms at the speed of its link, within these bounds; the most of them where nobody tells a
  * speed. */

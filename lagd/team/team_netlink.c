@@ -1,15 +1,12 @@
 /* What the kernel is told of the team driver, and tells: by rtnetlink of its device and ports as of any interface, and by generic netlink
  * of its options. */
-#define _GNU_SOURCE
-#include <errno.h>
+#include "team.h"
+#include "netlink.h"
+
 #include <linux/genetlink.h>
 #include <linux/if_team.h>
 #include <linux/rtnetlink.h>
 #include <net/if.h>
-#include <string.h>
-
-#include "netlink.h"
-#include "team.h"
 
 /* The types of options that are of use here, as include/net/netlink.h of the kernel has them; no header for programs does. */
 enum { TYPE_U32 = 3, TYPE_STRING = 5, TYPE_FLAG = 6, TYPE_BINARY = 11 };
@@ -45,8 +42,7 @@ static bool find_family(struct team_netlink_private *own) {
  * an address that none may have there is none, and by a name that it is to complete none is taken. */
 bool find_team_driver(struct team_netlink_private *own) {
     static const uint8_t no_address[ETH_ALEN];
-    return find_family(own)
-        || (!make_team_device("team%d", no_address, ETH_DATA_LEN) && errno == EADDRNOTAVAIL && find_family(own));
+    return find_family(own) || (!make_team_device("team%d", no_address, ETH_DATA_LEN) && errno == EADDRNOTAVAIL && find_family(own));
 }
 
 /* Makes a device of the driver; answers whether it did. */
