@@ -408,6 +408,8 @@ struct lack lack_of(const struct settings *settings) {
         return (struct lack){"another hash than layer2 beside hash-seed", "hash-seed"};
     if (settings->plane == PLANE_TEAM && (settings->offload || settings->fast))
         return (struct lack){"neither offload nor fast beside plane=team, by which the kernel carries all", "plane"};
+    if (settings->plane == PLANE_TEAM && settings->select != SELECT_COUNT)
+        return (struct lack){"select=count beside plane=team, which does not see in which group the peer sends", "select"};
     if (settings->follow && settings->plane != PLANE_TEAM) return (struct lack){"plane=team beside members=follow", "members"};
     if (settings->plane == PLANE_TEAM && settings->all_queues)
         return (struct lack){"no queues=all beside plane=team, which leaves queues as they are", "queues"};

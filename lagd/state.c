@@ -1,9 +1,13 @@
 /* The state that a daemon leaves to the next one: a file beside the status socket, written each second and at the end. A line is added to it
- * before the first frame of a conversation goes on another link. It goes with each stop of which the peers are told. With state-dir a daemon
- * that leaves writes a copy, for the first one after a reboot: that knows interfaces by their names, and times by the clock on the wall. */
+ * before the first frame of a conversation goes on another link. It goes with each stop of which the peers are told. With state-dir there is a
+ * copy for the first daemon after a reboot, which knows interfaces by their names, and times by the clock on the wall. It may be on a disk that
+ * takes long, so a process of its own writes it while the daemon runs. */
 #include "team/team.h"
 
 #include <net/if.h>
+#include <poll.h>
+#include <signal.h>
+#include <sys/file.h>
 
 /* It rises with each change of the file, and of what programs of the kernel share with the daemon. */
 #define FORM_VERSION 3
@@ -18,13 +22,23 @@
 #define UNWRITTEN_MARKERS 65536
 /* For how long frames may have waited, in milliseconds: with the second in which a state is written. */
 #define MOST_AWAY 3000
+/* How often a copy is written while the same ports would go on from it, in milliseconds: the oldest one that is of use is 90 s old. */
+#define COPIED_EVERY 10000
+/* How long a daemon that ends waits for who writes a copy, and then for the end of that one, in milliseconds. */
+#define MOST_COPYING 500
+/* The daemon has fewer files open. */
+#define MOST_OPENED 4096
 
 struct state {
     struct carry *carry; /* what is saved, as far as it concerns data */
     struct team_plane *team;
     int file; /* the state that was written last, or -1 */
-    int kept_folder; /* state-dir, or -1 */
+    int kept_folder, lock; /* state-dir, or -1, and the file by which this bundle has its copy there */
+    int copied; /* by which a process tells what became of the copy that it writes, or -1: none does */
+    pid_t copier;
+    uint64_t copied_at, copied_ports; /* when it began, and of which ports, a bit for each */
     bool has_copy; /* whether something may be there */
+    bool copy_failed; /* whether the last one did, which has a line */
     uint64_t space; /* the namespace_cookie of this network namespace */
     int members[CONVERSATIONS]; /* the interface of each conversation that it has, or 0 */
     bool over; /* whether the peers are told of the end */
@@ -36,7 +50,7 @@ struct state *make_state(struct carry *carry, struct team_plane *team) {
     struct state *made = make_room(sizeof *made);
     made->carry = carry;
     made->team = team;
-    made->file = made->kept_folder = -1;
+    made->file = made->kept_folder = made->copied = -1;
     return made;
 }
 
@@ -69,15 +83,19 @@ static bool is_way_of_team(const char *given) {
     return length >= sizeof OF_TEAM - 1 && strcmp(given + length - (sizeof OF_TEAM - 1), OF_TEAM) == 0;
 }
 
+/* Whether a port goes on from what is saved of it. */
+static bool is_carrying(const struct link *link) {
+    return link->view.port_status == NIW_PORT_STATUS_DISTRIBUTING && !link->view.defaulted && link->lacpdu_at != 0;
+}
+
 static void write_link(FILE *file, const struct link *link) {
-    bool carried = link->view.port_status == NIW_PORT_STATUS_DISTRIBUTING && !link->view.defaulted && link->lacpdu_at != 0;
     char mac[32], hex[HEX_ROOM] = "";
     for (size_t i = 0; i < NIW_FRAME; i++) {
         hex[2 * i] = "0123456789abcdef"[link->lacpdu[i] >> 4];
         hex[2 * i + 1] = "0123456789abcdef"[link->lacpdu[i] & 15];
     }
     fprintf(file, "link %d %s %" PRIu32 " %d %" PRIu64 " %" PRIu64 " %s %u\n", link->index, mac_text(link->mac, mac), link->kernel_losses,
-        carried, link->lacpdu_at, link->lacpdus_at[MOST_LACPDUS - 1], hex, link->view.aggregator);
+        is_carrying(link), link->lacpdu_at, link->lacpdus_at[MOST_LACPDUS - 1], hex, link->view.aggregator);
 }
 
 /* Writes which port has which number. */
@@ -172,28 +190,113 @@ void keep_port(struct state *own, uint16_t number, uint16_t port) {
     keep_file(own, -1);
 }
 
-static void remove_state(struct state *own, int folder, const char *name) {
+/* Removes a state, or what it has; answers 0, or -errno. */
+static int remove_file(int folder, const char *name) {
     int emptied;
-    if (unlinkat(folder, name, 0) == 0 || errno == ENOENT) return;
+    if (unlinkat(folder, name, 0) == 0 || errno == ENOENT) return 0;
     emptied = openat(folder, name, O_WRONLY | O_TRUNC | O_NOFOLLOW | O_CLOEXEC);
-    if (emptied >= 0)
-        close(emptied);
-    else
-        (void)say(own->carry->process, LOG_ERR | ABOUT_HANDOVER,
-            "its state cannot be removed: %s: remove %s, or start no daemon for as long as a partner is waited for", strerror(errno), name);
+    if (emptied < 0) return last_fault();
+    close(emptied);
+    return 0;
 }
 
-/* Writes the copy, which is of no use any more while a daemon runs. It may be on a disk that takes long: it is written once, by a daemon that
- * leaves. */
-static void save_copy(struct state *own, bool leaves) {
-    int copy = leaves ? replace_file(own, own->kept_folder, own->kept_name, true) : -1;
-    if (copy >= 0)
-        close(copy);
-    else if (leaves)
-        (void)say(own->carry->process, LOG_WARNING | ABOUT_HANDOVER, "its state cannot be kept in %s, so a start after a reboot begins anew: %s",
-            own->carry->settings->state_dir, strerror(-copy));
-    if (copy < 0 && own->has_copy) remove_state(own, own->kept_folder, own->kept_name);
-    own->has_copy = copy >= 0;
+static void note_removal(struct process *process, const char *name, int fault) {
+    if (fault < 0)
+        (void)say(process, LOG_ERR | ABOUT_HANDOVER,
+            "its state cannot be removed: %s: remove %s, or start no daemon for as long as a partner is waited for", strerror(-fault), name);
+}
+
+/* What became of a copy: each is 0, or -errno. */
+struct copied {
+    int written, removed;
+};
+
+/* Writes the copy, where some port would go on from it; else there is none. */
+static struct copied write_copy(struct state *own, bool wanted) {
+    int copy = wanted ? replace_file(own, own->kept_folder, own->kept_name, true) : -1;
+    if (copy < 0) return (struct copied){wanted ? copy : 0, remove_file(own->kept_folder, own->kept_name)};
+    close(copy);
+    return (struct copied){0, 0};
+}
+
+/* What is wrong with a copy has a line, and of several in a row the first one. */
+static void note_copy(struct state *own, struct copied copied) {
+    struct process *process = own->carry->process;
+    if (copied.written < 0 && !own->copy_failed)
+        (void)say(process, LOG_WARNING | ABOUT_HANDOVER, "its state cannot be kept in %s, so a start after a reboot begins anew: %s",
+            own->carry->settings->state_dir, strerror(-copied.written));
+    if (!own->copy_failed) note_removal(process, own->kept_name, copied.removed);
+    own->copy_failed = copied.written < 0 || copied.removed < 0;
+}
+
+/* The ports that would go on after a reboot, a bit for each: those whose ends wait for 90 s. */
+static uint64_t lasting_ports(const struct ports *ports) {
+    uint64_t found = 0;
+    EACH_LINK_AS_IS(link, ports)
+        if (link->socket >= 0 && is_carrying(link) && !link->settings.short_timeout && !(link->view.partner_state & NIW_STATE_TIMEOUT))
+            found |= (uint64_t)1 << (link->settings.number - 1);
+    return found;
+}
+
+/* A process that writes the copy, or removes it. It has nothing else of the daemon, which may end meanwhile, and prints nothing. */
+static _Noreturn void run_copier(struct state *own, int told) {
+    struct copied copied;
+    sigset_t none;
+    for (int fd = STDERR_FILENO + 1; fd < MOST_OPENED; fd++)
+        if (fd != own->kept_folder && fd != told) close(fd);
+    sigemptyset(&none);
+    sigprocmask(SIG_SETMASK, &none, NULL);
+    copied = write_copy(own, own->copied_ports != 0);
+    (void)!write(told, &copied, sizeof copied);
+    _exit(DONE);
+}
+
+/* Has the copy written or removed; answers 0, or -errno. */
+static int start_copier(struct state *own) {
+    int ends[2], fault;
+    if (pipe2(ends, O_CLOEXEC | O_NONBLOCK) < 0) return last_fault();
+    own->copier = fork();
+    fault = own->copier < 0 ? last_fault() : 0;
+    if (own->copier == 0) run_copier(own, ends[1]);
+    close(ends[1]);
+    if (fault == 0) own->copied = ends[0];
+    else close(ends[0]);
+    return fault;
+}
+
+/* Sees whether a copy was written. One whose process was killed is there, or is not. */
+static void see_copy(struct state *own) {
+    struct copied copied = {-ECANCELED, 0};
+    if (own->copied < 0 || (read(own->copied, &copied, sizeof copied) < 0 && errno == EAGAIN)) return;
+    close(own->copied);
+    own->copied = -1;
+    own->has_copy = copied.removed < 0 || copied.written == -ECANCELED || (copied.written == 0 && own->copied_ports != 0);
+    note_copy(own, copied);
+}
+
+/* A second passed: the copy is written anew where other ports would go on from it, or it gets old. */
+static void pass_copy_second(struct state *own) {
+    uint64_t ports = lasting_ports(own->carry->ports), now = boottime();
+    int fault;
+    see_copy(own);
+    if (own->copied >= 0 || (ports == 0 && !own->has_copy) || (ports == own->copied_ports && now - own->copied_at < COPIED_EVERY)) return;
+    own->copied_ports = ports;
+    own->copied_at = now;
+    own->has_copy = true;
+    fault = start_copier(own);
+    if (fault < 0) note_copy(own, (struct copied){fault, 0});
+}
+
+/* Nobody writes a copy from here on. */
+static void end_copier(struct state *own) {
+    struct pollfd told = {own->copied, POLLIN, 0};
+    if (own->copied < 0) return;
+    if (poll(&told, 1, MOST_COPYING) == 0) {
+        (void)kill(own->copier, SIGKILL);
+        (void)poll(&told, 1, MOST_COPYING);
+    }
+    close(own->copied);
+    own->copied = -1;
 }
 
 /* Writes the state; answers whether it did. Where that fails there is none. */
@@ -205,16 +308,23 @@ bool save_state(struct state *own, bool leaves) {
     keep_file(own, file);
     if (file < 0) lose_file(own, file);
     if (file >= 0) own->failed = false;
-    if (own->kept_folder >= 0 && (leaves ? file >= 0 : own->has_copy)) save_copy(own, leaves);
+    if (own->kept_folder >= 0 && leaves && file >= 0) {
+        end_copier(own);
+        note_copy(own, write_copy(own, true));
+    } else if (own->kept_folder >= 0 && !leaves) {
+        pass_copy_second(own);
+    }
     return file >= 0;
 }
 
 /* The peers are told of the end: no daemon goes on from here. */
 void end_state(struct state *own) {
+    struct process *process = own->carry->process;
     own->over = true;
     keep_file(own, -1);
-    remove_state(own, own->carry->process->folder, own->name);
-    if (own->kept_folder >= 0) remove_state(own, own->kept_folder, own->kept_name);
+    end_copier(own);
+    note_removal(process, own->name, remove_file(process->folder, own->name));
+    if (own->kept_folder >= 0) note_removal(process, own->kept_name, remove_file(own->kept_folder, own->kept_name));
 }
 
 static bool read_hex(const char *text, uint8_t *octets) {
@@ -380,12 +490,31 @@ static FILE *open_state(int folder, const char *name) {
     return file;
 }
 
+/* Takes the copy for this bundle, as long as the program runs: one of another network namespace may have its name. Else errno tells why not. */
+static bool lock_copy(struct state *own) {
+    char name[NAME_ROOM + 40];
+    int fault;
+    snprintf(name, sizeof name, "%s.lock", own->kept_name);
+    own->lock = openat(own->kept_folder, name, O_RDWR | O_CREAT | O_NOFOLLOW | O_CLOEXEC, 0600);
+    if (own->lock >= 0 && flock(own->lock, LOCK_EX | LOCK_NB) == 0) return true;
+    fault = errno;
+    if (own->lock >= 0) close(own->lock);
+    errno = fault;
+    return false;
+}
+
 /* Opens state-dir. A bundle goes on without the copy. */
 static void open_kept_folder(struct state *own) {
     const char *folder = own->carry->settings->state_dir, *fault;
     if (!folder[0] || own->kept_folder >= 0) return;
     own->kept_folder = try_folder(folder, &fault);
+    if (own->kept_folder >= 0 && !lock_copy(own)) {
+        fault = errno == EWOULDBLOCK ? "another lagd has a bundle of this name there" : strerror(errno);
+        close(own->kept_folder);
+        own->kept_folder = -1;
+    }
     own->has_copy = own->kept_folder >= 0;
+    own->copied_ports = UINT64_MAX;
     if (own->kept_folder < 0)
         (void)say(own->carry->process, LOG_WARNING | ABOUT_HANDOVER, "no state is kept in %s, so a start after a reboot begins anew: %s", folder,
             fault ? fault : strerror(errno));
