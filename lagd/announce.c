@@ -41,11 +41,7 @@ struct announce_private {
     unsigned wait_ticks; /* until it is announced next */
 };
 
-struct announce_private *make_announce_private(void) {
-    struct announce_private *made = make_room(sizeof *made);
-    made->sender = -1;
-    return made;
-}
+MAKES_WITH(announce, .sender = -1)
 
 /* Sends a frame by an interface, as the host does: it comes from the device with the others. One that is not taken is lost, as on a wire. */
 static void send_from(struct announce_private *own, const struct place *place, const uint8_t *frame, size_t length) {
@@ -53,7 +49,6 @@ static void send_from(struct announce_private *own, const struct place *place, c
     if (own->announced++ < MOST_ANNOUNCED) (void)sendto(own->sender, frame, length, 0, (struct sockaddr *)&to, sizeof to);
 }
 
-/* Writes the header of Ethernet. */
 static void begin_frame(uint8_t *frame, const uint8_t *to, const struct place *from, uint16_t type) {
     memcpy(frame, to, ETH_ALEN);
     memcpy(frame + ETH_ALEN, from->mac, ETH_ALEN);
@@ -216,7 +211,6 @@ static void announce(struct carry *carry) {
     own->sender = -1;
 }
 
-/* Data goes another way from now on. */
 void announce_soon(struct announce_private *own) {
     own->times = TIMES;
     own->wait_ticks = 0;

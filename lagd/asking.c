@@ -89,7 +89,6 @@ static int ask(struct asking_private *own, const char *path, const char *questio
     return fault != 0 ? fault : opened;
 }
 
-/* Whether text of a daemon is a refusal. Then it is told. */
 static bool is_refusal(struct process *process, const char *path, const char *text) {
     if (strncmp(text, REFUSAL, strlen(REFUSAL)) != 0) return false;
     complain(process, "%s: %.*s", path, (int)strcspn(text, "\n"), text);
@@ -158,7 +157,6 @@ static void print_who_answers(struct control *control) {
     print(control->asking, control->report->text, control->report->length);
 }
 
-/* Ends the program where no daemon answers. */
 static _Noreturn void refuse_all(const struct asking_private *own, const char *folder) {
     if (own->denied) stop(REFUSED, "permission denied", own->denied);
     stop(REFUSED, "no lagd answers in", folder);
@@ -261,7 +259,6 @@ static int order_daemon(struct control *control, const struct options *options) 
     return fflush(stdout) == 0 ? DONE : REFUSED;
 }
 
-/* Asks the daemons, and prints what they answer; answers how the program ends. */
 int ask_daemons(struct control *control, const struct options *options) {
     struct asking_private *own = control->asking;
     unsigned answers = 0;

@@ -133,7 +133,6 @@ void leave_previous(struct carry *carry) {
     send_due(carry->protocol);
 }
 
-/* Notes whether frames of the peer come in the active aggregator. */
 void note_heard(struct carry *carry) {
     struct carry_private *own = carry->carry_private;
     uint64_t heard = ASK(carry->plane->carrying->frames_heard, 0, carry->plane, false);
@@ -169,25 +168,21 @@ static void wake_sleeper(struct carry *carry, uint16_t port) {
     carry->counts[WOKEN]++;
 }
 
-/* Each port that sleeps and carries nothing is woken now and then. */
 void wake_ports(struct carry *carry) {
     for (uint16_t port = 1; !carry->process->broken && port <= carry->ports->count; port++) wake_sleeper(carry, port);
 }
 
-/* 100 ms passed: before what the device does then, */
 void begin_carry_tick(struct carry *carry) {
     carry->time = milliseconds();
     pass_tap_tick(carry->device);
     pass_announcing_tick(carry);
 }
 
-/* and behind it. */
 void end_carry_tick(struct carry *carry) {
     wake_ports(carry);
     carry->plane->changed = carry->to_balance = true;
 }
 
-/* 100 ms passed. */
 void pass_carry_tick(struct protocol *protocol) {
     if (!protocol->process->broken) CALL(protocol->plane->carrying->tick, protocol->plane);
 }

@@ -9,7 +9,6 @@ static const char *answering_text(const struct probe_private *own) {
     return texts[peer_answering(own)];
 }
 
-/* How many conversations of a port are busy. */
 static unsigned count_busy(const struct carry *carry, uint16_t port) {
     unsigned busy = 0;
     for (unsigned i = 0; i < CONVERSATIONS; i++)
@@ -17,14 +16,12 @@ static unsigned count_busy(const struct carry *carry, uint16_t port) {
     return busy;
 }
 
-/* How many conversations the kernel passes on. */
 static unsigned count_fast(const struct carry *carry) {
     unsigned fast = 0;
     for (unsigned i = 0; i < CONVERSATIONS; i++) fast += carry->conversations[i].fast.port > 0;
     return fast;
 }
 
-/* Whether the peer answers markers. */
 void show_markers(struct control *control) {
     add(control->report, "markers %s, ", answering_text(control->carry->probe));
 }
@@ -56,7 +53,6 @@ void show_waiting_buckets(struct control *control, enum form form) {
     }
 }
 
-/* By how many queues a member has its data go. */
 void show_queues(struct control *control, const struct link *link, enum form form) {
     add(control->report, form == AS_JSON ? ",\"queues\":%u" : " queues %u", member_queues(control->tap->members, link->settings.number));
 }
@@ -107,7 +103,6 @@ static void write_metrics_of_carry(struct control *control) {
     }
 }
 
-/* What there is to tell of the device, and of all conversations. */
 void show_carry(struct control *control, enum form form) {
     CALL(control->plane->passing->count, control->tap);
     switch (form) {

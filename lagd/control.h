@@ -44,7 +44,7 @@ void show_waiting_buckets(struct control *control, enum form form);
 void add(struct report *report, const char *format, ...) __attribute__((format(printf, 2, 3)));
 void add_string(struct report *report, const char *text);
 
-/* show.c, json.c, metrics.c */
+/* show.c, metrics.c */
 struct view {
     struct facts facts;
     uint64_t receive, mux, current_while, wait_while;

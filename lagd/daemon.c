@@ -8,9 +8,8 @@ void call_at_exit(struct process *process, void (*act)(void *what), void *what) 
 }
 
 /* The program ends, from wherever that is. The memory goes with it. */
-static void end_process(int status, void *given) {
+static void end_process(int status UNUSED, void *given) {
     struct process *process = given;
-    (void)status;
     while (process->ending_count > 0) {
         const struct ending *last = &process->endings[--process->ending_count];
         last->act(last->what);

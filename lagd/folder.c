@@ -6,7 +6,6 @@
 #define SO_NETNS_COOKIE 71
 #endif
 
-/* The network namespace that this process is in. */
 unsigned long network_namespace(void) {
     struct stat file;
     return stat("/proc/self/ns/net", &file) == 0 ? (unsigned long)file.st_ino : 0;

@@ -80,7 +80,6 @@ static void hand_over(struct protocol *protocol, struct link *link, const struct
         note_odd_marker(link, arrival, RESPONSES_UNSENT);
 }
 
-/* Accepts a response of the partner. */
 void accept_response(struct protocol *protocol, struct link *link, const struct arrival *arrival) {
     hand_over(protocol, link, arrival, NULL);
     CALL(protocol->plane->carrying->note_response, protocol->plane, link);
@@ -135,7 +134,6 @@ struct tpacket_auxdata aux_of(struct msghdr *message) {
     return aux;
 }
 
-/* Takes the frames that wait at an interface, MOST_TAKEN of them at most. */
 void receive_frames(struct protocol *protocol, uint16_t port) {
     struct link *link = &protocol->ports->links[port - 1];
     uint8_t frame[LONGEST_FRAME];

@@ -40,7 +40,6 @@ static int start(const char *path, char *const *environment) {
     return fault;
 }
 
-/* Runs the hook, with the state of the bundle in its environment. */
 void run_hook(struct protocol *protocol, const char *path, enum bundle_state before) {
     char name[NAME_ROOM + 16], state[32], previous[32], links_text[32], carrying[32], aggregator[32];
     char *environment[] = {"PATH=/usr/sbin:/usr/bin:/sbin:/bin", name, state, previous, links_text, carrying, aggregator, NULL};

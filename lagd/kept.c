@@ -33,7 +33,6 @@ FILE *open_kept(int folder, const struct link *link, const char *kind, int flags
     return NULL;
 }
 
-/* Puts a file of an interface in the place of another one; answers whether it did. */
 bool replace_kept(int folder, const struct link *link, const char *from, const char *to) {
     char old[64], next[64];
     name_file(link, from, old);
@@ -41,7 +40,6 @@ bool replace_kept(int folder, const struct link *link, const char *from, const c
     return renameat(folder, old, folder, next) == 0;
 }
 
-/* What a file of an interface has is of no use any more. */
 void drop_kept(int folder, const struct link *link, const char *kind) {
     char name[64];
     name_file(link, kind, name);
@@ -94,7 +92,6 @@ void recall_settings(int folder, const struct link *link, struct kept *kept) {
     if (!recall(folder, link, kept)) *kept = (struct kept){0};
 }
 
-/* The interface has what it had before. */
 void forget_settings(int folder, const struct link *link) {
     drop_kept(folder, link, "member");
 }

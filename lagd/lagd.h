@@ -277,9 +277,15 @@ static inline void *make_room(size_t octets) {
     exit(REFUSED);
 }
 
-/* What a file keeps begins as zeros. */
+/* What a file keeps begins as zeros, but for these fields. */
 #define MAKES_ROOM(file) \
     struct file##_private *make_##file##_private(void) { return make_room(sizeof(struct file##_private)); }
+#define MAKES_WITH(file, ...) \
+    struct file##_private *make_##file##_private(void) { \
+        struct file##_private *made = make_room(sizeof *made); \
+        *made = (struct file##_private){__VA_ARGS__}; \
+        return made; \
+    }
 
 /* -errno of what failed just now, which is never 0. */
 static inline int last_fault(void) {
@@ -288,6 +294,8 @@ static inline int last_fault(void) {
 
 /* An answer that tells whether the library refused: what depends on the call is done only where it did not. */
 #define MUST_USE __attribute__((warn_unused_result))
+/* A word that a function is handed since others of its kind want it. */
+#define UNUSED __attribute__((unused))
 
 /* names.c */
 const char *status_text(unsigned status);
@@ -413,10 +421,11 @@ void make_keys(struct protocol *protocol, uint16_t keys[static NIW_MOST_PORTS]);
 bool has_aggregator(const struct keys_private *own, uint16_t given);
 uint16_t free_key(struct protocol *protocol, uint16_t behind, const struct link *but);
 uint16_t choose_key(struct protocol *protocol, const struct link *link);
-struct speed read_speed(int socket, const char *name);
-bool write_speed(int socket, const char *name, uint32_t megabits);
-void apply_speed(struct protocol *protocol, struct link *link, const char *interface);
-bool has_other_speed(struct protocol *protocol, const struct link *link, const char *interface);
+bool ask_driver(int index, void *value);
+struct speed read_speed(int index);
+bool write_speed(int index, uint32_t megabits);
+void apply_speed(struct protocol *protocol, struct link *link);
+bool has_other_speed(struct protocol *protocol, const struct link *link);
 const char *speed_text(const struct speed *speed, char room[static 40]);
 
 /* system.c */
@@ -569,7 +578,7 @@ void await_no_more(int epoll_file, int fd);
 void call_at_exit(struct process *process, void (*act)(void *what), void *what);
 
 /* options.c */
-const char *read_port(struct words *words, char *text, struct settings *settings);
+const char *read_port(struct words *words, char *text, struct settings *settings, const char **found);
 
 /* status.c */
 /* A question has a name of an interface at most, with its words. */
@@ -601,7 +610,7 @@ void end_carry(struct plane *plane);
 void remove_all_members(struct protocol *protocol);
 
 /* tap/guard.c, tap/members.c */
-void fit_queue(const struct plane *plane, const struct link *link, const char *interface);
+void fit_queue(const struct plane *plane, const struct link *link);
 bool reopen_member(struct plane *plane, struct link *link);
 void follow_address(struct plane *plane, struct link *link, const uint8_t *mac);
 

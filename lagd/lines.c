@@ -41,7 +41,6 @@ static bool in_journal(void) {
         && device == (uintmax_t)file.st_dev && inode == (uintmax_t)file.st_ino;
 }
 
-/* Writes a line, if its reader keeps up; answers whether it did. */
 static bool write_line(int fd, const char *line, size_t length) {
     struct pollfd out = {fd, POLLOUT, 0};
     bool may_wait = fd == STDOUT_FILENO || fd == STDERR_FILENO;
@@ -84,7 +83,6 @@ bool is_done(struct process *process, uint32_t status, const char *call) {
     return false;
 }
 
-/* Writes what a reader of the library tells; answers whether it told it. */
 bool is_told(struct process *process, struct niw_number answer, const char *call, uint64_t *number) {
     *number = answer.number;
     return is_done(process, answer.status, call);
@@ -113,7 +111,6 @@ static void form(char text[static LONGEST_TEXT], const char *format, va_list giv
     (void)escape(text, LONGEST_TEXT, raw, length < (int)sizeof raw ? (size_t)length : sizeof raw - 1, false);
 }
 
-/* Prints a line; answers whether it did. */
 bool say(struct process *process, int level, const char *format, ...) {
     char text[LONGEST_TEXT];
     va_list given;

@@ -43,7 +43,6 @@ static bool give(int fd, const uint8_t *frame, bool bypass) {
     return send(fd, frame, NIW_FRAME, 0) == NIW_FRAME;
 }
 
-/* Whether something that was sent by the socket of a link is with the kernel still. */
 static bool has_queued(const struct link *link) {
     int octets;
     return ioctl(link->socket, SIOCOUTQ, &octets) == 0 && octets > 0;
@@ -127,7 +126,6 @@ bool open_link(struct protocol *protocol, struct link *link, int index) {
     return taken;
 }
 
-/* The interface is gone. */
 void close_link(struct protocol *protocol, struct link *link) {
     CALL(protocol->plane->carrying->remove, protocol->plane, link);
     CALL(protocol->plane->carrying->follow_mtu, protocol->plane, link, 0);
@@ -148,14 +146,12 @@ static bool has_room(const struct link *link) {
     return link->lacpdus_at[0] == 0 || boottime() - link->lacpdus_at[0] > 1000;
 }
 
-/* The kernel took an LACPDU. */
 static void note_lacpdu(struct link *link) {
     memmove(link->lacpdus_at, link->lacpdus_at + 1, sizeof link->lacpdus_at - sizeof *link->lacpdus_at);
     link->lacpdus_at[MOST_LACPDUS - 1] = boottime();
     link->unsent = false;
 }
 
-/* An LACPDU waits for the next tick. */
 static void keep_lacpdu(struct link *link, const uint8_t *frame) {
     memmove(link->frame, frame, sizeof link->frame);
     link->unsent = true;

@@ -54,7 +54,6 @@ int lock_interface(struct process *process, int index) {
     return fault == 0 ? -EADDRINUSE : fault;
 }
 
-/* Who has the lock of an interface. */
 const char *holder_of(const struct ports *ports, int index, char room[static HOLDER_ROOM]) {
     struct lock lock;
     bool own = false;

@@ -30,13 +30,11 @@ bool await_input(int epoll_file, int fd, uint32_t tag) {
     return epoll_ctl(epoll_file, EPOLL_CTL_ADD, fd, &event) == 0;
 }
 
-/* Waits until it takes what is sent, and for nothing that comes. */
 bool await_output(int epoll_file, int fd, uint32_t tag) {
     struct epoll_event event = {.events = EPOLLOUT, .data = {.u32 = tag}};
     return epoll_ctl(epoll_file, EPOLL_CTL_MOD, fd, &event) == 0;
 }
 
-/* Waits for it no longer. */
 void await_no_more(int epoll_file, int fd) {
     (void)epoll_ctl(epoll_file, EPOLL_CTL_DEL, fd, NULL);
 }
@@ -53,14 +51,12 @@ static int open_clock(void) {
     return fd;
 }
 
-/* Tells what changed. */
 static void tell_changes(struct protocol *protocol) {
     read_views(protocol);
     print_all_changes(protocol);
     look_at_bundle(protocol);
 }
 
-/* A second passed. */
 static void pass_second(struct lagd *lagd) {
     EACH_LINK(link, &lagd->ports) {
         if (link->lines < MOST_LINES) link->lines++;
@@ -73,7 +69,6 @@ static void pass_second(struct lagd *lagd) {
     notify_alive();
 }
 
-/* 100 ms passed. */
 static void pass_tick(struct lagd *lagd) {
     if (!pass_system_tick(&lagd->protocol)) return;
     pass_halt_tick(&lagd->protocol);
@@ -135,7 +130,6 @@ static void serve_all_data(struct tap_plane *tap, const struct epoll_event *even
     if (host) serve_data(tap, HOST);
 }
 
-/* Serves those who ask. */
 static void serve_all_callers(struct control *control, const struct epoll_event *events, int count) {
     for (int i = 0; i < count; i++)
         if (events[i].data.u32 >= CALLERS && events[i].data.u32 < HOST) serve_caller(control, events[i].data.u32 - CALLERS);
@@ -153,7 +147,6 @@ static bool leave_state(struct lagd *lagd) {
     return true;
 }
 
-/* Takes a signal; answers whether it ends the daemon. */
 static bool is_end(struct lagd *lagd, int signals, const char *file) {
     struct signalfd_siginfo signal;
     if (read(signals, &signal, sizeof signal) != sizeof signal) return true;
@@ -217,7 +210,6 @@ static void keep_standard_files(void) {
     if (opened >= 0) close(opened);
 }
 
-/* Opens what the daemon needs, and runs it. */
 static int run_daemon(struct lagd *lagd, const struct options *options) {
     int signals, clock;
     unsigned resumed;

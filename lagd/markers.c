@@ -36,7 +36,6 @@ void note_odd_marker(struct link *link, const struct arrival *arrival, enum coun
     memcpy(link->markers.source, arrival->frame + ETH_ALEN, sizeof link->markers.source);
 }
 
-/* Lets the slots pass that are over. */
 static void pass_slots(struct answered *answered, uint64_t slot) {
     for (uint64_t passed = answered->slot + 1; passed <= slot && passed <= answered->slot + ANSWERED_SLOTS; passed++)
         answered->partner[passed % ANSWERED_SLOTS] = answered->others[passed % ANSWERED_SLOTS] = 0;

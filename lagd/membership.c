@@ -12,7 +12,6 @@
 /* For how long a conversation may wait for a marker, as flight.c has it, and the peer for an LACPDU. */
 #define MOST_WAIT 3000
 
-/* How many links the bundle has. */
 uint16_t count_links(const struct ports *ports) {
     uint16_t count = 0;
     EACH_LINK_AS_IS(link, ports)
@@ -20,7 +19,6 @@ uint16_t count_links(const struct ports *ports) {
     return count;
 }
 
-/* The link of this name, or NULL. */
 static struct link *link_of(struct ports *ports, const char *name) {
     EACH_LINK(link, ports)
         if (link->used && strcmp(link->name, name) == 0) return link;
@@ -128,7 +126,6 @@ static bool configure(struct protocol *protocol, struct link *link) {
         && apply_hold(protocol, port);
 }
 
-/* Adds a port, of whose key aggregators were made, at its place. */
 void join_port(struct protocol *protocol, uint16_t port, const struct port_settings *settings) {
     struct link *link = &protocol->ports->links[port - 1];
     protocol->settings->ports[port - 1] = *settings;
@@ -200,7 +197,6 @@ void leave_port(struct protocol *protocol, uint16_t port) {
     protocol->plane->changed = true;
 }
 
-/* A port that was to leave stays. */
 void stay_port(struct protocol *protocol, uint16_t port) {
     struct link *link = &protocol->ports->links[port - 1];
     if (!link->leaving) return;
@@ -221,7 +217,6 @@ static bool is_quiet(struct protocol *protocol, const struct link *link) {
         && is_told(protocol->process, niw_held(&protocol->own_system, link->settings.number), "niw_held", &held) && held == 0;
 }
 
-/* The longest that a port takes to be quiet. */
 static uint64_t most_wait(const struct settings *settings) {
     return settings->flight > MOST_WAIT ? settings->flight : MOST_WAIT;
 }
@@ -241,7 +236,6 @@ static void drop_followed(struct protocol *protocol) {
         if (link->used && link->followed && link->outside && !link->leaving) leave_port(protocol, link->settings.number);
 }
 
-/* 100 ms passed. */
 void pass_leaving_tick(struct protocol *protocol) {
     if (protocol->settings->follow) drop_followed(protocol);
     for (uint16_t i = 0; i < protocol->ports->count && !protocol->process->broken; i++)
@@ -328,8 +322,9 @@ static const char *fault_of(struct protocol *protocol, const char *name) {
 static const char *add_by_words(struct protocol *protocol, char *text, uint16_t *port, char room[static ORDER_ROOM]) {
     static const char no_room[] = "there is no room for one more port: a restart of this bundle makes it";
     struct settings wanted = {.port_count = 0};
-    const char *expected = read_port(&protocol->process->words, text, &wanted), *fault;
+    const char *found, *expected = read_port(&protocol->process->words, text, &wanted, &found), *fault;
     struct link *known = expected ? NULL : link_of(protocol->ports, wanted.ports[0].name);
+    text[strcspn(text, ":")] = 0;
     snprintf(room, ORDER_ROOM, "expected %s", expected ? expected : "");
     if (expected) return room;
     if (known && !known->leaving) return "it is a port already";
@@ -362,7 +357,6 @@ static bool hold_by_word(struct protocol *protocol, struct link *link, bool hold
     return !hold || has_left(protocol, link);
 }
 
-/* Whether a port that was to leave has left. */
 static const char *answer_removed(const struct link *link, bool *done) {
     *done = link == NULL;
     return link && !link->leaving ? "it stays in the bundle" : NULL;

@@ -33,7 +33,6 @@ uint64_t count_at(const struct link *link, unsigned place) {
     return count;
 }
 
-/* The name of a bit of a state octet, from 0 to 7. */
 const char *bit_name(unsigned bit) {
     return BIT_NAMES[bit];
 }

@@ -122,7 +122,6 @@ void copy_text(const struct nlattr *attribute, char *into, size_t room) {
     into[room - 1] = 0;
 }
 
-/* Whether an attribute has this text, with its zero. */
 bool is_text(const struct nlattr *attribute, const char *text) {
     const void *value = value_of(attribute, strlen(text) + 1);
     return value && memcmp(value, text, strlen(text) + 1) == 0;

@@ -71,11 +71,7 @@ struct options_private {
     bool has_words; /* whether an option stands there that a file has, too */
 };
 
-struct options_private *make_options_private(void) {
-    struct options_private *made = make_room(sizeof *made);
-    made->options.folder = "/run/lagd";
-    return made;
-}
+MAKES_WITH(options, .options.folder = "/run/lagd")
 
 /* The options in the order of the help, from the tables above and from that of the keys. */
 static void make_rows(struct options_private *own) {
@@ -113,7 +109,6 @@ static void print_help(struct control *control) {
 /* A command line is one line. */
 enum { THE_LINE = 1 };
 
-/* Ends the program where a value is not what was expected. */
 static void expect(const char *expected, const char *name, const char *value) {
     char found[256];
     if (!expected) return;
@@ -122,7 +117,6 @@ static void expect(const char *expected, const char *name, const char *value) {
     stop(WRONG_WORD, found, value);
 }
 
-/* An option that is a key of the bundle. */
 static void apply_option(struct control *control, int letter, const char *text) {
     struct options_private *own = control->options;
     const struct option_text *row = own->rows;
@@ -138,13 +132,11 @@ static void choose(struct options_private *own, enum action action) {
     own->options.action = action;
 }
 
-/* One file is run, or looked at. */
 static void note_file(struct options_private *own, const char *file) {
     if (own->options.file) stop(WRONG_WORD, "usage", "one file, by --config or by --check; lagd --help tells more");
     own->options.file = file;
 }
 
-/* An option by which a bundle is changed. */
 static void choose_order(struct options_private *own, const char *order, const char *interface) {
     choose(own, ORDER);
     own->options.order = order;
@@ -199,25 +191,15 @@ static const char *read_port_word(struct words *words, const char *word, struct 
     return list_words(words, port_word, PORT_WORD_COUNT, " or ", "");
 }
 
-/* INTERFACE[:WORD,..], for the next port of settings, which ends the name there; answers NULL, or what was expected. */
-const char *read_port(struct words *words, char *text, struct settings *settings) {
+/* INTERFACE[:WORD,..], for the next port of settings, which ends the name there; answers NULL, or what was expected in the place of `found`. */
+const char *read_port(struct words *words, char *text, struct settings *settings, const char **found) {
     size_t length = strcspn(text, ":");
     char *rest = text[length] ? text + length + 1 : NULL;
     const char *expected = add_port(settings, text, length);
-    text[length] = 0;
-    for (char *word; !expected && (word = strsep(&rest, ","));)
-        expected = read_port_word(words, word, &settings->ports[settings->port_count - 1]);
+    *found = text;
+    if (!expected) text[length] = 0;
+    while (!expected && (*found = strsep(&rest, ","))) expected = read_port_word(words, *found, &settings->ports[settings->port_count - 1]);
     return expected;
-}
-
-/* INTERFACE[:WORD,..], for the next port. */
-static void read_link(struct control *control, char *text) {
-    struct options_private *own = control->options;
-    size_t length = strcspn(text, ":");
-    char *rest = text[length] ? text + length + 1 : NULL;
-    expect(add_port(&own->options.settings, text, length), NULL, text);
-    for (char *word; (word = strsep(&rest, ","));)
-        expect(read_port_word(&control->process->words, word, &own->options.settings.ports[own->options.settings.port_count - 1]), NULL, word);
 }
 
 /* KEY PRIORITY,MAC INTERFACE[:WORD,..].. */
@@ -227,13 +209,15 @@ static void read_words(struct control *control, int count, char **words) {
     if (count < 3) stop(WRONG_WORD, "usage", "lagd [OPTION..] KEY PRIORITY,MAC INTERFACE.., or lagd --config FILE; lagd --help tells more");
     expect(set_bundle(&control->process->words, given, "key", words[0], THE_LINE), "KEY", words[0]);
     expect(set_bundle(&control->process->words, given, "system", words[1], THE_LINE), "system", words[1]);
-    for (int i = 2; i < count; i++) read_link(control, words[i]);
+    for (int i = 2; i < count; i++) {
+        const char *found, *expected = read_port(&control->process->words, words[i], given, &found);
+        expect(expected, NULL, found);
+    }
     lack = lack_of(given);
     expect(lack.expected, NULL, lack.key);
     strcpy(given->name, given->ports[0].name);
 }
 
-/* Reads each option, by the rows. */
 static void read_rows(struct control *control, int argc, char **argv) {
     struct options_private *own = control->options;
     struct option names[OPTION_ROOM + 1] = {{NULL, 0, NULL, 0}};

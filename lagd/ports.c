@@ -14,20 +14,17 @@ static uint8_t status_of(struct protocol *protocol, const struct link *link) {
     return link->view.defaulted ? WITHOUT_PARTNER : status;
 }
 
-/* Whether a port carries, as far as LACP is concerned. */
 bool carries(struct protocol *protocol, const struct link *link) {
     uint8_t status = status_of(protocol, link);
     return status == NIW_PORT_STATUS_DISTRIBUTING || status == WITHOUT_PARTNER || status == AWAY;
 }
 
-/* How many links count as up, though their carriers are away. */
 uint16_t count_away(const struct ports *ports) {
     uint16_t count = 0;
     EACH_LINK_AS_IS(link, ports) count = (uint16_t)(count + link->away);
     return count;
 }
 
-/* What there is to print of a port. */
 struct facts facts_of(struct protocol *protocol, const struct link *link) {
     const struct niw_view *view = &link->view;
     struct facts facts = {
@@ -55,7 +52,6 @@ static void count_change(const struct settings *settings, struct link *link, con
         link->counts[DISTRIBUTED]++;
 }
 
-/* Takes what the library tells of the ports that changed. */
 void read_views(struct protocol *protocol) {
     struct niw_view views[NIW_MOST_PORTS];
     uint64_t changed;
@@ -68,7 +64,6 @@ void read_views(struct protocol *protocol) {
     }
 }
 
-/* Whether the same line tells both. */
 static bool is_same(const struct facts *one, const struct facts *other) {
     return one->status == other->status && one->aggregator == other->aggregator && one->defaulted == other->defaulted
         && one->trouble == other->trouble && one->partner.priority == other->partner.priority

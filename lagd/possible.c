@@ -24,27 +24,13 @@ int fault_of_programs(const struct settings *settings) {
     return attached == -ENODEV ? 0 : attached;
 }
 
-/* Whether the kernel can pass data on by itself: answers how the program ends. */
-static int check_fast(struct process *process, const struct options *options) {
+/* Whether the kernel has what a key wants: programs of an interface, and for `fast` to wait for them. Answers how the program ends. */
+static int check_programs(struct process *process, const struct options *options, const char *key, bool waits) {
     int fault = fault_of_programs(process->settings);
-    if (fault == -EPERM) {
-        tell(process, options, "fast", "not known without CAP_BPF and CAP_NET_ADMIN");
-        return DONE;
-    }
-    if (fault != 0) {
-        tell(process, options, "fast", NO_PROGRAMS);
-        return REFUSED;
-    }
-    if (syscall(SYS_membarrier, MEMBARRIER_CMD_GLOBAL, 0, 0) == 0) return DONE;
-    tell(process, options, "fast", "the kernel cannot wait for its programs (membarrier)");
-    return REFUSED;
-}
-
-/* Whether the kernel has a program choose the queue of a frame: answers how the program ends. */
-static int check_queues(struct process *process, const struct options *options) {
-    int fault = fault_of_programs(process->settings);
-    if (fault == 0) return DONE;
-    tell(process, options, "queues", fault == -EPERM ? "not known without CAP_BPF and CAP_NET_ADMIN" : NO_PROGRAMS);
+    bool lacks = fault == 0 && waits && syscall(SYS_membarrier, MEMBARRIER_CMD_GLOBAL, 0, 0) != 0;
+    if (fault == 0 && !lacks) return DONE;
+    tell(process, options, key, lacks ? "the kernel cannot wait for its programs (membarrier)"
+        : fault == -EPERM ? "not known without CAP_BPF and CAP_NET_ADMIN" : NO_PROGRAMS);
     return fault == -EPERM ? DONE : REFUSED;
 }
 
@@ -68,6 +54,6 @@ int check_machine(struct control *control, const struct options *options) {
         tell(control->process, options, "carry", "there is no /dev/net/tun");
         return REFUSED;
     }
-    if (options->settings.fast && check_fast(control->process, options) != DONE) return REFUSED;
-    return options->settings.all_queues ? check_queues(control->process, options) : DONE;
+    if (options->settings.fast && check_programs(control->process, options, "fast", true) != DONE) return REFUSED;
+    return options->settings.all_queues ? check_programs(control->process, options, "queues", false) : DONE;
 }

@@ -15,12 +15,7 @@ struct probe_private {
     uint16_t partner_key;
 };
 
-struct probe_private *make_probe_private(void) {
-    struct probe_private *made = make_room(sizeof *made);
-    made->peer = NOT_ASKED;
-    made->told = NOT_ASKED;
-    return made;
-}
+MAKES_WITH(probe, .peer = NOT_ASKED, .told = NOT_ASKED)
 
 enum answering peer_answering(const struct probe_private *own) {
     return own->peer;
@@ -69,7 +64,6 @@ static void ask_peer(struct carry *carry) {
     send_new_marker(carry->plane, &carry->ports->links[own->asked_on - 1], marker);
 }
 
-/* Sends the marker again: a cable may lose one. */
 static void ask_again(struct tap_plane *tap) {
     struct probe_private *own = tap->carry->probe;
     if (tap->carry->time - own->sent_at < AGAIN) return;
@@ -114,7 +108,6 @@ static void go_on_asking(struct tap_plane *tap) {
     }
 }
 
-/* 100 ms passed. */
 void pass_probe_tick(struct tap_plane *tap) {
     struct probe_private *own = tap->carry->probe;
     if (own->asking) go_on_asking(tap);

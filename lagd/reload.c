@@ -35,7 +35,6 @@ static bool change_port(struct protocol *protocol, uint16_t port, const struct s
     return true;
 }
 
-/* Gives a port its activity and timeout; answers whether one differs. */
 static bool change_mode(struct protocol *protocol, uint16_t port, const struct settings *wanted) {
     struct link *link = &protocol->ports->links[port - 1];
     struct niw_port next = port_of(wanted, port);
@@ -46,13 +45,11 @@ static bool change_mode(struct protocol *protocol, uint16_t port, const struct s
     return true;
 }
 
-/* Holds a port, or lets it go; answers whether that differs. */
 static bool change_hold(struct protocol *protocol, uint16_t port, const struct settings *wanted) {
     bool hold = wants_hold(wanted, port);
     return protocol->ports->links[port - 1].held != hold && hold_port(protocol, port, hold);
 }
 
-/* Gives a port what the file has of it; answers whether anything differs. */
 static bool change_all(struct protocol *protocol, uint16_t port, const struct settings *wanted) {
     bool port_changed = change_port(protocol, port, wanted), mode_changed = change_mode(protocol, port, wanted),
         hold_changed = change_hold(protocol, port, wanted);

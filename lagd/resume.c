@@ -36,7 +36,6 @@ static bool goes_on(struct protocol *protocol, const struct link *link) {
         && may_be_partner(link, was->lacpdu, &actor);
 }
 
-/* What was saved of a link, as the library has it. */
 static struct niw_saved saved_of(struct protocol *protocol, const struct link *link) {
     const struct inherited_link *was = inherited_of(protocol->process->inherited, link);
     struct niw_saved saved = {.port = link->settings.number, .aggregator = was->aggregator};
@@ -120,7 +119,6 @@ unsigned resume(struct protocol *protocol) {
     return (unsigned)count;
 }
 
-/* A conversation stays on the interface that it was on. */
 static void stay(struct carry *carry, uint16_t number, uint16_t port) {
     if (niw_adopt(&carry->protocol->own_system, carry->active, number, port) != NIW_OK) return;
     carry->conversations[number].home = carry->active;
@@ -152,7 +150,6 @@ void resume_conversations(struct plane *plane, bool goes_on) {
     CALL(plane->passing->resume, plane->tap);
 }
 
-/* After the ports: the bundle and its data go on as they were. */
 void resume_data(struct protocol *protocol, unsigned count) {
     bool goes_on = count > 0 && protocol->process->inherited->bundle.aggregator <= protocol->aggregator_count;
     read_views(protocol);
@@ -160,7 +157,6 @@ void resume_data(struct protocol *protocol, unsigned count) {
     CALL(protocol->plane->carrying->resume, protocol->plane, goes_on);
 }
 
-/* All that goes on was taken over: what is left of the last daemon goes. */
 void end_resuming(struct protocol *protocol) {
     CALL(protocol->plane->carrying->end_resuming, protocol->plane);
     drop_unclaimed(protocol->process->store);

@@ -26,13 +26,11 @@ void notify_state(const struct bundle *bundle) {
     notify_bundle(bundle, "");
 }
 
-/* Once a second. */
 void notify_alive(void) {
     (void)sd_notify(0, "WATCHDOG=1");
 }
 #else
-void notify_ready(const struct bundle *bundle) {
-    (void)bundle;
+void notify_ready(const struct bundle *bundle UNUSED) {
 }
 
 void notify_reloading(void) {
@@ -41,8 +39,7 @@ void notify_reloading(void) {
 void notify_stopping(void) {
 }
 
-void notify_state(const struct bundle *bundle) {
-    (void)bundle;
+void notify_state(const struct bundle *bundle UNUSED) {
 }
 
 void notify_alive(void) {

@@ -11,7 +11,6 @@
 #define LONGEST_WAIT 3600
 #define A_SYSTEM "PRIORITY,MAC, as 32768,02:00:00:00:00:01, whose MAC address is neither zero nor one of a group"
 
-/* A number in decimal digits alone. */
 static bool read_number(const char *text, unsigned long least, unsigned long most, uint16_t *into) {
     size_t digits = strspn(text, "0123456789");
     unsigned long found = digits > 0 && digits < 6 && !text[digits] ? strtoul(text, NULL, 10) : most + 1;
@@ -20,7 +19,6 @@ static bool read_number(const char *text, unsigned long least, unsigned long mos
     return true;
 }
 
-/* One of two words; `is_first` says whether it is the first one. */
 static bool read_choice(const char *text, const char *first, const char *second, bool *is_first) {
     *is_first = strcmp(text, first) == 0;
     return *is_first || strcmp(text, second) == 0;
@@ -41,7 +39,6 @@ static bool read_mac(const char *text, uint8_t *mac) {
     return !(mac[0] & 1) && memcmp(mac, none, sizeof none) != 0;
 }
 
-/* PRIORITY,MAC. */
 static bool read_system(const char *text, struct system_id *into) {
     char priority[8] = "";
     size_t digits = strcspn(text, ",");
@@ -50,7 +47,6 @@ static bool read_system(const char *text, struct system_id *into) {
     return read_number(priority, 0, UINT16_MAX, &into->priority) && read_mac(text + digits + 1, into->mac);
 }
 
-/* Where a key has its value. */
 static void *value_in(const struct bundle_key *key, const struct settings *settings) {
     return (char *)settings + key->at;
 }
@@ -63,9 +59,8 @@ static bool parse_choice(const struct bundle_key *key, const char *text, struct 
     return read_choice(text, key->first, key->second, value_in(key, settings));
 }
 
-static bool parse_system(const struct bundle_key *key, const char *text, struct settings *settings) {
+static bool parse_system(const struct bundle_key *key UNUSED, const char *text, struct settings *settings) {
     struct system_id own = {.priority = USUAL_PRIORITY};
-    (void)key;
     settings->system_auto = strcmp(text, "auto") == 0;
     if (!settings->system_auto && !read_system(text, &own)) return false;
     settings->config.priority = own.priority;
@@ -73,9 +68,8 @@ static bool parse_system(const struct bundle_key *key, const char *text, struct 
     return true;
 }
 
-static bool parse_partner(const struct bundle_key *key, const char *text, struct settings *settings) {
+static bool parse_partner(const struct bundle_key *key UNUSED, const char *text, struct settings *settings) {
     bool any, named = !read_choice(text, "any", "first", &any);
-    (void)key;
     settings->policy = named ? PARTNER_GIVEN : any ? PARTNER_ANY : PARTNER_FIRST;
     return !named || read_system(text, &settings->partner);
 }
@@ -84,16 +78,14 @@ static bool is_path(const char *text) {
     return text[0] == '/' && strlen(text) < PATH_ROOM;
 }
 
-static bool parse_hook(const struct bundle_key *key, const char *text, struct settings *settings) {
+static bool parse_hook(const struct bundle_key *key UNUSED, const char *text, struct settings *settings) {
     struct stat found;
-    (void)key;
     if (!is_path(text) || stat(text, &found) < 0 || !S_ISREG(found.st_mode) || access(text, X_OK) < 0) return false;
     strcpy(settings->hook, text);
     return true;
 }
 
-static bool parse_state_dir(const struct bundle_key *key, const char *text, struct settings *settings) {
-    (void)key;
+static bool parse_state_dir(const struct bundle_key *key UNUSED, const char *text, struct settings *settings) {
     if (is_path(text)) strcpy(settings->state_dir, text);
     return is_path(text);
 }
@@ -105,16 +97,14 @@ static bool is_name(const char *text, size_t length) {
     return right;
 }
 
-static bool parse_carry(const struct bundle_key *key, const char *text, struct settings *settings) {
+static bool parse_carry(const struct bundle_key *key UNUSED, const char *text, struct settings *settings) {
     size_t length = strlen(text);
-    (void)key;
     if (length >= sizeof settings->carry || strchr(text, '%') || !is_name(text, length)) return false;
     memset(settings->carry, 0, sizeof settings->carry);
     memcpy(settings->carry, text, length);
     return true;
 }
 
-/* By what data goes. */
 const char *way_text(const struct settings *settings) {
     if (settings->plane == PLANE_TEAM) return "team";
     return settings->fast ? "fast" : settings->offload ? "offload" : "plain";
@@ -126,7 +116,6 @@ static const char *const HASHES[] = {[HASH_LAYER2] = "layer2", [HASH_LAYER2_3] =
 static const char *const SELECTIONS[] = {[SELECT_COUNT] = "count", [SELECT_BANDWIDTH] = "bandwidth", [SELECT_PRIORITY] = "priority",
     [SELECT_PRIORITY_STABLE] = "priority-stable", NULL};
 
-/* The word of a hash. */
 const char *hash_text(enum hash hash) {
     return HASHES[hash];
 }
@@ -135,7 +124,6 @@ const char *selection_text(enum selection selection) {
     return SELECTIONS[selection];
 }
 
-/* One of the words of an enum. */
 static bool parse_word(const struct bundle_key *key, const char *text, struct settings *settings) {
     for (unsigned i = 0; key->words[i]; i++) {
         if (strcmp(text, key->words[i]) != 0) continue;
@@ -209,7 +197,6 @@ static const struct bundle_key BUNDLE_KEYS[] = {
 enum { BUNDLE_KEY_COUNT = sizeof BUNDLE_KEYS / sizeof *BUNDLE_KEYS };
 _Static_assert(BUNDLE_KEY_COUNT <= MOST_BUNDLE_KEYS, "each key has room for its line");
 
-/* A key of the bundle, from 0 on; NULL behind the last one. */
 const struct bundle_key *bundle_key(size_t index) {
     return index < BUNDLE_KEY_COUNT ? &BUNDLE_KEYS[index] : NULL;
 }
@@ -261,7 +248,6 @@ static const struct {
 
 enum { PORT_KEY_COUNT = sizeof PORT_KEYS / sizeof *PORT_KEYS };
 
-/* What a port has for one of its keys. */
 static int *value_at(struct port_settings *port, size_t index) {
     return (int *)(void *)((char *)port + PORT_KEYS[index].at);
 }
@@ -297,7 +283,6 @@ const char *set_bundle(struct words *words, struct settings *settings, const cha
     return list_words(words, name_of_bundle_key, BUNDLE_KEY_COUNT, " or ", " as a key of [Bundle]");
 }
 
-/* The line that gives a key of the bundle, or 0. */
 unsigned line_of(const struct settings *settings, const char *name) {
     size_t i = 0;
     while (i < BUNDLE_KEY_COUNT && strcmp(name, BUNDLE_KEYS[i].name) != 0) i++;
@@ -338,14 +323,12 @@ bool write_port_key(const struct port_settings *port, size_t index, char text[st
     return true;
 }
 
-/* A port of which nothing is given. */
 struct port_settings unset_port(void) {
     struct port_settings port = {.name = ""};
     for (size_t i = 0; i < PORT_KEY_COUNT; i++) *value_at(&port, i) = AS_BUNDLE;
     return port;
 }
 
-/* Adds a port, by the name of its interface; answers NULL, or what was expected. */
 const char *add_port(struct settings *settings, const char *name, size_t length) {
     struct port_settings *port = &settings->ports[settings->port_count];
     if (!is_name(name, length)) return "the name of an interface";
@@ -427,7 +410,6 @@ static int value_of(int own, int all) {
     return own == AS_BUNDLE ? all : own;
 }
 
-/* A port, from 1, as the library takes it. */
 struct niw_port port_of(const struct settings *settings, uint16_t port) {
     const struct port_settings *own = &settings->ports[port - 1];
     return (struct niw_port){
@@ -440,7 +422,6 @@ struct niw_port port_of(const struct settings *settings, uint16_t port) {
     };
 }
 
-/* Whether a port, from 1, is to be out of use. */
 bool wants_hold(const struct settings *settings, uint16_t port) {
     return value_of(settings->ports[port - 1].hold, false) != 0;
 }

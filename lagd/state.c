@@ -98,7 +98,6 @@ static void write_link(FILE *file, const struct link *link) {
         is_carrying(link), link->lacpdu_at, link->lacpdus_at[MOST_LACPDUS - 1], hex, link->view.aggregator);
 }
 
-/* Writes which port has which number. */
 static void write_ports(const struct ports *ports, FILE *file) {
     for (uint16_t i = 0; i < ports->count; i++) {
         const struct link *link = &ports->links[i];

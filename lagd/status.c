@@ -34,12 +34,7 @@ struct status_private {
     char own_name[NAME_ROOM + 32];
 };
 
-struct status_private *make_status_private(void) {
-    struct status_private *made = make_room(sizeof *made);
-    made->listener = -1;
-    made->left_in_tick = MOST_IN_TICK;
-    return made;
-}
+MAKES_WITH(status, .listener = -1, .left_in_tick = MOST_IN_TICK)
 
 static void close_caller(struct caller *caller) {
     close(caller->fd);
@@ -47,7 +42,6 @@ static void close_caller(struct caller *caller) {
     *caller = (struct caller){.fd = -1};
 }
 
-/* How many connections a user has, or how many of them watch. */
 static unsigned count_of(const struct status_private *own, uid_t user, bool watching) {
     unsigned count = 0;
     for (unsigned i = 0; i < MOST_CALLERS; i++)
@@ -73,7 +67,6 @@ static struct caller *place_for(struct status_private *own, uid_t user, const ch
     return NULL;
 }
 
-/* Says why somebody gets no answer. */
 static void refuse(int fd, const char *why) {
     char text[128];
     int length = snprintf(text, sizeof text, REFUSAL "%s\n", why);
@@ -120,7 +113,6 @@ static void send_rest(struct process *process, struct caller *caller) {
         close_caller(caller);
 }
 
-/* Whether a question is one that changes something. */
 static bool is_order(const char *asked) {
     static const char *const orders[] = {"add ", "remove ", "removed ", "hold ", "release "};
     for (size_t i = 0; i < sizeof orders / sizeof *orders; i++)
@@ -140,7 +132,6 @@ static void obey(struct control *control, struct caller *caller) {
     close_caller(caller);
 }
 
-/* Answers a question, a word of one line, or an order. */
 static void answer_caller(struct control *control, struct caller *caller) {
     const char *asked = caller->question;
     unsigned watching = count_of(control->process->status, caller->user, true);
@@ -215,7 +206,6 @@ static void tell(struct status_private *own, const char *text, size_t length, bo
     }
 }
 
-/* Tells those who watch a line. */
 void tell_watchers(struct status_private *own, const char *line, size_t length) {
     tell(own, line, length, false);
 }
@@ -236,7 +226,6 @@ static void remove_socket(void *given) {
     (void)unlinkat(process->folder, process->status->own_name, 0);
 }
 
-/* Whether somebody listens at an address. */
 static bool is_taken(const struct sockaddr_un *address) {
     int asker = socket(AF_UNIX, SOCK_STREAM | SOCK_NONBLOCK | SOCK_CLOEXEC, 0);
     bool taken = asker >= 0 && (connect(asker, (const struct sockaddr *)address, sizeof *address) == 0 || errno == EAGAIN);

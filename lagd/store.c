@@ -62,7 +62,6 @@ void put_stored(struct store_private *own, const char *kind, int number, int fd)
     if (has_store() && !is_stored(own, kind, number, fd)) tell_store("FDSTORE", kind, number, fd);
 }
 
-/* The manager keeps it no more. */
 void drop_stored(struct store_private *own, const char *kind, int number) {
     char name[NAME_OF_FILE];
     name_stored(kind, number, name);
@@ -129,7 +128,6 @@ void drop_unclaimed(struct store_private *own) {
     for (size_t i = 0; i < own->count; i++) drop_at(own, i);
 }
 
-/* The next daemon goes on with what there is. */
 void leave_store(struct store_private *own) {
     own->stays = true;
 }
@@ -141,7 +139,6 @@ static void empty_store(void *given) {
     for (size_t i = 0; i < own->count; i++) (void)sd_notifyf(0, "FDSTOREREMOVE=1\nFDNAME=%s", own->stored[i].name);
 }
 
-/* Takes over what the last daemon left with the manager. */
 void open_store(struct process *process) {
     struct store_private *own = process->store;
     char **names = NULL;
@@ -167,7 +164,6 @@ void close_stored(struct store_private *own, const char *kind, int number, int f
     errno = fault;
 }
 
-/* Whether a packet socket still has its interface. */
 static bool is_of(int fd, int index) {
     struct sockaddr_ll address = {0};
     socklen_t length = sizeof address;

@@ -26,7 +26,6 @@ static void tell_twin(struct protocol *protocol, const struct link *link) {
             protocol->ports->links[link->twin - 1].name);
 }
 
-/* A second passed. */
 void look_for_twins(struct protocol *protocol) {
     EACH_LINK(link, protocol->ports) {
         uint16_t twin = twin_of(protocol->ports, link);

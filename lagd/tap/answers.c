@@ -23,11 +23,7 @@ struct answers_private {
     int timer;
 };
 
-struct answers_private *make_answers_private(void) {
-    struct answers_private *made = make_room(sizeof *made);
-    made->timer = -1;
-    return made;
-}
+MAKES_WITH(answers, .timer = -1)
 
 /* Opens what wakes the daemon for a response. */
 void start_answers(struct tap_plane *tap) {
@@ -54,7 +50,6 @@ static void wake(struct tap_plane *tap) {
     (void)timerfd_settime(own->timer, TFD_TIMER_ABSTIME, &at, NULL);
 }
 
-/* Sends the response to a marker. */
 bool answer_at_once(struct tap_plane *tap, struct link *link, const uint8_t *response) {
     send_frame(tap->protocol, link, response);
     return true;

@@ -27,7 +27,6 @@ static enum offered offer(struct carry *carry, struct conversation *conversation
     return GOES;
 }
 
-/* Puts a frame behind those of the port of its conversation. */
 static void send_on(struct tap_plane *tap, const struct conversation *conversation, uint8_t *packet, size_t length) {
     note_sent(tap->flight, conversation->port);
     put_data(tap, conversation->port, (uint16_t)(conversation - tap->carry->conversations), packet, length);
@@ -51,7 +50,6 @@ static void accept_fit(struct tap_plane *tap, struct conversation *conversation,
     if (offered == LOST) tap->carry->counts[NONE_CARRIES]++;
 }
 
-/* A packet came from the host. */
 void accept_from_host(struct tap_plane *tap, uint8_t *packet, size_t length) {
     uint64_t number;
     struct conversation *conversation;
@@ -80,7 +78,6 @@ uint64_t frames_handed_up(struct plane *plane, bool counts_now) {
     return carry->counts[HANDED_UP] + carry->counts[HOST_UNTAKEN];
 }
 
-/* A packet came in an aggregator. */
 void hand_up(struct tap_plane *tap, uint32_t aggregator, uint8_t *packet, size_t length) {
     if (aggregator == tap->carry->active) {
         put_host(tap, packet, length);

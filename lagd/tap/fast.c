@@ -27,12 +27,7 @@ struct fast_private {
     uint64_t counted_overflows, counted_unfit;
 };
 
-struct fast_private *make_fast_private(void) {
-    struct fast_private *made = make_room(sizeof *made);
-    made->sender = -1;
-    made->handover = -1;
-    return made;
-}
+MAKES_WITH(fast, .sender = -1, .handover = -1)
 
 /* Waits until each program that runs now, and what it does with its frame, is done; answers whether the kernel can. */
 static bool wait_for_programs(void) {
@@ -147,7 +142,6 @@ static uint64_t word_of(struct fast_private *own, uint16_t number) {
     return __atomic_load_n(&own->rows[number].word, __ATOMIC_SEQ_CST);
 }
 
-/* The number of a conversation. */
 static uint16_t number_in(const struct carry *carry, const struct conversation *conversation) {
     return (uint16_t)(conversation - carry->conversations);
 }
@@ -161,7 +155,6 @@ static void subtract(struct fast_private *own, uint16_t number, uint32_t segment
     } while (!__atomic_compare_exchange_n(&own->rows[number].word, &before, after, false, __ATOMIC_SEQ_CST, __ATOMIC_SEQ_CST));
 }
 
-/* Takes off what overflowed. */
 static void subtract_overflowed(struct tap_plane *tap, struct conversation *conversation) {
     uint64_t overflowed = __atomic_load_n(&tap->fast->rows[number_in(tap->carry, conversation)].overflowed, __ATOMIC_ACQUIRE);
     if (overflowed == conversation->fast.overflowed) return;
@@ -181,7 +174,6 @@ static bool count_passed(struct tap_plane *tap, struct conversation *conversatio
     return true;
 }
 
-/* Counts what the kernel did since the last time. */
 void count_fast_frames(struct tap_plane *tap) {
     struct fast_private *own = tap->fast;
     uint64_t overflowed, unfit;
@@ -248,32 +240,25 @@ static void withdraw_chosen(struct tap_plane *tap, bool (*is_chosen)(struct tap_
     }
 }
 
-static bool is_wrong(struct tap_plane *tap, const struct conversation *conversation, uint16_t port) {
-    (void)port;
+static bool is_wrong(struct tap_plane *tap, const struct conversation *conversation, uint16_t port UNUSED) {
     return tap->carry->port_of[number_in(tap->carry, conversation)] != conversation->fast.port
         || !has_fast_member(tap->members, conversation->fast.port);
 }
 
 /* Where the library refuses to tell, or the queue of the TAP device holds frames, the kernel passes nothing on. */
-static bool is_any(struct tap_plane *tap, const struct conversation *conversation, uint16_t port) {
-    (void)tap;
-    (void)conversation;
-    (void)port;
+static bool is_any(struct tap_plane *tap UNUSED, const struct conversation *conversation UNUSED, uint16_t port UNUSED) {
     return true;
 }
 
-static bool is_on(struct tap_plane *tap, const struct conversation *conversation, uint16_t port) {
-    (void)tap;
+static bool is_on(struct tap_plane *tap UNUSED, const struct conversation *conversation, uint16_t port) {
     return conversation->fast.port == port;
 }
 
 /* One that rests for a flight: towards a peer that answers no markers it is free then, and no frame of it may pass meanwhile. */
-static bool is_resting(struct tap_plane *tap, const struct conversation *conversation, uint16_t port) {
-    (void)port;
+static bool is_resting(struct tap_plane *tap, const struct conversation *conversation, uint16_t port UNUSED) {
     return !conversation->used && tap->carry->time - conversation->last >= tap->settings->flight;
 }
 
-/* The interface on which the kernel passes a conversation on, or 0. */
 int fast_member_of(struct tap_plane *tap, uint16_t number) {
     return (int)(uint32_t)word_of(tap->fast, number);
 }
@@ -350,7 +335,6 @@ void open_host(struct tap_plane *tap, bool open) {
         __ATOMIC_SEQ_CST);
 }
 
-/* A packet of a conversation came to the daemon. */
 void note_taken(struct conversation *conversation, uint32_t segments) {
     conversation->fast.touched = true;
     conversation->fast.taken += segments;
@@ -423,7 +407,6 @@ static bool suspect(struct tap_plane *tap, struct conversation *conversation) {
     return true;
 }
 
-/* 100 ms passed. */
 void pass_fast_tick(struct tap_plane *tap) {
     bool any = false;
     (void)read_tap_mac(tap->device, (uint8_t *)&tap->fast->host->mac);

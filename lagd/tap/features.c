@@ -11,7 +11,6 @@ static const char *const joining[] = {"rx-gro", "rx-gro-hw", "rx-lro"};
 #define MOST_FEATURES 256
 #define WORDS (MOST_FEATURES / 32)
 
-/* How many features the kernel knows, or 0. */
 static uint32_t count_features(int index) {
     union {
         uint8_t room[sizeof(struct ethtool_sset_info) + sizeof(uint32_t)];

@@ -24,7 +24,6 @@ static bool is_without_partner(struct protocol *protocol, uint16_t port) {
     return protocol->ports->links[port - 1].view.defaulted || distributes(protocol, port, false);
 }
 
-/* A frame goes on a port. */
 void note_sent(struct flight_private *own, uint16_t port) {
     own->silent_since[port - 1] = 0;
 }
@@ -108,7 +107,6 @@ static void watch_conversation(struct tap_plane *tap, uint16_t number, uint64_t 
         watch_free(tap->carry, conversation, number, &state);
 }
 
-/* 100 ms passed. */
 void pass_flight_tick(struct tap_plane *tap) {
     uint64_t again = 0;
     for (uint16_t number = 0; !tap->process->broken && number < CONVERSATIONS; number++) watch_conversation(tap, number, &again);

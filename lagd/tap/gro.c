@@ -112,7 +112,6 @@ static bool give_all(struct tap_plane *tap) {
     return give_host(tap, parts, 1 + own->count, all->length);
 }
 
-/* Hands up what waits. */
 void flush_host(struct tap_plane *tap) {
     struct gro_private *own = tap->gro;
     unsigned given = own->count > 1 && give_all(tap) ? own->count : 0, first = given;

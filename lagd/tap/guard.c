@@ -12,20 +12,6 @@ void load_guard(struct tap_plane *tap) {
     tap->dropper = load_program(tap->settings, "dropper", NULL);
 }
 
-/* Asks the driver of an interface something, or for something. */
-bool ask_driver(int index, void *value) {
-    struct ifreq request;
-    int fd = socket(AF_UNIX, SOCK_DGRAM | SOCK_CLOEXEC, 0);
-    bool done;
-    memset(&request, 0, sizeof request);
-    request.ifr_ifindex = index;
-    done = fd >= 0 && ioctl(fd, SIOCGIFNAME, &request) == 0;
-    request.ifr_data = value;
-    done = done && ioctl(fd, SIOCETHTOOL, &request) == 0;
-    if (fd >= 0) close(fd);
-    return done;
-}
-
 /* How many queues the kernel has for one direction of an interface whose driver does not tell. */
 static unsigned count_queues(int index) {
     unsigned sends = count_entries(index, "tx-"), receives = count_entries(index, "rx-");
@@ -42,7 +28,6 @@ static unsigned queues_of(int index, struct ethtool_channels *channels) {
     return channels->combined_count + more;
 }
 
-/* Gives an interface one queue for each direction, where its driver can. */
 static void give_one_queue(int index) {
     struct ethtool_channels wanted;
     if (queues_of(index, &wanted) <= 1) return;
@@ -88,7 +73,6 @@ void gather(struct process *process, int index) {
         process->settings->carry);
 }
 
-/* What an interface has that is changed while it is a member. */
 static void look_before(const struct plane *plane, const struct link *link, struct kept *before) {
     char path[128];
     *before = (struct kept){.joins = read_joins(link->index).wanted};
@@ -115,7 +99,7 @@ void look_at_discipline(struct tap_plane *tap, struct link *link, struct guard *
     bool given = false;
     (void)read_discipline(link->index, link->discipline);
     if (tap->plane->wants_fifo && !is_unqueued(link) && strcmp(link->discipline, "noqueue") != 0)
-        given = give_each_fifo(link->index, ASK(tap->plane->queueing->fifos_of, 1, link->index), read_speed(link->socket, link->name).megabits);
+        given = give_each_fifo(link->index, ASK(tap->plane->queueing->fifos_of, 1, link->index), read_speed(link->index).megabits);
     if (given) (void)read_discipline(link->index, link->discipline);
     link->has_fifos = given && strcmp(link->discipline, "mq") == 0;
     guard->in_order = keeps_order(link->discipline) || link->has_fifos;
@@ -126,12 +110,9 @@ void look_at_discipline(struct tap_plane *tap, struct link *link, struct guard *
 }
 
 /* The link comes up: the queue of its interface, if that is one of the daemon, has the length of its speed from now on. */
-void fit_queue(const struct plane *plane, const struct link *link, const char *interface) {
+void fit_queue(const struct plane *plane, const struct link *link) {
     if (!plane->wants_fifo) return;
-    if (link->has_fifos)
-        fit_each_fifo(link->index, ASK(plane->queueing->fifos_of, 1, link->index), read_speed(link->socket, interface).megabits);
-    else
-        fit_root_fifo(link->index, read_speed(link->socket, interface).megabits);
+    fit_each_fifo(link->index, link->has_fifos ? ASK(plane->queueing->fifos_of, 1, link->index) : 1, read_speed(link->index).megabits);
 }
 
 /* Why the kernel may not pass on what goes and comes at an interface, or NULL: a marker would overtake the data before it. */
@@ -169,7 +150,6 @@ void keep_from_stack(struct tap_plane *tap, const struct link *link, struct guar
         (void)say(tap->process, LOG_WARNING | ABOUT_DATA, "port %u %s: its own network stack has its frames, too", port, link->name);
 }
 
-/* Has the kernel pass on what goes and comes at a member, or keep it from the stack. */
 void run_fast_programs(struct tap_plane *tap, const struct link *link, struct guard *guard) {
     open_fast(tap, link, guard);
     if (guard->opened < 0) keep_from_stack(tap, link, guard);
@@ -191,7 +171,6 @@ static void regain_queues(int folder, const struct link *link, struct ethtool_ch
         (void)part_queues(link->index, before);
 }
 
-/* Gives a member one queue. */
 bool join_queues(struct tap_plane *tap, struct link *link, struct guard *guard) {
     look_at_discipline(tap, link, guard);
     give_one_queue(link->index);
@@ -211,12 +190,10 @@ bool keep_queues(struct tap_plane *tap, struct link *link, struct guard *guard) 
     return true;
 }
 
-/* The same of a member that has another queueing discipline. */
 void keep_queues_again(struct tap_plane *tap, struct link *link, struct guard *guard) {
     (void)keep_queues(tap, link, guard);
 }
 
-/* Has programs run for the frames of an interface. */
 static void run_programs(struct tap_plane *tap, const struct link *link, struct guard *guard) {
     guard->opened = -1;
     guard->classifier = NO_CLASSIFIER;

@@ -34,11 +34,7 @@ struct held_private {
     size_t octets; /* of all slots, while the queues are there */
 };
 
-struct held_private *make_held_private(void) {
-    struct held_private *made = make_room(sizeof *made);
-    made->leaving = NONE;
-    return made;
-}
+MAKES_WITH(held, .leaving = NONE)
 
 static struct pool *pool_of(struct held_private *own, uint32_t at) {
     return at & LARGE ? &own->large : &own->small;
@@ -76,7 +72,6 @@ void end_held(struct tap_plane *tap) {
     own->octets = 0;
 }
 
-/* A slot that is not in use, or NONE. */
 static uint32_t claim_slot(struct held_private *own, struct pool *pool) {
     uint32_t at = pool->idle;
     if (at != NONE)
@@ -98,20 +93,17 @@ bool count_held(struct tap_plane *tap, uint16_t number, uint64_t *waiting) {
     return !tap->carry->waiting || is_told(tap->process, niw_queue_waiting(&tap->held->queues, number), "niw_queue_waiting", waiting);
 }
 
-/* Whether it is known that no frame of a conversation waits. */
 bool none_held(struct tap_plane *tap, uint16_t number) {
     uint64_t waiting;
     return count_held(tap, number, &waiting) && waiting == 0;
 }
 
-/* Writes how many frames wait in all; answers whether that is known. */
 bool count_all_held(struct tap_plane *tap, uint64_t *waiting) {
     struct niw_counts counts = niw_queue_counts(&tap->held->queues);
     *waiting = counts.waiting;
     return is_done(tap->process, counts.status, "niw_queue_counts");
 }
 
-/* How many frames wait in all, as far as that is known. */
 unsigned count_frames_waiting(struct plane *plane) {
     uint64_t waiting;
     return count_all_held(plane->tap, &waiting) ? (unsigned)waiting : 0;
@@ -150,7 +142,6 @@ bool put_held(struct tap_plane *tap, uint16_t number, const uint8_t *packet, siz
     return true;
 }
 
-/* Loses the oldest frame of a conversation, and counts why; answers whether one waited. */
 bool drop_held(struct tap_plane *tap, uint16_t number, enum carry_count why) {
     struct niw_queued queued = niw_queue_drop(&tap->held->queues, number);
     uint32_t at = slot_told(tap->process, &queued, "niw_queue_drop");

@@ -29,11 +29,7 @@ struct host_private {
     unsigned of_one[CONVERSATIONS]; /* how many of each conversation wait */
 };
 
-struct host_private *make_host_private(void) {
-    struct host_private *made = make_room(sizeof *made);
-    made->tap = -1;
-    return made;
-}
+MAKES_WITH(host, .tap = -1)
 
 /* The device is gone, or it is in another namespace, where interfaces of others have the numbers of our members: first of all nothing
  * is passed on any more. Then the peers are told, and the daemon ends, so that whoever started it starts it again, with a new device. */
@@ -50,7 +46,6 @@ void lose_device(struct plane *plane) {
         "the peers are told, and the daemon ends", tap->settings->carry);
 }
 
-/* Whether packets wait to be cut. */
 bool is_cutting(struct tap_plane *tap) {
     return tap->host->count > 0 && !tap->process->broken;
 }
@@ -196,7 +191,6 @@ void lose_data(struct plane *plane, uint16_t port) {
     forget_answers(tap->answers, port);
 }
 
-/* The interface by which the kernel passes a conversation on, or 0. */
 int passing_member_of(struct plane *plane, uint16_t number) {
     return ASK(plane->passing->member_of, 0, plane->tap, number);
 }
@@ -234,7 +228,6 @@ void open_carry(struct protocol *protocol) {
     if (protocol->settings->carry[0]) CALL(protocol->plane->carrying->open, protocol->plane);
 }
 
-/* No interface is a member any more. */
 void remove_all_members(struct protocol *protocol) {
     EACH_LINK(link, protocol->ports)
         if (link->socket >= 0) CALL(protocol->plane->carrying->remove, protocol->plane, link);

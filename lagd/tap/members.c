@@ -98,7 +98,6 @@ static bool set_bypass(int fd, bool in_order) {
     return setsockopt(fd, SOL_PACKET, PACKET_QDISC_BYPASS, &(int){!in_order}, sizeof(int)) == 0;
 }
 
-/* How a packet is sent and taken. */
 static bool set_ways(int fd, bool in_order) {
     return set_bypass(fd, in_order) && setsockopt(fd, SOL_PACKET, PACKET_VNET_HDR, &(int){1}, sizeof(int)) == 0
         && setsockopt(fd, SOL_PACKET, PACKET_AUXDATA, &(int){1}, sizeof(int)) == 0;
@@ -137,7 +136,6 @@ static int open_markers(struct process *process, const struct link *link, int in
     return last_fault();
 }
 
-/* Makes room for what comes by members. */
 void start_members(struct members_private *own) {
     own->member_packets = make_rooms();
 }
@@ -150,14 +148,12 @@ static void close_sockets(struct tap_plane *tap, struct member *member) {
     member->socket = member->markers = member->direct = -1;
 }
 
-/* The manager of services keeps the sockets of a member, too. */
 static void store_sockets(struct store_private *store, const struct member *member, int index) {
     put_stored(store, "data", index, member->socket);
     if (member->markers >= 0) put_stored(store, "markers", index, member->markers);
     if (member->direct >= 0) put_stored(store, "direct", index, member->direct);
 }
 
-/* Opens the sockets of a member; answers 0, or -errno. */
 static int open_member_sockets(struct tap_plane *tap, struct member *member, const struct link *link) {
     int epoll_file = tap->process->epoll_file;
     uint32_t tag = MEMBERS + (uint32_t)(member - tap->members->members);
@@ -184,7 +180,6 @@ static int open_or_close(struct tap_plane *tap, struct member *member, const str
     return fault;
 }
 
-/* Takes up an interface for data; answers 0, or -errno. */
 int open_member(struct plane *plane, struct link *link) {
     struct tap_plane *tap = plane->tap;
     struct member *member = member_of(tap, link);
@@ -221,7 +216,6 @@ bool reopen_member(struct plane *plane, struct link *link) {
     return ASK(plane->carrying->renew, true, plane, link);
 }
 
-/* The same of a member. */
 bool renew_for_discipline(struct plane *plane, struct link *link) {
     struct tap_plane *tap = plane->tap;
     struct member *member = member_of(tap, link);
@@ -231,7 +225,6 @@ bool renew_for_discipline(struct plane *plane, struct link *link) {
     return set_bypass(member->socket, member->guard.in_order);
 }
 
-/* An interface has this MAC address now. */
 void follow_address(struct plane *plane, struct link *link, const uint8_t *mac) {
     if (memcmp(link->mac, mac, sizeof link->mac) == 0) return;
     CALL(plane->carrying->move, plane, link, mac);
@@ -274,12 +267,10 @@ void watch_queues(struct tap_plane *tap) {
     }
 }
 
-/* By how many queues of a member its data goes. */
 unsigned member_queues(const struct members_private *own, uint16_t port) {
     return own->members[port - 1].socket < 0 ? 0 : own->members[port - 1].guard.queues;
 }
 
-/* Whether the kernel may pass on what goes on a port. */
 bool has_fast_member(const struct members_private *own, uint16_t port) {
     return own->members[port - 1].socket >= 0 && own->members[port - 1].guard.fast;
 }
@@ -333,8 +324,8 @@ void follow_member_mtu(struct plane *plane, struct link *link, uint32_t mtu) {
 }
 
 /* The kernel told of an interface whose link is up, which may have another speed. */
-void follow_speed(struct plane *plane, const struct link *link, const char *interface) {
-    uint32_t now = read_speed(link->socket, interface).megabits;
+void follow_speed(struct plane *plane, const struct link *link) {
+    uint32_t now = read_speed(link->index).megabits;
     member_of(plane->tap, link)->megabits = now == (uint32_t)SPEED_UNKNOWN ? 0 : now;
     plane->changed = true;
 }
@@ -379,7 +370,6 @@ static void flush_member(struct changes_private *own, struct member *member) {
     member->out = 0;
 }
 
-/* Sends what waits for any member. */
 void flush_data(struct tap_plane *tap) {
     struct members_private *own = tap->members;
     for (uint16_t i = 0; i < tap->ports->count; i++)
@@ -410,10 +400,8 @@ bool give_marker(struct tap_plane *tap, struct link *link, const uint8_t *marker
     return is_done(tap->process, niw_count_sent(&link->counters, marker, NIW_FRAME), "niw_count_sent");
 }
 
-/* Sends a marker of a member of one queue, for the first time or again. */
-bool send_by_one_queue(struct tap_plane *tap, struct link *link, const uint8_t *marker, bool again) {
+bool send_by_one_queue(struct tap_plane *tap, struct link *link, const uint8_t *marker, bool again UNUSED) {
     struct msghdr message = {0};
-    (void)again;
     return give_marker(tap, link, marker, &message);
 }
 
@@ -425,7 +413,6 @@ static bool send_marker(struct tap_plane *tap, struct link *link, const uint8_t 
     return tap->plane->queueing->send_marker(tap, link, marker, again);
 }
 
-/* A marker is due on a port. */
 void send_new_marker(struct plane *plane, struct link *link, const uint8_t *frame) {
     struct tap_plane *tap = plane->tap;
     struct member *member = member_of(tap, link);
@@ -441,9 +428,7 @@ bool send_marker_again(struct tap_plane *tap, uint16_t port) {
     return own->members[port - 1].has_marker && send_marker(tap, &tap->ports->links[port - 1], own->members[port - 1].marker, true);
 }
 
-/* Accepts a response to the one marker of a port. */
-void accept_only_response(struct tap_plane *tap, struct link *link, const struct arrival *arrival, uint32_t id) {
-    (void)id;
+void accept_only_response(struct tap_plane *tap, struct link *link, const struct arrival *arrival, uint32_t id UNUSED) {
     accept_response(tap->protocol, link, arrival);
 }
 
@@ -557,7 +542,6 @@ void drain_member(struct plane *plane, uint16_t port) {
     }
 }
 
-/* Takes what waits at a member. */
 void receive_data(struct tap_plane *tap, uint16_t port) {
     struct member *member = &tap->members->members[port - 1];
     if (member->markers < 0) {

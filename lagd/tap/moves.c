@@ -10,7 +10,6 @@ static bool none_moves(struct carry *carry) {
     return true;
 }
 
-/* Moves a conversation to a port; answers whether it is on the move. */
 static bool move(struct carry *carry, uint16_t number, uint16_t port) {
     uint32_t status = niw_move_conversation(&carry->protocol->own_system, carry->active, number, port);
     if (status >= NIW_HELD && status <= NIW_MARKERS_SPENT) return false;
@@ -20,14 +19,12 @@ static bool move(struct carry *carry, uint16_t number, uint16_t port) {
     return ask_ports(carry->protocol, carry->active, carry->port_of);
 }
 
-/* The port behind this one. */
 static uint16_t next_port(const struct carry *carry, uint16_t port) {
     for (uint16_t i = 0; i < carry->active_count; i++)
         if (carry->active_ports[i] > port) return carry->active_ports[i];
     return carry->active_ports[0];
 }
 
-/* Moves the conversations that were asked to; answers whether some are on the move. */
 static bool move_asked(struct carry *carry) {
     bool any = false;
     for (uint16_t number = 0; number < CONVERSATIONS; number++) {
@@ -90,7 +87,6 @@ bool empty_port(struct plane *plane, uint16_t port) {
         && is_told(carry->process, niw_held(&carry->protocol->own_system, port), "niw_held", &held) && held == 0;
 }
 
-/* Whether a port is emptied, so that no other move is asked for. */
 static bool is_any_emptied(const struct ports *ports) {
     EACH_LINK_AS_IS(link, ports)
         if (link->emptying) return true;
@@ -105,7 +101,6 @@ void balance(struct carry *carry) {
     if (move_asked(carry) || level(carry)) send_due(carry->protocol);
 }
 
-/* Each busy conversation is to move to the next port. */
 void ask_moves(struct carry *carry) {
     for (uint16_t number = 0; number < CONVERSATIONS; number++)
         carry->conversations[number].asked = is_busy(carry, &carry->conversations[number]);

@@ -13,12 +13,10 @@
 
 static const size_t head = sizeof(struct virtio_net_hdr);
 
-/* The octets before each frame. */
 size_t head_octets(void) {
     return head;
 }
 
-/* The room of a packet. */
 size_t packet_room(void) {
     return head + LONGEST_SEGMENTED;
 }
@@ -36,7 +34,6 @@ uint8_t *make_rooms(void) {
     return rooms;
 }
 
-/* One of these rooms. */
 uint8_t *room_at(uint8_t *rooms, unsigned number) {
     return rooms + number * room_octets() + TAG_OCTETS;
 }
@@ -57,7 +54,6 @@ static size_t octets_before(const uint8_t *packet, size_t length) {
     return told.csum_start + 4 * ((size_t)packet[at + TCP_LENGTH] >> 4);
 }
 
-/* Into how many frames a packet is cut. */
 uint32_t count_segments(const uint8_t *packet, size_t length) {
     struct virtio_net_hdr told = head_of(packet);
     size_t before = head + octets_before(packet, length);
@@ -65,7 +61,6 @@ uint32_t count_segments(const uint8_t *packet, size_t length) {
     return (uint32_t)((length - before + told.gso_size - 1) / told.gso_size);
 }
 
-/* The octets of the tags of a frame, of so many tags at most. */
 size_t tag_octets(const uint8_t *frame, size_t length, size_t most) {
     size_t octets = 0;
     while (octets / TAG_OCTETS < most && ETH_HLEN + octets + TAG_OCTETS <= length) {

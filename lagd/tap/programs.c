@@ -15,7 +15,6 @@ const char *program_fault(void) {
     return reason;
 }
 
-/* Keeps a line. */
 static void keep_line(const char *line) {
     snprintf(reason, sizeof reason, "%.*s", (int)strcspn(line, "\n"), line);
 }

@@ -71,7 +71,6 @@ static uint32_t identifier_of(const uint8_t *frame) {
     return (uint32_t)at[0] << 24 | (uint32_t)at[1] << 16 | (uint32_t)at[2] << 8 | at[3];
 }
 
-/* Gives a Marker PDU another identifier. */
 void set_identifier(uint8_t *frame, uint32_t id) {
     for (unsigned i = 0; i < 4; i++) frame[IDENTIFIER_AT + i] = (uint8_t)(id >> (24 - 8 * i));
 }

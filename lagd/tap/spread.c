@@ -19,11 +19,7 @@ struct spread_private {
     unsigned usual; /* by how many queues the kernel passes data on, while it does so of any member */
 };
 
-struct spread_private *make_spread_private(void) {
-    struct spread_private *made = make_room(sizeof *made);
-    made->program = -1;
-    return made;
-}
+MAKES_WITH(spread, .program = -1)
 
 /* Loads the program that chooses queues, while the daemon may, and opens what wakes it for responses. */
 void start_all_queues(struct tap_plane *tap) {
@@ -40,7 +36,6 @@ static void name_setting(enum setting setting, unsigned queue, char name[static 
     snprintf(name, NAME_OCTETS, "%s-%u/%s", setting == TAKEN_BY ? "rx" : "tx", queue, ends[setting]);
 }
 
-/* Whether a name is that of a setting. */
 static bool is_setting(const char *name) {
     char own[NAME_OCTETS];
     unsigned queue;
@@ -164,7 +159,6 @@ bool may_spread(int folder, const struct link *link) {
     return !link->stacked && may_have_order(link->index) && (!changes || may_set(link->index));
 }
 
-/* Lets a member keep all its queues, where it can. */
 void spread(struct tap_plane *tap, const struct link *link, struct guard *guard) {
     unsigned count = count_entries(link->index, "tx-");
     const char *fault = fault_of_spreading(tap->process->folder, link, guard, count);

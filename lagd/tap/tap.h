@@ -88,7 +88,6 @@ bool read_discipline(int index, char name[static DISCIPLINE_ROOM]);
 bool have_order(int index);
 bool may_have_order(int index);
 bool give_each_fifo(int index, unsigned queues, uint32_t megabits);
-void fit_root_fifo(int index, uint32_t megabits);
 void fit_each_fifo(int index, unsigned queues, uint32_t megabits);
 void drop_fifo(int index);
 void give_no_queue(int index);
@@ -108,7 +107,6 @@ struct guard {
     unsigned channels;  /* how many it has, as spread.c has it */
     int chooser;        /* what keeps the program there by which a frame of the daemon goes by its queue, or -1 */
 };
-bool ask_driver(int index, void *value);
 void load_guard(struct tap_plane *tap);
 void gather(struct process *process, int index);
 void open_guard(struct tap_plane *tap, struct link *link, struct guard *guard);
@@ -129,7 +127,7 @@ void close_member(struct plane *plane, struct link *link);
 void forget_member(struct plane *plane, uint16_t port);
 void drain_member(struct plane *plane, uint16_t port);
 void send_new_marker(struct plane *plane, struct link *link, const uint8_t *frame);
-void follow_speed(struct plane *plane, const struct link *link, const char *interface);
+void follow_speed(struct plane *plane, const struct link *link);
 void start_members(struct members_private *own);
 bool renew_for_discipline(struct plane *plane, struct link *link);
 void move_member(struct plane *plane, struct link *link, const uint8_t *mac);

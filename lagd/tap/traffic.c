@@ -28,7 +28,6 @@ static bool order(const union message *question) {
     return ask_netlink(NETLINK_ROUTE, question, NULL, NULL);
 }
 
-/* The name of the queueing discipline that an interface has now; answers whether the kernel tells it. */
 bool read_discipline(int index, char name[static DISCIPLINE_ROOM]) {
     struct interface interface;
     if (!ask_interface(index, NULL, &interface) || !interface.discipline[0]) return false;
@@ -36,7 +35,6 @@ bool read_discipline(int index, char name[static DISCIPLINE_ROOM]) {
     return true;
 }
 
-/* Whether what is sent stays in its order in a queueing discipline. */
 bool keeps_order(const char *discipline) {
     return strcmp(discipline, "noqueue") == 0 || strcmp(discipline, "bfifo") == 0 || strcmp(discipline, "pfifo") == 0;
 }
@@ -54,12 +52,6 @@ static bool set_fifo(int index, uint32_t megabits, unsigned flags, uint32_t pare
     mnl_attr_put_strz(&question.head, TCA_KIND, "bfifo");
     mnl_attr_put(&question.head, TCA_OPTIONS, sizeof most, &most);
     return order(&question);
-}
-
-/* Gives an interface one queue that keeps the order, in place of what the kernel gave it by itself: where an administrator set another
- * one, the kernel refuses. Answers whether it has one of the daemon now. */
-static bool give_root_fifo(int index, uint32_t megabits) {
-    return set_fifo(index, megabits, NLM_F_CREATE, TC_H_ROOT, FIFO);
 }
 
 /* Gives an interface a discipline that has a queue for each of its own, in place of what the kernel gave it by itself. */
@@ -113,16 +105,17 @@ bool have_order(int index) {
     return seen.in_order && seen.queues == seen.sends;
 }
 
-/* Whether each queue of an interface keeps the order, or would as soon as give_fifos gave it a discipline. */
+/* Whether each queue of an interface keeps the order, or would as soon as give_each_fifo gave it a discipline. */
 bool may_have_order(int index) {
     return read_disciplines(index).changeable;
 }
 
-/* As give_fifo, for each queue of an interface: so the order of one stays, and none waits for another one. The last daemon may have left one
- * for all. What an administrator gave a queue stays; answers whether all keep the order. */
+/* Gives an interface one queue that keeps the order, in place of what the kernel gave it by itself, or one for each of its own: so the order of
+ * one stays, and none waits for another one. The last daemon may have left one for all. What an administrator set stays; answers whether all keep
+ * the order. */
 bool give_each_fifo(int index, unsigned queues, uint32_t megabits) {
     bool given;
-    if (queues <= 1) return give_root_fifo(index, megabits);
+    if (queues <= 1) return set_fifo(index, megabits, NLM_F_CREATE, TC_H_ROOT, FIFO);
     given = give_queues(index);
     if (!given) drop_fifo(index);
     if (!given && !give_queues(index)) return false;
@@ -130,14 +123,10 @@ bool give_each_fifo(int index, unsigned queues, uint32_t megabits) {
     return have_order(index);
 }
 
-/* The link has this speed now: the queue of an interface gets its length, if it is one of the daemon. */
-void fit_root_fifo(int index, uint32_t megabits) {
-    (void)set_fifo(index, megabits, 0, TC_H_ROOT, FIFO);
-}
-
-/* The same, for each queue. Where an administrator set another one, the kernel refuses. */
+/* The link has this speed now: each queue of an interface gets its length, if it is one of the daemon. Where an administrator set another one, the
+ * kernel refuses. */
 void fit_each_fifo(int index, unsigned queues, uint32_t megabits) {
-    if (queues <= 1) fit_root_fifo(index, megabits);
+    if (queues <= 1) (void)set_fifo(index, megabits, 0, TC_H_ROOT, FIFO);
     for (unsigned queue = 0; queues > 1 && queue < queues; queue++)
         (void)set_fifo(index, megabits, NLM_F_CREATE, FIFO | (queue + 1), 0);
 }

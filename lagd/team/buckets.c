@@ -35,7 +35,6 @@ struct buckets_private {
 
 MAKES_ROOM(buckets)
 
-/* The interface by which the frames of a bucket went at the start, or 0. */
 int bucket_member_of(struct plane *plane, uint16_t number) {
     return plane->team->buckets->members_at_start[number];
 }
@@ -104,14 +103,12 @@ static void look_at_driver(struct team_plane *team) {
     note_counted(team, &now, device.octets_sent);
 }
 
-/* How many frames of the peer came, as the driver told last, or tells now. */
 uint64_t team_frames_received(struct plane *plane, bool looks) {
     struct team_plane *team = plane->team;
     if (looks) look_at_driver(team);
     return team->buckets->frames_received;
 }
 
-/* What the device has at the start. */
 void start_buckets(struct team_plane *team) {
     struct buckets_private *own = team->buckets;
     struct team_now now;
@@ -206,7 +203,6 @@ static bool place_buckets(struct team_plane *team) {
     return true;
 }
 
-/* Whether a port carries in the active aggregator. */
 static bool is_active(const struct carry *carry, uint16_t port) {
     for (uint16_t i = 0; i < carry->active_count; i++)
         if (carry->active_ports[i] == port) return true;
@@ -236,7 +232,6 @@ static uint16_t usual_port(const struct carry *carry, uint16_t number) {
     return carry->active_ports[number % carry->active_count];
 }
 
-/* Whether a bucket is on another port than it is to be. */
 static bool waits(struct team_plane *team, uint16_t number) {
     struct buckets_private *own = team->buckets;
     return team->carry->active_count > 0 && own->buckets[number].port != 0 && own->buckets[number].port != usual_port(team->carry, number);
@@ -255,14 +250,12 @@ static void rest_still(struct team_plane *team) {
     }
 }
 
-/* How many buckets wait until they are still. */
 unsigned count_waiting_buckets(struct team_plane *team) {
     unsigned count = 0;
     for (uint16_t number = 0; number < CONVERSATIONS; number++) count += waits(team, number);
     return count;
 }
 
-/* 100 ms passed. */
 void pass_bucket_tick(struct team_plane *team) {
     unsigned waiting = count_waiting_buckets(team);
     if (team->carry->time - team->buckets->looked_at >= (waiting > 0 ? LOOKED_WAITING : LOOKED_EVERY)) look_at_driver(team);

@@ -18,7 +18,6 @@ bool is_team_port(const struct team_plane *team, uint16_t port) {
     return team->taken[port - 1];
 }
 
-/* Whether a daemon made the device. */
 bool has_made_team(struct plane *plane) {
     return plane->team->made;
 }
@@ -47,7 +46,6 @@ static uint32_t least_mtu(const struct settings *settings) {
     return least == 0 ? ETH_DATA_LEN : least;
 }
 
-/* Takes the lock of a device. */
 static void lock_device(struct team_plane *team, int index) {
     char what[128], holder[HOLDER_ROOM];
     team->lock = lock_interface(team->process, index);
@@ -60,7 +58,6 @@ static void lock_device(struct team_plane *team, int index) {
     put_stored(team->process->store, "lock", index, team->lock);
 }
 
-/* Whether each port of a device is an interface of this bundle. */
 static bool has_own_ports(const struct settings *settings, const struct team_now *now) {
     bool all = true;
     for (unsigned at = 0; at < now->port_count; at++) {
@@ -178,7 +175,6 @@ int open_team_port(struct plane *plane, struct link *link) {
     return fault;
 }
 
-/* The interface is no member any more, or the daemon ends. */
 void close_team_port(struct plane *plane, struct link *link) {
     struct team_plane *team = plane->team;
     if (!team->taken[link - team->ports->links]) return;
@@ -256,12 +252,10 @@ void open_team(struct plane *plane) {
     start_buckets(team);
 }
 
-/* Has the device a carrier, or none; answers whether the kernel does so. */
 bool give_team_carrier(struct plane *plane, bool on) {
     return set_device_carrier(tap_index(plane->carry->device), on);
 }
 
-/* The daemon ends, or the library refused a call. */
 void end_team_plane(struct plane *plane) {
     struct team_plane *team = plane->team;
     set_carrier(team->device, false);
@@ -278,7 +272,6 @@ void settle_team(struct plane *plane) {
     if (team->carry->active != before) forget_heard(team->carry); /* until now frames came by the ports of the last one */
 }
 
-/* 100 ms passed, for all of the data. */
 void pass_tick_of_team(struct plane *plane) {
     struct team_plane *team = plane->team;
     begin_carry_tick(team->carry);

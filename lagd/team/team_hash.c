@@ -74,7 +74,6 @@ static void append(struct sock_filter *steps, size_t *count, const struct sock_f
     *count += more;
 }
 
-/* Writes the program of the settings; answers how many steps it has. */
 size_t make_team_hash(const struct settings *settings, struct sock_filter steps[static MOST_HASH_STEPS]) {
     const struct sock_filter begin[] = {NUMBER(HASH_START ^ settings->hash_seed), KEEP(HASH)};
     static const struct sock_filter end[] = {RECALL(HASH), BPF_STMT(BPF_RET | BPF_A, 0)};

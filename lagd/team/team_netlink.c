@@ -30,7 +30,6 @@ static void read_family(const struct nlmsghdr *message, void *into) {
     read_attributes(message, sizeof(struct genlmsghdr), parse_family, into);
 }
 
-/* Asks for the number of the driver; answers whether it is there. */
 static bool find_family(struct team_netlink_private *own) {
     struct genlmsghdr about = {.cmd = CTRL_CMD_GETFAMILY, .version = 1};
     union message question = message_of(GENL_ID_CTRL, NLM_F_ACK, &about, sizeof about);
@@ -45,7 +44,6 @@ bool find_team_driver(struct team_netlink_private *own) {
     return find_family(own) || (!make_team_device("team%d", no_address, ETH_DATA_LEN) && errno == EADDRNOTAVAIL && find_family(own));
 }
 
-/* Makes a device of the driver; answers whether it did. */
 bool make_team_device(const char *name, const uint8_t *mac, uint32_t mtu) {
     union message wanted = message_of_interface(RTM_NEWLINK, NLM_F_ACK | NLM_F_CREATE | NLM_F_EXCL, 0);
     struct nlattr *nest;
@@ -63,21 +61,18 @@ bool remove_device(int index) {
     return order(&wanted);
 }
 
-/* Sets an interface up or down. */
 bool set_interface_up(int index, bool up) {
     struct ifinfomsg about = {.ifi_index = index, .ifi_flags = up ? IFF_UP : 0, .ifi_change = IFF_UP};
     union message wanted = message_of(RTM_SETLINK, NLM_F_ACK, &about, sizeof about);
     return order(&wanted);
 }
 
-/* Sets what an attribute says of an interface. */
 static bool set_attribute(int index, uint16_t type, const void *value, size_t length) {
     union message wanted = message_of_interface(RTM_SETLINK, NLM_F_ACK, index);
     mnl_attr_put(&wanted.head, type, length, value);
     return order(&wanted);
 }
 
-/* Makes an interface a port of another one, or, with 0, of none. */
 bool set_master(int index, int master) {
     return set_attribute(index, IFLA_MASTER, &master, sizeof master);
 }
@@ -132,7 +127,6 @@ bool set_team_hash(const struct team_netlink_private *own, int index, const stru
     return set_option(own, index, "bpf_hash_func", (struct place){0, -1}, TYPE_BINARY, steps, count * sizeof *steps);
 }
 
-/* Whether a port passes data, in either direction. */
 bool set_port_enabled(const struct team_netlink_private *own, int index, int port, bool enabled) {
     return set_option(own, index, "enabled", (struct place){port, -1}, TYPE_FLAG, enabled ? "" : NULL, 0);
 }
@@ -196,7 +190,6 @@ static void parse_team(const struct nlmsghdr *message, void *into) {
     read_attributes(message, sizeof(struct genlmsghdr), parse_list, into);
 }
 
-/* Reads the options of a device; answers whether it could. */
 bool read_team(struct team_netlink_private *own, int index, struct team_now *now) {
     union message question = message_of_team(own, TEAM_CMD_OPTIONS_GET, 0, index);
     *now = (struct team_now){0};
