@@ -79,7 +79,6 @@ static void announce_ipv6(struct announce_private *own, const struct place *plac
     static const uint8_t all[ETH_ALEN] = {0x33, 0x33, 0, 0, 0, 1}, all_nodes[16] = {0xff, 2, [15] = 1};
     static const uint8_t head[] = {0x60, 0, 0, 0, 0, ADVERTISED_OCTETS, IPPROTO_ICMPV6, HOP_LIMIT};
     uint8_t frame[ETH_HLEN + IPV6_OCTETS + ADVERTISED_OCTETS] = {0}, *ip = frame + ETH_HLEN, *at = ip + IPV6_OCTETS;
-    uint32_t sum;
     begin_frame(frame, all, place, ETH_P_IPV6);
     memcpy(ip, head, sizeof head);
     memcpy(ip + IPV6_ADDRESSES, address, 16);
@@ -90,7 +89,7 @@ static void announce_ipv6(struct announce_private *own, const struct place *plac
     at[24] = TARGET_LINK_ADDRESS;
     at[25] = 1; /* of 8 octets */
     memcpy(at + 26, place->mac, ETH_ALEN);
-    sum = add_sum(ADVERTISED_OCTETS + IPPROTO_ICMPV6, ip + IPV6_ADDRESSES, 32 + ADVERTISED_OCTETS);
+    uint32_t sum = add_sum(ADVERTISED_OCTETS + IPPROTO_ICMPV6, ip + IPV6_ADDRESSES, 32 + ADVERTISED_OCTETS);
     sum = (sum & 0xffff) + (sum >> 16);
     sum = ~((sum & 0xffff) + (sum >> 16));
     at[2] = (uint8_t)(sum >> 8);
@@ -137,11 +136,10 @@ static int note_attribute(const struct nlattr *attribute, void *into) {
 static void read_forwarding(struct announce_private *own, const struct nlmsghdr *message) {
     const struct nlattr *told[MOST_TYPE + 1] = {0};
     const int *index, *forwarding;
-    struct place *place;
     read_attributes(message, sizeof(struct netconfmsg), note_attribute, told);
     index = value_of(told[NETCONFA_IFINDEX], sizeof *index);
     forwarding = value_of(told[NETCONFA_FORWARDING], sizeof *forwarding);
-    place = index && forwarding ? place_of(own, *index) : NULL;
+    struct place *place = index && forwarding ? place_of(own, *index) : NULL;
     if (!place) return;
     place->is_known = true;
     place->is_router = *forwarding != 0;
@@ -151,15 +149,12 @@ static void read_forwarding(struct announce_private *own, const struct nlmsghdr 
 static void read_address(struct announce_private *own, const struct nlmsghdr *message) {
     const struct nlattr *told[MOST_TYPE + 1] = {0};
     const struct ifaddrmsg *about = mnl_nlmsg_get_payload(message);
-    const struct place *place;
-    const uint8_t *address;
-    size_t octets;
     if (mnl_nlmsg_get_payload_len(message) < sizeof *about) return;
     read_attributes(message, sizeof *about, note_attribute, told);
-    octets = about->ifa_family == AF_INET ? 4 : 16;
-    address = value_of(told[IFA_LOCAL], octets);
+    size_t octets = about->ifa_family == AF_INET ? 4 : 16;
+    const uint8_t *address = value_of(told[IFA_LOCAL], octets);
     if (!address && about->ifa_family == AF_INET6) address = value_of(told[IFA_ADDRESS], octets);
-    place = place_of(own, (int)about->ifa_index);
+    const struct place *place = place_of(own, (int)about->ifa_index);
     if (!address || !place) return;
     if (about->ifa_family == AF_INET) announce_ipv4(own, place, address);
     if (about->ifa_family == AF_INET6 && place->is_known && !(about->ifa_flags & (IFA_F_TENTATIVE | IFA_F_DADFAILED)))

@@ -62,9 +62,8 @@ static void find_sockets(struct asking_private *own, const char *folder, bool de
 static int address_of(struct asking_private *own, const char *path, struct sockaddr_un *to) {
     char folder[sizeof own->daemons->path];
     const char *name = strrchr(path, '/') + 1;
-    int opened;
     snprintf(folder, sizeof folder, "%.*s", (int)(name - path), path);
-    opened = open(folder, O_PATH | O_DIRECTORY | O_CLOEXEC);
+    int opened = open(folder, O_PATH | O_DIRECTORY | O_CLOEXEC);
     *to = (struct sockaddr_un){.sun_family = AF_UNIX};
     if (opened < 0) return -errno;
     if (snprintf(to->sun_path, sizeof to->sun_path, "/proc/self/fd/%d/%s", opened, name) < (int)sizeof to->sun_path) return opened;
@@ -180,9 +179,8 @@ static int print_changes_of_all(struct control *control) {
     }
     while (left > 0 && poll(waits, own->count, -1) > 0) {
         for (unsigned i = 0; i < own->count; i++) {
-            ssize_t got;
             if (!waits[i].revents) continue;
-            got = recv(waits[i].fd, text, sizeof text - 1, 0);
+            ssize_t got = recv(waits[i].fd, text, sizeof text - 1, 0);
             if (got > 0) print_lines_of(control, i, text, (size_t)got);
             if (got <= 0) waits[i].fd = -1;
             left -= got <= 0;
@@ -216,10 +214,9 @@ static bool ask_one(struct control *control, unsigned daemon, const struct optio
 /* Tells a daemon an order; answers what it said, without the line end. */
 static char *tell_order(struct control *control, const char *path, const char *what, const char *interface) {
     char order[QUESTION_ROOM], *answer;
-    int fd;
     if (snprintf(order, sizeof order, "%s %s\n", what, interface) >= (int)sizeof order || strchr(interface, '\n'))
         stop(WRONG_WORD, "expected the name of an interface", interface);
-    fd = ask(control->asking, path, order);
+    int fd = ask(control->asking, path, order);
     if (fd < 0) stop(REFUSED, path, strerror(-fd));
     answer = read_answer(control->process, fd, path);
     close(fd);

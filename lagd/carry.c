@@ -58,10 +58,9 @@ void forget_heard(struct carry *carry) {
  * at once a tick, however many frames come, and only in a tick in which one does: few frames take long. */
 void suspect_aggregator(struct carry *carry, uint32_t aggregator) {
     struct carry_private *own = carry->carry_private;
-    uint64_t patience;
     if (own->looked_at == carry->time || carry->active == 0 || aggregator == carry->active) return;
     own->looked_at = carry->time;
-    patience = patience_with(carry->protocol, carry->active, (uint16_t)aggregator);
+    uint64_t patience = patience_with(carry->protocol, carry->active, (uint16_t)aggregator);
     own->elsewhere += NIW_TICK_MILLISECONDS;
     if (patience != 0 && own->elsewhere > patience) follow_peer(carry->protocol, (uint16_t)aggregator);
     else if (own->heard_at == 0 || !is_as_good_as_any(carry->protocol, (uint16_t)aggregator)) return;
@@ -168,7 +167,7 @@ static void wake_sleeper(struct carry *carry, uint16_t port) {
     carry->counts[WOKEN]++;
 }
 
-void wake_ports(struct carry *carry) {
+static void wake_ports(struct carry *carry) {
     for (uint16_t port = 1; !carry->process->broken && port <= carry->ports->count; port++) wake_sleeper(carry, port);
 }
 

@@ -67,7 +67,6 @@ void resume_conversations(struct plane *plane, bool goes_on);
 void release_former_members(struct plane *plane);
 
 /* carry.c */
-void wake_ports(struct carry *carry);
 void go_on_in(struct carry *carry, uint16_t aggregator);
 bool ask_state(struct protocol *protocol, uint16_t aggregator, uint16_t number, struct niw_assignment *state) MUST_USE;
 bool ask_ports(struct protocol *protocol, uint16_t aggregator, uint16_t *ports) MUST_USE;

@@ -103,15 +103,14 @@ bool has_carrier(const struct device *own) {
 void settle_tap_mtu(struct plane *plane) {
     struct device *own = plane->device;
     struct ifreq now = {0}, wanted = {0};
-    uint32_t mtu, least;
     if (!ask_tap(own, SIOCGIFMTU, &now)) return;
-    mtu = (uint32_t)now.ifr_mtu;
+    uint32_t mtu = (uint32_t)now.ifr_mtu;
     if (own->set_mtu != 0 && mtu != own->set_mtu) own->less_mtu = mtu < own->most_mtu ? mtu : 0;
     if (own->set_mtu != 0 && mtu != own->set_mtu && mtu > own->most_mtu)
         (void)say(own->process, LOG_WARNING | ABOUT_CARRIER, "carry %s: its members take no MTU of %u: it has %u again",
             own->process->settings->carry, mtu,
             own->most_mtu);
-    least = own->less_mtu != 0 && own->less_mtu < own->most_mtu ? own->less_mtu : own->most_mtu;
+    uint32_t least = own->less_mtu != 0 && own->less_mtu < own->most_mtu ? own->less_mtu : own->most_mtu;
     wanted.ifr_mtu = (int)least;
     if (mtu == least || ask_tap(own, SIOCSIFMTU, &wanted)) own->set_mtu = least;
 }
@@ -244,11 +243,10 @@ static bool open_inherited(struct device *own, const char *name, const uint8_t *
  * was made anew, too. */
 static void make_tap(struct device *own, const char *name, const uint8_t *mac) {
     char room[IF_NAMESIZE];
-    int before;
     struct ifreq device = request_of(own->process->inherited->persists && if_indextoname((unsigned)own->process->inherited->tap, room) ? room : name);
     own->tap = open("/dev/net/tun", O_RDWR | O_NONBLOCK | O_CLOEXEC);
     if (own->tap < 0) stop(REFUSED, "no TAP device", strerror(errno));
-    before = index_of(own, device.ifr_name);
+    int before = index_of(own, device.ifr_name);
     device.ifr_flags = IFF_TAP | IFF_NO_PI | IFF_VNET_HDR | NO_CARRIER;
     if (ioctl(own->tap, TUNSETIFF, &device) < 0) stop(REFUSED, name, strerror(errno));
     own->number = index_of(own, device.ifr_name);

@@ -96,7 +96,6 @@ bool may_be_partner(const struct link *link, const uint8_t *frame, struct system
 void accept_frame(struct protocol *protocol, struct link *link, const struct arrival *arrival) {
     struct system_id actor;
     struct niw_pdu response;
-    bool is_lacpdu, is_response;
     if (arrival->length < ETH_HLEN || memcmp(arrival->frame, GROUP, sizeof GROUP) != 0) {
         link->counts[ELSEWHERE_RECEIVED]++;
         return;
@@ -105,13 +104,13 @@ void accept_frame(struct protocol *protocol, struct link *link, const struct arr
         link->counts[TAGGED_RECEIVED]++;
         return;
     }
-    is_lacpdu = actor_of(arrival, &actor);
+    bool is_lacpdu = actor_of(arrival, &actor);
     if (is_lacpdu && link->up && link->pinned && !is_same_system(&actor, &link->partner)) {
         link->counts[FOREIGN_RECEIVED]++;
         note_stranger(link, &actor, arrival->frame + 6);
         return;
     }
-    is_response = link->up && read_response(protocol->process, arrival, &response);
+    bool is_response = link->up && read_response(protocol->process, arrival, &response);
     if (is_response && !is_partners_response(protocol->settings, link, arrival, &response)) {
         note_odd_marker(link, arrival, FOREIGN_RESPONSES);
         return;

@@ -29,11 +29,10 @@ static int start(const char *path, char *const *environment) {
     posix_spawnattr_t attributes;
     posix_spawn_file_actions_t files;
     pid_t child;
-    int fault;
     set_attributes(&attributes);
     set_files(&files);
     (void)prctl(PR_SET_TIMERSLACK, 0); /* the one that it began with */
-    fault = posix_spawn(&child, path, &files, &attributes, words, environment);
+    int fault = posix_spawn(&child, path, &files, &attributes, words, environment);
     (void)prctl(PR_SET_TIMERSLACK, TIMER_SLACK);
     posix_spawn_file_actions_destroy(&files);
     posix_spawnattr_destroy(&attributes);
@@ -43,13 +42,12 @@ static int start(const char *path, char *const *environment) {
 void run_hook(struct protocol *protocol, const char *path, enum bundle_state before) {
     char name[NAME_ROOM + 16], state[32], previous[32], links_text[32], carrying[32], aggregator[32];
     char *environment[] = {"PATH=/usr/sbin:/usr/bin:/sbin:/bin", name, state, previous, links_text, carrying, aggregator, NULL};
-    int fault;
     snprintf(name, sizeof name, "LAGD_BUNDLE=%s", protocol->settings->name);
     snprintf(state, sizeof state, "LAGD_STATE=%s", bundle_state_text(protocol->bundle.state));
     snprintf(previous, sizeof previous, "LAGD_PREVIOUS=%s", bundle_state_text(before));
     snprintf(links_text, sizeof links_text, "LAGD_LINKS=%u", protocol->bundle.links);
     snprintf(carrying, sizeof carrying, "LAGD_CARRYING=%u", protocol->bundle.carrying);
     snprintf(aggregator, sizeof aggregator, "LAGD_AGGREGATOR=%u", protocol->bundle.aggregator);
-    fault = start(path, environment);
+    int fault = start(path, environment);
     if (fault) (void)say(protocol->process, LOG_WARNING | ABOUT_HOOK, "hook %s: %s", path, strerror(fault));
 }

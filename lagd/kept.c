@@ -50,11 +50,10 @@ void drop_kept(int folder, const struct link *link, const char *kind) {
 static bool recall(int folder, const struct link *link, struct kept *kept) {
     char boot[BOOT_ROOM], now[BOOT_ROOM], mac[32], own[32], end[8] = "";
     struct ethtool_channels *queues = &kept->queues;
-    int found;
     FILE *file = open_kept(folder, link, "member", O_RDONLY, "r");
     if (!file) return false;
     *kept = (struct kept){0};
-    found = fscanf(file, READ_FORM, boot, mac, &kept->joins, &queues->rx_count, &queues->tx_count, &queues->other_count,
+    int found = fscanf(file, READ_FORM, boot, mac, &kept->joins, &queues->rx_count, &queues->tx_count, &queues->other_count,
         &queues->combined_count, kept->steered, end);
     fclose(file);
     if (found != 9 || strcmp(end, "end") != 0 || strcmp(boot, boot_id(now)) != 0 || strcmp(mac, mac_text(link->mac, own)) != 0)

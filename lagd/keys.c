@@ -161,9 +161,8 @@ static void give_key(struct protocol *protocol, struct link *link) {
 /* The link of a port comes up, or is up: with key-by-speed it has the key of the speed that it had as it came. */
 void apply_speed(struct protocol *protocol, struct link *link) {
     bool by_speed = protocol->settings->key_by_speed;
-    struct speed now;
     if (by_speed ? link->up : protocol->settings->select != SELECT_BANDWIDTH) return;
-    now = read_speed(link->index);
+    struct speed now = read_speed(link->index);
     if (link->has_speed && is_same_speed(&now, &link->speed)) return;
     link->has_speed = protocol->plane->changed = true;
     link->speed = now;
@@ -172,9 +171,8 @@ void apply_speed(struct protocol *protocol, struct link *link) {
 
 /* Whether a link that is up has come back at another speed, which with key-by-speed has another key. */
 bool has_other_speed(struct protocol *protocol, const struct link *link) {
-    struct speed now;
     if (!protocol->settings->key_by_speed || !link->up || !link->has_speed) return false;
-    now = read_speed(link->index);
+    struct speed now = read_speed(link->index);
     return !is_same_speed(&now, &link->speed);
 }
 

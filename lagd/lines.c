@@ -92,9 +92,8 @@ bool is_told(struct process *process, struct niw_number answer, const char *call
 static bool say_text(struct process *process, int level, const char *text) {
     char line[LONGEST_LINE], time[32];
     struct timespec now;
-    int used;
     clock_gettime(CLOCK_REALTIME, &now);
-    used = snprintf(line, sizeof line, "%s.%03ldZ %s\n", time_text(now.tv_sec, time), now.tv_nsec / 1000000, text);
+    int used = snprintf(line, sizeof line, "%s.%03ldZ %s\n", time_text(now.tv_sec, time), now.tv_nsec / 1000000, text);
     if (!(level & WATCHED)) tell_watchers(process->status, line, (size_t)used);
     if (in_journal()) {
         enum journaled told = tell_journal(process, level, text);

@@ -112,9 +112,8 @@ static int open_files(struct protocol *protocol, struct link *link, int index) {
 
 /* Takes up the interface of this number; answers whether it did, and else `trouble` has why not. */
 bool open_link(struct protocol *protocol, struct link *link, int index) {
-    bool taken;
     link->trouble = -open_files(protocol, link, index);
-    taken = link->trouble == 0;
+    bool taken = link->trouble == 0;
     if (taken) put_stored(protocol->process->store, "lock", index, link->lock);
     if (taken) put_stored(protocol->process->store, "lacp", index, link->socket);
     link->carrier_file = open_carrier(index);

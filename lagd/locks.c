@@ -25,7 +25,6 @@ static int find_lock(int index, int but, struct lock *found) {
     FILE *file = fopen("/proc/self/net/packet", "re");
     unsigned long own = inode_of(but);
     char line[256];
-    int fault;
     *found = (struct lock){0};
     if (!file) return last_fault();
     while (fgets(line, sizeof line, file)) {
@@ -35,7 +34,7 @@ static int find_lock(int index, int but, struct lock *found) {
         if (sscanf(line, "%*s %*s %*s %x %d %*s %*s %u %lu", &protocol, &at, &lock.user, &lock.inode) != 4) continue;
         if (protocol == PROTOCOL && at == index && lock.inode != own) *found = lock;
     }
-    fault = ferror(file) ? -EIO : 0;
+    int fault = ferror(file) ? -EIO : 0;
     fclose(file);
     return fault;
 }

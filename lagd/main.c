@@ -211,11 +211,9 @@ static void keep_standard_files(void) {
 }
 
 static int run_daemon(struct lagd *lagd, const struct options *options) {
-    int signals, clock;
-    unsigned resumed;
     lagd->settings = options->settings;
     (void)prctl(PR_SET_TIMERSLACK, TIMER_SLACK);
-    signals = open_signals(&lagd->settings);
+    int signals = open_signals(&lagd->settings);
     lagd->process.epoll_file = epoll_create1(EPOLL_CLOEXEC);
     if (lagd->process.epoll_file < 0) stop(REFUSED, "epoll", strerror(errno));
     if (lagd->settings.system_auto) read_own_address(&lagd->settings);
@@ -229,11 +227,11 @@ static int run_daemon(struct lagd *lagd, const struct options *options) {
     start_halt(&lagd->protocol);
     await_at_start(&lagd->process, open_changes(&lagd->protocol), CHANGES);
     open_status(&lagd->process, options->folder);
-    clock = open_clock();
+    int clock = open_clock();
     await_at_start(&lagd->process, signals, SIGNALS);
     await_at_start(&lagd->process, clock, CLOCK);
     drop_privileges(&lagd->process);
-    resumed = resume(&lagd->protocol);
+    unsigned resumed = resume(&lagd->protocol);
     lagd->process.has_started = true;
     resume_data(&lagd->protocol, resumed);
     halt_if_down(&lagd->protocol);
@@ -251,9 +249,8 @@ static int run_daemon(struct lagd *lagd, const struct options *options) {
 
 int main(int argc, char **argv) {
     struct lagd *lagd = make_lagd();
-    const struct options *options;
     keep_standard_files();
-    options = read_options(&lagd->control, argc, argv);
+    const struct options *options = read_options(&lagd->control, argc, argv);
     if (options->action == RUN) return run_daemon(lagd, options);
     if (options->action == CHECK) return check_machine(&lagd->control, options);
     return ask_daemons(&lagd->control, options);

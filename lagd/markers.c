@@ -18,9 +18,8 @@ static bool is_from_partner(const struct link *link, const struct arrival *arriv
 
 /* Reads a Marker PDU; answers whether the frame is a marker response. */
 bool read_response(struct process *process, const struct arrival *arrival, struct niw_pdu *pdu) {
-    struct niw_decoded decoded;
     if (arrival->length <= SUBTYPE_AT || arrival->frame[SUBTYPE_AT] != SUBTYPE_MARKER) return false;
-    decoded = niw_decode(arrival->frame + ETH_HLEN, arrival->length - ETH_HLEN, pdu);
+    struct niw_decoded decoded = niw_decode(arrival->frame + ETH_HLEN, arrival->length - ETH_HLEN, pdu);
     return decoded.status != NIW_BAD_PAYLOAD && is_done(process, decoded.status, "niw_decode") && pdu->tlv_type == NIW_MARKER_RESPONSE;
 }
 

@@ -306,13 +306,12 @@ bool accept_name(struct protocol *protocol, const struct link *link, const struc
 /* What keeps an interface from being a port now, or NULL. */
 static const char *fault_of(struct protocol *protocol, const char *name) {
     struct interface interface;
-    int lock;
     if (strcmp(name, protocol->settings->carry) == 0) return "it is the device itself";
     if (!ask_interface(0, name, &interface)) return "there is no such interface";
     if (interface.type != ARPHRD_ETHER) return "it is no Ethernet interface";
     EACH_LINK(link, protocol->ports)
         if (link->used && link->socket >= 0 && link->index == interface.index) return "it is a port by another name";
-    lock = lock_interface(protocol->process, interface.index);
+    int lock = lock_interface(protocol->process, interface.index);
     if (lock < 0) return lock == -EADDRINUSE ? "another lagd has it" : strerror(-lock);
     close_stored(protocol->process->store, "lock", interface.index, lock);
     return NULL;

@@ -43,9 +43,8 @@ int error_of(const struct nlmsghdr *message) {
 static struct mnl_socket *open_netlink(int bus) {
     static const struct sockaddr_nl kernel = {.nl_family = AF_NETLINK};
     struct mnl_socket *opened = mnl_socket_open2(bus, SOCK_NONBLOCK | SOCK_CLOEXEC);
-    int fault;
     if (!opened || connect(mnl_socket_get_fd(opened), (const struct sockaddr *)&kernel, sizeof kernel) == 0) return opened;
-    fault = errno;
+    int fault = errno;
     (void)mnl_socket_close(opened);
     errno = fault;
     return NULL;
@@ -72,12 +71,16 @@ static int read_answer(const struct mnl_socket *asked, message_reader read_one, 
 /* Asks the kernel; answers whether it did so, and else errno tells why not. */
 bool ask_netlink(int bus, const union message *question, message_reader read_one, void *into) {
     struct mnl_socket *asked = open_netlink(bus);
-    int fault;
     if (!asked) return false;
-    fault = mnl_socket_sendto(asked, question, question->head.nlmsg_len) < 0 ? errno : read_answer(asked, read_one, into);
+    int fault = mnl_socket_sendto(asked, question, question->head.nlmsg_len) < 0 ? errno : read_answer(asked, read_one, into);
     (void)mnl_socket_close(asked);
     errno = fault;
     return fault == 0;
+}
+
+/* Has the kernel do something of interfaces. */
+bool order(const union message *wanted) {
+    return ask_netlink(NETLINK_ROUTE, wanted, NULL, NULL);
 }
 
 /* As ask_netlink, of a list of which the kernel may change something while it tells it: then it is asked again. `into` has `size` octets, which are

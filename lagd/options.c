@@ -205,7 +205,6 @@ const char *read_port(struct words *words, char *text, struct settings *settings
 /* KEY PRIORITY,MAC INTERFACE[:WORD,..].. */
 static void read_words(struct control *control, int count, char **words) {
     struct settings *given = &control->options->options.settings;
-    struct lack lack;
     if (count < 3) stop(WRONG_WORD, "usage", "lagd [OPTION..] KEY PRIORITY,MAC INTERFACE.., or lagd --config FILE; lagd --help tells more");
     expect(set_bundle(&control->process->words, given, "key", words[0], THE_LINE), "KEY", words[0]);
     expect(set_bundle(&control->process->words, given, "system", words[1], THE_LINE), "system", words[1]);
@@ -213,7 +212,7 @@ static void read_words(struct control *control, int count, char **words) {
         const char *found, *expected = read_port(&control->process->words, words[i], given, &found);
         expect(expected, NULL, found);
     }
-    lack = lack_of(given);
+    struct lack lack = lack_of(given);
     expect(lack.expected, NULL, lack.key);
     strcpy(given->name, given->ports[0].name);
 }

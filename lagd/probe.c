@@ -37,9 +37,8 @@ void suspect_partner(struct probe_private *own) {
 /* Another partner may answer markers where the last one did not. */
 void look_at_partner(struct carry *carry) {
     struct probe_private *own = carry->probe;
-    const struct niw_view *view;
     if (carry->active == 0) return;
-    view = &carry->ports->links[carry->active_ports[0] - 1].view;
+    const struct niw_view *view = &carry->ports->links[carry->active_ports[0] - 1].view;
     if (view->partner_key == own->partner_key && view->partner_priority == own->partner.priority
         && memcmp(view->partner_mac, own->partner.mac, sizeof own->partner.mac) == 0)
         return;

@@ -24,10 +24,9 @@ static bool change_port(struct protocol *protocol, uint16_t port, const struct s
     struct link *link = &protocol->ports->links[port - 1];
     struct niw_port next = port_of(wanted, port);
     struct niw_change change = {.priority = next.priority, .aggregatable = next.aggregatable};
-    struct niw_truth answer;
     if (has_aggregator(protocol->keys, next.key)) link->key = next.key;
     change.key = choose_key(protocol, link);
-    answer = niw_configure(&protocol->own_system, port, &change);
+    struct niw_truth answer = niw_configure(&protocol->own_system, port, &change);
     if (!is_done(protocol->process, answer.status, "niw_configure") || !answer.is) return false;
     link->settings.key = change.key;
     link->settings.priority = change.priority;
@@ -134,11 +133,10 @@ static unsigned apply_settings(struct protocol *protocol, const struct settings 
 
 /* Reads a file; answers whether it is right. The system that an interface gave its address at the start keeps it. */
 static bool read_again(struct process *process, const char *file, struct settings *wanted) {
-    struct lack lack;
     if (!read_file(process, file, wanted)) return false;
     if (!wanted->system_auto || !process->settings->system_auto) return true;
     memcpy(wanted->config.mac, process->settings->config.mac, sizeof wanted->config.mac);
-    lack = lack_of(wanted);
+    struct lack lack = lack_of(wanted);
     if (lack.expected) complain(process, "%s:%u: expected %s: %s", file, line_of(wanted, lack.key), lack.expected, lack.key);
     return !lack.expected;
 }

@@ -294,10 +294,9 @@ const char *set_port(struct words *words, struct port_settings *port, const char
     size_t i = 0;
     uint16_t number;
     bool is_first;
-    int *value;
     while (i < PORT_KEY_COUNT && strcmp(name, PORT_KEYS[i].name) != 0) i++;
     if (i == PORT_KEY_COUNT) return list_words(words, name_of_port_key, PORT_KEY_COUNT, " or ", " as a key of [Port]");
-    value = value_at(port, i);
+    int *value = value_at(port, i);
     if (*value != AS_BUNDLE) return EACH_KEY_ONCE;
     if (!PORT_KEYS[i].first) {
         if (!read_number(text, 0, UINT16_MAX, &number)) return PORT_KEYS[i].expected;
@@ -312,10 +311,9 @@ const char *set_port(struct words *words, struct port_settings *port, const char
 /* The same of a key of a port. */
 bool write_port_key(const struct port_settings *port, size_t index, char text[static LINE_ROOM]) {
     struct port_settings own = *port;
-    int value;
     text[0] = 0;
     if (index >= PORT_KEY_COUNT) return false;
-    value = *value_at(&own, index);
+    int value = *value_at(&own, index);
     if (value != AS_BUNDLE && PORT_KEYS[index].first)
         snprintf(text, LINE_ROOM, "%s=%s", PORT_KEYS[index].name, value ? PORT_KEYS[index].first : PORT_KEYS[index].second);
     else if (value != AS_BUNDLE)

@@ -154,12 +154,11 @@ static void add_link(struct control *control, const struct link *link, enum form
 /* One port. */
 static void add_member(struct control *control, const struct link *link, enum form form) {
     struct report *report = control->report;
-    const char *receive, *mux;
     struct view view;
     char text[40];
     if (!view_of(control->protocol, link, &view)) return;
-    receive = niw_receive_state_text((uint32_t)view.receive);
-    mux = niw_mux_state_text((uint32_t)view.mux);
+    const char *receive = niw_receive_state_text((uint32_t)view.receive);
+    const char *mux = niw_mux_state_text((uint32_t)view.mux);
     add_name(report, link, form, receive, mux);
     add_words(report, form, "status", "status", status_text(view.facts.status));
     add_row(report, form, "may_enable", "carries", carries(control->protocol, link) ? "true" : "false");

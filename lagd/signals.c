@@ -17,7 +17,6 @@ static bool is_ignored(int signal) {
  * that is gone (SIGPIPE) and a hook that ends (SIGCHLD) do not disturb it. */
 int open_signals(const struct settings *settings) {
     sigset_t taken;
-    int fd;
     sigemptyset(&taken);
     sigaddset(&taken, SIGTERM);
     sigaddset(&taken, SIGUSR1);
@@ -31,7 +30,7 @@ int open_signals(const struct settings *settings) {
     signal(SIGXFSZ, SIG_IGN);
     if (!settings->carry[0]) signal(SIGUSR2, SIG_IGN);
     signal(SIGCHLD, SIG_IGN);
-    fd = signalfd(-1, &taken, SFD_CLOEXEC);
+    int fd = signalfd(-1, &taken, SFD_CLOEXEC);
     if (fd < 0) stop(REFUSED, "no signals", strerror(errno));
     return fd;
 }

@@ -148,10 +148,10 @@ static void keep_file(struct state *own, int file) {
 /* Puts a whole file in the place of the last one, which is on the disk before if it `lasts`; answers it, or -errno. */
 static int replace_file(struct state *own, int folder, const char *name, bool lasts) {
     char new_name[NAME_ROOM + 40];
-    int fd, kept;
+    int kept;
     FILE *file;
     snprintf(new_name, sizeof new_name, "%s.new", name);
-    fd = openat(folder, new_name, O_WRONLY | O_CREAT | O_TRUNC | O_APPEND | O_NOFOLLOW | O_CLOEXEC, 0600);
+    int fd = openat(folder, new_name, O_WRONLY | O_CREAT | O_TRUNC | O_APPEND | O_NOFOLLOW | O_CLOEXEC, 0600);
     file = fd < 0 ? NULL : fdopen(fd, "a");
     if (!file) {
         kept = last_fault();
@@ -180,10 +180,9 @@ static void lose_file(struct state *own, int fault) {
 void keep_port(struct state *own, uint16_t number, uint16_t port) {
     int index = own->carry->ports->links[port - 1].index;
     char line[32];
-    int length;
     if (own->file < 0 || own->members[number] == index) return;
     own->members[number] = index;
-    length = snprintf(line, sizeof line, "on %u %d\n", number, index);
+    int length = snprintf(line, sizeof line, "on %u %d\n", number, index);
     if (write(own->file, line, (size_t)length) == length) return;
     lose_file(own, last_fault());
     keep_file(own, -1);
@@ -191,9 +190,8 @@ void keep_port(struct state *own, uint16_t number, uint16_t port) {
 
 /* Removes a state, or what it has; answers 0, or -errno. */
 static int remove_file(int folder, const char *name) {
-    int emptied;
     if (unlinkat(folder, name, 0) == 0 || errno == ENOENT) return 0;
-    emptied = openat(folder, name, O_WRONLY | O_TRUNC | O_NOFOLLOW | O_CLOEXEC);
+    int emptied = openat(folder, name, O_WRONLY | O_TRUNC | O_NOFOLLOW | O_CLOEXEC);
     if (emptied < 0) return last_fault();
     close(emptied);
     return 0;
@@ -239,13 +237,12 @@ static uint64_t lasting_ports(const struct ports *ports) {
 
 /* A process that writes the copy, or removes it. It has nothing else of the daemon, which may end meanwhile, and prints nothing. */
 static _Noreturn void run_copier(struct state *own, int told) {
-    struct copied copied;
     sigset_t none;
     for (int fd = STDERR_FILENO + 1; fd < MOST_OPENED; fd++)
         if (fd != own->kept_folder && fd != told) close(fd);
     sigemptyset(&none);
     sigprocmask(SIG_SETMASK, &none, NULL);
-    copied = write_copy(own, own->copied_ports != 0);
+    struct copied copied = write_copy(own, own->copied_ports != 0);
     (void)!write(told, &copied, sizeof copied);
     _exit(DONE);
 }
@@ -276,13 +273,12 @@ static void see_copy(struct state *own) {
 /* A second passed: the copy is written anew where other ports would go on from it, or it gets old. */
 static void pass_copy_second(struct state *own) {
     uint64_t ports = lasting_ports(own->carry->ports), now = boottime();
-    int fault;
     see_copy(own);
     if (own->copied >= 0 || (ports == 0 && !own->has_copy) || (ports == own->copied_ports && now - own->copied_at < COPIED_EVERY)) return;
     own->copied_ports = ports;
     own->copied_at = now;
     own->has_copy = true;
-    fault = start_copier(own);
+    int fault = start_copier(own);
     if (fault < 0) note_copy(own, (struct copied){fault, 0});
 }
 
@@ -301,9 +297,8 @@ static void end_copier(struct state *own) {
 /* Writes the state; answers whether it did. Where that fails there is none. */
 bool save_state(struct state *own, bool leaves) {
     struct process *process = own->carry->process;
-    int file;
     if (own->over || process->broken || !process->has_started) return false;
-    file = replace_file(own, process->folder, own->name, false);
+    int file = replace_file(own, process->folder, own->name, false);
     keep_file(own, file);
     if (file < 0) lose_file(own, file);
     if (file >= 0) own->failed = false;
@@ -463,13 +458,12 @@ static const char *read_state(struct state *own, FILE *file, bool is_kept) {
     struct inherited *inherited = own->carry->process->inherited;
     unsigned version;
     char boot[BOOT_ROOM], now[BOOT_ROOM], given[WAY_ROOM], room[WAY_ROOM];
-    bool is_same_way;
     if (fscanf(file, "lagd %u", &version) != 1) return "it is no state of lagd";
     if (version != FORM_VERSION && version != FORM_WITHOUT_SPACE) return "it is of another version";
     if (fscanf(file, " boot %63s way %95s", boot, given) != 2) return "it is cut off";
     if (!is_kept && strcmp(boot, boot_id(now)) != 0) return "it is of another boot";
     if (!read_rest(inherited, file)) return "it is cut off, or wrong";
-    is_same_way = strcmp(given, way(own->carry->settings, room)) == 0;
+    bool is_same_way = strcmp(given, way(own->carry->settings, room)) == 0;
     if (is_kept) return is_same_way ? bring_over(inherited) : "it belongs to other settings";
     if (inherited->space != 0 && inherited->space != own->space) return "it is of another network namespace";
     read_changes(inherited, file);
@@ -492,11 +486,10 @@ static FILE *open_state(int folder, const char *name) {
 /* Takes the copy for this bundle, as long as the program runs: one of another network namespace may have its name. Else errno tells why not. */
 static bool lock_copy(struct state *own) {
     char name[NAME_ROOM + 40];
-    int fault;
     snprintf(name, sizeof name, "%s.lock", own->kept_name);
     own->lock = openat(own->kept_folder, name, O_RDWR | O_CREAT | O_NOFOLLOW | O_CLOEXEC, 0600);
     if (own->lock >= 0 && flock(own->lock, LOCK_EX | LOCK_NB) == 0) return true;
-    fault = errno;
+    int fault = errno;
     if (own->lock >= 0) close(own->lock);
     errno = fault;
     return false;
@@ -522,18 +515,16 @@ static void open_kept_folder(struct state *own) {
 /* Reads what the last daemon left. What counts for nothing has a line, and the daemon starts anew. */
 void recall_state(struct state *own) {
     const struct settings *settings = own->carry->settings;
-    const char *fault;
     FILE *file;
-    bool is_kept;
     snprintf(own->name, sizeof own->name, "%lu.%s.state", network_namespace(), settings->name);
     snprintf(own->kept_name, sizeof own->kept_name, "%s.state", settings->name);
     own->space = namespace_cookie();
     open_kept_folder(own);
     file = open_state(own->carry->process->folder, own->name);
-    is_kept = !file && own->kept_folder >= 0;
+    bool is_kept = !file && own->kept_folder >= 0;
     if (is_kept) file = open_state(own->kept_folder, own->kept_name);
     if (!file) return;
-    fault = read_state(own, file, is_kept);
+    const char *fault = read_state(own, file, is_kept);
     fclose(file);
     if (!fault) return;
     *own->carry->process->inherited = (struct inherited){0};

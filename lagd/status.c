@@ -166,7 +166,6 @@ static void answer_caller(struct control *control, struct caller *caller) {
 void serve_caller(struct control *control, uint32_t number) {
     struct caller *caller = &control->process->status->callers[number];
     char *end, scrap[64];
-    ssize_t got;
     if (caller->fd < 0) return;
     if (caller->rest) {
         send_rest(control->process, caller);
@@ -176,7 +175,7 @@ void serve_caller(struct control *control, uint32_t number) {
         if (recv(caller->fd, scrap, sizeof scrap, MSG_DONTWAIT) <= 0) close_caller(caller);
         return;
     }
-    got = recv(caller->fd, caller->question + caller->length, sizeof caller->question - 1 - caller->length, MSG_DONTWAIT);
+    ssize_t got = recv(caller->fd, caller->question + caller->length, sizeof caller->question - 1 - caller->length, MSG_DONTWAIT);
     if (got < 0 && (errno == EAGAIN || errno == EINTR)) return;
     if (got > 0) caller->length += (size_t)got;
     caller->question[caller->length] = 0;
@@ -238,17 +237,15 @@ static bool is_taken(const struct sockaddr_un *address) {
 void open_status(struct process *process, const char *folder) {
     struct status_private *own = process->status;
     struct sockaddr_un address = {.sun_family = AF_UNIX};
-    int length, fault;
-    mode_t mask;
     for (unsigned i = 0; i < MOST_CALLERS; i++) own->callers[i].fd = -1;
     snprintf(own->own_name, sizeof own->own_name, "%lu.%.*s.sock", network_namespace(), LONGEST_NAME, process->settings->name);
-    length = snprintf(address.sun_path, sizeof address.sun_path, "/proc/self/fd/%d/%s", process->folder, own->own_name);
+    int length = snprintf(address.sun_path, sizeof address.sun_path, "/proc/self/fd/%d/%s", process->folder, own->own_name);
     if (length >= (int)sizeof address.sun_path) stop(WRONG_WORD, "too long", own->own_name);
     if (is_taken(&address)) stop(REFUSED, "another lagd has this bundle", process->settings->name);
     (void)unlinkat(process->folder, own->own_name, 0);
     own->listener = socket(AF_UNIX, SOCK_STREAM | SOCK_NONBLOCK | SOCK_CLOEXEC, 0);
-    mask = umask(0117);
-    fault = own->listener < 0 || bind(own->listener, (struct sockaddr *)&address, sizeof address) < 0 || listen(own->listener, 64) < 0 ? errno : 0;
+    mode_t mask = umask(0117);
+    int fault = own->listener < 0 || bind(own->listener, (struct sockaddr *)&address, sizeof address) < 0 || listen(own->listener, 64) < 0 ? errno : 0;
     umask(mask);
     if (fault) stop(REFUSED, folder, strerror(fault));
     call_at_exit(process, remove_socket, process);

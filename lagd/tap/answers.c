@@ -58,9 +58,8 @@ bool answer_at_once(struct tap_plane *tap, struct link *link, const uint8_t *res
 /* Sends the response to a marker later; answers false where too many wait. */
 bool answer_later(struct tap_plane *tap, struct link *link, const uint8_t *response) {
     struct waiting *waiting = &tap->answers->ports[link->settings.number - 1];
-    struct answer *answer;
     if (waiting->count == MOST_WAITING) return false;
-    answer = &waiting->answers[(waiting->first + waiting->count++) % MOST_WAITING];
+    struct answer *answer = &waiting->answers[(waiting->first + waiting->count++) % MOST_WAITING];
     *answer = (struct answer){.due = milliseconds() + tap->settings->answer_after + 1, .unread = MOST_UNREAD};
     memcpy(answer->frame, response, sizeof answer->frame);
     if (waiting->count == 1) wake(tap);

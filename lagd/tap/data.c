@@ -14,9 +14,8 @@ static void keep(struct tap_plane *tap, uint16_t number, const uint8_t *packet, 
 enum offered { WAITS, LOST, GOES };
 
 static enum offered offer(struct carry *carry, struct conversation *conversation, uint16_t number) {
-    struct niw_number answer;
     if (carry->time < conversation->fast.not_before) return WAITS;
-    answer = niw_offer_conversation_in_active_aggregator(&carry->protocol->own_system, carry->active, number);
+    struct niw_number answer = niw_offer_conversation_in_active_aggregator(&carry->protocol->own_system, carry->active, number);
     if (answer.status == NIW_HELD) return WAITS;
     if (answer.status == NIW_NONE_DISTRIBUTING) return LOST;
     if (!is_done(carry->process, answer.status, "niw_offer_conversation_in_active_aggregator")) return WAITS;
@@ -52,7 +51,6 @@ static void accept_fit(struct tap_plane *tap, struct conversation *conversation,
 
 void accept_from_host(struct tap_plane *tap, uint8_t *packet, size_t length) {
     uint64_t number;
-    struct conversation *conversation;
     tap->carry->counts[FROM_HOST]++;
     if (length < head_octets() + ETH_HLEN) {
         tap->carry->counts[UNFIT]++;
@@ -62,7 +60,7 @@ void accept_from_host(struct tap_plane *tap, uint8_t *packet, size_t length) {
         tap->carry->counts[UNFIT]++;
         return;
     }
-    conversation = &tap->carry->conversations[number % CONVERSATIONS];
+    struct conversation *conversation = &tap->carry->conversations[number % CONVERSATIONS];
     note_taken(conversation, count_segments(packet, length));
     if (has_segments(packet)) tap->carry->counts[SEGMENTED]++;
     if (is_fit(tap->device, packet, length))
@@ -91,11 +89,10 @@ void hand_up(struct tap_plane *tap, uint32_t aggregator, uint8_t *packet, size_t
 static bool release_one(struct tap_plane *tap, struct conversation *conversation, uint16_t number) {
     enum offered offered = tap->carry->active == 0 ? WAITS : offer(tap->carry, conversation, number);
     size_t length;
-    uint8_t *packet;
     if (offered == WAITS) return false;
     conversation->fast.touched = true;
     if (offered == LOST) return drop_held(tap, number, NONE_CARRIES);
-    packet = remove_held(tap, number, &length);
+    uint8_t *packet = remove_held(tap, number, &length);
     if (!packet) return false;
     conversation->used = true; /* from now on it is on its way */
     send_on(tap, conversation, packet, length);

@@ -50,9 +50,8 @@ static int keep_program(struct tap_plane *tap, const char *kind, int program, bo
 /* A table that the programs share with the daemon: that of the last daemon, where that left one for this device, or a new one. */
 static void *open_map(struct tap_plane *tap, int number, uint32_t size, uint32_t count, int *map) {
     int left = tap->process->inherited->tap;
-    void *at;
     *map = claim_stored(tap->process->store, "map", number);
-    at = *map >= 0 && left != 0 && left == tap->fast->tap_at ? map_again(size, count, *map) : NULL;
+    void *at = *map >= 0 && left != 0 && left == tap->fast->tap_at ? map_again(size, count, *map) : NULL;
     if (at) return at;
     if (*map >= 0) close_stored(tap->process->store, "map", number, *map);
     at = make_map(size, count, map);
@@ -176,7 +175,6 @@ static bool count_passed(struct tap_plane *tap, struct conversation *conversatio
 
 void count_fast_frames(struct tap_plane *tap) {
     struct fast_private *own = tap->fast;
-    uint64_t overflowed, unfit;
     for (uint16_t number = 0; number < CONVERSATIONS; number++) (void)count_passed(tap, &tap->carry->conversations[number]);
     for (uint16_t i = 0; i < tap->ports->count; i++) {
         struct fast_member now = {
@@ -189,11 +187,11 @@ void count_fast_frames(struct tap_plane *tap) {
         own->counted[i] = now;
         add_fast_counts(tap, (uint16_t)(i + 1), &more);
     }
-    overflowed = __atomic_load_n(&own->host->overflowed, __ATOMIC_RELAXED);
+    uint64_t overflowed = __atomic_load_n(&own->host->overflowed, __ATOMIC_RELAXED);
     tap->carry->counts[FROM_HOST] += overflowed - own->counted_overflows;
     tap->carry->counts[OVERFLOWED] += overflowed - own->counted_overflows;
     own->counted_overflows = overflowed;
-    unfit = __atomic_load_n(&own->host->unfit, __ATOMIC_RELAXED);
+    uint64_t unfit = __atomic_load_n(&own->host->unfit, __ATOMIC_RELAXED);
     tap->carry->counts[FROM_HOST] += unfit - own->counted_unfit;
     tap->carry->counts[UNFIT] += unfit - own->counted_unfit;
     own->counted_unfit = unfit;
@@ -383,9 +381,8 @@ static void confirm_loss(struct tap_plane *tap, struct conversation *conversatio
  * put back. It only tells how many may wait, so a frame too many is lost by the kernel, which counts it. The order rests on the rows. */
 void note_read(struct tap_plane *tap, unsigned packets, bool drained) {
     struct fast_private *own = tap->fast;
-    int64_t left;
     if (tap->process->broken) return;
-    left = __atomic_sub_fetch(&own->host->left, packets, __ATOMIC_SEQ_CST);
+    int64_t left = __atomic_sub_fetch(&own->host->left, packets, __ATOMIC_SEQ_CST);
     if (drained && (left > MOST_BETWEEN || left < 0)) (void)__atomic_sub_fetch(&own->host->left, left, __ATOMIC_SEQ_CST);
     for (uint16_t number = 0; drained && !own->queue_holds && number < CONVERSATIONS; number++) {
         struct conversation *conversation = &tap->carry->conversations[number];
@@ -396,10 +393,9 @@ void note_read(struct tap_plane *tap, unsigned packets, bool drained) {
 /* Suspects rows with frames that do not come: none came since the last tick. */
 static bool suspect(struct tap_plane *tap, struct conversation *conversation) {
     struct fast_row *row = &tap->fast->rows[number_in(tap->carry, conversation)];
-    uint64_t word, opaque;
     subtract_overflowed(tap, conversation);
-    word = word_of(tap->fast, number_in(tap->carry, conversation));
-    opaque = __atomic_load_n(&row->opaque, __ATOMIC_SEQ_CST);
+    uint64_t word = word_of(tap->fast, number_in(tap->carry, conversation));
+    uint64_t opaque = __atomic_load_n(&row->opaque, __ATOMIC_SEQ_CST);
     if (conversation->fast.port > 0 || conversation->used || conversation->fast.suspected || (word == 0 && opaque == 0)) return false;
     conversation->fast.suspected = true;
     conversation->fast.suspected_word = word;

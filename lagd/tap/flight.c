@@ -93,12 +93,11 @@ static void watch_held(struct carry *carry, struct conversation *conversation, u
 static void watch_conversation(struct tap_plane *tap, uint16_t number, uint64_t *again) {
     struct conversation *conversation = &tap->carry->conversations[number];
     struct niw_assignment state;
-    bool away;
     drop_old(tap, number);
     if (conversation->used) conversation->last = tap->carry->time;
     conversation->used = false;
     if (conversation->home == 0 || !ask_state(tap->protocol, conversation->home, number, &state)) return;
-    away = conversation->home != tap->carry->active && tap->carry->active != 0 && state.what == NIW_CONVERSATION_ON;
+    bool away = conversation->home != tap->carry->active && tap->carry->active != 0 && state.what == NIW_CONVERSATION_ON;
     if (state.what == NIW_CONVERSATION_FLUSHING && state.age > 0 && state.age % AGAIN_TICKS == 0)
         *again |= (uint64_t)1 << (state.port - 1);
     if (is_held(&state) || (away && !none_held(tap, number)))

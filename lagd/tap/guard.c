@@ -21,10 +21,9 @@ static unsigned count_queues(int index) {
 
 /* How many queues an interface has for one direction, as `channels` tells in full: in several of them a marker may overtake data. */
 static unsigned queues_of(int index, struct ethtool_channels *channels) {
-    uint32_t more;
     *channels = (struct ethtool_channels){.cmd = ETHTOOL_GCHANNELS};
     if (!ask_driver(index, channels)) return count_queues(index);
-    more = channels->rx_count > channels->tx_count ? channels->rx_count : channels->tx_count;
+    uint32_t more = channels->rx_count > channels->tx_count ? channels->rx_count : channels->tx_count;
     return channels->combined_count + more;
 }
 
@@ -128,9 +127,8 @@ static const char *fault_of_fast(const struct link *link, const struct guard *gu
 
 /* Has the kernel pass on what goes and comes at a member, where it may; a line says why not. */
 static void open_fast(struct tap_plane *tap, const struct link *link, struct guard *guard) {
-    const char *fault;
     guard->unusual = guard->spread && !has_usual_queues(tap, guard);
-    fault = fault_of_fast(link, guard);
+    const char *fault = fault_of_fast(link, guard);
     if (!fault) guard->opened = open_fast_receiver(tap, link);
     guard->fast = guard->opened >= 0;
     if (!fault && !guard->fast) fault = strerror(-guard->opened);
@@ -223,13 +221,12 @@ void reopen_guard(struct tap_plane *tap, struct link *link, struct guard *guard)
 void open_guard(struct tap_plane *tap, struct link *link, struct guard *guard) {
     struct ethtool_channels queues;
     uint16_t port = link->settings.number;
-    bool has_queues;
     guard->spread = false;
     guard->queues = 1;
     guard->chooser = -1;
     look_before(tap->plane, link, &guard->before);
     keep_settings(tap->process, link, &guard->before);
-    has_queues = tap->plane->queueing->set(tap, link, guard);
+    bool has_queues = tap->plane->queueing->set(tap, link, guard);
     run_programs(tap, link, guard);
     note_channels(link, guard);
     if ((read_joins(link->index).on & ~joins_allowed(tap->settings, link, guard)) != 0)
@@ -252,10 +249,9 @@ static bool steer_back(int index, const char *mask) {
 /* The interface is no member any more. What cannot be set back stays kept, as without CAP_NET_ADMIN. */
 void close_guard(struct tap_plane *tap, const struct link *link, struct guard *guard) {
     struct kept *before = &guard->before;
-    bool done;
     stop_programs(tap, link, guard);
     stop_spreading(tap->process->store, link, guard);
-    done = part_queues(link->index, &before->queues);
+    bool done = part_queues(link->index, &before->queues);
     gather_back(tap->process->folder, link, done);
     if (before->joins != 0) set_joins(link->index, before->joins);
     if (before->joins != 0) done = (before->joins & ~read_joins(link->index).wanted) == 0 && done;

@@ -116,11 +116,9 @@ static uint32_t slot_told(struct process *process, const struct niw_queued *queu
 
 /* Writes the time at which the oldest frame of a conversation came; answers whether one waits. */
 bool oldest_held(struct tap_plane *tap, uint16_t number, uint64_t *came) {
-    struct niw_queued queued;
-    uint32_t at;
     if (!tap->carry->waiting) return false;
-    queued = niw_queue_oldest(&tap->held->queues, number);
-    at = slot_told(tap->process, &queued, "niw_queue_oldest");
+    struct niw_queued queued = niw_queue_oldest(&tap->held->queues, number);
+    uint32_t at = slot_told(tap->process, &queued, "niw_queue_oldest");
     if (at != NONE) *came = slot_of(tap->held, at)->came;
     return at != NONE;
 }

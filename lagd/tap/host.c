@@ -104,9 +104,8 @@ static void cut_waiting(struct tap_plane *tap, unsigned most) {
     struct host_private *own = tap->host;
     for (unsigned taken = 0; taken < most && is_cutting(tap);) {
         struct uncut *uncut = &own->waiting[own->first];
-        unsigned now;
         if (uncut->cut.count > 0 && uncut->next == 0) tap->carry->counts[SEGMENTED]++;
-        now = uncut->cut.count > 0 ? cut_segments(tap, &uncut->cut, uncut->next, most - taken)
+        unsigned now = uncut->cut.count > 0 ? cut_segments(tap, &uncut->cut, uncut->next, most - taken)
                                    : accept_whole(tap, room_at(own->rooms, own->first), uncut->length);
         uncut->next += now;
         taken += now;
@@ -127,9 +126,8 @@ static bool is_long(const uint8_t *packet, size_t length) {
  * answers how many frames it has. */
 static unsigned accept_in_turn(struct tap_plane *tap, uint8_t *packet, size_t length) {
     size_t head = head_octets();
-    struct niw_number number;
     if (length < head + ETH_HLEN || (!is_cutting(tap) && !is_long(packet, length))) return accept_whole(tap, packet, length);
-    number = conversation_of(tap->protocol, packet + head, length - head);
+    struct niw_number number = conversation_of(tap->protocol, packet + head, length - head);
     if (number.status != NIW_OK || (tap->host->of_one[number.number % CONVERSATIONS] == 0 && !is_long(packet, length)))
         return accept_whole(tap, packet, length);
     return wait_uncut(tap, packet, length, (uint16_t)(number.number % CONVERSATIONS));
@@ -137,9 +135,8 @@ static unsigned accept_in_turn(struct tap_plane *tap, uint8_t *packet, size_t le
 
 /* Takes one packet of the TAP device; answers how many frames it has, or 0 where there is none. */
 static unsigned read_next(struct tap_plane *tap, uint8_t *packet) {
-    ssize_t length;
     if (tap->process->broken) return 0;
-    length = read(tap->host->tap, packet, packet_room());
+    ssize_t length = read(tap->host->tap, packet, packet_room());
     if (length < 0 && (errno == EAGAIN || errno == EINTR)) return 0;
     if (length < 0 && (errno == EBADFD || errno == EIO || errno == ENODEV)) {
         lose_device(tap->plane);

@@ -47,6 +47,11 @@ uint64_t member_count(const struct members_private *own, uint16_t port, enum mem
     return own->members[port - 1].counts[count];
 }
 
+static bool attach(int fd, struct sock_filter *code, unsigned short count) {
+    struct sock_fprog wanted = {count, code};
+    return setsockopt(fd, SOL_SOCKET, SO_ATTACH_FILTER, &wanted, sizeof wanted) == 0;
+}
+
 /* Lets a socket have data and markers, or all slow protocols but markers: so a marker comes in one row with the data before it, and no
  * flood of data costs an LACPDU. What concerns the member alone is no data. */
 static bool filter(int fd, bool data) {
@@ -69,8 +74,7 @@ static bool filter(int fd, bool data) {
         BPF_STMT(BPF_RET | BPF_K, taken), /* data */
         BPF_STMT(BPF_RET | BPF_K, ~taken), /* another of the slow protocols */
     };
-    struct sock_fprog wanted = {sizeof code / sizeof code[0], code};
-    return setsockopt(fd, SOL_SOCKET, SO_ATTACH_FILTER, &wanted, sizeof wanted) == 0;
+    return attach(fd, code, sizeof code / sizeof code[0]);
 }
 
 /* Lets a socket of the TAP device have the markers that a program marked with the number of a port; with 0, let a socket have nothing. */
@@ -83,8 +87,7 @@ static bool filter_marked(int fd, uint16_t port) {
         BPF_STMT(BPF_RET | BPF_K, port > 0 ? UINT32_MAX : 0),
         BPF_STMT(BPF_RET | BPF_K, 0),
     };
-    struct sock_fprog wanted = {sizeof code / sizeof code[0], code};
-    return setsockopt(fd, SOL_SOCKET, SO_ATTACH_FILTER, &wanted, sizeof wanted) == 0;
+    return attach(fd, code, sizeof code / sizeof code[0]);
 }
 
 static void enlarge(int fd, int forced, int plain) {
@@ -92,18 +95,17 @@ static void enlarge(int fd, int forced, int plain) {
         (void)setsockopt(fd, SOL_SOCKET, plain, &(int){SOCKET_ROOM}, sizeof(int));
 }
 
+static bool set_packet(int fd, int what, int value) {
+    return setsockopt(fd, SOL_PACKET, what, &value, sizeof value) == 0;
+}
+
 /* Has what is sent go round a queueing discipline that does not keep the order: fq_codel has a queue for each flow, and a marker would
  * overtake the data before it. */
 static bool set_bypass(int fd, bool in_order) {
-    return setsockopt(fd, SOL_PACKET, PACKET_QDISC_BYPASS, &(int){!in_order}, sizeof(int)) == 0;
+    return set_packet(fd, PACKET_QDISC_BYPASS, !in_order);
 }
 
-static bool set_ways(int fd, bool in_order) {
-    return set_bypass(fd, in_order) && setsockopt(fd, SOL_PACKET, PACKET_VNET_HDR, &(int){1}, sizeof(int)) == 0
-        && setsockopt(fd, SOL_PACKET, PACKET_AUXDATA, &(int){1}, sizeof(int)) == 0;
-}
-
-/* A packet socket for the data of an interface, and its markers; or -errno. Where the kernel hands up what comes, it only sends. */
+/* A packet socket of an interface: for its data and markers, of which it only sends where the kernel hands up what comes; or -errno. */
 static int open_data(struct process *process, int index, const struct guard *guard) {
     struct sockaddr_ll address = {.sll_family = AF_PACKET, .sll_protocol = htons(ETH_P_ALL), .sll_ifindex = index};
     struct packet_mreq all = {index, PACKET_MR_PROMISC, 0, {0}};
@@ -111,9 +113,9 @@ static int open_data(struct process *process, int index, const struct guard *gua
     if (fd < 0) return fd;
     enlarge(fd, SO_RCVBUFFORCE, SO_RCVBUF);
     enlarge(fd, SO_SNDBUFFORCE, SO_SNDBUF);
-    (void)setsockopt(fd, SOL_PACKET, PACKET_IGNORE_OUTGOING, &(int){1}, sizeof(int));
-    if ((guard->fast ? filter_marked(fd, 0) : filter(fd, true)) && set_ways(fd, guard->in_order)
-        && bind(fd, (struct sockaddr *)&address, sizeof address) == 0
+    (void)set_packet(fd, PACKET_IGNORE_OUTGOING, 1);
+    if ((guard->fast ? filter_marked(fd, 0) : filter(fd, true)) && set_bypass(fd, guard->in_order) && set_packet(fd, PACKET_VNET_HDR, 1)
+        && set_packet(fd, PACKET_AUXDATA, 1) && bind(fd, (struct sockaddr *)&address, sizeof address) == 0
         && setsockopt(fd, SOL_PACKET, PACKET_ADD_MEMBERSHIP, &all, sizeof all) == 0)
         return fd;
     close_stored(process->store, "data", index, fd);
@@ -128,8 +130,8 @@ static int open_markers(struct process *process, const struct link *link, int in
     const char *kind = port > 0 ? "markers" : "direct";
     int fd = packet_socket(process, kind, link->index, index, SOCK_RAW);
     if (fd < 0) return fd;
-    (void)setsockopt(fd, SOL_PACKET, PACKET_IGNORE_OUTGOING, &(int){1}, sizeof(int));
-    if ((port > 0 ? filter_marked(fd, port) : filter(fd, true)) && setsockopt(fd, SOL_PACKET, PACKET_AUXDATA, &(int){1}, sizeof(int)) == 0
+    (void)set_packet(fd, PACKET_IGNORE_OUTGOING, 1);
+    if ((port > 0 ? filter_marked(fd, port) : filter(fd, true)) && set_packet(fd, PACKET_AUXDATA, 1)
         && bind(fd, (struct sockaddr *)&address, sizeof address) == 0)
         return fd;
     close_stored(process->store, kind, link->index, fd);
@@ -148,12 +150,6 @@ static void close_sockets(struct tap_plane *tap, struct member *member) {
     member->socket = member->markers = member->direct = -1;
 }
 
-static void store_sockets(struct store_private *store, const struct member *member, int index) {
-    put_stored(store, "data", index, member->socket);
-    if (member->markers >= 0) put_stored(store, "markers", index, member->markers);
-    if (member->direct >= 0) put_stored(store, "direct", index, member->direct);
-}
-
 static int open_member_sockets(struct tap_plane *tap, struct member *member, const struct link *link) {
     int epoll_file = tap->process->epoll_file;
     uint32_t tag = MEMBERS + (uint32_t)(member - tap->members->members);
@@ -169,9 +165,12 @@ static int open_member_sockets(struct tap_plane *tap, struct member *member, con
 
 /* Opens the sockets of a member whose programs run; answers 0, or -errno, and then it is no member any more. */
 static int open_or_close(struct tap_plane *tap, struct member *member, const struct link *link) {
+    struct store_private *store = tap->process->store;
     int fault = open_member_sockets(tap, member, link);
     if (fault == 0) {
-        store_sockets(tap->process->store, member, link->index);
+        put_stored(store, "data", link->index, member->socket);
+        if (member->markers >= 0) put_stored(store, "markers", link->index, member->markers);
+        if (member->direct >= 0) put_stored(store, "direct", link->index, member->direct);
         begin_queues(tap->queues, link->settings.number, member->guard.queues);
     } else {
         close_sockets(tap, member);
@@ -495,11 +494,6 @@ static void accept_packet(struct tap_plane *tap, struct link *link, struct mmsgh
         deliver(tap, link, packet, length);
 }
 
-/* The kernel has a frame of segments that it cannot describe: it is lost. */
-static bool is_unreadable(int got) {
-    return got < 0 && errno == EINVAL;
-}
-
 /* Takes the packets that wait in a socket of a member, some at most. What the kernel tells of links comes before them: what was sent after
  * a link went is not handed up before it. */
 static void receive_packets(struct tap_plane *tap, uint16_t port, const int *fd, bool only_markers) {
@@ -509,16 +503,15 @@ static void receive_packets(struct tap_plane *tap, uint16_t port, const int *fd,
     struct iovec parts[BATCH];
     struct sockaddr_ll from[BATCH];
     _Alignas(struct cmsghdr) uint8_t controls[BATCH][CMSG_SPACE(sizeof(struct tpacket_auxdata))];
-    int got;
     if (*fd < 0) return;
     for (unsigned i = 0; i < BATCH; i++) {
         parts[i] = (struct iovec){room_at(tap->members->member_packets, i), packet_room()};
         messages[i].msg_hdr = (struct msghdr){.msg_name = &from[i], .msg_namelen = sizeof from[i],
             .msg_iov = &parts[i], .msg_iovlen = 1, .msg_control = controls[i], .msg_controllen = sizeof controls[i]};
     }
-    got = recvmmsg(*fd, messages, BATCH, MSG_DONTWAIT, NULL);
+    int got = recvmmsg(*fd, messages, BATCH, MSG_DONTWAIT, NULL);
     if (!only_markers) note_unread(tap->answers, port, got > 0 ? (unsigned)got : 0, got >= 0 ? got < BATCH : errno == EAGAIN);
-    if (is_unreadable(got)) {
+    if (got < 0 && errno == EINVAL) { /* the kernel has a frame of segments that it cannot describe: it is lost */
         member->counts[DATA_RECEIVED]++;
         member->counts[WRONG_LENGTH]++;
     }

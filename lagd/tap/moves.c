@@ -77,9 +77,8 @@ bool empty_port(struct plane *plane, uint16_t port) {
     if (!can_empty(plane, port) || !ask_ports(carry->protocol, carry->active, carry->port_of)) return true;
     for (uint16_t number = 0; number < CONVERSATIONS; number++) loads[carry->port_of[number]]++;
     for (uint16_t number = 0; number < CONVERSATIONS; number++) {
-        uint16_t other;
         if (carry->port_of[number] != port) continue;
-        other = emptiest(carry, loads);
+        uint16_t other = emptiest(carry, loads);
         if (move(carry, number, other)) loads[other]++;
     }
     send_due(carry->protocol);

@@ -74,9 +74,8 @@ size_t tag_octets(const uint8_t *frame, size_t length, size_t most) {
 /* Whether a frame has a header, and its payload behind tags, or that of each of its segments, has so many octets at most. A bridge before
  * the TAP device looks at no segment. */
 bool has_right_length(const uint8_t *packet, size_t length, uint32_t mtu) {
-    size_t octets;
     if (length < head + ETH_HLEN) return false;
-    octets = has_segments(packet) ? octets_before(packet, length) + head_of(packet).gso_size : length - head;
+    size_t octets = has_segments(packet) ? octets_before(packet, length) + head_of(packet).gso_size : length - head;
     return octets <= ETH_HLEN + tag_octets(packet + head, length - head, USUAL_TAGS) + (size_t)mtu;
 }
 

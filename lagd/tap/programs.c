@@ -69,10 +69,9 @@ static int load_with_log(const struct settings *settings, const char *name, cons
 /* Loads one program, with the tables that it has, if it has some; answers its file, or -errno, and a reason. */
 int load_program(const struct settings *settings, const char *name, const struct fast_maps *maps) {
     char *log = make_room(LOG_ROOM); /* the kernel fills what it needs of it */
-    int loaded;
     reason[0] = 0;
     (void)libbpf_set_print(keep_first);
-    loaded = load_with_log(settings, name, maps, log);
+    int loaded = load_with_log(settings, name, maps, log);
     if (loaded < 0) keep_last(log);
     if (loaded < 0 && !reason[0]) keep_line(strerror(-loaded));
     free(log);

@@ -46,12 +46,11 @@ void begin_queues(struct queues_private *own, uint16_t port, unsigned count) {
 
 /* Has a frame go by a queue of a member, if there are several. */
 static void mark_queue(struct queues_private *own, const struct queues *queues, unsigned queue, struct msghdr *message) {
-    struct cmsghdr *head;
     uint32_t mark = QUEUE_MARK | (queue + 1);
     if (queues->count < 2) return;
     message->msg_control = own->marks[queue];
     message->msg_controllen = sizeof own->marks[queue];
-    head = CMSG_FIRSTHDR(message);
+    struct cmsghdr *head = CMSG_FIRSTHDR(message);
     head->cmsg_len = CMSG_LEN(sizeof mark);
     head->cmsg_level = SOL_SOCKET;
     head->cmsg_type = SO_MARK;

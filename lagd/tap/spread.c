@@ -102,10 +102,9 @@ static bool change_processors(int folder, const struct link *link, FILE *next) {
     for (enum setting setting = 0; setting < SETTINGS; setting++) {
         unsigned count = count_entries(link->index, setting == TAKEN_BY ? "rx-" : "tx-");
         for (unsigned queue = 0; queue < count; queue++) {
-            const char *wanted;
             name_setting(setting, queue, name);
             if (!path_of_queue(link->index, name, path, sizeof path) || !read_processors(path, now, sizeof now)) continue;
-            wanted = wanted_of(link, setting, queue, now, mask);
+            const char *wanted = wanted_of(link, setting, queue, now, mask);
             if (wanted && next) done = (is_known(folder, link, name, NULL) || fprintf(next, "%s %s\n", name, now) > 0) && done;
             if (wanted && !next) done = write_processors(path, wanted) && done;
         }
@@ -117,11 +116,10 @@ static bool change_processors(int folder, const struct link *link, FILE *next) {
 static bool keep_all(int folder, const struct link *link) {
     FILE *next = open_kept(folder, link, "queues.new", O_WRONLY | O_CREAT | O_TRUNC, "w");
     char boot[BOOT_ROOM], mac[32];
-    bool done;
     if (!next) return false;
     fprintf(next, HEAD, boot_id(boot), mac_text(link->mac, mac));
     (void)is_known(folder, link, NULL, next);
-    done = change_processors(folder, link, next) && !ferror(next);
+    bool done = change_processors(folder, link, next) && !ferror(next);
     return fclose(next) == 0 && done && replace_kept(folder, link, "queues.new", "queues");
 }
 

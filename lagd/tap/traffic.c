@@ -24,10 +24,6 @@ static union message question_of(uint16_t type, unsigned flags, int index, uint3
     return message_of(type, NLM_F_ACK | flags, &about, sizeof about);
 }
 
-static bool order(const union message *question) {
-    return ask_netlink(NETLINK_ROUTE, question, NULL, NULL);
-}
-
 bool read_discipline(int index, char name[static DISCIPLINE_ROOM]) {
     struct interface interface;
     if (!ask_interface(index, NULL, &interface) || !interface.discipline[0]) return false;
@@ -80,11 +76,10 @@ static void parse_discipline(const struct nlmsghdr *message, void *into) {
     struct disciplines *seen = into;
     const struct tcmsg *about = mnl_nlmsg_get_payload(message);
     char kind[DISCIPLINE_ROOM] = "";
-    bool in_order;
     if (message->nlmsg_type != RTM_NEWQDISC || mnl_nlmsg_get_payload_len(message) < sizeof *about) return;
     if (about->tcm_ifindex != seen->index || about->tcm_parent == TC_H_CLSACT) return;
     read_attributes(message, sizeof *about, read_kind, kind);
-    in_order = about->tcm_parent == TC_H_ROOT ? about->tcm_handle == FIFO && strcmp(kind, "mq") == 0 : strcmp(kind, "tbf") == 0;
+    bool in_order = about->tcm_parent == TC_H_ROOT ? about->tcm_handle == FIFO && strcmp(kind, "mq") == 0 : strcmp(kind, "tbf") == 0;
     in_order = in_order || keeps_order(kind);
     seen->queues += TC_H_MAJ(about->tcm_parent) == FIFO && TC_H_MIN(about->tcm_parent) <= seen->sends;
     seen->in_order = seen->in_order && in_order;
@@ -114,9 +109,8 @@ bool may_have_order(int index) {
  * one stays, and none waits for another one. The last daemon may have left one for all. What an administrator set stays; answers whether all keep
  * the order. */
 bool give_each_fifo(int index, unsigned queues, uint32_t megabits) {
-    bool given;
     if (queues <= 1) return set_fifo(index, megabits, NLM_F_CREATE, TC_H_ROOT, FIFO);
-    given = give_queues(index);
+    bool given = give_queues(index);
     if (!given) drop_fifo(index);
     if (!given && !give_queues(index)) return false;
     fit_each_fifo(index, queues, megabits);
@@ -152,9 +146,8 @@ static union message question_of_place(uint16_t type, unsigned flags, int index)
 
 static union message question_of_classifier(uint16_t type, unsigned flags, int index, uint32_t handle) {
     struct tcmsg about = {.tcm_ifindex = index, .tcm_parent = TC_H_MAKE(TC_H_CLSACT, TC_H_MIN_INGRESS), .tcm_handle = handle};
-    union message question;
     about.tcm_info = TC_H_MAKE(PRIORITY, htons(ETH_P_ALL));
-    question = message_of(type, NLM_F_ACK | flags, &about, sizeof about);
+    union message question = message_of(type, NLM_F_ACK | flags, &about, sizeof about);
     mnl_attr_put_strz(&question.head, TCA_KIND, "bpf");
     return question;
 }
@@ -197,9 +190,8 @@ static void leave_place(int index, bool made) {
 enum classifier set_classifier(int program, int index) {
     union message place = question_of_place(RTM_NEWQDISC, NLM_F_CREATE | NLM_F_EXCL, index), question;
     bool made = order(&place) || has_classifier(index, PLACE_MADE);
-    struct nlattr *nest;
     question = question_of_classifier(RTM_NEWTFILTER, NLM_F_CREATE, index, made ? PLACE_MADE : PLACE_FOUND);
-    nest = mnl_attr_nest_start(&question.head, TCA_OPTIONS);
+    struct nlattr *nest = mnl_attr_nest_start(&question.head, TCA_OPTIONS);
     mnl_attr_put_u32(&question.head, TCA_BPF_FD, (uint32_t)program);
     mnl_attr_put_u32(&question.head, TCA_BPF_FLAGS, TCA_BPF_FLAG_ACT_DIRECT);
     mnl_attr_nest_end(&question.head, nest);

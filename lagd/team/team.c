@@ -142,9 +142,8 @@ void give_team_addresses(struct team_plane *team) {
 /* Takes an interface out of the device, by which it goes down: also where the device is gone, or somebody else took it out. */
 void leave_team_port(struct team_plane *team, int index) {
     struct interface port;
-    bool up;
     if (!team->opened || !ask_interface(index, NULL, &port) || (port.master != 0 && port.master != tap_index(team->device))) return;
-    up = port.master == 0 || (port.flags & IFF_UP);
+    bool up = port.master == 0 || (port.flags & IFF_UP);
     if ((port.master == 0 || set_master(index, 0)) && up) (void)set_interface_up(index, true);
 }
 
@@ -162,9 +161,8 @@ int open_team_port(struct plane *plane, struct link *link) {
     struct interface port;
     uint8_t mac[ETH_ALEN];
     int fault = 0;
-    bool up;
     if (!ask_interface(link->index, NULL, &port) || !read_tap_mac(team->device, mac)) return last_fault();
-    up = (port.flags & IFF_UP) != 0;
+    bool up = (port.flags & IFF_UP) != 0;
     if (port.master != tap_index(team->device) && (port.master != 0 || !may_put_in(team->protocol, link))) return -EBUSY;
     if (port.master == 0) fault = make_port(team, link->index, up);
     if (fault == 0 && memcmp(port.mac, mac, sizeof mac) != 0) fault = give_address(link->index, mac);
@@ -208,9 +206,8 @@ static void free_inherited_ports(const struct inherited *inherited, int index) {
  * all stays as it is. */
 void leave_team(struct team_plane *team, int index, bool with_device) {
     struct interface device;
-    int held;
     if (!find_team_driver(team->team_netlink) || !ask_interface(index, NULL, &device) || strcmp(device.kind, TEAM_KIND) != 0) return;
-    held = lock_interface(team->process, index);
+    int held = lock_interface(team->process, index);
     if (held < 0) return;
     free_inherited_ports(team->process->inherited, index);
     if (with_device) (void)remove_device(index);

@@ -17,10 +17,6 @@ struct team_netlink_private {
 
 MAKES_ROOM(team_netlink)
 
-static bool order(const union message *wanted) {
-    return ask_netlink(NETLINK_ROUTE, wanted, NULL, NULL);
-}
-
 static int parse_family(const struct nlattr *attribute, void *into) {
     if (mnl_attr_get_type(attribute) == CTRL_ATTR_FAMILY_ID) (void)copy_value(attribute, into, sizeof(uint16_t));
     return MNL_CB_OK;
@@ -46,11 +42,10 @@ bool find_team_driver(struct team_netlink_private *own) {
 
 bool make_team_device(const char *name, const uint8_t *mac, uint32_t mtu) {
     union message wanted = message_of_interface(RTM_NEWLINK, NLM_F_ACK | NLM_F_CREATE | NLM_F_EXCL, 0);
-    struct nlattr *nest;
     mnl_attr_put_strz(&wanted.head, IFLA_IFNAME, name);
     mnl_attr_put(&wanted.head, IFLA_ADDRESS, ETH_ALEN, mac);
     mnl_attr_put_u32(&wanted.head, IFLA_MTU, mtu);
-    nest = mnl_attr_nest_start(&wanted.head, IFLA_LINKINFO);
+    struct nlattr *nest = mnl_attr_nest_start(&wanted.head, IFLA_LINKINFO);
     mnl_attr_put_strz(&wanted.head, IFLA_INFO_KIND, TEAM_KIND);
     mnl_attr_nest_end(&wanted.head, nest);
     return order(&wanted);
