@@ -9,9 +9,9 @@ static void add_row(struct report *report, enum form form, const char *text, con
 
 /* The same of a value that is a text. */
 static void add_words(struct report *report, enum form form, const char *text, const char *json, const char *words) {
-    char quoted[64];
-    snprintf(quoted, sizeof quoted, form == AS_JSON ? "\"%s\"" : "%s", words ? words : "");
-    add_row(report, form, text, json, words ? quoted : NULL);
+    const char *name = form == AS_TEXT ? text : json;
+    if (!words) add_row(report, form, text, json, NULL);
+    if (words && name) add(report, form == AS_TEXT ? "  %s: %s\n" : ",\"%s\":\"%s\"", name, words);
 }
 
 static void add_number(struct report *report, enum form form, const char *text, const char *json, uint64_t number) {
