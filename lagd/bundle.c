@@ -37,7 +37,7 @@ static void enter(struct protocol *protocol, const struct bundle *now) {
         "bundle %s: %s, %u of %u links carry, aggregator %u", protocol->settings->name, bundle_state_text(protocol->bundle.state),
         protocol->bundle.carrying, protocol->bundle.links, protocol->bundle.aggregator);
     tell_watchers_of(protocol->control, NULL);
-    notify_state(&protocol->bundle);
+    notify_bundle(&protocol->bundle, "");
     if (other && protocol->settings->hook[0]) run_hook(protocol, protocol->settings->hook, before);
 }
 

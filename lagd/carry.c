@@ -167,10 +167,6 @@ static void wake_sleeper(struct carry *carry, uint16_t port) {
     carry->counts[WOKEN]++;
 }
 
-static void wake_ports(struct carry *carry) {
-    for (uint16_t port = 1; !carry->process->broken && port <= carry->ports->count; port++) wake_sleeper(carry, port);
-}
-
 void begin_carry_tick(struct carry *carry) {
     carry->time = milliseconds();
     pass_tap_tick(carry->device);
@@ -178,7 +174,7 @@ void begin_carry_tick(struct carry *carry) {
 }
 
 void end_carry_tick(struct carry *carry) {
-    wake_ports(carry);
+    for (uint16_t port = 1; !carry->process->broken && port <= carry->ports->count; port++) wake_sleeper(carry, port);
     carry->plane->changed = carry->to_balance = true;
 }
 

@@ -18,12 +18,6 @@ static bool is_same_system(const struct system_id *one, const struct system_id *
     return one->priority == other->priority && memcmp(one->mac, other->mac, sizeof one->mac) == 0;
 }
 
-static bool is_own(const struct settings *settings, const struct system_id *system) {
-    struct system_id own = {.priority = settings->config.priority};
-    memcpy(own.mac, settings->config.mac, sizeof own.mac);
-    return is_same_system(system, &own);
-}
-
 /* The system that an LACPDU names as its actor; answers whether the frame is one. */
 static bool actor_of(const struct arrival *arrival, struct system_id *actor) {
     const uint8_t *at = arrival->frame + ACTOR_SYSTEM;
@@ -60,7 +54,8 @@ void note_actor(const struct settings *settings, struct link *link, const struct
     link->heard = true;
     link->actor = *actor;
     memcpy(link->source, source, sizeof link->source);
-    if (settings->policy != PARTNER_FIRST || link->pinned || is_own(settings, actor)) return;
+    struct system_id own = own_system(settings);
+    if (settings->policy != PARTNER_FIRST || link->pinned || is_same_system(actor, &own)) return;
     link->pinned = true;
     link->partner = *actor;
 }

@@ -531,6 +531,9 @@ void detach_program(int attached);
 uint32_t program_keeper(int attached);
 
 /* store.c */
+#define READY "READY=1\n"
+void notify(const char *what);
+void notify_bundle(const struct bundle *bundle, const char *what);
 void open_store(struct process *process);
 bool has_store(void);
 void put_stored(struct store_private *own, const char *kind, int number, int fd);
@@ -543,13 +546,6 @@ void leave_store(struct store_private *own);
 int packet_socket(struct process *process, const char *kind, int of, int index, int type);
 int attach_stored(struct store_private *own, const char *kind, int program, int index, bool egress);
 void detach_stored(struct store_private *own, const char *kind, int index, int attached);
-
-/* service.c: the manager of services, if there is one */
-void notify_ready(const struct bundle *bundle);
-void notify_reloading(void);
-void notify_stopping(void);
-void notify_state(const struct bundle *bundle);
-void notify_alive(void);
 
 /* possible.c */
 int fault_of_programs(const struct settings *settings);

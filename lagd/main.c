@@ -66,7 +66,7 @@ static void pass_second(struct lagd *lagd) {
     pass_revert_second(&lagd->protocol);
     watch_changes(&lagd->protocol);
     (void)save_state(lagd->state, false);
-    notify_alive();
+    notify("WATCHDOG=1");
 }
 
 static void pass_tick(struct lagd *lagd) {
@@ -197,7 +197,7 @@ static void run(struct lagd *lagd, int signals, int clock, const char *file) {
         if (lagd->process.has_left || (ends && ends_now)) return;
         if (ends || !(ends_now || lagd->process.broken)) continue;
         ends = true;
-        notify_stopping();
+        notify("STOPPING=1");
         end_state(lagd->state);
         tell_end(&lagd->protocol);
     }
@@ -240,7 +240,7 @@ static int run_daemon(struct lagd *lagd, const struct options *options) {
     (void)save_state(lagd->state, false);
     tell_changes(&lagd->protocol);
     settle_carry(&lagd->plane);
-    notify_ready(&lagd->protocol.bundle);
+    notify_bundle(&lagd->protocol.bundle, READY);
     run(lagd, signals, clock, options->file);
     if (lagd->process.has_left) return DONE;
     end_carry(&lagd->plane);

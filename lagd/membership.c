@@ -217,16 +217,12 @@ static bool is_quiet(struct protocol *protocol, const struct link *link) {
         && is_told(protocol->process, niw_held(&protocol->own_system, link->settings.number), "niw_held", &held) && held == 0;
 }
 
-static uint64_t most_wait(const struct settings *settings) {
-    return settings->flight > MOST_WAIT ? settings->flight : MOST_WAIT;
-}
-
 /* Whether a port has left: it is quiet, and was so while its peer may still ask for responses to its markers, or it was waited for long enough. */
 static bool has_left(struct protocol *protocol, struct link *link) {
-    uint64_t now = milliseconds();
+    uint64_t now = milliseconds(), most = protocol->settings->flight > MOST_WAIT ? protocol->settings->flight : MOST_WAIT;
     if (!link->up) return true;
     if (link->emptying) return false;
-    if (link->left_at == 0 && (is_quiet(protocol, link) || now - link->leaves_since >= most_wait(protocol->settings))) link->left_at = now;
+    if (link->left_at == 0 && (is_quiet(protocol, link) || now - link->leaves_since >= most)) link->left_at = now;
     return link->left_at != 0 && now - link->left_at >= LINGERS;
 }
 
@@ -356,11 +352,6 @@ static bool hold_by_word(struct protocol *protocol, struct link *link, bool hold
     return !hold || has_left(protocol, link);
 }
 
-static const char *answer_removed(const struct link *link, bool *done) {
-    *done = link == NULL;
-    return link && !link->leaving ? "it stays in the bundle" : NULL;
-}
-
 /* Does what somebody asks for, `add`, `remove`, `hold` or `release` of an interface, and answers: `done`, `wait` where it is to be asked again, as
  * `removed` is, or a refusal, and a line end. */
 void answer_order(struct protocol *protocol, char *order, char answer[static ORDER_ROOM]) {
@@ -370,9 +361,10 @@ void answer_order(struct protocol *protocol, char *order, char answer[static ORD
     const char *fault = NULL;
     uint16_t port = link ? link->settings.number : 0;
     if (adds) fault = add_by_words(protocol, name, &port, room);
-    if (strncmp(order, "removed ", 8) == 0)
-        fault = answer_removed(link, &done);
-    else if (!adds && (!link || (link->leaving && !removes)))
+    if (strncmp(order, "removed ", 8) == 0) {
+        done = link == NULL;
+        fault = link && !link->leaving ? "it stays in the bundle" : NULL;
+    } else if (!adds && (!link || (link->leaving && !removes)))
         fault = "it is no port of this bundle";
     else if (!fault && removes) {
         leave_port(protocol, port);

@@ -44,14 +44,9 @@ static bool change_mode(struct protocol *protocol, uint16_t port, const struct s
     return true;
 }
 
-static bool change_hold(struct protocol *protocol, uint16_t port, const struct settings *wanted) {
-    bool hold = wants_hold(wanted, port);
-    return protocol->ports->links[port - 1].held != hold && hold_port(protocol, port, hold);
-}
-
 static bool change_all(struct protocol *protocol, uint16_t port, const struct settings *wanted) {
-    bool port_changed = change_port(protocol, port, wanted), mode_changed = change_mode(protocol, port, wanted),
-        hold_changed = change_hold(protocol, port, wanted);
+    bool port_changed = change_port(protocol, port, wanted), mode_changed = change_mode(protocol, port, wanted), hold = wants_hold(wanted, port);
+    bool hold_changed = protocol->ports->links[port - 1].held != hold && hold_port(protocol, port, hold);
     return port_changed || mode_changed || hold_changed;
 }
 
@@ -144,7 +139,7 @@ static bool read_again(struct process *process, const char *file, struct setting
 /* Reads the file again. One that is wrong changes nothing. */
 void reload(struct protocol *protocol, const char *file) {
     struct settings wanted;
-    notify_reloading();
+    notify("RELOADING=1");
     if (!read_again(protocol->process, file, &wanted)) {
         complain(protocol->process, "%s: the file is wrong, and nothing is changed", file);
     } else if (!place_ports(protocol, &wanted)) {
@@ -159,5 +154,5 @@ void reload(struct protocol *protocol, const char *file) {
         read_views(protocol);
         protocol->plane->changed = true;
     }
-    notify_ready(&protocol->bundle);
+    notify_bundle(&protocol->bundle, READY);
 }

@@ -137,6 +137,7 @@ static bool parse_word(const struct bundle_key *key, const char *text, struct se
 #define NUMBER(field, least, most) offsetof(struct settings, field), least, most, NULL, NULL, NULL
 #define CHOICE(field, first, second) offsetof(struct settings, field), 0, 0, first, second, NULL
 #define WORD(field, words) offsetof(struct settings, field), 0, 0, NULL, NULL, words
+#define TEXT(field) offsetof(struct settings, field), 0, 0, NULL, NULL, NULL
 #define OF_ITS_OWN 0, 0, 0, NULL, NULL, NULL
 static const struct bundle_key BUNDLE_KEYS[] = {
     {"key", A_NUMBER, parse_number, 0, NULL, NULL, NUMBER(key, 0, UINT16_MAX)},
@@ -167,11 +168,11 @@ static const struct bundle_key BUNDLE_KEYS[] = {
     {"marker-responses", "a number from 0 to 10000", parse_number, 'o', "N",
         "the most that a port sends in a second; 10 if not given", NUMBER(marker_responses, 0, 10000)},
     {"hook", "a path that begins with /, of at most 175 characters, of a program that may be run", parse_hook, 'x', "PROGRAM",
-        "is run when the bundle becomes up, degraded or down", OF_ITS_OWN},
+        "is run when the bundle becomes up, degraded or down", TEXT(hook)},
     {"state-dir", "a path that begins with /, of at most 175 characters", parse_state_dir, 'T', "FOLDER",
-        "keeps there what a start after a reboot goes on from", OF_ITS_OWN},
+        "keeps there what a start after a reboot goes on from", TEXT(state_dir)},
     {"carry", "a name of an interface of at most 15 characters", parse_carry, 'C', "NAME",
-        "carries the data of a device of this name, which it makes, with the MAC address of the system", OF_ITS_OWN},
+        "carries the data of a device of this name, which it makes, with the MAC address of the system", TEXT(carry)},
     {"plane", "tap or team", parse_word, 'P', "tap|team",
         "what that device is: a TAP device, as if not given, or one of the kernel's team driver,\nby which the kernel carries", WORD(plane, PLANES)},
     {"members", "given or follow", parse_choice, 'B', "given|follow",
@@ -203,9 +204,8 @@ const struct bundle_key *bundle_key(size_t index) {
 
 /* Writes the value that a key has, as it is read; nothing where it has none. */
 static void write_value(const struct bundle_key *key, const struct settings *settings, char text[static PATH_ROOM]) {
-    struct system_id own = {.priority = settings->config.priority};
+    struct system_id own = own_system(settings);
     char room[32];
-    memcpy(own.mac, settings->config.mac, sizeof own.mac);
     text[0] = 0;
     if (key->parse == parse_number) snprintf(text, PATH_ROOM, "%u", *(const uint16_t *)value_in(key, settings));
     if (key->parse == parse_choice) snprintf(text, PATH_ROOM, "%s", *(const bool *)value_in(key, settings) ? key->first : key->second);
@@ -213,9 +213,8 @@ static void write_value(const struct bundle_key *key, const struct settings *set
     if (key->parse == parse_partner) snprintf(text, PATH_ROOM, "%s", settings->policy == PARTNER_FIRST ? "first" : "any");
     if (key->parse == parse_partner && settings->policy == PARTNER_GIVEN)
         snprintf(text, PATH_ROOM, "%s", system_text(&settings->partner, room));
-    if (key->parse == parse_hook) snprintf(text, PATH_ROOM, "%s", settings->hook);
-    if (key->parse == parse_state_dir) snprintf(text, PATH_ROOM, "%s", settings->state_dir);
-    if (key->parse == parse_carry) snprintf(text, PATH_ROOM, "%s", settings->carry);
+    if (key->parse == parse_hook || key->parse == parse_state_dir || key->parse == parse_carry)
+        snprintf(text, PATH_ROOM, "%s", (const char *)value_in(key, settings));
     if (key->parse == parse_word) snprintf(text, PATH_ROOM, "%s", key->words[*(const unsigned *)value_in(key, settings)]);
 }
 

@@ -70,8 +70,7 @@ static uint64_t wall_time(void) {
 /* The settings by which the rest means something. */
 static const char *way(const struct settings *settings, char room[static WAY_ROOM]) {
     char system[32];
-    struct system_id own = {.priority = settings->config.priority};
-    memcpy(own.mac, settings->config.mac, sizeof own.mac);
+    struct system_id own = own_system(settings);
     snprintf(room, WAY_ROOM, "%s/%s/%s/%u/%s", system_text(&own, system), settings->carry[0]
         ? settings->carry : "-", hash_text(settings->hash), settings->hash_seed, way_text(settings));
     return room;

@@ -1,4 +1,4 @@
-/* The store of the manager of services: files that it keeps open while no daemon runs, so that the next one goes on with them. Each has the
+/* The manager of services, if one started the daemon: it is told what that does. And its store: files that it keeps open while no daemon runs, so that the next one goes on with them. Each has the
  * name of its kind, of its network namespace, and a number, mostly that of an interface. */
 #include "lagd.h"
 
@@ -8,6 +8,7 @@
 #else
 #define HAS_LIBRARY false
 #define sd_pid_notify_with_fds(...) 0
+#define sd_notify(...) 0
 #define sd_notifyf(...) 0
 #define sd_listen_fds_with_names(...) 0
 #define SD_LISTEN_FDS_START 3
@@ -30,6 +31,16 @@ struct store_private {
 };
 
 MAKES_ROOM(store)
+
+/* Tells the manager what the daemon does. */
+void notify(const char *what) {
+    (void)sd_notify(0, what);
+}
+
+/* And how the bundle is now. */
+void notify_bundle(const struct bundle *bundle, const char *what) {
+    (void)sd_notifyf(0, "%sSTATUS=%s, %u of %u links carry", what, bundle_state_text(bundle->state), bundle->carrying, bundle->links);
+}
 
 static void name_stored(const char *kind, int number, char room[static NAME_OF_FILE]) {
     snprintf(room, NAME_OF_FILE, "%s-%lu-%d", kind, network_namespace(), number);

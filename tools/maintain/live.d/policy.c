@@ -233,7 +233,8 @@ void set_carrier(struct device *device, bool on) {
     CHECK(!on || (end_of(device)->lagd.carry.active_count > 0 && any_distributes(&end_of(device)->lagd)));
     end_of(device)->carrier = on;
 }
-void notify_state(const struct bundle *bundle) {
+void notify_bundle(const struct bundle *bundle, const char *what) {
+    (void)what;
     CHECK(bundle->state == BUNDLE_DOWN || any_distributes(&end_of(bundle)->lagd));
 }
 
