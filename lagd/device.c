@@ -89,7 +89,7 @@ void set_speed(struct device *own, uint32_t megabits) {
     if (own->speed == megabits || own->number == 0) return;
     own->speed = megabits;
     errno = EOPNOTSUPP; /* where the kernel tells none, either */
-    if (write_speed(own->number, megabits) || own->told) return;
+    if (write_speed(own->asker, own->number, megabits) || own->told) return;
     own->told = true;
     (void)say(own->process, LOG_WARNING | ABOUT_CARRIER, "carry %s: its speed stays: %s", own->process->settings->carry, strerror(errno));
 }

@@ -117,39 +117,44 @@ union link_settings {
     uint32_t room[sizeof(struct ethtool_link_settings) / sizeof(uint32_t) + 3 * MOST_WORDS];
 };
 
-/* Asks the driver of an interface something, or for something. */
-bool ask_driver(int index, void *value) {
+/* Asks the driver of an interface something, or for something, by a socket that is there. */
+static bool ask_by(int socket, int index, void *value) {
     struct ifreq request = {.ifr_ifindex = index};
-    int fd = socket(AF_UNIX, SOCK_DGRAM | SOCK_CLOEXEC, 0);
-    bool done = fd >= 0 && ioctl(fd, SIOCGIFNAME, &request) == 0;
+    if (ioctl(socket, SIOCGIFNAME, &request) < 0) return false;
     request.ifr_data = value;
-    done = done && ioctl(fd, SIOCETHTOOL, &request) == 0;
+    return ioctl(socket, SIOCETHTOOL, &request) == 0;
+}
+
+bool ask_driver(int index, void *value) {
+    int fd = socket(AF_UNIX, SOCK_DGRAM | SOCK_CLOEXEC, 0);
+    bool done = fd >= 0 && ask_by(fd, index, value);
     if (fd >= 0) close(fd);
     return done;
 }
 
 /* The first answer is how many words a mask has, below 0. */
-static bool read_link_settings(int index, union link_settings *told) {
-    *told = (union link_settings){.head = {.cmd = ETHTOOL_GLINKSETTINGS}};
-    if (!ask_driver(index, told) || told->head.link_mode_masks_nwords >= 0) return false;
+static bool read_link_settings(int socket, int index, union link_settings *told) {
+    *told = (union link_settings){.room = {0}};
+    told->head.cmd = ETHTOOL_GLINKSETTINGS;
+    if (!ask_by(socket, index, told) || told->head.link_mode_masks_nwords >= 0) return false;
     told->head.link_mode_masks_nwords = (int8_t)-told->head.link_mode_masks_nwords;
-    return ask_driver(index, told);
+    return ask_by(socket, index, told);
 }
 
 /* Asks the kernel for the speed and duplex of an interface. What a driver does not tell is unknown, which is a speed, too. */
-struct speed read_speed(int index) {
+struct speed read_speed(int socket, int index) {
     union link_settings told;
-    if (read_link_settings(index, &told)) return (struct speed){told.head.speed, told.head.duplex};
+    if (read_link_settings(socket, index, &told)) return (struct speed){told.head.speed, told.head.duplex};
     return (struct speed){(uint32_t)SPEED_UNKNOWN, DUPLEX_UNKNOWN};
 }
 
 /* Gives an interface a speed that is told of it, in Mb/s; answers whether its driver took it. */
-bool write_speed(int index, uint32_t megabits) {
+bool write_speed(int socket, int index, uint32_t megabits) {
     union link_settings told;
-    if (!read_link_settings(index, &told)) return false;
+    if (!read_link_settings(socket, index, &told)) return false;
     told.head.cmd = ETHTOOL_SLINKSETTINGS;
     told.head.speed = megabits;
-    return ask_driver(index, &told);
+    return ask_by(socket, index, &told);
 }
 
 static void give_key(struct protocol *protocol, struct link *link) {
@@ -162,7 +167,7 @@ static void give_key(struct protocol *protocol, struct link *link) {
 void apply_speed(struct protocol *protocol, struct link *link) {
     bool by_speed = protocol->settings->key_by_speed;
     if (by_speed ? link->up : protocol->settings->select != SELECT_BANDWIDTH) return;
-    struct speed now = read_speed(link->index);
+    struct speed now = read_speed(link->socket, link->index);
     if (link->has_speed && is_same_speed(&now, &link->speed)) return;
     link->has_speed = protocol->plane->changed = true;
     link->speed = now;
@@ -172,7 +177,7 @@ void apply_speed(struct protocol *protocol, struct link *link) {
 /* Whether a link that is up has come back at another speed, which with key-by-speed has another key. */
 bool has_other_speed(struct protocol *protocol, const struct link *link) {
     if (!protocol->settings->key_by_speed || !link->up || !link->has_speed) return false;
-    struct speed now = read_speed(link->index);
+    struct speed now = read_speed(link->socket, link->index);
     return !is_same_speed(&now, &link->speed);
 }
 

@@ -98,7 +98,7 @@ void look_at_discipline(struct tap_plane *tap, struct link *link, struct guard *
     bool given = false;
     (void)read_discipline(link->index, link->discipline);
     if (tap->plane->wants_fifo && !is_unqueued(link) && strcmp(link->discipline, "noqueue") != 0)
-        given = give_each_fifo(link->index, ASK(tap->plane->queueing->fifos_of, 1, link->index), read_speed(link->index).megabits);
+        given = give_each_fifo(link->index, ASK(tap->plane->queueing->fifos_of, 1, link->index), read_speed(link->socket, link->index).megabits);
     if (given) (void)read_discipline(link->index, link->discipline);
     link->has_fifos = given && strcmp(link->discipline, "mq") == 0;
     guard->in_order = keeps_order(link->discipline) || link->has_fifos;
@@ -111,7 +111,7 @@ void look_at_discipline(struct tap_plane *tap, struct link *link, struct guard *
 /* The link comes up: the queue of its interface, if that is one of the daemon, has the length of its speed from now on. */
 void fit_queue(const struct plane *plane, const struct link *link) {
     if (!plane->wants_fifo) return;
-    fit_each_fifo(link->index, link->has_fifos ? ASK(plane->queueing->fifos_of, 1, link->index) : 1, read_speed(link->index).megabits);
+    fit_each_fifo(link->index, link->has_fifos ? ASK(plane->queueing->fifos_of, 1, link->index) : 1, read_speed(link->socket, link->index).megabits);
 }
 
 /* Why the kernel may not pass on what goes and comes at an interface, or NULL: a marker would overtake the data before it. */

@@ -324,7 +324,7 @@ void follow_member_mtu(struct plane *plane, struct link *link, uint32_t mtu) {
 
 /* The kernel told of an interface whose link is up, which may have another speed. */
 void follow_speed(struct plane *plane, const struct link *link) {
-    uint32_t now = read_speed(link->index).megabits;
+    uint32_t now = read_speed(link->socket, link->index).megabits;
     member_of(plane->tap, link)->megabits = now == (uint32_t)SPEED_UNKNOWN ? 0 : now;
     plane->changed = true;
 }

@@ -5,9 +5,7 @@
 
 #include <net/if.h>
 
-/* The head of the file; then each line has a setting and what it was. */
-#define HEAD "boot=%s\nmac=%s\n"
-#define READ_HEAD "boot=%63s mac=%31s"
+/* A line of the file: a setting, and what it was. */
 #define READ_LINE "%31s %" PROCESSORS_LENGTH "s"
 #define NAME_OCTETS 32
 
@@ -55,29 +53,14 @@ static const char *wanted_of(const struct link *link, enum setting setting, unsi
     return mask;
 }
 
-/* Opens what an interface had, behind the head; or answers NULL. What is of another boot, or another interface, counts for nothing. */
-static FILE *open_former(int folder, const struct link *link) {
-    char boot[BOOT_ROOM], now[BOOT_ROOM], mac[32], own[32];
-    FILE *file = open_kept(folder, link, "queues", O_RDONLY, "r");
-    if (!file) return NULL;
-    if (fscanf(file, READ_HEAD, boot, mac) == 2 && strcmp(boot, boot_id(now)) == 0 && strcmp(mac, mac_text(link->mac, own)) == 0)
-        return file;
-    fclose(file);
-    return NULL;
-}
-
 /* An interface has another MAC address from now on: what its queues had stays known by that one. */
 void move_former(int folder, struct link *link, const uint8_t *mac) {
-    char name[NAME_OCTETS], boot[BOOT_ROOM], text[32], mask[PROCESSORS_ROOM];
-    FILE *file = open_former(folder, link), *next = file ? open_kept(folder, link, "queues.new", O_WRONLY | O_CREAT | O_TRUNC, "w") : NULL;
-    bool done;
+    char name[NAME_OCTETS], mask[PROCESSORS_ROOM];
+    FILE *file = read_kept(folder, link, "queues"), *next;
     memcpy(link->mac, mac, sizeof link->mac);
-    if (next) {
-        fprintf(next, HEAD, boot_id(boot), mac_text(mac, text));
-        while (fscanf(file, READ_LINE, name, mask) == 2) fprintf(next, "%s %s\n", name, mask);
-        done = !ferror(next);
-        if (fclose(next) == 0 && done) (void)replace_kept(folder, link, "queues.new", "queues");
-    }
+    next = file ? begin_kept(folder, link, "queues") : NULL;
+    while (next && fscanf(file, READ_LINE, name, mask) == 2) fprintf(next, "%s %s\n", name, mask);
+    if (next) (void)end_kept(folder, link, "queues", next, true);
     if (file) fclose(file);
 }
 
@@ -85,7 +68,7 @@ void move_former(int folder, struct link *link, const uint8_t *mac) {
 static bool is_known(int folder, const struct link *link, const char *wanted, FILE *next) {
     char name[NAME_OCTETS], mask[PROCESSORS_ROOM];
     bool found = false;
-    FILE *file = open_former(folder, link);
+    FILE *file = read_kept(folder, link, "queues");
     while (file && fscanf(file, READ_LINE, name, mask) == 2) {
         if (next) fprintf(next, "%s %s\n", name, mask);
         found = found || (wanted && strcmp(name, wanted) == 0);
@@ -114,13 +97,10 @@ static bool change_processors(int folder, const struct link *link, FILE *next) {
 
 /* Keeps what the queues have now, before it is changed, beside what they had before an earlier daemon changed it; answers whether it did. */
 static bool keep_all(int folder, const struct link *link) {
-    FILE *next = open_kept(folder, link, "queues.new", O_WRONLY | O_CREAT | O_TRUNC, "w");
-    char boot[BOOT_ROOM], mac[32];
+    FILE *next = begin_kept(folder, link, "queues");
     if (!next) return false;
-    fprintf(next, HEAD, boot_id(boot), mac_text(link->mac, mac));
     (void)is_known(folder, link, NULL, next);
-    bool done = change_processors(folder, link, next) && !ferror(next);
-    return fclose(next) == 0 && done && replace_kept(folder, link, "queues.new", "queues");
+    return end_kept(folder, link, "queues", next, change_processors(folder, link, next));
 }
 
 /* How many queues an interface has, those that send above those that receive; 0 where the kernel does not tell of both. */
@@ -151,7 +131,7 @@ static bool may_set(int index) {
  * known that settings of them are to be changed, these must be changeable. */
 bool may_spread(int folder, const struct link *link) {
     char name[NAME_OCTETS];
-    FILE *file = open_former(folder, link);
+    FILE *file = read_kept(folder, link, "queues");
     bool changes = file && fscanf(file, "%31s", name) == 1;
     if (file) fclose(file);
     return !link->stacked && may_have_order(link->index) && (!changes || may_set(link->index));
@@ -217,7 +197,7 @@ bool has_usual_queues(struct tap_plane *tap, const struct guard *guard) {
 void gather_back(int folder, const struct link *link, bool whole) {
     char name[NAME_OCTETS], path[128], interface[IF_NAMESIZE], mask[PROCESSORS_ROOM], now[PROCESSORS_ROOM];
     bool done = whole && if_indextoname((unsigned)link->index, interface);
-    FILE *file = open_former(folder, link);
+    FILE *file = read_kept(folder, link, "queues");
     if (!file) return;
     while (fscanf(file, READ_LINE, name, mask) == 2) {
         if (!is_setting(name) || !path_of_queue(link->index, name, path, sizeof path)) continue;

@@ -61,8 +61,9 @@ struct kept {
     char steered[PROCESSORS_ROOM];  /* the processors that RPS named, or empty where that was one, or is not changed */
     struct ethtool_channels queues; /* what there was; all 0 where there was one queue */
 };
-FILE *open_kept(int folder, const struct link *link, const char *kind, int flags, const char *mode);
-bool replace_kept(int folder, const struct link *link, const char *from, const char *to);
+FILE *read_kept(int folder, const struct link *link, const char *kind);
+FILE *begin_kept(int folder, const struct link *link, const char *kind);
+bool end_kept(int folder, const struct link *link, const char *kind, FILE *file, bool done);
 void drop_kept(int folder, const struct link *link, const char *kind);
 void write_settings(struct process *process, const struct link *link, const struct kept *kept);
 void keep_settings(struct process *process, const struct link *link, struct kept *kept);
