@@ -1,12 +1,7 @@
 /* The MAC address of the first interface: `system=auto` makes it that of the system. */
-#define _GNU_SOURCE
-#include <errno.h>
-#include <net/if_arp.h>
-#include <stdio.h>
-#include <string.h>
-
 #include "netlink.h"
-#include "lagd.h"
+
+#include <net/if_arp.h>
 
 /* Whether a system may have the address of an interface. */
 static bool has_system_address(const struct interface *interface) {
@@ -20,13 +15,12 @@ void read_own_address(struct settings *settings) {
     const char *name = settings->ports[0].name;
     char what[NAME_ROOM + 16];
     struct interface interface;
-    struct lack lack;
     snprintf(what, sizeof what, "system=auto: %s", name);
     if (!ask_interface(0, name, &interface)) stop(REFUSED, what, strerror(errno));
     if (interface.type != ARPHRD_ETHER) stop(WRONG_WORD, "not an Ethernet interface", name);
     if (!has_system_address(&interface)) stop(REFUSED, what, "it has no MAC address that a system may have");
     memcpy(settings->config.mac, interface.mac, sizeof interface.mac);
-    lack = lack_of(settings);
+    struct lack lack = lack_of(settings);
     snprintf(what, sizeof what, "expected %s", lack.expected ? lack.expected : "");
     if (lack.expected) stop(WRONG_WORD, what, lack.key);
 }

@@ -1,18 +1,13 @@
 /* Tells neighbours where this host is, once data goes another way, so that bridges learn its MAC addresses there: gratuitous ARP, and
  * unsolicited neighbour advertisements (RFC 4861, 7.2.6), of the TAP device and of what stands above it. The kernel does not do so of itself
  * for such a device. */
-#define _GNU_SOURCE
-#include <errno.h>
+#include "carry.h"
+#include "netlink.h"
+
 #include <linux/if_packet.h>
 #include <linux/netconf.h>
 #include <linux/rtnetlink.h>
 #include <netinet/in.h>
-#include <string.h>
-#include <sys/socket.h>
-#include <unistd.h>
-
-#include "netlink.h"
-#include "carry.h"
 
 /* The most frames of an announcement: so many fit into what a socket may send at once. */
 #define MOST_ANNOUNCED 256
@@ -46,11 +41,7 @@ struct announce_private {
     unsigned wait_ticks; /* until it is announced next */
 };
 
-struct announce_private *make_announce_private(void) {
-    struct announce_private *made = make_room(sizeof *made);
-    made->sender = -1;
-    return made;
-}
+MAKES_WITH(announce, .sender = -1)
 
 /* Sends a frame by an interface, as the host does: it comes from the device with the others. One that is not taken is lost, as on a wire. */
 static void send_from(struct announce_private *own, const struct place *place, const uint8_t *frame, size_t length) {
@@ -58,7 +49,6 @@ static void send_from(struct announce_private *own, const struct place *place, c
     if (own->announced++ < MOST_ANNOUNCED) (void)sendto(own->sender, frame, length, 0, (struct sockaddr *)&to, sizeof to);
 }
 
-/* Writes the header of Ethernet. */
 static void begin_frame(uint8_t *frame, const uint8_t *to, const struct place *from, uint16_t type) {
     memcpy(frame, to, ETH_ALEN);
     memcpy(frame + ETH_ALEN, from->mac, ETH_ALEN);
@@ -89,7 +79,6 @@ static void announce_ipv6(struct announce_private *own, const struct place *plac
     static const uint8_t all[ETH_ALEN] = {0x33, 0x33, 0, 0, 0, 1}, all_nodes[16] = {0xff, 2, [15] = 1};
     static const uint8_t head[] = {0x60, 0, 0, 0, 0, ADVERTISED_OCTETS, IPPROTO_ICMPV6, HOP_LIMIT};
     uint8_t frame[ETH_HLEN + IPV6_OCTETS + ADVERTISED_OCTETS] = {0}, *ip = frame + ETH_HLEN, *at = ip + IPV6_OCTETS;
-    uint32_t sum;
     begin_frame(frame, all, place, ETH_P_IPV6);
     memcpy(ip, head, sizeof head);
     memcpy(ip + IPV6_ADDRESSES, address, 16);
@@ -100,7 +89,7 @@ static void announce_ipv6(struct announce_private *own, const struct place *plac
     at[24] = TARGET_LINK_ADDRESS;
     at[25] = 1; /* of 8 octets */
     memcpy(at + 26, place->mac, ETH_ALEN);
-    sum = add_sum(ADVERTISED_OCTETS + IPPROTO_ICMPV6, ip + IPV6_ADDRESSES, 32 + ADVERTISED_OCTETS);
+    uint32_t sum = add_sum(ADVERTISED_OCTETS + IPPROTO_ICMPV6, ip + IPV6_ADDRESSES, 32 + ADVERTISED_OCTETS);
     sum = (sum & 0xffff) + (sum >> 16);
     sum = ~((sum & 0xffff) + (sum >> 16));
     at[2] = (uint8_t)(sum >> 8);
@@ -147,11 +136,10 @@ static int note_attribute(const struct nlattr *attribute, void *into) {
 static void read_forwarding(struct announce_private *own, const struct nlmsghdr *message) {
     const struct nlattr *told[MOST_TYPE + 1] = {0};
     const int *index, *forwarding;
-    struct place *place;
     read_attributes(message, sizeof(struct netconfmsg), note_attribute, told);
     index = value_of(told[NETCONFA_IFINDEX], sizeof *index);
     forwarding = value_of(told[NETCONFA_FORWARDING], sizeof *forwarding);
-    place = index && forwarding ? place_of(own, *index) : NULL;
+    struct place *place = index && forwarding ? place_of(own, *index) : NULL;
     if (!place) return;
     place->is_known = true;
     place->is_router = *forwarding != 0;
@@ -161,15 +149,12 @@ static void read_forwarding(struct announce_private *own, const struct nlmsghdr 
 static void read_address(struct announce_private *own, const struct nlmsghdr *message) {
     const struct nlattr *told[MOST_TYPE + 1] = {0};
     const struct ifaddrmsg *about = mnl_nlmsg_get_payload(message);
-    const struct place *place;
-    const uint8_t *address;
-    size_t octets;
     if (mnl_nlmsg_get_payload_len(message) < sizeof *about) return;
     read_attributes(message, sizeof *about, note_attribute, told);
-    octets = about->ifa_family == AF_INET ? 4 : 16;
-    address = value_of(told[IFA_LOCAL], octets);
+    size_t octets = about->ifa_family == AF_INET ? 4 : 16;
+    const uint8_t *address = value_of(told[IFA_LOCAL], octets);
     if (!address && about->ifa_family == AF_INET6) address = value_of(told[IFA_ADDRESS], octets);
-    place = place_of(own, (int)about->ifa_index);
+    const struct place *place = place_of(own, (int)about->ifa_index);
     if (!address || !place) return;
     if (about->ifa_family == AF_INET) announce_ipv4(own, place, address);
     if (about->ifa_family == AF_INET6 && place->is_known && !(about->ifa_flags & (IFA_F_TENTATIVE | IFA_F_DADFAILED)))
@@ -194,8 +179,8 @@ static void find_places(struct carry *carry) {
     struct announce_private *own = carry->announce;
     unsigned before = 0;
     memset(own->places, 0, sizeof own->places);
-    own->places[0].index = tap_index(carry->parts.device);
-    own->place_count = read_tap_mac(carry->parts.device, own->places[0].mac) ? 1 : 0;
+    own->places[0].index = tap_index(carry->device);
+    own->place_count = read_tap_mac(carry->device, own->places[0].mac) ? 1 : 0;
     for (unsigned level = 0; level < MOST_LEVELS && before != own->place_count; level++) {
         before = level == 0 ? 0 : own->place_count; /* the first one tells the bridge of the device alone, where that has a lower number */
         (void)ask_all(own, RTM_GETLINK, AF_UNSPEC);
@@ -215,13 +200,12 @@ static void announce(struct carry *carry) {
         done = ask_all(own, RTM_GETADDR, AF_UNSPEC);
     }
     if (!done)
-        (void)say(carry->parts.process, LOG_WARNING | ABOUT_CARRIER, "carry %s: its addresses were not announced: %s", carry->parts.settings->carry,
+        (void)say(carry->process, LOG_WARNING | ABOUT_CARRIER, "carry %s: its addresses were not announced: %s", carry->settings->carry,
             strerror(errno));
     if (own->sender >= 0) close(own->sender);
     own->sender = -1;
 }
 
-/* Data goes another way from now on. */
 void announce_soon(struct announce_private *own) {
     own->times = TIMES;
     own->wait_ticks = 0;
@@ -230,7 +214,7 @@ void announce_soon(struct announce_private *own) {
 /* 100 ms passed. While the device has no carrier, nothing that is sent there goes. */
 void pass_announcing_tick(struct carry *carry) {
     struct announce_private *own = carry->announce;
-    if (own->times == 0 || !has_carrier(carry->parts.device)) return;
+    if (own->times == 0 || !has_carrier(carry->device)) return;
     if (own->wait_ticks > 0 && --own->wait_ticks > 0) return;
     announce(carry);
     own->times--;

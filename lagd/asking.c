@@ -1,19 +1,9 @@
 /* Asks the daemons of this network namespace: for their status, for their counts, or for each change. */
-#define _GNU_SOURCE
-#include <dirent.h>
-#include <errno.h>
-#include <fcntl.h>
-#include <poll.h>
-#include <stdio.h>
-#include <stdlib.h>
-#include <string.h>
-#include <sys/socket.h>
-#include <sys/stat.h>
-#include <sys/un.h>
-#include <time.h>
-#include <unistd.h>
-
 #include "control.h"
+
+#include <dirent.h>
+#include <poll.h>
+#include <sys/un.h>
 
 /* How long a daemon may take for its answer, in milliseconds. */
 #define PATIENCE 2000
@@ -72,9 +62,8 @@ static void find_sockets(struct asking_private *own, const char *folder, bool de
 static int address_of(struct asking_private *own, const char *path, struct sockaddr_un *to) {
     char folder[sizeof own->daemons->path];
     const char *name = strrchr(path, '/') + 1;
-    int opened;
     snprintf(folder, sizeof folder, "%.*s", (int)(name - path), path);
-    opened = open(folder, O_PATH | O_DIRECTORY | O_CLOEXEC);
+    int opened = open(folder, O_PATH | O_DIRECTORY | O_CLOEXEC);
     *to = (struct sockaddr_un){.sun_family = AF_UNIX};
     if (opened < 0) return -errno;
     if (snprintf(to->sun_path, sizeof to->sun_path, "/proc/self/fd/%d/%s", opened, name) < (int)sizeof to->sun_path) return opened;
@@ -99,7 +88,6 @@ static int ask(struct asking_private *own, const char *path, const char *questio
     return fault != 0 ? fault : opened;
 }
 
-/* Whether text of a daemon is a refusal. Then it is told. */
 static bool is_refusal(struct process *process, const char *path, const char *text) {
     if (strncmp(text, REFUSAL, strlen(REFUSAL)) != 0) return false;
     complain(process, "%s: %.*s", path, (int)strcspn(text, "\n"), text);
@@ -168,7 +156,6 @@ static void print_who_answers(struct control *control) {
     print(control->asking, control->report->text, control->report->length);
 }
 
-/* Ends the program where no daemon answers. */
 static _Noreturn void refuse_all(const struct asking_private *own, const char *folder) {
     if (own->denied) stop(REFUSED, "permission denied", own->denied);
     stop(REFUSED, "no lagd answers in", folder);
@@ -177,7 +164,7 @@ static _Noreturn void refuse_all(const struct asking_private *own, const char *f
 /* Prints what came of a daemon that is watched. */
 static void print_lines_of(struct control *control, unsigned daemon, char *text, size_t length) {
     text[length] = 0;
-    if (!is_refusal(control->parts.process, control->asking->daemons[daemon].path, text)) print(control->asking, text, length);
+    if (!is_refusal(control->process, control->asking->daemons[daemon].path, text)) print(control->asking, text, length);
 }
 
 /* Prints what the daemons say, one after the other as each has a line, until they end. */
@@ -192,9 +179,8 @@ static int print_changes_of_all(struct control *control) {
     }
     while (left > 0 && poll(waits, own->count, -1) > 0) {
         for (unsigned i = 0; i < own->count; i++) {
-            ssize_t got;
             if (!waits[i].revents) continue;
-            got = recv(waits[i].fd, text, sizeof text - 1, 0);
+            ssize_t got = recv(waits[i].fd, text, sizeof text - 1, 0);
             if (got > 0) print_lines_of(control, i, text, (size_t)got);
             if (got <= 0) waits[i].fd = -1;
             left -= got <= 0;
@@ -218,8 +204,8 @@ static bool ask_one(struct control *control, unsigned daemon, const struct optio
     int fd = ask(control->asking, path, question_of(options));
     own->daemons[daemon].may_ask = fd != -EACCES && fd != -EPERM;
     if (!own->daemons[daemon].may_ask) own->denied = path;
-    if (fd < 0) complain(control->parts.process, "%s: its daemon does not answer: %s", path, strerror(-fd));
-    if (fd >= 0) own->daemons[daemon].answer = read_answer(control->parts.process, fd, path);
+    if (fd < 0) complain(control->process, "%s: its daemon does not answer: %s", path, strerror(-fd));
+    if (fd >= 0) own->daemons[daemon].answer = read_answer(control->process, fd, path);
     if (fd >= 0) close(fd);
     own->daemons[daemon].fd = watched && fd >= 0 ? ask(control->asking, path, options->json ? "watch-json\n" : "watch\n") : -1;
     return watched ? own->daemons[daemon].fd >= 0 : own->daemons[daemon].answer != NULL;
@@ -228,12 +214,11 @@ static bool ask_one(struct control *control, unsigned daemon, const struct optio
 /* Tells a daemon an order; answers what it said, without the line end. */
 static char *tell_order(struct control *control, const char *path, const char *what, const char *interface) {
     char order[QUESTION_ROOM], *answer;
-    int fd;
     if (snprintf(order, sizeof order, "%s %s\n", what, interface) >= (int)sizeof order || strchr(interface, '\n'))
         stop(WRONG_WORD, "expected the name of an interface", interface);
-    fd = ask(control->asking, path, order);
+    int fd = ask(control->asking, path, order);
     if (fd < 0) stop(REFUSED, path, strerror(-fd));
-    answer = read_answer(control->parts.process, fd, path);
+    answer = read_answer(control->process, fd, path);
     close(fd);
     if (answer) answer[strcspn(answer, "\n")] = 0;
     return answer;
@@ -271,7 +256,6 @@ static int order_daemon(struct control *control, const struct options *options) 
     return fflush(stdout) == 0 ? DONE : REFUSED;
 }
 
-/* Asks the daemons, and prints what they answer; answers how the program ends. */
 int ask_daemons(struct control *control, const struct options *options) {
     struct asking_private *own = control->asking;
     unsigned answers = 0;

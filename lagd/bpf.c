@@ -1,10 +1,8 @@
 /* Tables of the kernel, and what keeps a program at an interface. */
-#include <bpf/bpf.h>
-#include <string.h>
-#include <sys/mman.h>
-#include <unistd.h>
-
 #include "lagd.h"
+
+#include <bpf/bpf.h>
+#include <sys/mman.h>
 
 /* Of Linux 6.6, and not in older headers. */
 #define TCX_INGRESS 46

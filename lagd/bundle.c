@@ -6,13 +6,8 @@ struct bundle_private {
     bool told; /* whether the first state was */
 };
 
-struct bundle_private *make_bundle_private(void) {
-    struct bundle_private *made = make_room(sizeof *made);
-    made->lines = MOST_LINES;
-    return made;
-}
+MAKES_WITH(bundle, .lines = MOST_LINES)
 
-/* How many links there may be. */
 static uint16_t most_links(struct protocol *protocol) {
     uint16_t limit = protocol->settings->config.max_links;
     uint16_t links = count_links(protocol->ports);
@@ -42,7 +37,7 @@ static void enter(struct protocol *protocol, const struct bundle *now) {
         "bundle %s: %s, %u of %u links carry, aggregator %u", protocol->settings->name, bundle_state_text(protocol->bundle.state),
         protocol->bundle.carrying, protocol->bundle.links, protocol->bundle.aggregator);
     tell_watchers_of(protocol->control, NULL);
-    notify_state(&protocol->bundle);
+    notify_bundle(&protocol->bundle, "");
     if (other && protocol->settings->hook[0]) run_hook(protocol, protocol->settings->hook, before);
 }
 
@@ -70,7 +65,6 @@ void go_on_as(struct protocol *protocol, const struct bundle *last, bool follows
     go_on_selecting(protocol->selection, last->aggregator, follows);
 }
 
-/* The daemon ends. */
 void end_bundle(struct protocol *protocol) {
     struct bundle now = protocol->bundle;
     now.state = BUNDLE_DOWN;

@@ -1,7 +1,4 @@
 /* Which aggregator carries the data, and by which ports. */
-#define _GNU_SOURCE
-#include <string.h>
-
 #include "carry.h"
 
 /* For how long frames of the peer tell that it has the same aggregator, in milliseconds. */
@@ -53,7 +50,7 @@ bool is_busy(const struct carry *carry, const struct conversation *conversation)
 void forget_heard(struct carry *carry) {
     struct carry_private *own = carry->carry_private;
     own->elsewhere = 0;
-    own->heard_before = ASK(carry->parts.plane->carrying->frames_heard, 0, carry->parts.plane, true);
+    own->heard_before = ASK(carry->plane->carrying->frames_heard, 0, carry->plane, true);
     own->heard_at = 0;
 }
 
@@ -61,15 +58,14 @@ void forget_heard(struct carry *carry) {
  * at once a tick, however many frames come, and only in a tick in which one does: few frames take long. */
 void suspect_aggregator(struct carry *carry, uint32_t aggregator) {
     struct carry_private *own = carry->carry_private;
-    uint64_t patience;
     if (own->looked_at == carry->time || carry->active == 0 || aggregator == carry->active) return;
     own->looked_at = carry->time;
-    patience = patience_with(carry->parts.protocol, carry->active, (uint16_t)aggregator);
+    uint64_t patience = patience_with(carry->protocol, carry->active, (uint16_t)aggregator);
     own->elsewhere += NIW_TICK_MILLISECONDS;
-    if (patience != 0 && own->elsewhere > patience) follow_peer(carry->parts.protocol, (uint16_t)aggregator);
-    else if (own->heard_at == 0 || !is_as_good_as_any(carry->parts.protocol, (uint16_t)aggregator)) return;
+    if (patience != 0 && own->elsewhere > patience) follow_peer(carry->protocol, (uint16_t)aggregator);
+    else if (own->heard_at == 0 || !is_as_good_as_any(carry->protocol, (uint16_t)aggregator)) return;
     own->heard_at = 0;
-    carry->parts.plane->changed = true;
+    carry->plane->changed = true;
 }
 
 /* Whether the active aggregator stays where another one has as many ports: the peer has it, too, since its frames come there. Ends that differ
@@ -83,9 +79,8 @@ bool hears_peer(struct plane *plane) {
 /* Notes the ports of the active aggregator that carry, those that are emptied or the others. */
 static void note_active_ports(struct carry *carry, bool emptying) {
     carry->active_count = 0;
-    EACH_LINK(link, carry->parts.ports)
-        if (carry->active != 0 && link->view.aggregator == carry->active && carries(carry->parts.protocol, link)
-            && link->emptying == emptying)
+    EACH_LINK(link, carry->ports)
+        if (carry->active != 0 && link->view.aggregator == carry->active && carries(carry->protocol, link) && link->emptying == emptying)
             carry->active_ports[carry->active_count++] = link->settings.number;
 }
 
@@ -93,23 +88,22 @@ static void note_active_ports(struct carry *carry, bool emptying) {
 static void choose_active(struct carry *carry) {
     struct bundle now = {0};
     uint16_t before = carry->active;
-    choose_aggregator(carry->parts.protocol, &now);
-    carry->active = now.carrying >= carry->parts.settings->min_links ? now.aggregator : 0;
+    choose_aggregator(carry->protocol, &now);
+    carry->active = now.carrying >= carry->settings->min_links ? now.aggregator : 0;
     note_active_ports(carry, false);
     if (carry->active_count == 0) note_active_ports(carry, true); /* while there is no other */
     if (before != 0 && carry->active != 0 && before != carry->active) carry->counts[SWITCHES]++;
     if ((before == 0) != (carry->active == 0))
-        (void)say(carry->parts.process, LOG_NOTICE | ABOUT_CARRIER, "carry %s: carrier %s", carry->parts.settings->carry,
-            carry->active ? "on" : "off");
+        (void)say(carry->process, LOG_NOTICE | ABOUT_CARRIER, "carry %s: carrier %s", carry->settings->carry, carry->active ? "on" : "off");
     if (before != carry->active) forget_heard(carry);
     if (before != carry->active && carry->active != 0) announce_soon(carry->announce);
-    CALL(carry->parts.plane->carrying->tell_host, carry->parts.plane);
+    CALL(carry->plane->carrying->tell_host, carry->plane);
 }
 
 /* Chooses by what the ports are now. */
 void choose_ports(struct plane *plane) {
     struct carry *carry = plane->carry;
-    read_views(carry->parts.protocol);
+    read_views(carry->protocol);
     choose_active(carry);
 }
 
@@ -119,7 +113,7 @@ void go_on_in(struct carry *carry, uint16_t aggregator) {
     struct carry_private *own = carry->carry_private;
     carry->time = own->heard_at = milliseconds();
     carry->active = own->previous = aggregator;
-    CALL(carry->parts.plane->carrying->go_on, carry->parts.plane);
+    CALL(carry->plane->carrying->go_on, carry->plane);
 }
 
 /* Another aggregator is active: what is on a port of the previous one leaves it, behind a marker. Its frames wait until it is free there.
@@ -130,18 +124,17 @@ void leave_previous(struct carry *carry) {
     uint16_t ports[CONVERSATIONS];
     if (carry->active == 0 || carry->active == left) return;
     own->previous = carry->active;
-    if (!ask_ports(carry->parts.protocol, left, ports)) return;
+    if (!ask_ports(carry->protocol, left, ports)) return;
     for (uint16_t number = 0; number < CONVERSATIONS; number++) {
-        uint32_t status = ports[number] == 0 ? NIW_OK : niw_leave_conversation(&carry->parts.protocol->own_system, left, number);
-        if (status != NIW_MARKERS_SPENT && !is_done(carry->parts.process, status, "niw_leave_conversation")) return;
+        uint32_t status = ports[number] == 0 ? NIW_OK : niw_leave_conversation(&carry->protocol->own_system, left, number);
+        if (status != NIW_MARKERS_SPENT && !is_done(carry->process, status, "niw_leave_conversation")) return;
     }
-    send_due(carry->parts.protocol);
+    send_due(carry->protocol);
 }
 
-/* Notes whether frames of the peer come in the active aggregator. */
 void note_heard(struct carry *carry) {
     struct carry_private *own = carry->carry_private;
-    uint64_t heard = ASK(carry->parts.plane->carrying->frames_heard, 0, carry->parts.plane, false);
+    uint64_t heard = ASK(carry->plane->carrying->frames_heard, 0, carry->plane, false);
     if (heard != own->heard_before && carry->active != 0) own->heard_at = carry->time;
     if (heard != own->heard_before) own->elsewhere = 0;
     own->heard_before = heard;
@@ -149,7 +142,7 @@ void note_heard(struct carry *carry) {
 
 /* After calls that may have changed something: the active aggregator, and what goes on in it. */
 void settle_carry(struct plane *plane) {
-    if (plane->carry->parts.process->broken || !plane->changed) return;
+    if (plane->carry->process->broken || !plane->changed) return;
     plane->changed = false;
     CALL(plane->carrying->settle, plane);
 }
@@ -159,42 +152,32 @@ void settle_carry(struct plane *plane) {
  * time. */
 static void wake_sleeper(struct carry *carry, uint16_t port) {
     struct carry_private *own = carry->carry_private;
-    const struct link *link = &carry->parts.ports->links[port - 1];
-    bool sleeps = link->up && link->view.receive_state == NIW_RECEIVE_DEFAULTED
-        && (carry->active == 0 || link->view.aggregator != carry->active);
+    const struct link *link = &carry->ports->links[port - 1];
+    bool sleeps = link->up && link->view.receive_state == NIW_RECEIVE_DEFAULTED && (carry->active == 0 || link->view.aggregator != carry->active);
     unsigned *after = &own->wakes_after[port - 1];
     uint64_t load;
     if (link->view.receive_state == NIW_RECEIVE_CURRENT || *after == 0) *after = FIRST_WAKE;
     own->on_defaults[port - 1] = sleeps ? own->on_defaults[port - 1] + 1 : 0;
-    if (own->on_defaults[port - 1] < *after || !is_told(carry->parts.process, niw_load(&carry->parts.protocol->own_system, port), "niw_load", &load)
-        || load > 0)
+    if (own->on_defaults[port - 1] < *after || !is_told(carry->process, niw_load(&carry->protocol->own_system, port), "niw_load", &load) || load > 0)
         return;
     *after = 2 * *after < LAST_WAKE ? 2 * *after : LAST_WAKE;
-    if (!is_done(carry->parts.process, niw_set_link(&carry->parts.protocol->own_system, port, false), "niw_set_link")) return;
-    if (!is_done(carry->parts.process, niw_set_link(&carry->parts.protocol->own_system, port, true), "niw_set_link")) return;
+    if (!is_done(carry->process, niw_set_link(&carry->protocol->own_system, port, false), "niw_set_link")) return;
+    if (!is_done(carry->process, niw_set_link(&carry->protocol->own_system, port, true), "niw_set_link")) return;
     own->on_defaults[port - 1] = 0;
     carry->counts[WOKEN]++;
 }
 
-/* Each port that sleeps and carries nothing is woken now and then. */
-void wake_ports(struct carry *carry) {
-    for (uint16_t port = 1; !carry->parts.process->broken && port <= carry->parts.ports->count; port++) wake_sleeper(carry, port);
-}
-
-/* 100 ms passed: before what the device does then, */
 void begin_carry_tick(struct carry *carry) {
     carry->time = milliseconds();
-    pass_tap_tick(carry->parts.device);
+    pass_tap_tick(carry->device);
     pass_announcing_tick(carry);
 }
 
-/* and behind it. */
 void end_carry_tick(struct carry *carry) {
-    wake_ports(carry);
-    carry->parts.plane->changed = carry->to_balance = true;
+    for (uint16_t port = 1; !carry->process->broken && port <= carry->ports->count; port++) wake_sleeper(carry, port);
+    carry->plane->changed = carry->to_balance = true;
 }
 
-/* 100 ms passed. */
 void pass_carry_tick(struct protocol *protocol) {
     if (!protocol->process->broken) CALL(protocol->plane->carrying->tick, protocol->plane);
 }

@@ -38,7 +38,7 @@ struct conversation {
  * tell for how long nothing was. */
 #define EACH_FILE_OF_CARRY(DO) DO(announce, announce) DO(carry, carry_private) DO(probe, probe)
 struct carry {
-    struct parts parts;
+    KNOWS_PARTS
     struct state *state;
     uint64_t time;                 /* of the last tick */
     uint16_t active;               /* the aggregator whose ports carry the data, or 0 */
@@ -67,7 +67,6 @@ void resume_conversations(struct plane *plane, bool goes_on);
 void release_former_members(struct plane *plane);
 
 /* carry.c */
-void wake_ports(struct carry *carry);
 void go_on_in(struct carry *carry, uint16_t aggregator);
 bool ask_state(struct protocol *protocol, uint16_t aggregator, uint16_t number, struct niw_assignment *state) MUST_USE;
 bool ask_ports(struct protocol *protocol, uint16_t aggregator, uint16_t *ports) MUST_USE;

@@ -1,8 +1,4 @@
 /* What is told of data: in the status, as JSON, and as metrics. */
-#define _GNU_SOURCE
-#include <inttypes.h>
-#include <stdio.h>
-
 #include "control.h"
 
 static const struct count_text CARRY_COUNTERS[] = {EACH_CARRY_COUNT(COUNT_TEXT)};
@@ -13,7 +9,6 @@ static const char *answering_text(const struct probe_private *own) {
     return texts[peer_answering(own)];
 }
 
-/* How many conversations of a port are busy. */
 static unsigned count_busy(const struct carry *carry, uint16_t port) {
     unsigned busy = 0;
     for (unsigned i = 0; i < CONVERSATIONS; i++)
@@ -21,14 +16,12 @@ static unsigned count_busy(const struct carry *carry, uint16_t port) {
     return busy;
 }
 
-/* How many conversations the kernel passes on. */
 static unsigned count_fast(const struct carry *carry) {
     unsigned fast = 0;
     for (unsigned i = 0; i < CONVERSATIONS; i++) fast += carry->conversations[i].fast.port > 0;
     return fast;
 }
 
-/* Whether the peer answers markers. */
 void show_markers(struct control *control) {
     add(control->report, "markers %s, ", answering_text(control->carry->probe));
 }
@@ -60,33 +53,32 @@ void show_waiting_buckets(struct control *control, enum form form) {
     }
 }
 
-/* By how many queues a member has its data go. */
 void show_queues(struct control *control, const struct link *link, enum form form) {
     add(control->report, form == AS_JSON ? ",\"queues\":%u" : " queues %u", member_queues(control->tap->members, link->settings.number));
 }
 
 static void write_text_of_carry(struct control *control) {
-    const struct carrying *carrying = control->parts.plane->carrying;
+    const struct carrying *carrying = control->plane->carrying;
     unsigned told = 0;
-    add(control->report, "  carry: %s, carrier %s, hash %s, flight %u ms, ", control->parts.settings->carry,
-        has_carrier(control->parts.device) ? "on" : is_halted(control->parts.protocol->halt) ? "off, the device is down" : "off",
-            hash_text(control->parts.settings->hash),
-        control->parts.settings->flight);
+    add(control->report, "  carry: %s, carrier %s, hash %s, flight %u ms, ", control->settings->carry,
+        has_carrier(control->device) ? "on" : is_halted(control->protocol->halt) ? "off, the device is down" : "off",
+            hash_text(control->settings->hash),
+        control->settings->flight);
     CALL(carrying->show_markers, control);
-    add(control->report, "%s%s", way_text(control->parts.settings), control->parts.plane->queueing->text);
+    add(control->report, "%s%s", way_text(control->settings), control->plane->queueing->text);
     for (unsigned i = carrying->first_count; i < carrying->end_count; i++)
         add(control->report, "%s %s %" PRIu64, told++ % 5 == 0 ? "\n  data:" : "", CARRY_COUNTERS[i].name, control->carry->counts[i]);
     CALL(carrying->show_waiting, control, AS_TEXT);
 }
 
 static void write_json_of_carry(struct control *control) {
-    const struct carrying *carrying = control->parts.plane->carrying;
+    const struct carrying *carrying = control->plane->carrying;
     add(control->report, "\"carry\":{\"device\":");
-    add_string(control->report, control->parts.settings->carry);
-    add(control->report, ",\"up\":%s,\"carrier\":%s,\"aggregator\":%u,\"hash\":\"%s\",", is_halted(control->parts.protocol->halt) ? "false" : "true",
-        has_carrier(control->parts.device) ? "true" : "false", control->carry->active,
-        hash_text(control->parts.settings->hash));
-    add(control->report, "\"flight\":%u,\"way\":\"%s\",", control->parts.settings->flight, way_text(control->parts.settings));
+    add_string(control->report, control->settings->carry);
+    add(control->report, ",\"up\":%s,\"carrier\":%s,\"aggregator\":%u,\"hash\":\"%s\",", is_halted(control->protocol->halt) ? "false" : "true",
+        has_carrier(control->device) ? "true" : "false", control->carry->active,
+        hash_text(control->settings->hash));
+    add(control->report, "\"flight\":%u,\"way\":\"%s\",", control->settings->flight, way_text(control->settings));
     CALL(carrying->show_waiting, control, AS_JSON);
     for (unsigned i = carrying->first_count; i < carrying->end_count; i++)
         add(control->report, ",\"%s\":%" PRIu64, CARRY_COUNTERS[i].name, control->carry->counts[i]);
@@ -94,9 +86,9 @@ static void write_json_of_carry(struct control *control) {
 }
 
 static void write_metrics_of_carry(struct control *control) {
-    const struct carrying *carrying = control->parts.plane->carrying;
+    const struct carrying *carrying = control->plane->carrying;
     char name[64];
-    add_bundle_value(control, "carry_carrier", "gauge", "whether the device has a carrier", has_carrier(control->parts.device));
+    add_bundle_value(control, "carry_carrier", "gauge", "whether the device has a carrier", has_carrier(control->device));
     CALL(carrying->show_waiting, control, AS_METRICS);
     for (unsigned i = carrying->first_count; i < carrying->end_count; i++) {
         bool most = i == LONGEST_QUEUE;
@@ -106,14 +98,13 @@ static void write_metrics_of_carry(struct control *control) {
     for (unsigned i = 0; i < carrying->member_counts; i++) {
         snprintf(name, sizeof name, "port_%s_total", MEMBER_COUNTERS[i].name);
         add_head(control->report, name, "counter", MEMBER_COUNTERS[i].help);
-        EACH_LINK(link, control->parts.ports)
+        EACH_LINK(link, control->ports)
             if (link->used) add_port_value(control, name, link, member_count(control->tap->members, link->settings.number, i));
     }
 }
 
-/* What there is to tell of the device, and of all conversations. */
 void show_carry(struct control *control, enum form form) {
-    CALL(control->parts.plane->passing->count, control->tap);
+    CALL(control->plane->passing->count, control->tap);
     switch (form) {
     case AS_TEXT: write_text_of_carry(control); break;
     case AS_JSON: write_json_of_carry(control); break;
@@ -125,9 +116,9 @@ void show_carry(struct control *control, enum form form) {
 void show_member(struct control *control, const struct link *link, enum form form) {
     add(control->report, form == AS_JSON ? ",\"data\":{\"busy_conversations\":%u" : "  data: busy_conversations %u",
         count_busy(control->carry, link->settings.number));
-    for (unsigned i = 0; i < control->parts.plane->carrying->member_counts; i++)
+    for (unsigned i = 0; i < control->plane->carrying->member_counts; i++)
         add(control->report, form == AS_JSON ? ",\"%s\":%" PRIu64 : " %s %" PRIu64, MEMBER_COUNTERS[i].name,
             member_count(control->tap->members, link->settings.number, i));
-    CALL(control->parts.plane->queueing->show, control, link, form);
+    CALL(control->plane->queueing->show, control, link, form);
     add(control->report, form == AS_JSON ? "}" : "\n");
 }

@@ -1,17 +1,12 @@
 /* What the kernel tells of interfaces: at the start, and each interface. */
-#define _GNU_SOURCE
-#include <errno.h>
+#include "device.h"
+#include "netlink.h"
+
 #include <linux/if.h>
 #include <linux/pkt_sched.h>
 #include <linux/rtnetlink.h>
 #include <net/if_arp.h>
 #include <poll.h>
-#include <stdio.h>
-#include <string.h>
-#include <sys/socket.h>
-
-#include "netlink.h"
-#include "device.h"
 
 #define ROOM 65536
 /* How long the kernel may take for an answer at the start, in milliseconds, and how often it is asked then. */
@@ -38,7 +33,6 @@ static bool ask_for(struct changes_private *own, int index, uint32_t number) {
     return own->route && mnl_socket_sendto(own->route, &question, question.head.nlmsg_len) == (ssize_t)question.head.nlmsg_len;
 }
 
-/* Asks for all interfaces. */
 static void ask(struct protocol *protocol) {
     struct changes_private *own = protocol->changes;
     EACH_LINK(link, protocol->ports) link->present = false;
@@ -103,7 +97,6 @@ static uint32_t losses_since(uint32_t before, uint32_t now) {
     return now >= before ? now - before : now;
 }
 
-/* An interface is not taken up any more, as it could not be used anew. */
 static void lose_member(struct protocol *protocol, struct link *link) {
     protocol->changes->ask_again = true;
     lose_link(protocol, link);
@@ -132,7 +125,7 @@ static void follow_link(struct protocol *protocol, struct link *link, const stru
         lost = losses > 0;
         link->counts[LOSSES] += losses;
     }
-    other = carrier && (lost || link->away) && has_other_speed(protocol, link, interface->name);
+    other = carrier && (lost || link->away) && has_other_speed(protocol, link);
     spared = (interface->flags & IFF_UP) && is_spared(protocol, link, carrier, lost) && !other;
     if (spared && !carrier) return;
     if ((lost || other) && !spared && link->up) {
@@ -141,9 +134,9 @@ static void follow_link(struct protocol *protocol, struct link *link, const stru
     }
     if ((lost && !spared) || !carrier) forget_carrier(link);
     up = carrier && !is_silent(protocol->halt) && is_restored(protocol, link);
-    if (up && !link->up) fit_queue(protocol->plane, link, interface->name);
-    if (up) apply_speed(protocol, link, interface->name);
-    if (up) CALL(protocol->plane->carrying->follow_speed, protocol->plane, link, interface->name);
+    if (up && !link->up) fit_queue(protocol->plane, link);
+    if (up) apply_speed(protocol, link);
+    if (up) CALL(protocol->plane->carrying->follow_speed, protocol->plane, link);
     set_link(protocol, port, up);
 }
 
@@ -217,14 +210,13 @@ static void parse_change(struct protocol *protocol, const struct nlmsghdr *messa
     const struct ifinfomsg *info = mnl_nlmsg_get_payload(message);
     const struct tcmsg *discipline = mnl_nlmsg_get_payload(message);
     size_t length = mnl_nlmsg_get_payload_len(message);
-    struct interface interface;
     uint16_t type = message->nlmsg_type;
     bool answers = own->asking && message->nlmsg_seq == own->asked && message->nlmsg_pid == mnl_socket_get_portid(own->route);
     if (answers && (message->nlmsg_flags & NLM_F_DUMP_INTR)) own->interrupted = true;
     if (answers && (type == NLMSG_DONE || type == NLMSG_ERROR)) end_answer(protocol, error_of(message));
     if ((type == RTM_NEWQDISC || type == RTM_DELQDISC) && length >= sizeof *discipline) note_discipline(protocol, discipline);
     if ((type != RTM_NEWLINK && type != RTM_DELLINK) || length < sizeof *info || info->ifi_family != AF_UNSPEC) return;
-    interface = read_interface(message);
+    struct interface interface = read_interface(message);
     if (type == RTM_NEWLINK && interface.name[0]) follow_present(protocol, &interface);
     if (type == RTM_DELLINK) follow_absent(protocol, &interface);
 }
@@ -269,7 +261,6 @@ static void receive_all(struct protocol *protocol) {
     }
 }
 
-/* Takes what the kernel told. */
 void receive_changes(struct protocol *protocol) {
     receive_all(protocol);
     follow_all_queues(protocol);
@@ -297,7 +288,6 @@ void suspect_carriers(struct changes_private *own) {
     own->suspected = true;
 }
 
-/* Asks for the interface of each link. */
 void ask_links(struct protocol *protocol) {
     EACH_LINK(link, protocol->ports)
         if (link->socket >= 0 && !ask_for(protocol->changes, link->index, 0)) protocol->changes->ask_again = true;
@@ -318,7 +308,6 @@ void watch_carriers(struct protocol *protocol, bool all) {
     if (any) receive_changes(protocol);
 }
 
-/* Opens the changes of interfaces, and takes up those that are there. */
 int open_changes(struct protocol *protocol) {
     struct changes_private *own = protocol->changes;
     own->route = mnl_socket_open2(NETLINK_ROUTE, SOCK_NONBLOCK | SOCK_CLOEXEC);

@@ -15,7 +15,7 @@ struct report {
 /* What is told of a daemon, and what is done for who asks. */
 #define EACH_FILE_OF_CONTROL(DO) DO(asking, asking) DO(options, options)
 struct control {
-    struct parts parts;
+    KNOWS_PARTS
     struct carry *carry;
     struct tap_plane *tap;
     struct team_plane *team;
@@ -44,7 +44,7 @@ void show_waiting_buckets(struct control *control, enum form form);
 void add(struct report *report, const char *format, ...) __attribute__((format(printf, 2, 3)));
 void add_string(struct report *report, const char *text);
 
-/* show.c, json.c, metrics.c */
+/* show.c, metrics.c */
 struct view {
     struct facts facts;
     uint64_t receive, mux, current_while, wait_while;

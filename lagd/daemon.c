@@ -1,5 +1,4 @@
 /* A daemon is made, and goes. */
-#define _GNU_SOURCE
 #include "daemon.h"
 
 /* Has a function called as the program ends, as atexit does; that hands it nothing. Where there is no room, the program does not start. */
@@ -9,9 +8,8 @@ void call_at_exit(struct process *process, void (*act)(void *what), void *what) 
 }
 
 /* The program ends, from wherever that is. The memory goes with it. */
-static void end_process(int status, void *given) {
+static void end_process(int status UNUSED, void *given) {
     struct process *process = given;
-    (void)status;
     while (process->ending_count > 0) {
         const struct ending *last = &process->endings[--process->ending_count];
         last->act(last->what);

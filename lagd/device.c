@@ -1,17 +1,10 @@
 /* The TAP device, by which the host hands over its data and takes what comes. */
-#define _GNU_SOURCE
-#include <errno.h>
-#include <fcntl.h>
+#include "tap/tap.h"
+
 #include <linux/if_tun.h>
 #include <net/if.h>
 #include <net/if_arp.h>
-#include <string.h>
 #include <sys/ioctl.h>
-#include <sys/socket.h>
-#include <sys/stat.h>
-#include <unistd.h>
-
-#include "tap/tap.h"
 
 /* Of Linux 5.2, and not in older headers: the network namespace of a device. */
 #ifndef TUNGETDEVNETNS
@@ -71,7 +64,6 @@ static bool ask_tap(struct device *own, unsigned long what, struct ifreq *reques
     return ioctl(own->asker, what, request) == 0;
 }
 
-/* Has the device a carrier, or none; answers whether the kernel does so. */
 bool give_tap_carrier(struct plane *plane, bool on) {
     return ioctl(plane->device->tap, TUNSETCARRIER, &(int){on}) == 0;
 }
@@ -94,11 +86,10 @@ void set_carrier(struct device *own, bool on) {
 
 /* The device has this speed from now on, in Mb/s, or none that is known. A kernel that does not take it has one line. */
 void set_speed(struct device *own, uint32_t megabits) {
-    struct ifreq named = {.ifr_ifindex = own->number};
     if (own->speed == megabits || own->number == 0) return;
     own->speed = megabits;
     errno = EOPNOTSUPP; /* where the kernel tells none, either */
-    if ((ioctl(own->asker, SIOCGIFNAME, &named) == 0 && write_speed(own->asker, named.ifr_name, megabits)) || own->told) return;
+    if (write_speed(own->asker, own->number, megabits) || own->told) return;
     own->told = true;
     (void)say(own->process, LOG_WARNING | ABOUT_CARRIER, "carry %s: its speed stays: %s", own->process->settings->carry, strerror(errno));
 }
@@ -112,20 +103,18 @@ bool has_carrier(const struct device *own) {
 void settle_tap_mtu(struct plane *plane) {
     struct device *own = plane->device;
     struct ifreq now = {0}, wanted = {0};
-    uint32_t mtu, least;
     if (!ask_tap(own, SIOCGIFMTU, &now)) return;
-    mtu = (uint32_t)now.ifr_mtu;
+    uint32_t mtu = (uint32_t)now.ifr_mtu;
     if (own->set_mtu != 0 && mtu != own->set_mtu) own->less_mtu = mtu < own->most_mtu ? mtu : 0;
     if (own->set_mtu != 0 && mtu != own->set_mtu && mtu > own->most_mtu)
         (void)say(own->process, LOG_WARNING | ABOUT_CARRIER, "carry %s: its members take no MTU of %u: it has %u again",
             own->process->settings->carry, mtu,
             own->most_mtu);
-    least = own->less_mtu != 0 && own->less_mtu < own->most_mtu ? own->less_mtu : own->most_mtu;
+    uint32_t least = own->less_mtu != 0 && own->less_mtu < own->most_mtu ? own->less_mtu : own->most_mtu;
     wanted.ifr_mtu = (int)least;
     if (mtu == least || ask_tap(own, SIOCSIFMTU, &wanted)) own->set_mtu = least;
 }
 
-/* The longest payload that each member takes is another one now. */
 void limit_mtu(struct device *own, uint32_t most) {
     own->most_mtu = most < LONGEST_PAYLOAD ? most : LONGEST_PAYLOAD;
     settle_tap_mtu(own->plane);
@@ -135,7 +124,6 @@ uint32_t longest_payload(const struct device *own) {
     return own->most_mtu;
 }
 
-/* The kernel told of the device. */
 void follow_tap(struct device *own, bool has_now, const char *discipline) {
     own->carrier_told = has_now;
     CALL(own->plane->passing->follow_discipline, own->plane->tap, discipline);
@@ -151,12 +139,10 @@ void pass_tap_tick(struct device *own) {
             "carry %s: it has no carrier, though links carry: who took it away may set it on again", own->process->settings->carry);
 }
 
-/* The index of the device. */
 int tap_index(const struct device *own) {
     return own->number;
 }
 
-/* The device is there no more. */
 void forget_tap(struct device *own) {
     own->number = 0;
     own->carrier = false;
@@ -194,7 +180,6 @@ static bool is_here(int fd, struct ifreq *device) {
     return same && ioctl(fd, TUNGETIFF, device) == 0 && (device->ifr_flags & IFF_TAP) && (device->ifr_flags & IFF_VNET_HDR);
 }
 
-/* The index of the device of this name, or 0. */
 static int index_of(const struct device *own, const char *name) {
     struct ifreq found = request_of(name);
     return ioctl(own->asker, SIOCGIFINDEX, &found) == 0 ? found.ifr_ifindex : 0;
@@ -225,7 +210,6 @@ static void set_up(struct device *own, const uint8_t *mac) {
     CALL(own->plane->passing->set_up_device, own->number);
 }
 
-/* What waits in the device is lost. */
 static void lose_waiting(const struct device *own) {
     uint8_t scrap[ETH_HLEN];
     for (unsigned frames = 0; frames < 2 * HOST_QUEUE && read(own->tap, scrap, sizeof scrap) > 0; frames++) continue;
@@ -237,8 +221,7 @@ static bool open_inherited(struct device *own, const char *name, const uint8_t *
     struct ifreq device = {0};
     int fd = claim_stored(own->process->store, "tap", 0);
     if (fd < 0) return false;
-    if (!is_here(fd, &device)
-        || (own->process->inherited->tap == 0 ? strcmp(device.ifr_name, name) != 0 : index_of(own,
+    if (!is_here(fd, &device) || (own->process->inherited->tap == 0 ? strcmp(device.ifr_name, name) != 0 : index_of(own,
             device.ifr_name) != own->process->inherited->tap)) {
         close_stored(own->process->store, "tap", 0, fd);
         return false;
@@ -260,11 +243,10 @@ static bool open_inherited(struct device *own, const char *name, const uint8_t *
  * was made anew, too. */
 static void make_tap(struct device *own, const char *name, const uint8_t *mac) {
     char room[IF_NAMESIZE];
-    int before;
     struct ifreq device = request_of(own->process->inherited->persists && if_indextoname((unsigned)own->process->inherited->tap, room) ? room : name);
     own->tap = open("/dev/net/tun", O_RDWR | O_NONBLOCK | O_CLOEXEC);
     if (own->tap < 0) stop(REFUSED, "no TAP device", strerror(errno));
-    before = index_of(own, device.ifr_name);
+    int before = index_of(own, device.ifr_name);
     device.ifr_flags = IFF_TAP | IFF_NO_PI | IFF_VNET_HDR | NO_CARRIER;
     if (ioctl(own->tap, TUNSETIFF, &device) < 0) stop(REFUSED, name, strerror(errno));
     own->number = index_of(own, device.ifr_name);
@@ -277,7 +259,6 @@ static void make_tap(struct device *own, const char *name, const uint8_t *mac) {
         set_up(own, mac);
 }
 
-/* Opens the device. */
 int open_tap(struct device *own, const char *name, const uint8_t *mac) {
     own->asker = socket(AF_UNIX, SOCK_DGRAM | SOCK_CLOEXEC, 0);
     if (own->asker < 0) stop(REFUSED, "no TAP device", strerror(errno));
@@ -295,7 +276,6 @@ void use_team_device(struct device *own, int index) {
     if (!own->process->resuming) set_carrier(own, false);
 }
 
-/* The device that the last daemon made outlive itself goes. */
 void end_tap(int index) {
     char room[IF_NAMESIZE];
     struct ifreq device = {0};

@@ -1,15 +1,7 @@
 /* A file of a bundle, in the form of systemd's units: a section [Bundle] and a section [Port INTERFACE] for each port. */
-#define _GNU_SOURCE
-#include <errno.h>
-#include <fcntl.h>
-#include <ini.h>
-#include <stdio.h>
-#include <stdlib.h>
-#include <string.h>
-#include <sys/stat.h>
-#include <unistd.h>
-
 #include "lagd.h"
+
+#include <ini.h>
 
 /* The most octets of a file and of a line. The library takes lines of 197 octets. */
 #define LONGEST_FILE 65536
@@ -87,12 +79,11 @@ static char *next_line(char *into, int room, void *given) {
 }
 
 /* Takes a key and its value, of the section that came last. */
-static int parse_pair(void *given, const char *section, const char *name, const char *value) {
+static int parse_pair(void *given, const char *section UNUSED, const char *name, const char *value) {
     struct reading *reading = given;
     struct process *process = reading->process;
     struct settings *wanted = reading->settings;
     const char *expected = NULL;
-    (void)section; /* the library cuts long ones */
     switch (reading->section) {
     case BUNDLE_SECTION: expected = set_bundle(&process->words, wanted, name, value, reading->line); break;
     case PORT_SECTION: expected = set_port(&process->words, &wanted->ports[wanted->port_count - 1], name, value); break;

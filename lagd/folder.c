@@ -1,12 +1,4 @@
 /* The folder of the status socket, and of what members had. */
-#define _GNU_SOURCE
-#include <errno.h>
-#include <fcntl.h>
-#include <string.h>
-#include <sys/socket.h>
-#include <sys/stat.h>
-#include <unistd.h>
-
 #include "lagd.h"
 
 /* Of Linux 5.14, and not in older headers. */
@@ -14,7 +6,6 @@
 #define SO_NETNS_COOKIE 71
 #endif
 
-/* The network namespace that this process is in. */
 unsigned long network_namespace(void) {
     struct stat file;
     return stat("/proc/self/ns/net", &file) == 0 ? (unsigned long)file.st_ino : 0;

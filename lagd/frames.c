@@ -1,12 +1,8 @@
 /* Frames of the slow protocols that come: which are looked at, whose LACPDUs are taken, and what becomes of them. */
-#define _GNU_SOURCE
-#include <inttypes.h>
+#include "lagd.h"
+
 #include <linux/if_packet.h>
 #include <net/ethernet.h>
-#include <string.h>
-#include <sys/socket.h>
-
-#include "lagd.h"
 
 #define LONGEST_FRAME 2048
 /* Where an LACPDU has its actor's system priority and system (IEEE 802.1AX-2014, 6.4.2.3). */
@@ -20,12 +16,6 @@ static const uint8_t GROUP[6] = {0x01, 0x80, 0xc2, 0x00, 0x00, 0x02};
 
 static bool is_same_system(const struct system_id *one, const struct system_id *other) {
     return one->priority == other->priority && memcmp(one->mac, other->mac, sizeof one->mac) == 0;
-}
-
-static bool is_own(const struct settings *settings, const struct system_id *system) {
-    struct system_id own = {.priority = settings->config.priority};
-    memcpy(own.mac, settings->config.mac, sizeof own.mac);
-    return is_same_system(system, &own);
 }
 
 /* The system that an LACPDU names as its actor; answers whether the frame is one. */
@@ -64,7 +54,8 @@ void note_actor(const struct settings *settings, struct link *link, const struct
     link->heard = true;
     link->actor = *actor;
     memcpy(link->source, source, sizeof link->source);
-    if (settings->policy != PARTNER_FIRST || link->pinned || is_own(settings, actor)) return;
+    struct system_id own = own_system(settings);
+    if (settings->policy != PARTNER_FIRST || link->pinned || is_same_system(actor, &own)) return;
     link->pinned = true;
     link->partner = *actor;
 }
@@ -84,7 +75,6 @@ static void hand_over(struct protocol *protocol, struct link *link, const struct
         note_odd_marker(link, arrival, RESPONSES_UNSENT);
 }
 
-/* Accepts a response of the partner. */
 void accept_response(struct protocol *protocol, struct link *link, const struct arrival *arrival) {
     hand_over(protocol, link, arrival, NULL);
     CALL(protocol->plane->carrying->note_response, protocol->plane, link);
@@ -101,7 +91,6 @@ bool may_be_partner(const struct link *link, const uint8_t *frame, struct system
 void accept_frame(struct protocol *protocol, struct link *link, const struct arrival *arrival) {
     struct system_id actor;
     struct niw_pdu response;
-    bool is_lacpdu, is_response;
     if (arrival->length < ETH_HLEN || memcmp(arrival->frame, GROUP, sizeof GROUP) != 0) {
         link->counts[ELSEWHERE_RECEIVED]++;
         return;
@@ -110,13 +99,13 @@ void accept_frame(struct protocol *protocol, struct link *link, const struct arr
         link->counts[TAGGED_RECEIVED]++;
         return;
     }
-    is_lacpdu = actor_of(arrival, &actor);
+    bool is_lacpdu = actor_of(arrival, &actor);
     if (is_lacpdu && link->up && link->pinned && !is_same_system(&actor, &link->partner)) {
         link->counts[FOREIGN_RECEIVED]++;
         note_stranger(link, &actor, arrival->frame + 6);
         return;
     }
-    is_response = link->up && read_response(protocol->process, arrival, &response);
+    bool is_response = link->up && read_response(protocol->process, arrival, &response);
     if (is_response && !is_partners_response(protocol->settings, link, arrival, &response)) {
         note_odd_marker(link, arrival, FOREIGN_RESPONSES);
         return;
@@ -139,7 +128,6 @@ struct tpacket_auxdata aux_of(struct msghdr *message) {
     return aux;
 }
 
-/* Takes the frames that wait at an interface, MOST_TAKEN of them at most. */
 void receive_frames(struct protocol *protocol, uint16_t port) {
     struct link *link = &protocol->ports->links[port - 1];
     uint8_t frame[LONGEST_FRAME];

@@ -23,13 +23,11 @@ bool is_silent(const struct halt_private *own) {
     return own->silent;
 }
 
-/* Each port is held, or as the file has it again. */
 static void hold_or_release_ports(struct protocol *protocol) {
     for (uint16_t port = 1; port <= protocol->ports->count; port++)
         if (!apply_hold(protocol, port)) return;
 }
 
-/* The ports are silent from here on. */
 static void fall_silent(struct protocol *protocol) {
     protocol->halt->silent = true;
     for (uint16_t port = 1; port <= protocol->ports->count; port++) set_link(protocol, port, false);
@@ -84,7 +82,6 @@ void halt_if_down(struct protocol *protocol) {
     if (!protocol->halt->down && protocol->halt->silent) end_halt(protocol);
 }
 
-/* 100 ms passed. */
 void pass_halt_tick(struct protocol *protocol) {
     struct halt_private *own = protocol->halt;
     if (!own->down || own->silent) return;

@@ -1,14 +1,9 @@
 /* The program that is run where the bundle is up, degraded or down. Nobody waits for it. */
-#define _GNU_SOURCE
-#include <fcntl.h>
+#include "lagd.h"
+
 #include <signal.h>
 #include <spawn.h>
-#include <stdio.h>
-#include <string.h>
 #include <sys/prctl.h>
-#include <unistd.h>
-
-#include "lagd.h"
 
 /* It has no signal blocked or ignored, and a session of its own. */
 static void set_attributes(posix_spawnattr_t *attributes) {
@@ -34,28 +29,25 @@ static int start(const char *path, char *const *environment) {
     posix_spawnattr_t attributes;
     posix_spawn_file_actions_t files;
     pid_t child;
-    int fault;
     set_attributes(&attributes);
     set_files(&files);
     (void)prctl(PR_SET_TIMERSLACK, 0); /* the one that it began with */
-    fault = posix_spawn(&child, path, &files, &attributes, words, environment);
+    int fault = posix_spawn(&child, path, &files, &attributes, words, environment);
     (void)prctl(PR_SET_TIMERSLACK, TIMER_SLACK);
     posix_spawn_file_actions_destroy(&files);
     posix_spawnattr_destroy(&attributes);
     return fault;
 }
 
-/* Runs the hook, with the state of the bundle in its environment. */
 void run_hook(struct protocol *protocol, const char *path, enum bundle_state before) {
     char name[NAME_ROOM + 16], state[32], previous[32], links_text[32], carrying[32], aggregator[32];
     char *environment[] = {"PATH=/usr/sbin:/usr/bin:/sbin:/bin", name, state, previous, links_text, carrying, aggregator, NULL};
-    int fault;
     snprintf(name, sizeof name, "LAGD_BUNDLE=%s", protocol->settings->name);
     snprintf(state, sizeof state, "LAGD_STATE=%s", bundle_state_text(protocol->bundle.state));
     snprintf(previous, sizeof previous, "LAGD_PREVIOUS=%s", bundle_state_text(before));
     snprintf(links_text, sizeof links_text, "LAGD_LINKS=%u", protocol->bundle.links);
     snprintf(carrying, sizeof carrying, "LAGD_CARRYING=%u", protocol->bundle.carrying);
     snprintf(aggregator, sizeof aggregator, "LAGD_AGGREGATOR=%u", protocol->bundle.aggregator);
-    fault = start(path, environment);
+    int fault = start(path, environment);
     if (fault) (void)say(protocol->process, LOG_WARNING | ABOUT_HOOK, "hook %s: %s", path, strerror(fault));
 }

@@ -1,11 +1,8 @@
 /* What a message of the kernel tells of an interface. */
-#define _GNU_SOURCE
-#include <errno.h>
+#include "netlink.h"
+
 #include <linux/if_link.h>
 #include <linux/rtnetlink.h>
-#include <string.h>
-
-#include "netlink.h"
 
 static int parse_kind(const struct nlattr *attribute, void *into) {
     struct interface *interface = into;
@@ -65,10 +62,9 @@ static void parse_interface(const struct nlmsghdr *message, void *into) {
  * number is 0, and else errno tells why not. Its other names are not kept. */
 bool ask_interface(int index, const char *name, struct interface *interface) {
     union message question = message_of_interface(RTM_GETLINK, NLM_F_ACK, index);
-    bool told;
     if (index == 0 && name) mnl_attr_put_strz(&question.head, strlen(name) < DEVICE_ROOM ? IFLA_IFNAME : IFLA_ALT_IFNAME, name);
     *interface = (struct interface){0};
-    told = ask_netlink(NETLINK_ROUTE, &question, parse_interface, interface);
+    bool told = ask_netlink(NETLINK_ROUTE, &question, parse_interface, interface);
     interface->others = NULL;
     if (told && interface->index == 0) errno = EPROTO;
     return told && interface->index != 0;

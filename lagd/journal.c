@@ -1,13 +1,7 @@
 /* Lines for the journal, by its own protocol: each kind of line has a message id, by which journalctl finds it. */
-#define _GNU_SOURCE
-#include <errno.h>
-#include <stdio.h>
-#include <string.h>
-#include <sys/socket.h>
-#include <sys/un.h>
-#include <unistd.h>
-
 #include "lagd.h"
+
+#include <sys/un.h>
 
 #define SOCKET "/run/systemd/journal/socket"
 #define LONGEST_ENTRY 2048
@@ -39,12 +33,10 @@ enum journaled tell_journal(struct process *process, int level, const char *text
     static const struct sockaddr_un to = {.sun_family = AF_UNIX, .sun_path = SOCKET};
     char entry[LONGEST_ENTRY], bundle_name[4 * NAME_ROOM];
     const char *id = id_of((unsigned)level & KINDS);
-    int used;
     if (process->journal < 0) process->journal = socket(AF_UNIX, SOCK_DGRAM | SOCK_NONBLOCK | SOCK_CLOEXEC, 0);
     if (process->journal < 0) return NOT_JOURNALED;
     (void)escape(bundle_name, sizeof bundle_name, process->settings->name, strlen(process->settings->name), false);
-    used = snprintf(entry, sizeof entry, "MESSAGE=%s\nPRIORITY=%d\nSYSLOG_IDENTIFIER=lagd\nLAGD_BUNDLE=%s\n", text, level & LOG_PRIMASK,
-        bundle_name);
+    int used = snprintf(entry, sizeof entry, "MESSAGE=%s\nPRIORITY=%d\nSYSLOG_IDENTIFIER=lagd\nLAGD_BUNDLE=%s\n", text, level & LOG_PRIMASK, bundle_name);
     if (id) used += snprintf(entry + used, sizeof entry - (size_t)used, "MESSAGE_ID=%s\n", id);
     if (sendto(process->journal, entry, (size_t)used, MSG_NOSIGNAL, (const struct sockaddr *)&to, sizeof to) == used) return JOURNALED;
     return errno == EAGAIN ? JOURNAL_IS_BUSY : NOT_JOURNALED;

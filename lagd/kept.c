@@ -1,17 +1,12 @@
 /* What members had before they became members, in a file of each beside the status socket until they have it again: of a daemon that was
  * killed the next one knows it. A file of another boot, or of another interface with that number, counts for nothing. */
-#define _GNU_SOURCE
-#include <errno.h>
-#include <fcntl.h>
-#include <stdio.h>
-#include <string.h>
-#include <unistd.h>
-
 #include "tap/tap.h"
 
-/* What a file has: it is whole if its last line is. */
-#define FORM "boot=%s\nmac=%s\njoins=%u\nqueues=%u %u %u %u\nrps=%s\nend\n"
-#define READ_FORM "boot=%63s mac=%31s joins=%u queues=%u %u %u %u rps=%" PROCESSORS_LENGTH "s %7s"
+/* What a file begins with, and what one of a member has behind it: that is whole if its last line is. */
+#define HEAD "boot=%s\nmac=%s\n"
+#define READ_HEAD "boot=%63s mac=%31s"
+#define FORM "joins=%u\nqueues=%u %u %u %u\nrps=%s\nend\n"
+#define READ_FORM " joins=%u queues=%u %u %u %u rps=%" PROCESSORS_LENGTH "s %7s"
 
 static void name_file(const struct link *link, const char *kind, char room[static 64]) {
     snprintf(room, 64, "%lu.%d.%s", network_namespace(), link->index, kind);
@@ -25,14 +20,9 @@ const char *boot_id(char room[static BOOT_ROOM]) {
     return room;
 }
 
-/* Opens the file of an interface that has this kind of settings; or answers NULL, and errno tells why not. */
-FILE *open_kept(int folder, const struct link *link, const char *kind, int flags, const char *mode) {
-    char name[64];
-    FILE *file;
-    int opened, fault;
-    name_file(link, kind, name);
-    opened = openat(folder, name, flags | O_NOFOLLOW | O_CLOEXEC, 0600);
-    file = opened < 0 ? NULL : fdopen(opened, mode);
+static FILE *open_kept(int folder, const char *name, int flags, const char *mode) {
+    int opened = openat(folder, name, flags | O_NOFOLLOW | O_CLOEXEC, 0600), fault;
+    FILE *file = opened < 0 ? NULL : fdopen(opened, mode);
     if (file || opened < 0) return file;
     fault = errno;
     close(opened);
@@ -40,15 +30,42 @@ FILE *open_kept(int folder, const struct link *link, const char *kind, int flags
     return NULL;
 }
 
-/* Puts a file of an interface in the place of another one; answers whether it did. */
-bool replace_kept(int folder, const struct link *link, const char *from, const char *to) {
-    char old[64], next[64];
-    name_file(link, from, old);
-    name_file(link, to, next);
-    return renameat(folder, old, folder, next) == 0;
+/* Opens what is kept of an interface, behind the head; or answers NULL. What is of another boot, or another interface, counts for nothing. */
+FILE *read_kept(int folder, const struct link *link, const char *kind) {
+    char name[64], boot[BOOT_ROOM], now[BOOT_ROOM], mac[32], own[32];
+    name_file(link, kind, name);
+    FILE *file = open_kept(folder, name, O_RDONLY, "r");
+    if (!file) return NULL;
+    if (fscanf(file, READ_HEAD, boot, mac) == 2 && strcmp(boot, boot_id(now)) == 0 && strcmp(mac, mac_text(link->mac, own)) == 0)
+        return file;
+    fclose(file);
+    return NULL;
 }
 
-/* What a file of an interface has is of no use any more. */
+static void name_next(const struct link *link, const char *kind, char room[static 64]) {
+    char name[64];
+    name_file(link, kind, name);
+    snprintf(room, 64, "%.59s.new", name);
+}
+
+/* Begins a file that end_kept puts in the place of the one that is there; or answers NULL, and errno tells why not. */
+FILE *begin_kept(int folder, const struct link *link, const char *kind) {
+    char next[64], boot[BOOT_ROOM], mac[32];
+    name_next(link, kind, next);
+    FILE *file = open_kept(folder, next, O_WRONLY | O_CREAT | O_TRUNC, "w");
+    if (file) fprintf(file, HEAD, boot_id(boot), mac_text(link->mac, mac));
+    return file;
+}
+
+/* Ends it; answers whether it is there, and else what was there before still is, and errno tells why. */
+bool end_kept(int folder, const struct link *link, const char *kind, FILE *file, bool done) {
+    char next[64], name[64];
+    name_next(link, kind, next);
+    name_file(link, kind, name);
+    done = done && !ferror(file);
+    return fclose(file) == 0 && done && renameat(folder, next, folder, name) == 0;
+}
+
 void drop_kept(int folder, const struct link *link, const char *kind) {
     char name[64];
     name_file(link, kind, name);
@@ -57,30 +74,27 @@ void drop_kept(int folder, const struct link *link, const char *kind) {
 
 /* Reads what an interface had before an earlier daemon changed it; answers whether there is something. */
 static bool recall(int folder, const struct link *link, struct kept *kept) {
-    char boot[BOOT_ROOM], now[BOOT_ROOM], mac[32], own[32], end[8] = "";
     struct ethtool_channels *queues = &kept->queues;
-    int found;
-    FILE *file = open_kept(folder, link, "member", O_RDONLY, "r");
+    char end[8] = "";
+    FILE *file = read_kept(folder, link, "member");
     if (!file) return false;
     *kept = (struct kept){0};
-    found = fscanf(file, READ_FORM, boot, mac, &kept->joins, &queues->rx_count, &queues->tx_count, &queues->other_count,
-        &queues->combined_count, kept->steered, end);
+    int found = fscanf(file, READ_FORM, &kept->joins, &queues->rx_count, &queues->tx_count, &queues->other_count, &queues->combined_count,
+        kept->steered, end);
     fclose(file);
-    if (found != 9 || strcmp(end, "end") != 0 || strcmp(boot, boot_id(now)) != 0 || strcmp(mac, mac_text(link->mac, own)) != 0)
-        return false;
+    if (found != 7 || strcmp(end, "end") != 0) return false;
     if (strcmp(kept->steered, "-") == 0) kept->steered[0] = 0;
     return true;
 }
 
 /* Keeps what an interface has to get back, for the next daemon, where this one is killed. */
 void write_settings(struct process *process, const struct link *link, const struct kept *kept) {
-    char boot[BOOT_ROOM], mac[32];
     const struct ethtool_channels *queues = &kept->queues;
-    FILE *file = open_kept(process->folder, link, "member", O_WRONLY | O_CREAT | O_TRUNC, "w");
+    FILE *file = begin_kept(process->folder, link, "member");
     if (file)
-        fprintf(file, FORM, boot_id(boot), mac_text(link->mac, mac), kept->joins, queues->rx_count, queues->tx_count,
-            queues->other_count, queues->combined_count, kept->steered[0] ? kept->steered : "-");
-    if (!file || fclose(file) != 0)
+        fprintf(file, FORM, kept->joins, queues->rx_count, queues->tx_count, queues->other_count, queues->combined_count,
+            kept->steered[0] ? kept->steered : "-");
+    if (!file || !end_kept(process->folder, link, "member", file, true))
         (void)say(process, LOG_WARNING | ABOUT_DATA, "port %u %s: if this daemon is killed, nobody knows what the interface had: %s",
             link->settings.number, link->name, strerror(errno));
 }
@@ -101,7 +115,6 @@ void recall_settings(int folder, const struct link *link, struct kept *kept) {
     if (!recall(folder, link, kept)) *kept = (struct kept){0};
 }
 
-/* The interface has what it had before. */
 void forget_settings(int folder, const struct link *link) {
     drop_kept(folder, link, "member");
 }

@@ -1,14 +1,10 @@
 /* The keys of ports and aggregators. Where links of another speed or duplex are to share no group, each speed has a key of its own. */
-#define _GNU_SOURCE
-#include <inttypes.h>
+#include "lagd.h"
+
 #include <linux/ethtool.h>
 #include <linux/sockios.h>
 #include <net/if.h>
-#include <stdio.h>
-#include <string.h>
 #include <sys/ioctl.h>
-
-#include "lagd.h"
 
 /* The most speeds of one key, and the most words of the masks of link modes, which are of no interest here. */
 #define MOST_SPEEDS 4
@@ -121,53 +117,57 @@ union link_settings {
     uint32_t room[sizeof(struct ethtool_link_settings) / sizeof(uint32_t) + 3 * MOST_WORDS];
 };
 
-/* Asks the driver of an interface something of its link, or for something. */
-static bool ask_of_link(int socket, const char *name, uint32_t what, union link_settings *told) {
-    struct ifreq question;
-    memset(&question, 0, sizeof question);
-    snprintf(question.ifr_name, sizeof question.ifr_name, "%s", name);
-    question.ifr_data = (void *)told;
-    told->head.cmd = what;
-    return ioctl(socket, SIOCETHTOOL, &question) == 0;
+/* Asks the driver of an interface something, or for something, by a socket that is there. */
+static bool ask_by(int socket, int index, void *value) {
+    struct ifreq request = {.ifr_ifindex = index};
+    if (ioctl(socket, SIOCGIFNAME, &request) < 0) return false;
+    request.ifr_data = value;
+    return ioctl(socket, SIOCETHTOOL, &request) == 0;
+}
+
+bool ask_driver(int index, void *value) {
+    int fd = socket(AF_UNIX, SOCK_DGRAM | SOCK_CLOEXEC, 0);
+    bool done = fd >= 0 && ask_by(fd, index, value);
+    if (fd >= 0) close(fd);
+    return done;
 }
 
 /* The first answer is how many words a mask has, below 0. */
-static bool read_link_settings(int socket, const char *name, union link_settings *told) {
-    memset(told, 0, sizeof *told);
-    if (!ask_of_link(socket, name, ETHTOOL_GLINKSETTINGS, told) || told->head.link_mode_masks_nwords >= 0) return false;
+static bool read_link_settings(int socket, int index, union link_settings *told) {
+    *told = (union link_settings){.room = {0}};
+    told->head.cmd = ETHTOOL_GLINKSETTINGS;
+    if (!ask_by(socket, index, told) || told->head.link_mode_masks_nwords >= 0) return false;
     told->head.link_mode_masks_nwords = (int8_t)-told->head.link_mode_masks_nwords;
-    return ask_of_link(socket, name, ETHTOOL_GLINKSETTINGS, told);
+    return ask_by(socket, index, told);
 }
 
 /* Asks the kernel for the speed and duplex of an interface. What a driver does not tell is unknown, which is a speed, too. */
-struct speed read_speed(int socket, const char *name) {
+struct speed read_speed(int socket, int index) {
     union link_settings told;
-    if (read_link_settings(socket, name, &told)) return (struct speed){told.head.speed, told.head.duplex};
+    if (read_link_settings(socket, index, &told)) return (struct speed){told.head.speed, told.head.duplex};
     return (struct speed){(uint32_t)SPEED_UNKNOWN, DUPLEX_UNKNOWN};
 }
 
 /* Gives an interface a speed that is told of it, in Mb/s; answers whether its driver took it. */
-bool write_speed(int socket, const char *name, uint32_t megabits) {
+bool write_speed(int socket, int index, uint32_t megabits) {
     union link_settings told;
-    if (!read_link_settings(socket, name, &told)) return false;
+    if (!read_link_settings(socket, index, &told)) return false;
+    told.head.cmd = ETHTOOL_SLINKSETTINGS;
     told.head.speed = megabits;
-    return ask_of_link(socket, name, ETHTOOL_SLINKSETTINGS, &told);
+    return ask_by(socket, index, &told);
 }
 
-/* Gives a port its key. */
 static void give_key(struct protocol *protocol, struct link *link) {
-    struct niw_change change = {.key = choose_key(protocol, link), .priority = link->settings.priority,
-        .aggregatable = link->settings.aggregatable};
+    struct niw_change change = {.key = choose_key(protocol, link), .priority = link->settings.priority, .aggregatable = link->settings.aggregatable};
     if (!is_done(protocol->process, niw_configure(&protocol->own_system, link->settings.number, &change).status, "niw_configure")) return;
     link->settings.key = change.key;
 }
 
 /* The link of a port comes up, or is up: with key-by-speed it has the key of the speed that it had as it came. */
-void apply_speed(struct protocol *protocol, struct link *link, const char *interface) {
+void apply_speed(struct protocol *protocol, struct link *link) {
     bool by_speed = protocol->settings->key_by_speed;
-    struct speed now;
     if (by_speed ? link->up : protocol->settings->select != SELECT_BANDWIDTH) return;
-    now = read_speed(link->socket, interface);
+    struct speed now = read_speed(link->socket, link->index);
     if (link->has_speed && is_same_speed(&now, &link->speed)) return;
     link->has_speed = protocol->plane->changed = true;
     link->speed = now;
@@ -175,10 +175,9 @@ void apply_speed(struct protocol *protocol, struct link *link, const char *inter
 }
 
 /* Whether a link that is up has come back at another speed, which with key-by-speed has another key. */
-bool has_other_speed(struct protocol *protocol, const struct link *link, const char *interface) {
-    struct speed now;
+bool has_other_speed(struct protocol *protocol, const struct link *link) {
     if (!protocol->settings->key_by_speed || !link->up || !link->has_speed) return false;
-    now = read_speed(link->socket, interface);
+    struct speed now = read_speed(link->socket, link->index);
     return !is_same_speed(&now, &link->speed);
 }
 

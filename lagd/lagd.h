@@ -2,14 +2,24 @@
 #ifndef LAGD_H
 #define LAGD_H
 
+#ifndef _GNU_SOURCE
+#define _GNU_SOURCE
+#endif
+
 #include <errno.h>
+#include <fcntl.h>
+#include <inttypes.h>
 #include <stdbool.h>
 #include <stddef.h>
 #include <stdint.h>
 #include <stdio.h>
 #include <stdlib.h>
+#include <string.h>
+#include <sys/socket.h>
+#include <sys/stat.h>
 #include <syslog.h>
 #include <time.h>
+#include <unistd.h>
 
 #include "counts.h"
 #include "lag.h"
@@ -246,15 +256,18 @@ struct protocol {
 };
 EACH_FILE_OF_PROTOCOL(MAKES)
 
-/* What each part above the protocol knows: data, its planes, and who asks. */
-struct parts {
-    struct process *process;
-    const struct settings *settings;
-    struct ports *ports;
-    struct protocol *protocol;
-    struct device *device;
+/* What each part above the protocol knows: data, its planes, and who asks. These are its own fields, and one that is given as a whole. */
+#define PARTS \
+    struct process *process; \
+    const struct settings *settings; \
+    struct ports *ports; \
+    struct protocol *protocol; \
+    struct device *device; \
     struct plane *plane;
+struct parts {
+    PARTS
 };
+#define KNOWS_PARTS union { struct parts parts; struct { PARTS }; };
 
 /* Room for what a file keeps, of zeros. There is no daemon without it. */
 static inline void *make_room(size_t octets) {
@@ -264,9 +277,15 @@ static inline void *make_room(size_t octets) {
     exit(REFUSED);
 }
 
-/* What a file keeps begins as zeros. */
+/* What a file keeps begins as zeros, but for these fields. */
 #define MAKES_ROOM(file) \
     struct file##_private *make_##file##_private(void) { return make_room(sizeof(struct file##_private)); }
+#define MAKES_WITH(file, ...) \
+    struct file##_private *make_##file##_private(void) { \
+        struct file##_private *made = make_room(sizeof *made); \
+        *made = (struct file##_private){__VA_ARGS__}; \
+        return made; \
+    }
 
 /* -errno of what failed just now, which is never 0. */
 static inline int last_fault(void) {
@@ -275,6 +294,8 @@ static inline int last_fault(void) {
 
 /* An answer that tells whether the library refused: what depends on the call is done only where it did not. */
 #define MUST_USE __attribute__((warn_unused_result))
+/* A word that a function is handed since others of its kind want it. */
+#define UNUSED __attribute__((unused))
 
 /* names.c */
 const char *status_text(unsigned status);
@@ -400,10 +421,11 @@ void make_keys(struct protocol *protocol, uint16_t keys[static NIW_MOST_PORTS]);
 bool has_aggregator(const struct keys_private *own, uint16_t given);
 uint16_t free_key(struct protocol *protocol, uint16_t behind, const struct link *but);
 uint16_t choose_key(struct protocol *protocol, const struct link *link);
-struct speed read_speed(int socket, const char *name);
-bool write_speed(int socket, const char *name, uint32_t megabits);
-void apply_speed(struct protocol *protocol, struct link *link, const char *interface);
-bool has_other_speed(struct protocol *protocol, const struct link *link, const char *interface);
+bool ask_driver(int index, void *value);
+struct speed read_speed(int socket, int index);
+bool write_speed(int socket, int index, uint32_t megabits);
+void apply_speed(struct protocol *protocol, struct link *link);
+bool has_other_speed(struct protocol *protocol, const struct link *link);
 const char *speed_text(const struct speed *speed, char room[static 40]);
 
 /* system.c */
@@ -509,6 +531,9 @@ void detach_program(int attached);
 uint32_t program_keeper(int attached);
 
 /* store.c */
+#define READY "READY=1\n"
+void notify(const char *what);
+void notify_bundle(const struct bundle *bundle, const char *what);
 void open_store(struct process *process);
 bool has_store(void);
 void put_stored(struct store_private *own, const char *kind, int number, int fd);
@@ -521,13 +546,6 @@ void leave_store(struct store_private *own);
 int packet_socket(struct process *process, const char *kind, int of, int index, int type);
 int attach_stored(struct store_private *own, const char *kind, int program, int index, bool egress);
 void detach_stored(struct store_private *own, const char *kind, int index, int attached);
-
-/* service.c: the manager of services, if there is one */
-void notify_ready(const struct bundle *bundle);
-void notify_reloading(void);
-void notify_stopping(void);
-void notify_state(const struct bundle *bundle);
-void notify_alive(void);
 
 /* possible.c */
 int fault_of_programs(const struct settings *settings);
@@ -556,7 +574,7 @@ void await_no_more(int epoll_file, int fd);
 void call_at_exit(struct process *process, void (*act)(void *what), void *what);
 
 /* options.c */
-const char *read_port(struct words *words, char *text, struct settings *settings);
+const char *read_port(struct words *words, char *text, struct settings *settings, const char **found);
 
 /* status.c */
 /* A question has a name of an interface at most, with its words. */
@@ -588,7 +606,7 @@ void end_carry(struct plane *plane);
 void remove_all_members(struct protocol *protocol);
 
 /* tap/guard.c, tap/members.c */
-void fit_queue(const struct plane *plane, const struct link *link, const char *interface);
+void fit_queue(const struct plane *plane, const struct link *link);
 bool reopen_member(struct plane *plane, struct link *link);
 void follow_address(struct plane *plane, struct link *link, const uint8_t *mac);
 

@@ -1,17 +1,8 @@
 /* Lines for whoever reads them, printed only where that cannot stop the daemon. */
-#define _GNU_SOURCE
-#include <errno.h>
-#include <fcntl.h>
-#include <inttypes.h>
+#include "lagd.h"
+
 #include <poll.h>
 #include <stdarg.h>
-#include <stdio.h>
-#include <stdlib.h>
-#include <string.h>
-#include <sys/stat.h>
-#include <unistd.h>
-
-#include "lagd.h"
 
 /* A pipe with room has at least so many octets of it. */
 #define LONGEST_LINE 512
@@ -50,7 +41,6 @@ static bool in_journal(void) {
         && device == (uintmax_t)file.st_dev && inode == (uintmax_t)file.st_ino;
 }
 
-/* Writes a line, if its reader keeps up; answers whether it did. */
 static bool write_line(int fd, const char *line, size_t length) {
     struct pollfd out = {fd, POLLOUT, 0};
     bool may_wait = fd == STDOUT_FILENO || fd == STDERR_FILENO;
@@ -93,7 +83,6 @@ bool is_done(struct process *process, uint32_t status, const char *call) {
     return false;
 }
 
-/* Writes what a reader of the library tells; answers whether it told it. */
 bool is_told(struct process *process, struct niw_number answer, const char *call, uint64_t *number) {
     *number = answer.number;
     return is_done(process, answer.status, call);
@@ -103,9 +92,8 @@ bool is_told(struct process *process, struct niw_number answer, const char *call
 static bool say_text(struct process *process, int level, const char *text) {
     char line[LONGEST_LINE], time[32];
     struct timespec now;
-    int used;
     clock_gettime(CLOCK_REALTIME, &now);
-    used = snprintf(line, sizeof line, "%s.%03ldZ %s\n", time_text(now.tv_sec, time), now.tv_nsec / 1000000, text);
+    int used = snprintf(line, sizeof line, "%s.%03ldZ %s\n", time_text(now.tv_sec, time), now.tv_nsec / 1000000, text);
     if (!(level & WATCHED)) tell_watchers(process->status, line, (size_t)used);
     if (in_journal()) {
         enum journaled told = tell_journal(process, level, text);
@@ -122,7 +110,6 @@ static void form(char text[static LONGEST_TEXT], const char *format, va_list giv
     (void)escape(text, LONGEST_TEXT, raw, length < (int)sizeof raw ? (size_t)length : sizeof raw - 1, false);
 }
 
-/* Prints a line; answers whether it did. */
 bool say(struct process *process, int level, const char *format, ...) {
     char text[LONGEST_TEXT];
     va_list given;

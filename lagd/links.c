@@ -1,21 +1,13 @@
 /* Interfaces: the lock and the packet socket of each, its carrier, and what is sent there. */
-#define _GNU_SOURCE
-#include <errno.h>
-#include <fcntl.h>
+#include "lagd.h"
+
 #include <linux/if_packet.h>
 #include <linux/pkt_sched.h>
 #include <linux/sockios.h>
 #include <net/ethernet.h>
 #include <net/if.h>
 #include <netinet/in.h>
-#include <stdio.h>
-#include <stdlib.h>
-#include <string.h>
 #include <sys/ioctl.h>
-#include <sys/socket.h>
-#include <unistd.h>
-
-#include "lagd.h"
 
 /* How many ticks a failure is told of, so that a queue that is full now and then is one line. */
 #define TROUBLE_TICKS 50
@@ -28,8 +20,7 @@ static int open_socket(struct process *process, int index) {
     if (opened < 0) return opened;
     (void)setsockopt(opened, SOL_SOCKET, SO_PRIORITY, &(int){TC_PRIO_CONTROL}, sizeof(int)); /* before data */
     (void)setsockopt(opened, SOL_PACKET, PACKET_IGNORE_OUTGOING, &(int){1}, sizeof(int));
-    if (setsockopt(opened, SOL_PACKET, PACKET_AUXDATA, &(int){1}, sizeof(int)) == 0
-        && bind(opened, (struct sockaddr *)&address, sizeof address) == 0
+    if (setsockopt(opened, SOL_PACKET, PACKET_AUXDATA, &(int){1}, sizeof(int)) == 0 && bind(opened, (struct sockaddr *)&address, sizeof address) == 0
         && setsockopt(opened, SOL_PACKET, PACKET_ADD_MEMBERSHIP, &member, sizeof member) == 0)
         return opened;
     close_stored(process->store, "lacp", index, opened);
@@ -52,7 +43,6 @@ static bool give(int fd, const uint8_t *frame, bool bypass) {
     return send(fd, frame, NIW_FRAME, 0) == NIW_FRAME;
 }
 
-/* Whether something that was sent by the socket of a link is with the kernel still. */
 static bool has_queued(const struct link *link) {
     int octets;
     return ioctl(link->socket, SIOCOUTQ, &octets) == 0 && octets > 0;
@@ -122,9 +112,8 @@ static int open_files(struct protocol *protocol, struct link *link, int index) {
 
 /* Takes up the interface of this number; answers whether it did, and else `trouble` has why not. */
 bool open_link(struct protocol *protocol, struct link *link, int index) {
-    bool taken;
     link->trouble = -open_files(protocol, link, index);
-    taken = link->trouble == 0;
+    bool taken = link->trouble == 0;
     if (taken) put_stored(protocol->process->store, "lock", index, link->lock);
     if (taken) put_stored(protocol->process->store, "lacp", index, link->socket);
     link->carrier_file = open_carrier(index);
@@ -136,7 +125,6 @@ bool open_link(struct protocol *protocol, struct link *link, int index) {
     return taken;
 }
 
-/* The interface is gone. */
 void close_link(struct protocol *protocol, struct link *link) {
     CALL(protocol->plane->carrying->remove, protocol->plane, link);
     CALL(protocol->plane->carrying->follow_mtu, protocol->plane, link, 0);
@@ -157,14 +145,12 @@ static bool has_room(const struct link *link) {
     return link->lacpdus_at[0] == 0 || boottime() - link->lacpdus_at[0] > 1000;
 }
 
-/* The kernel took an LACPDU. */
 static void note_lacpdu(struct link *link) {
     memmove(link->lacpdus_at, link->lacpdus_at + 1, sizeof link->lacpdus_at - sizeof *link->lacpdus_at);
     link->lacpdus_at[MOST_LACPDUS - 1] = boottime();
     link->unsent = false;
 }
 
-/* An LACPDU waits for the next tick. */
 static void keep_lacpdu(struct link *link, const uint8_t *frame) {
     memmove(link->frame, frame, sizeof link->frame);
     link->unsent = true;

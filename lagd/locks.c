@@ -1,16 +1,10 @@
 /* Locks of interfaces, so that no two daemons have one, whatever folders they have: a packet socket that takes nothing, bound to the
  * interface with a protocol that no frame has. The kernel lists those of the network namespace, and lets nobody make one who may not
  * make the sockets of a daemon. */
-#define _GNU_SOURCE
-#include <errno.h>
+#include "lagd.h"
+
 #include <linux/if_packet.h>
 #include <netinet/in.h>
-#include <stdio.h>
-#include <sys/socket.h>
-#include <sys/stat.h>
-#include <unistd.h>
-
-#include "lagd.h"
 
 /* Below 0x0600 there are lengths in a frame, and no types; the kernel has no use of its own for this one. */
 #define PROTOCOL 0x05ac
@@ -31,7 +25,6 @@ static int find_lock(int index, int but, struct lock *found) {
     FILE *file = fopen("/proc/self/net/packet", "re");
     unsigned long own = inode_of(but);
     char line[256];
-    int fault;
     *found = (struct lock){0};
     if (!file) return last_fault();
     while (fgets(line, sizeof line, file)) {
@@ -41,7 +34,7 @@ static int find_lock(int index, int but, struct lock *found) {
         if (sscanf(line, "%*s %*s %*s %x %d %*s %*s %u %lu", &protocol, &at, &lock.user, &lock.inode) != 4) continue;
         if (protocol == PROTOCOL && at == index && lock.inode != own) *found = lock;
     }
-    fault = ferror(file) ? -EIO : 0;
+    int fault = ferror(file) ? -EIO : 0;
     fclose(file);
     return fault;
 }
@@ -60,7 +53,6 @@ int lock_interface(struct process *process, int index) {
     return fault == 0 ? -EADDRINUSE : fault;
 }
 
-/* Who has the lock of an interface. */
 const char *holder_of(const struct ports *ports, int index, char room[static HOLDER_ROOM]) {
     struct lock lock;
     bool own = false;

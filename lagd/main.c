@@ -6,18 +6,13 @@
  *
  * It ticks every 100 ms, carries the control frames of the interfaces, follows what the kernel tells of them, and prints each
  * change of a port in one line. Data frames stay with the kernel, or go by a device of its own (carry). `lagd --help` tells the options. */
-#define _GNU_SOURCE
-#include <errno.h>
-#include <fcntl.h>
+#include "daemon.h"
+
 #include <signal.h>
-#include <string.h>
 #include <sys/epoll.h>
 #include <sys/prctl.h>
 #include <sys/signalfd.h>
 #include <sys/timerfd.h>
-#include <unistd.h>
-
-#include "daemon.h"
 
 /* The most events of a turn. */
 #define MOST_EVENTS TAGS
@@ -35,13 +30,11 @@ bool await_input(int epoll_file, int fd, uint32_t tag) {
     return epoll_ctl(epoll_file, EPOLL_CTL_ADD, fd, &event) == 0;
 }
 
-/* Waits until it takes what is sent, and for nothing that comes. */
 bool await_output(int epoll_file, int fd, uint32_t tag) {
     struct epoll_event event = {.events = EPOLLOUT, .data = {.u32 = tag}};
     return epoll_ctl(epoll_file, EPOLL_CTL_MOD, fd, &event) == 0;
 }
 
-/* Waits for it no longer. */
 void await_no_more(int epoll_file, int fd) {
     (void)epoll_ctl(epoll_file, EPOLL_CTL_DEL, fd, NULL);
 }
@@ -58,14 +51,12 @@ static int open_clock(void) {
     return fd;
 }
 
-/* Tells what changed. */
 static void tell_changes(struct protocol *protocol) {
     read_views(protocol);
     print_all_changes(protocol);
     look_at_bundle(protocol);
 }
 
-/* A second passed. */
 static void pass_second(struct lagd *lagd) {
     EACH_LINK(link, &lagd->ports) {
         if (link->lines < MOST_LINES) link->lines++;
@@ -75,10 +66,9 @@ static void pass_second(struct lagd *lagd) {
     pass_revert_second(&lagd->protocol);
     watch_changes(&lagd->protocol);
     (void)save_state(lagd->state, false);
-    notify_alive();
+    notify("WATCHDOG=1");
 }
 
-/* 100 ms passed. */
 static void pass_tick(struct lagd *lagd) {
     if (!pass_system_tick(&lagd->protocol)) return;
     pass_halt_tick(&lagd->protocol);
@@ -136,11 +126,10 @@ static void serve_all_data(struct tap_plane *tap, const struct epoll_event *even
         host |= events[i].data.u32 == HOST;
         if (events[i].data.u32 >= MEMBERS) serve_data(tap, events[i].data.u32);
     }
-    settle_carry(tap->parts.plane);
+    settle_carry(tap->plane);
     if (host) serve_data(tap, HOST);
 }
 
-/* Serves those who ask. */
 static void serve_all_callers(struct control *control, const struct epoll_event *events, int count) {
     for (int i = 0; i < count; i++)
         if (events[i].data.u32 >= CALLERS && events[i].data.u32 < HOST) serve_caller(control, events[i].data.u32 - CALLERS);
@@ -158,7 +147,6 @@ static bool leave_state(struct lagd *lagd) {
     return true;
 }
 
-/* Takes a signal; answers whether it ends the daemon. */
 static bool is_end(struct lagd *lagd, int signals, const char *file) {
     struct signalfd_siginfo signal;
     if (read(signals, &signal, sizeof signal) != sizeof signal) return true;
@@ -190,7 +178,7 @@ static int wait_for(struct tap_plane *tap, struct epoll_event *events) {
     if (tap->carry->taken >= MANY && !tap->carry->more_waits) (void)nanosleep(&(struct timespec){0, GATHERS}, NULL);
     tap->carry->taken = 0;
     tap->carry->more_waits = false;
-    return epoll_wait(tap->parts.process->epoll_file, events, MOST_EVENTS, is_cutting(tap) ? 0 : -1);
+    return epoll_wait(tap->process->epoll_file, events, MOST_EVENTS, is_cutting(tap) ? 0 : -1);
 }
 
 /* Waits, and serves what comes. The first signal that ends it, or a refusal of the library, makes it tell the peers; it ends when they
@@ -209,7 +197,7 @@ static void run(struct lagd *lagd, int signals, int clock, const char *file) {
         if (lagd->process.has_left || (ends && ends_now)) return;
         if (ends || !(ends_now || lagd->process.broken)) continue;
         ends = true;
-        notify_stopping();
+        notify("STOPPING=1");
         end_state(lagd->state);
         tell_end(&lagd->protocol);
     }
@@ -222,13 +210,10 @@ static void keep_standard_files(void) {
     if (opened >= 0) close(opened);
 }
 
-/* Opens what the daemon needs, and runs it. */
 static int run_daemon(struct lagd *lagd, const struct options *options) {
-    int signals, clock;
-    unsigned resumed;
     lagd->settings = options->settings;
     (void)prctl(PR_SET_TIMERSLACK, TIMER_SLACK);
-    signals = open_signals(&lagd->settings);
+    int signals = open_signals(&lagd->settings);
     lagd->process.epoll_file = epoll_create1(EPOLL_CLOEXEC);
     if (lagd->process.epoll_file < 0) stop(REFUSED, "epoll", strerror(errno));
     if (lagd->settings.system_auto) read_own_address(&lagd->settings);
@@ -242,11 +227,11 @@ static int run_daemon(struct lagd *lagd, const struct options *options) {
     start_halt(&lagd->protocol);
     await_at_start(&lagd->process, open_changes(&lagd->protocol), CHANGES);
     open_status(&lagd->process, options->folder);
-    clock = open_clock();
+    int clock = open_clock();
     await_at_start(&lagd->process, signals, SIGNALS);
     await_at_start(&lagd->process, clock, CLOCK);
     drop_privileges(&lagd->process);
-    resumed = resume(&lagd->protocol);
+    unsigned resumed = resume(&lagd->protocol);
     lagd->process.has_started = true;
     resume_data(&lagd->protocol, resumed);
     halt_if_down(&lagd->protocol);
@@ -255,7 +240,7 @@ static int run_daemon(struct lagd *lagd, const struct options *options) {
     (void)save_state(lagd->state, false);
     tell_changes(&lagd->protocol);
     settle_carry(&lagd->plane);
-    notify_ready(&lagd->protocol.bundle);
+    notify_bundle(&lagd->protocol.bundle, READY);
     run(lagd, signals, clock, options->file);
     if (lagd->process.has_left) return DONE;
     end_carry(&lagd->plane);
@@ -264,9 +249,8 @@ static int run_daemon(struct lagd *lagd, const struct options *options) {
 
 int main(int argc, char **argv) {
     struct lagd *lagd = make_lagd();
-    const struct options *options;
     keep_standard_files();
-    options = read_options(&lagd->control, argc, argv);
+    const struct options *options = read_options(&lagd->control, argc, argv);
     if (options->action == RUN) return run_daemon(lagd, options);
     if (options->action == CHECK) return check_machine(&lagd->control, options);
     return ask_daemons(&lagd->control, options);

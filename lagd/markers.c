@@ -1,11 +1,8 @@
 /* Marker PDUs that come: which responses are taken, and how many markers are answered. Who can send frames on a link can name any system
  * in them, and any number. The source of a frame and the number of a marker are what a sender has to know that sees nothing of the link. */
-#define _GNU_SOURCE
-#include <inttypes.h>
-#include <net/ethernet.h>
-#include <string.h>
-
 #include "lagd.h"
+
+#include <net/ethernet.h>
 
 /* The milliseconds of a slot. The slots of a second are looked at, and the one that passes, so that no second has more responses. */
 #define SLOT 100
@@ -21,9 +18,8 @@ static bool is_from_partner(const struct link *link, const struct arrival *arriv
 
 /* Reads a Marker PDU; answers whether the frame is a marker response. */
 bool read_response(struct process *process, const struct arrival *arrival, struct niw_pdu *pdu) {
-    struct niw_decoded decoded;
     if (arrival->length <= SUBTYPE_AT || arrival->frame[SUBTYPE_AT] != SUBTYPE_MARKER) return false;
-    decoded = niw_decode(arrival->frame + ETH_HLEN, arrival->length - ETH_HLEN, pdu);
+    struct niw_decoded decoded = niw_decode(arrival->frame + ETH_HLEN, arrival->length - ETH_HLEN, pdu);
     return decoded.status != NIW_BAD_PAYLOAD && is_done(process, decoded.status, "niw_decode") && pdu->tlv_type == NIW_MARKER_RESPONSE;
 }
 
@@ -39,7 +35,6 @@ void note_odd_marker(struct link *link, const struct arrival *arrival, enum coun
     memcpy(link->markers.source, arrival->frame + ETH_ALEN, sizeof link->markers.source);
 }
 
-/* Lets the slots pass that are over. */
 static void pass_slots(struct answered *answered, uint64_t slot) {
     for (uint64_t passed = answered->slot + 1; passed <= slot && passed <= answered->slot + ANSWERED_SLOTS; passed++)
         answered->partner[passed % ANSWERED_SLOTS] = answered->others[passed % ANSWERED_SLOTS] = 0;

@@ -1,22 +1,17 @@
 /* Ports that come and go while the daemon runs. The system of the library has room for more ports than there are interfaces, so that none negotiates
  * anew: a port that comes takes a free number, and one that goes leaves it free. Its peer is told first: the port is held until its conversations
  * have left it and the peer sends nothing more there, or for a while. */
-#define _GNU_SOURCE
-#include <errno.h>
-#include <net/if_arp.h>
-#include <stdio.h>
-#include <string.h>
-
-#include "netlink.h"
-#include "device.h"
 #include "state.h"
+#include "device.h"
+#include "netlink.h"
+
+#include <net/if_arp.h>
 
 /* For how long a port that goes still answers the markers of its peer, once nothing is on its way any more, in milliseconds. */
 #define LINGERS 1000
 /* For how long a conversation may wait for a marker, as flight.c has it, and the peer for an LACPDU. */
 #define MOST_WAIT 3000
 
-/* How many links the bundle has. */
 uint16_t count_links(const struct ports *ports) {
     uint16_t count = 0;
     EACH_LINK_AS_IS(link, ports)
@@ -24,7 +19,6 @@ uint16_t count_links(const struct ports *ports) {
     return count;
 }
 
-/* The link of this name, or NULL. */
 static struct link *link_of(struct ports *ports, const char *name) {
     EACH_LINK(link, ports)
         if (link->used && strcmp(link->name, name) == 0) return link;
@@ -132,7 +126,6 @@ static bool configure(struct protocol *protocol, struct link *link) {
         && apply_hold(protocol, port);
 }
 
-/* Adds a port, of whose key aggregators were made, at its place. */
 void join_port(struct protocol *protocol, uint16_t port, const struct port_settings *settings) {
     struct link *link = &protocol->ports->links[port - 1];
     protocol->settings->ports[port - 1] = *settings;
@@ -204,7 +197,6 @@ void leave_port(struct protocol *protocol, uint16_t port) {
     protocol->plane->changed = true;
 }
 
-/* A port that was to leave stays. */
 void stay_port(struct protocol *protocol, uint16_t port) {
     struct link *link = &protocol->ports->links[port - 1];
     if (!link->leaving) return;
@@ -225,17 +217,12 @@ static bool is_quiet(struct protocol *protocol, const struct link *link) {
         && is_told(protocol->process, niw_held(&protocol->own_system, link->settings.number), "niw_held", &held) && held == 0;
 }
 
-/* The longest that a port takes to be quiet. */
-static uint64_t most_wait(const struct settings *settings) {
-    return settings->flight > MOST_WAIT ? settings->flight : MOST_WAIT;
-}
-
 /* Whether a port has left: it is quiet, and was so while its peer may still ask for responses to its markers, or it was waited for long enough. */
 static bool has_left(struct protocol *protocol, struct link *link) {
-    uint64_t now = milliseconds();
+    uint64_t now = milliseconds(), most = protocol->settings->flight > MOST_WAIT ? protocol->settings->flight : MOST_WAIT;
     if (!link->up) return true;
     if (link->emptying) return false;
-    if (link->left_at == 0 && (is_quiet(protocol, link) || now - link->leaves_since >= most_wait(protocol->settings))) link->left_at = now;
+    if (link->left_at == 0 && (is_quiet(protocol, link) || now - link->leaves_since >= most)) link->left_at = now;
     return link->left_at != 0 && now - link->left_at >= LINGERS;
 }
 
@@ -245,7 +232,6 @@ static void drop_followed(struct protocol *protocol) {
         if (link->used && link->followed && link->outside && !link->leaving) leave_port(protocol, link->settings.number);
 }
 
-/* 100 ms passed. */
 void pass_leaving_tick(struct protocol *protocol) {
     if (protocol->settings->follow) drop_followed(protocol);
     for (uint16_t i = 0; i < protocol->ports->count && !protocol->process->broken; i++)
@@ -291,8 +277,7 @@ void follow_port(struct protocol *protocol, const struct interface *interface) {
     struct port_settings settings = unset_port();
     struct interface now;
     uint16_t port = 1;
-    if (!protocol->settings->follow || interface->master == 0 || interface->master != tap_index(protocol->device)
-        || interface->type != ARPHRD_ETHER)
+    if (!protocol->settings->follow || interface->master == 0 || interface->master != tap_index(protocol->device) || interface->type != ARPHRD_ETHER)
         return;
     if (!ask_interface(interface->index, NULL, &now) || now.master != interface->master) return;
     while (port <= protocol->ports->slots && protocol->ports->links[port - 1].used) port++;
@@ -317,13 +302,12 @@ bool accept_name(struct protocol *protocol, const struct link *link, const struc
 /* What keeps an interface from being a port now, or NULL. */
 static const char *fault_of(struct protocol *protocol, const char *name) {
     struct interface interface;
-    int lock;
     if (strcmp(name, protocol->settings->carry) == 0) return "it is the device itself";
     if (!ask_interface(0, name, &interface)) return "there is no such interface";
     if (interface.type != ARPHRD_ETHER) return "it is no Ethernet interface";
     EACH_LINK(link, protocol->ports)
         if (link->used && link->socket >= 0 && link->index == interface.index) return "it is a port by another name";
-    lock = lock_interface(protocol->process, interface.index);
+    int lock = lock_interface(protocol->process, interface.index);
     if (lock < 0) return lock == -EADDRINUSE ? "another lagd has it" : strerror(-lock);
     close_stored(protocol->process->store, "lock", interface.index, lock);
     return NULL;
@@ -333,8 +317,9 @@ static const char *fault_of(struct protocol *protocol, const char *name) {
 static const char *add_by_words(struct protocol *protocol, char *text, uint16_t *port, char room[static ORDER_ROOM]) {
     static const char no_room[] = "there is no room for one more port: a restart of this bundle makes it";
     struct settings wanted = {.port_count = 0};
-    const char *expected = read_port(&protocol->process->words, text, &wanted), *fault;
+    const char *found, *expected = read_port(&protocol->process->words, text, &wanted, &found), *fault;
     struct link *known = expected ? NULL : link_of(protocol->ports, wanted.ports[0].name);
+    text[strcspn(text, ":")] = 0;
     snprintf(room, ORDER_ROOM, "expected %s", expected ? expected : "");
     if (expected) return room;
     if (known && !known->leaving) return "it is a port already";
@@ -367,12 +352,6 @@ static bool hold_by_word(struct protocol *protocol, struct link *link, bool hold
     return !hold || has_left(protocol, link);
 }
 
-/* Whether a port that was to leave has left. */
-static const char *answer_removed(const struct link *link, bool *done) {
-    *done = link == NULL;
-    return link && !link->leaving ? "it stays in the bundle" : NULL;
-}
-
 /* Does what somebody asks for, `add`, `remove`, `hold` or `release` of an interface, and answers: `done`, `wait` where it is to be asked again, as
  * `removed` is, or a refusal, and a line end. */
 void answer_order(struct protocol *protocol, char *order, char answer[static ORDER_ROOM]) {
@@ -382,9 +361,10 @@ void answer_order(struct protocol *protocol, char *order, char answer[static ORD
     const char *fault = NULL;
     uint16_t port = link ? link->settings.number : 0;
     if (adds) fault = add_by_words(protocol, name, &port, room);
-    if (strncmp(order, "removed ", 8) == 0)
-        fault = answer_removed(link, &done);
-    else if (!adds && (!link || (link->leaving && !removes)))
+    if (strncmp(order, "removed ", 8) == 0) {
+        done = link == NULL;
+        fault = link && !link->leaving ? "it stays in the bundle" : NULL;
+    } else if (!adds && (!link || (link->leaving && !removes)))
         fault = "it is no port of this bundle";
     else if (!fault && removes) {
         leave_port(protocol, port);

@@ -1,8 +1,4 @@
 /* Counts and states in the text form of Prometheus. */
-#define _GNU_SOURCE
-#include <inttypes.h>
-#include <stdio.h>
-
 #include "control.h"
 
 void add_head(struct report *report, const char *name, const char *kind, const char *help) {
@@ -28,105 +24,70 @@ void add_value_of(struct report *report, const char *name, const char *bundle, u
 
 void add_bundle_value(struct control *control, const char *name, const char *kind, const char *help, uint64_t value) {
     add_head(control->report, name, kind, help);
-    add_value_of(control->report, name, control->parts.settings->name, value);
+    add_value_of(control->report, name, control->settings->name, value);
 }
 
 void add_port_value(struct control *control, const char *name, const struct link *link, uint64_t value) {
     add(control->report, "lagd_%s{", name);
-    add_label(control->report, "bundle", control->parts.settings->name);
+    add_label(control->report, "bundle", control->settings->name);
     add(control->report, ",");
     add_label(control->report, "interface", link->name);
     add(control->report, ",port=\"%u\"} %" PRIu64 "\n", link->settings.number, value);
 }
 
-static void add_bundle_states(struct control *control) {
-    add_head(control->report, "bundle_state", "gauge", "1 for the state of the bundle, 0 for the others");
+/* A value for each state of the bundle. */
+static void add_state_values(struct control *control, const char *name, const char *kind, const char *help, const uint64_t *values) {
+    add_head(control->report, name, kind, help);
     for (unsigned state = 0; state < BUNDLE_STATES; state++) {
-        add(control->report, "lagd_bundle_state{");
-        add_label(control->report, "bundle", control->parts.settings->name);
-        add(control->report, ",state=\"%s\"} %u\n", bundle_state_text(state), state == control->parts.protocol->bundle.state);
-    }
-    add_head(control->report, "bundle_state_changes_total", "counter", "how often the bundle came to be so");
-    for (unsigned state = 0; state < BUNDLE_STATES; state++) {
-        add(control->report, "lagd_bundle_state_changes_total{");
-        add_label(control->report, "bundle", control->parts.settings->name);
-        add(control->report, ",state=\"%s\"} %" PRIu64 "\n", bundle_state_text(state), control->parts.protocol->bundle.counts[state]);
+        add(control->report, "lagd_%s{", name);
+        add_label(control->report, "bundle", control->settings->name);
+        add(control->report, ",state=\"%s\"} %" PRIu64 "\n", bundle_state_text(state), values[state]);
     }
 }
 
-static uint64_t is_link_up(struct protocol *protocol, const struct link *link) {
-    (void)protocol;
-    return link->up;
-}
-
-static uint64_t is_carrying(struct protocol *protocol, const struct link *link) {
-    return carries(protocol, link);
-}
-
-static uint64_t has_partner(struct protocol *protocol, const struct link *link) {
-    (void)protocol;
-    return !link->view.defaulted;
-}
-
-static uint64_t status_number(struct protocol *protocol, const struct link *link) {
-    return facts_of(protocol, link).status;
-}
-
-static uint64_t aggregator_number(struct protocol *protocol, const struct link *link) {
-    (void)protocol;
-    return link->view.aggregator;
-}
-
-static uint64_t change_time(struct protocol *protocol, const struct link *link) {
-    (void)protocol;
-    return (uint64_t)link->changed_at;
-}
-
-static uint64_t is_actor_churning(struct protocol *protocol, const struct link *link) {
-    (void)protocol;
-    return link->churn.actor.state == NIW_CHURN_CHURN;
-}
-
-static uint64_t is_partner_churning(struct protocol *protocol, const struct link *link) {
-    (void)protocol;
-    return link->churn.partner.state == NIW_CHURN_CHURN;
-}
-
-static const struct {
-    const char *name, *help;
-    uint64_t (*value)(struct protocol *protocol, const struct link *link);
-} GAUGES[] = {
-    {"port_link_up", "whether the link is up", is_link_up},
-    {"port_carrying", "whether the port carries", is_carrying},
-    {"port_has_partner", "whether the port has a partner, and does not run on defaults", has_partner},
-    {"port_status", "why the port does not distribute: 0 where it does", status_number},
-    {"port_aggregator", "the aggregator of the port, or 0", aggregator_number},
-    {"port_actor_churn", "whether the link has been up for 60 s, and the own side not synchronized", is_actor_churning},
-    {"port_partner_churn", "whether the link has been up for 60 s, and the partner not synchronized", is_partner_churning},
-    {"port_last_change_timestamp_seconds", "when the port changed last", change_time},
+/* What a port has, beside its counts, and the values of it. */
+static const struct count_text GAUGES[] = {
+    {"port_link_up", "whether the link is up"},
+    {"port_carrying", "whether the port carries"},
+    {"port_has_partner", "whether the port has a partner, and does not run on defaults"},
+    {"port_status", "why the port does not distribute: 0 where it does"},
+    {"port_aggregator", "the aggregator of the port, or 0"},
+    {"port_actor_churn", "whether the link has been up for 60 s, and the own side not synchronized"},
+    {"port_partner_churn", "whether the link has been up for 60 s, and the partner not synchronized"},
+    {"port_last_change_timestamp_seconds", "when the port changed last"},
 };
+enum { GAUGE_COUNT = sizeof GAUGES / sizeof *GAUGES };
 
-/* All of it. */
+static uint64_t gauge_at(struct protocol *protocol, const struct link *link, size_t place) {
+    const uint64_t values[GAUGE_COUNT] = {link->up, carries(protocol, link), !link->view.defaulted, facts_of(protocol, link).status, link->view.aggregator,
+        link->churn.actor.state == NIW_CHURN_CHURN, link->churn.partner.state == NIW_CHURN_CHURN, (uint64_t)link->changed_at};
+    return values[place];
+}
+
 void write_metrics(struct control *control) {
-    add_bundle_states(control);
-    add_bundle_value(control, "bundle_links", "gauge", "how many links the bundle has", control->parts.protocol->bundle.links);
-    add_bundle_value(control, "bundle_links_carrying", "gauge", "how many of them carry", control->parts.protocol->bundle.carrying);
+    const struct bundle *bundle = &control->protocol->bundle;
+    uint64_t is_so[BUNDLE_STATES] = {0};
+    is_so[bundle->state] = 1;
+    add_state_values(control, "bundle_state", "gauge", "1 for the state of the bundle, 0 for the others", is_so);
+    add_state_values(control, "bundle_state_changes_total", "counter", "how often the bundle came to be so", bundle->counts);
+    add_bundle_value(control, "bundle_links", "gauge", "how many links the bundle has", bundle->links);
+    add_bundle_value(control, "bundle_links_carrying", "gauge", "how many of them carry", bundle->carrying);
     add_bundle_value(control, "bundle_links_away", "gauge", "how many count as up by delay-down, while their carriers are away",
-        count_away(control->parts.ports));
-    add_bundle_value(control, "bundle_min_links", "gauge", "with fewer the bundle is down", control->parts.settings->min_links);
+        count_away(control->ports));
+    add_bundle_value(control, "bundle_min_links", "gauge", "with fewer the bundle is down", control->settings->min_links);
     add_bundle_value(control, "bundle_last_change_timestamp_seconds", "gauge", "when the state of the bundle changed last",
-        (uint64_t)control->parts.protocol->bundle.changed_at);
-    for (size_t gauge = 0; gauge < sizeof GAUGES / sizeof *GAUGES; gauge++) {
+        (uint64_t)bundle->changed_at);
+    for (size_t gauge = 0; gauge < GAUGE_COUNT; gauge++) {
         add_head(control->report, GAUGES[gauge].name, "gauge", GAUGES[gauge].help);
-        EACH_LINK(link, control->parts.ports)
-            if (link->used) add_port_value(control, GAUGES[gauge].name, link, GAUGES[gauge].value(control->parts.protocol, link));
+        EACH_LINK(link, control->ports)
+            if (link->used) add_port_value(control, GAUGES[gauge].name, link, gauge_at(control->protocol, link, gauge));
     }
     for (unsigned count = 0; count < ALL_COUNTS; count++) {
         char name[64];
         snprintf(name, sizeof name, "port_%s_total", count_name(count));
         add_head(control->report, name, "counter", count_help(count));
-        EACH_LINK(link, control->parts.ports)
+        EACH_LINK(link, control->ports)
             if (link->used) add_port_value(control, name, link, count_at(link, count));
     }
-    CALL(control->parts.plane->carrying->show, control, AS_METRICS);
+    CALL(control->plane->carrying->show, control, AS_METRICS);
 }

@@ -1,9 +1,4 @@
 /* The texts of what is counted and told. The texts of the library's statuses and states are those of lag.h. */
-#define _GNU_SOURCE
-#include <stddef.h>
-#include <stdio.h>
-#include <string.h>
-
 #include "lagd.h"
 
 /* The counts of a port: those of the library, and behind them those of `enum count`. */
@@ -38,7 +33,6 @@ uint64_t count_at(const struct link *link, unsigned place) {
     return count;
 }
 
-/* The name of a bit of a state octet, from 0 to 7. */
 const char *bit_name(unsigned bit) {
     return BIT_NAMES[bit];
 }

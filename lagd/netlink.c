@@ -1,13 +1,8 @@
 /* Questions to the kernel by netlink, and the attributes of its answers. libmnl has the layout of messages; this file has what the daemon
  * asks of them. */
-#define _GNU_SOURCE
-#include <errno.h>
-#include <linux/rtnetlink.h>
-#include <string.h>
-#include <sys/socket.h>
-
 #include "netlink.h"
-#include "lagd.h"
+
+#include <linux/rtnetlink.h>
 
 /* The octets of a part of an answer: the kernel makes none longer. */
 #define PART_ROOM 65536
@@ -48,9 +43,8 @@ int error_of(const struct nlmsghdr *message) {
 static struct mnl_socket *open_netlink(int bus) {
     static const struct sockaddr_nl kernel = {.nl_family = AF_NETLINK};
     struct mnl_socket *opened = mnl_socket_open2(bus, SOCK_NONBLOCK | SOCK_CLOEXEC);
-    int fault;
     if (!opened || connect(mnl_socket_get_fd(opened), (const struct sockaddr *)&kernel, sizeof kernel) == 0) return opened;
-    fault = errno;
+    int fault = errno;
     (void)mnl_socket_close(opened);
     errno = fault;
     return NULL;
@@ -77,12 +71,16 @@ static int read_answer(const struct mnl_socket *asked, message_reader read_one, 
 /* Asks the kernel; answers whether it did so, and else errno tells why not. */
 bool ask_netlink(int bus, const union message *question, message_reader read_one, void *into) {
     struct mnl_socket *asked = open_netlink(bus);
-    int fault;
     if (!asked) return false;
-    fault = mnl_socket_sendto(asked, question, question->head.nlmsg_len) < 0 ? errno : read_answer(asked, read_one, into);
+    int fault = mnl_socket_sendto(asked, question, question->head.nlmsg_len) < 0 ? errno : read_answer(asked, read_one, into);
     (void)mnl_socket_close(asked);
     errno = fault;
     return fault == 0;
+}
+
+/* Has the kernel do something of interfaces. */
+bool order(const union message *wanted) {
+    return ask_netlink(NETLINK_ROUTE, wanted, NULL, NULL);
 }
 
 /* As ask_netlink, of a list of which the kernel may change something while it tells it: then it is asked again. `into` has `size` octets, which are
@@ -127,7 +125,6 @@ void copy_text(const struct nlattr *attribute, char *into, size_t room) {
     into[room - 1] = 0;
 }
 
-/* Whether an attribute has this text, with its zero. */
 bool is_text(const struct nlattr *attribute, const char *text) {
     const void *value = value_of(attribute, strlen(text) + 1);
     return value && memcmp(value, text, strlen(text) + 1) == 0;

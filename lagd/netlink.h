@@ -2,9 +2,9 @@
 #ifndef LAGD_NETLINK_H
 #define LAGD_NETLINK_H
 
-#include <libmnl/libmnl.h>
-
 #include "lagd.h"
+
+#include <libmnl/libmnl.h>
 
 /* A message to the kernel, of which a program has most octets. */
 union message {
@@ -19,6 +19,7 @@ typedef void (*message_reader)(const struct nlmsghdr *message, void *into);
 union message message_of(uint16_t type, unsigned flags, const void *about, size_t length);
 union message message_of_interface(uint16_t type, unsigned flags, int index);
 bool ask_netlink(int bus, const union message *question, message_reader read_one, void *into);
+bool order(const union message *wanted);
 bool ask_list(int bus, const union message *question, message_reader read_one, void *into, size_t size);
 bool is_whole(const struct nlmsghdr *message, int left);
 int error_of(const struct nlmsghdr *message);

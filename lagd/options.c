@@ -1,14 +1,9 @@
 /* The command line. Its options have the names of the keys of a bundle. */
-#define _GNU_SOURCE
-#include <getopt.h>
-#include <stdio.h>
-#include <stdlib.h>
-#include <string.h>
-
 #include "control.h"
 
-static const char HELP_BEGINS[] =
-    "lagd: Link Aggregation Control Protocol for interfaces of Linux\n"
+#include <getopt.h>
+
+static const char HELP_BEGINS[] = "lagd: Link Aggregation Control Protocol for interfaces of Linux\n"
     "\n"
     "  lagd --config FILE [--folder FOLDER]\n"
     "  lagd --check FILE\n"
@@ -20,8 +15,7 @@ static const char HELP_BEGINS[] =
     "and SIGHUP tell the peers and end it; with --config SIGHUP reads the file again. SIGUSR1 has the next lagd go on from here.\n"
     "\n";
 
-static const char HELP_ENDS[] =
-    "  -h, --help      -V, --version\n"
+static const char HELP_ENDS[] = "  -h, --help      -V, --version\n"
     "\n"
     "Words of an interface stand over the options: %s.\n"
     "Status: 0; 1: the kernel or another lagd is in the way, or none answers; 2: a wrong word or file.\n";
@@ -77,19 +71,14 @@ struct options_private {
     bool has_words; /* whether an option stands there that a file has, too */
 };
 
-struct options_private *make_options_private(void) {
-    struct options_private *made = make_room(sizeof *made);
-    made->options.folder = "/run/lagd";
-    return made;
-}
+MAKES_WITH(options, .options.folder = "/run/lagd")
 
 /* The options in the order of the help, from the tables above and from that of the keys. */
 static void make_rows(struct options_private *own) {
     for (size_t i = 0; i < sizeof BEFORE_KEYS / sizeof *BEFORE_KEYS; i++) own->rows[own->row_count++] = BEFORE_KEYS[i];
     for (size_t i = 0; bundle_key(i); i++)
         if (bundle_key(i)->letter)
-            own->rows[own->row_count++] = (struct option_text){bundle_key(i)->letter, bundle_key(i)->name, bundle_key(i)->value,
-                bundle_key(i)->help};
+            own->rows[own->row_count++] = (struct option_text){bundle_key(i)->letter, bundle_key(i)->name, bundle_key(i)->value, bundle_key(i)->help};
     for (size_t i = 0; i < sizeof BEHIND_KEYS / sizeof *BEHIND_KEYS; i++) own->rows[own->row_count++] = BEHIND_KEYS[i];
 }
 
@@ -114,13 +103,12 @@ static void print_help(struct control *control) {
     fputs(HELP_BEGINS, stdout);
     for (size_t i = 0; i < own->row_count; i++)
         if (own->rows[i].help) print_row(&own->rows[i]);
-    printf(HELP_ENDS, list_words(&control->parts.process->words, port_word, PORT_WORD_COUNT, ", ", ""));
+    printf(HELP_ENDS, list_words(&control->process->words, port_word, PORT_WORD_COUNT, ", ", ""));
 }
 
 /* A command line is one line. */
 enum { THE_LINE = 1 };
 
-/* Ends the program where a value is not what was expected. */
 static void expect(const char *expected, const char *name, const char *value) {
     char found[256];
     if (!expected) return;
@@ -129,14 +117,13 @@ static void expect(const char *expected, const char *name, const char *value) {
     stop(WRONG_WORD, found, value);
 }
 
-/* An option that is a key of the bundle. */
 static void apply_option(struct control *control, int letter, const char *text) {
     struct options_private *own = control->options;
     const struct option_text *row = own->rows;
     while (row->letter != letter) row++;
     text = row->value ? text : "yes";
     own->has_words = true;
-    expect(set_bundle(&control->parts.process->words, &own->options.settings, row->name, text, THE_LINE), row->name, text);
+    expect(set_bundle(&control->process->words, &own->options.settings, row->name, text, THE_LINE), row->name, text);
 }
 
 static void choose(struct options_private *own, enum action action) {
@@ -145,13 +132,11 @@ static void choose(struct options_private *own, enum action action) {
     own->options.action = action;
 }
 
-/* One file is run, or looked at. */
 static void note_file(struct options_private *own, const char *file) {
     if (own->options.file) stop(WRONG_WORD, "usage", "one file, by --config or by --check; lagd --help tells more");
     own->options.file = file;
 }
 
-/* An option by which a bundle is changed. */
 static void choose_order(struct options_private *own, const char *order, const char *interface) {
     choose(own, ORDER);
     own->options.order = order;
@@ -206,41 +191,32 @@ static const char *read_port_word(struct words *words, const char *word, struct 
     return list_words(words, port_word, PORT_WORD_COUNT, " or ", "");
 }
 
-/* INTERFACE[:WORD,..], for the next port of settings, which ends the name there; answers NULL, or what was expected. */
-const char *read_port(struct words *words, char *text, struct settings *settings) {
+/* INTERFACE[:WORD,..], for the next port of settings, which ends the name there; answers NULL, or what was expected in the place of `found`. */
+const char *read_port(struct words *words, char *text, struct settings *settings, const char **found) {
     size_t length = strcspn(text, ":");
     char *rest = text[length] ? text + length + 1 : NULL;
     const char *expected = add_port(settings, text, length);
-    text[length] = 0;
-    for (char *word; !expected && (word = strsep(&rest, ","));)
-        expected = read_port_word(words, word, &settings->ports[settings->port_count - 1]);
+    *found = text;
+    if (!expected) text[length] = 0;
+    while (!expected && (*found = strsep(&rest, ","))) expected = read_port_word(words, *found, &settings->ports[settings->port_count - 1]);
     return expected;
-}
-
-/* INTERFACE[:WORD,..], for the next port. */
-static void read_link(struct control *control, char *text) {
-    struct options_private *own = control->options;
-    size_t length = strcspn(text, ":");
-    char *rest = text[length] ? text + length + 1 : NULL;
-    expect(add_port(&own->options.settings, text, length), NULL, text);
-    for (char *word; (word = strsep(&rest, ","));)
-        expect(read_port_word(&control->parts.process->words, word, &own->options.settings.ports[own->options.settings.port_count - 1]), NULL, word);
 }
 
 /* KEY PRIORITY,MAC INTERFACE[:WORD,..].. */
 static void read_words(struct control *control, int count, char **words) {
     struct settings *given = &control->options->options.settings;
-    struct lack lack;
     if (count < 3) stop(WRONG_WORD, "usage", "lagd [OPTION..] KEY PRIORITY,MAC INTERFACE.., or lagd --config FILE; lagd --help tells more");
-    expect(set_bundle(&control->parts.process->words, given, "key", words[0], THE_LINE), "KEY", words[0]);
-    expect(set_bundle(&control->parts.process->words, given, "system", words[1], THE_LINE), "system", words[1]);
-    for (int i = 2; i < count; i++) read_link(control, words[i]);
-    lack = lack_of(given);
+    expect(set_bundle(&control->process->words, given, "key", words[0], THE_LINE), "KEY", words[0]);
+    expect(set_bundle(&control->process->words, given, "system", words[1], THE_LINE), "system", words[1]);
+    for (int i = 2; i < count; i++) {
+        const char *found, *expected = read_port(&control->process->words, words[i], given, &found);
+        expect(expected, NULL, found);
+    }
+    struct lack lack = lack_of(given);
     expect(lack.expected, NULL, lack.key);
     strcpy(given->name, given->ports[0].name);
 }
 
-/* Reads each option, by the rows. */
 static void read_rows(struct control *control, int argc, char **argv) {
     struct options_private *own = control->options;
     struct option names[OPTION_ROOM + 1] = {{NULL, 0, NULL, 0}};
@@ -265,7 +241,7 @@ struct options *read_options(struct control *control, int argc, char **argv) {
         stop(WRONG_WORD, "usage", "lagd --status --json, or lagd --watch --json");
     if ((own->options.action != RUN || own->options.file) && (optind < argc || own->has_words))
         stop(WRONG_WORD, "usage", "a file has all of its bundle, and a question has none of it; lagd --help tells more");
-    if (own->options.file && !read_file(control->parts.process, own->options.file, &own->options.settings)) exit(WRONG_WORD);
+    if (own->options.file && !read_file(control->process, own->options.file, &own->options.settings)) exit(WRONG_WORD);
     if (own->options.action == RUN && !own->options.file) read_words(control, argc - optind, argv + optind);
     return &own->options;
 }

@@ -1,5 +1,4 @@
 /* The tables of what carries the data, and the switch that chooses them. */
-#define _GNU_SOURCE
 #include "control.h"
 
 static const struct carrying NO_DEVICE = {0};
@@ -44,7 +43,6 @@ static const struct queueing ALL_QUEUES = {
     .answer = answer_later, .show = show_queues, .text = ", all queues", .markers_at_once = MARKERS_AT_ONCE,
 };
 
-/* No data is carried. */
 void choose_no_plane(struct plane *plane) {
     plane->carrying = &NO_DEVICE;
     plane->passing = &BY_DAEMON;
@@ -61,7 +59,6 @@ static void choose_tap(struct plane *plane, const struct settings *settings) {
     plane->renews = settings->fast || settings->all_queues;
 }
 
-/* Chooses what carries the data, by the settings. */
 void choose_plane(struct plane *plane, const struct settings *settings) {
     choose_no_plane(plane);
     if (!settings->carry[0]) return;

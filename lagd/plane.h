@@ -40,7 +40,7 @@ struct carrying {
     bool (*renew)(struct plane *plane, struct link *link); /* it has another queueing discipline: whether it is still taken up */
     void (*move)(struct plane *plane, struct link *link, const uint8_t *mac); /* it has another MAC address */
     void (*follow_mtu)(struct plane *plane, struct link *link, uint32_t mtu); /* it has this one; 0 of one that is a member no more */
-    void (*follow_speed)(struct plane *plane, const struct link *link, const char *interface); /* its link is up, and may have another speed */
+    void (*follow_speed)(struct plane *plane, const struct link *link); /* its link is up, and may have another speed */
     bool (*can_empty)(struct plane *plane, uint16_t port); /* whether its conversations can move behind markers */
     bool (*empty)(struct plane *plane, uint16_t port);   /* moves them to other ports: whether none is left, or can leave so */
     void (*drain)(struct plane *plane, uint16_t port);   /* hands up what waits at a port that is to be held */

@@ -1,9 +1,4 @@
 /* What is told of ports: how each one is, and a line for each change. */
-#define _GNU_SOURCE
-#include <errno.h>
-#include <stdio.h>
-#include <string.h>
-
 #include "lagd.h"
 
 /* The status of a port, with what the library does not know of it. */
@@ -19,20 +14,17 @@ static uint8_t status_of(struct protocol *protocol, const struct link *link) {
     return link->view.defaulted ? WITHOUT_PARTNER : status;
 }
 
-/* Whether a port carries, as far as LACP is concerned. */
 bool carries(struct protocol *protocol, const struct link *link) {
     uint8_t status = status_of(protocol, link);
     return status == NIW_PORT_STATUS_DISTRIBUTING || status == WITHOUT_PARTNER || status == AWAY;
 }
 
-/* How many links count as up, though their carriers are away. */
 uint16_t count_away(const struct ports *ports) {
     uint16_t count = 0;
     EACH_LINK_AS_IS(link, ports) count = (uint16_t)(count + link->away);
     return count;
 }
 
-/* What there is to print of a port. */
 struct facts facts_of(struct protocol *protocol, const struct link *link) {
     const struct niw_view *view = &link->view;
     struct facts facts = {
@@ -60,7 +52,6 @@ static void count_change(const struct settings *settings, struct link *link, con
         link->counts[DISTRIBUTED]++;
 }
 
-/* Takes what the library tells of the ports that changed. */
 void read_views(struct protocol *protocol) {
     struct niw_view views[NIW_MOST_PORTS];
     uint64_t changed;
@@ -73,7 +64,6 @@ void read_views(struct protocol *protocol) {
     }
 }
 
-/* Whether the same line tells both. */
 static bool is_same(const struct facts *one, const struct facts *other) {
     return one->status == other->status && one->aggregator == other->aggregator && one->defaulted == other->defaulted
         && one->trouble == other->trouble && one->partner.priority == other->partner.priority
@@ -97,8 +87,7 @@ static bool print_facts(struct protocol *protocol, const struct link *link, cons
     char whose[96] = "no partner", system[32], trouble[128];
     int level = (facts->status == NIW_PORT_STATUS_DISTRIBUTING ? LOG_NOTICE : LOG_WARNING) | (watched ? WATCHED : 0) | ABOUT_PORT;
     if (!facts->defaulted)
-        snprintf(whose, sizeof whose, "partner %s key %u port %u", system_text(&facts->partner, system), facts->partner_key,
-            facts->partner_port);
+        snprintf(whose, sizeof whose, "partner %s key %u port %u", system_text(&facts->partner, system), facts->partner_key, facts->partner_port);
     return say(protocol->process, level, "port %u %s: %s, aggregator %u, %s%s", link->settings.number, link->name, status_text(facts->status),
         facts->aggregator, whose, trouble_text(protocol->ports, link, trouble, sizeof trouble));
 }

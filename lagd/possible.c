@@ -1,14 +1,10 @@
 /* Whether this machine has what carries the data of a file, as far as whoever asks may know. */
-#define _GNU_SOURCE
-#include <errno.h>
+#include "control.h"
+
 #include <limits.h>
 #include <linux/membarrier.h>
 #include <sched.h>
-#include <string.h>
 #include <sys/syscall.h>
-#include <unistd.h>
-
-#include "control.h"
 
 /* No interface has this index. */
 #define NO_INDEX INT_MAX
@@ -28,27 +24,13 @@ int fault_of_programs(const struct settings *settings) {
     return attached == -ENODEV ? 0 : attached;
 }
 
-/* Whether the kernel can pass data on by itself: answers how the program ends. */
-static int check_fast(struct process *process, const struct options *options) {
+/* Whether the kernel has what a key wants: programs of an interface, and for `fast` to wait for them. Answers how the program ends. */
+static int check_programs(struct process *process, const struct options *options, const char *key, bool waits) {
     int fault = fault_of_programs(process->settings);
-    if (fault == -EPERM) {
-        tell(process, options, "fast", "not known without CAP_BPF and CAP_NET_ADMIN");
-        return DONE;
-    }
-    if (fault != 0) {
-        tell(process, options, "fast", NO_PROGRAMS);
-        return REFUSED;
-    }
-    if (syscall(SYS_membarrier, MEMBARRIER_CMD_GLOBAL, 0, 0) == 0) return DONE;
-    tell(process, options, "fast", "the kernel cannot wait for its programs (membarrier)");
-    return REFUSED;
-}
-
-/* Whether the kernel has a program choose the queue of a frame: answers how the program ends. */
-static int check_queues(struct process *process, const struct options *options) {
-    int fault = fault_of_programs(process->settings);
-    if (fault == 0) return DONE;
-    tell(process, options, "queues", fault == -EPERM ? "not known without CAP_BPF and CAP_NET_ADMIN" : NO_PROGRAMS);
+    bool lacks = fault == 0 && waits && syscall(SYS_membarrier, MEMBARRIER_CMD_GLOBAL, 0, 0) != 0;
+    if (fault == 0 && !lacks) return DONE;
+    tell(process, options, key, lacks ? "the kernel cannot wait for its programs (membarrier)"
+        : fault == -EPERM ? "not known without CAP_BPF and CAP_NET_ADMIN" : NO_PROGRAMS);
     return fault == -EPERM ? DONE : REFUSED;
 }
 
@@ -57,12 +39,11 @@ static int check_queues(struct process *process, const struct options *options) 
 static int check_team(struct team_plane *team, const struct options *options) {
     bool is_apart = unshare(CLONE_NEWNET) == 0, has_driver = find_team_driver(team->team_netlink);
     if (!has_driver && errno == EPERM) {
-        tell(team->parts.process, options, "plane", "not known without CAP_NET_ADMIN");
+        tell(team->process, options, "plane", "not known without CAP_NET_ADMIN");
         return DONE;
     }
     if (has_driver && (!is_apart || has_team_mode(team->team_netlink))) return DONE;
-    tell(team->parts.process, options, "plane",
-        has_driver ? "the team driver of this kernel has no mode loadbalance" : "this kernel has no team driver");
+    tell(team->process, options, "plane", has_driver ? "the team driver of this kernel has no mode loadbalance" : "this kernel has no team driver");
     return REFUSED;
 }
 
@@ -70,9 +51,9 @@ static int check_team(struct team_plane *team, const struct options *options) {
 int check_machine(struct control *control, const struct options *options) {
     if (options->settings.plane == PLANE_TEAM) return check_team(control->team, options);
     if (options->settings.carry[0] && access("/dev/net/tun", F_OK) < 0) {
-        tell(control->parts.process, options, "carry", "there is no /dev/net/tun");
+        tell(control->process, options, "carry", "there is no /dev/net/tun");
         return REFUSED;
     }
-    if (options->settings.fast && check_fast(control->parts.process, options) != DONE) return REFUSED;
-    return options->settings.all_queues ? check_queues(control->parts.process, options) : DONE;
+    if (options->settings.fast && check_programs(control->process, options, "fast", true) != DONE) return REFUSED;
+    return options->settings.all_queues ? check_programs(control->process, options, "queues", false) : DONE;
 }

@@ -1,11 +1,10 @@
 /* What the daemon may do once its sockets are open: CAP_NET_RAW alone, for an interface that comes later, and CAP_NET_ADMIN beside it
  * where it carries data. Its user stays who he was: who is root may set files of /sys back, and runs the hooks. The unit has another
  * one. */
-#define _GNU_SOURCE
+#include "lagd.h"
+
 #include <cap-ng.h>
 #include <sys/prctl.h>
-
-#include "lagd.h"
 
 /* Keeps these, as far as they are there, and nothing else. A program that is started has none. */
 static void drop_capabilities(struct process *process) {

@@ -1,7 +1,4 @@
 /* Whether the peer answers markers: it is asked by a marker, whether or not a conversation waits for one. */
-#define _GNU_SOURCE
-#include <string.h>
-
 #include "tap/tap.h"
 
 /* How long the peer may take, when the marker is sent again, and when a peer that does not answer is asked again, in milliseconds. */
@@ -18,12 +15,7 @@ struct probe_private {
     uint16_t partner_key;
 };
 
-struct probe_private *make_probe_private(void) {
-    struct probe_private *made = make_room(sizeof *made);
-    made->peer = NOT_ASKED;
-    made->told = NOT_ASKED;
-    return made;
-}
+MAKES_WITH(probe, .peer = NOT_ASKED, .told = NOT_ASKED)
 
 enum answering peer_answering(const struct probe_private *own) {
     return own->peer;
@@ -45,9 +37,8 @@ void suspect_partner(struct probe_private *own) {
 /* Another partner may answer markers where the last one did not. */
 void look_at_partner(struct carry *carry) {
     struct probe_private *own = carry->probe;
-    const struct niw_view *view;
     if (carry->active == 0) return;
-    view = &carry->parts.ports->links[carry->active_ports[0] - 1].view;
+    const struct niw_view *view = &carry->ports->links[carry->active_ports[0] - 1].view;
     if (view->partner_key == own->partner_key && view->partner_priority == own->partner.priority
         && memcmp(view->partner_mac, own->partner.mac, sizeof own->partner.mac) == 0)
         return;
@@ -63,16 +54,15 @@ void look_at_partner(struct carry *carry) {
 static void ask_peer(struct carry *carry) {
     struct probe_private *own = carry->probe;
     uint8_t marker[NIW_FRAME];
-    struct niw_sent asked = niw_probe(&carry->parts.protocol->own_system, carry->active_ports[0], marker, sizeof marker);
-    if (!is_done(carry->parts.process, asked.status, "niw_probe") || !asked.is) return;
+    struct niw_sent asked = niw_probe(&carry->protocol->own_system, carry->active_ports[0], marker, sizeof marker);
+    if (!is_done(carry->process, asked.status, "niw_probe") || !asked.is) return;
     own->asking = true;
     if (own->peer == NOT_ASKED) own->peer = ASKED;
     own->asked_on = carry->active_ports[0];
     own->asked_at = own->sent_at = carry->time;
-    send_new_marker(carry->parts.plane, &carry->parts.ports->links[own->asked_on - 1], marker);
+    send_new_marker(carry->plane, &carry->ports->links[own->asked_on - 1], marker);
 }
 
-/* Sends the marker again: a cable may lose one. */
 static void ask_again(struct tap_plane *tap) {
     struct probe_private *own = tap->carry->probe;
     if (tap->carry->time - own->sent_at < AGAIN) return;
@@ -88,11 +78,11 @@ static void judge(struct carry *carry, enum answering now) {
     if (own->peer == own->told) return;
     own->told = own->peer;
     if (own->peer == ANSWERS)
-        (void)say(carry->parts.process, LOG_NOTICE | ABOUT_MARKERS, "carry %s: the peer answers markers", carry->parts.settings->carry);
+        (void)say(carry->process, LOG_NOTICE | ABOUT_MARKERS, "carry %s: the peer answers markers", carry->settings->carry);
     else
-        (void)say(carry->parts.process, LOG_WARNING | ABOUT_MARKERS,
-            "carry %s: the peer answers no markers, so conversations move once they rested for %u ms", carry->parts.settings->carry,
-            carry->parts.settings->flight);
+        (void)say(carry->process, LOG_WARNING | ABOUT_MARKERS,
+            "carry %s: the peer answers no markers, so conversations move once they rested for %u ms", carry->settings->carry,
+            carry->settings->flight);
 }
 
 /* The partner sent a response on a link: to the last marker there, however late, or to another one. */
@@ -100,15 +90,14 @@ void note_response(struct plane *plane, const struct link *link) {
     struct carry *carry = plane->carry;
     uint16_t port = link->settings.number;
     uint64_t answers;
-    if (carry->probe->asked_on != port
-        || !is_told(carry->parts.process, niw_answers(&carry->parts.protocol->own_system, port), "niw_answers", &answers)) return;
+    if (carry->probe->asked_on != port || !is_told(carry->process, niw_answers(&carry->protocol->own_system, port), "niw_answers", &answers)) return;
     if (answers == NIW_ANSWERS_ANSWERED) judge(carry, ANSWERS);
 }
 
 /* No response came yet. A peer whose link went meanwhile is asked again. */
 static void go_on_asking(struct tap_plane *tap) {
     struct probe_private *own = tap->carry->probe;
-    if (tap->parts.ports->links[own->asked_on - 1].view.port_status != NIW_PORT_STATUS_DISTRIBUTING) {
+    if (tap->ports->links[own->asked_on - 1].view.port_status != NIW_PORT_STATUS_DISTRIBUTING) {
         own->asking = false;
         own->peer = NOT_ASKED;
     } else if (tap->carry->time - own->asked_at >= PATIENCE) {
@@ -118,7 +107,6 @@ static void go_on_asking(struct tap_plane *tap) {
     }
 }
 
-/* 100 ms passed. */
 void pass_probe_tick(struct tap_plane *tap) {
     struct probe_private *own = tap->carry->probe;
     if (own->asking) go_on_asking(tap);

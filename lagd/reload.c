@@ -1,7 +1,4 @@
 /* A file that is read again: what the library can change is changed, and of the rest a line says that it needs a restart. */
-#define _GNU_SOURCE
-#include <string.h>
-
 #include "lagd.h"
 
 /* What cannot be changed without a restart, or NULL. */
@@ -27,10 +24,9 @@ static bool change_port(struct protocol *protocol, uint16_t port, const struct s
     struct link *link = &protocol->ports->links[port - 1];
     struct niw_port next = port_of(wanted, port);
     struct niw_change change = {.priority = next.priority, .aggregatable = next.aggregatable};
-    struct niw_truth answer;
     if (has_aggregator(protocol->keys, next.key)) link->key = next.key;
     change.key = choose_key(protocol, link);
-    answer = niw_configure(&protocol->own_system, port, &change);
+    struct niw_truth answer = niw_configure(&protocol->own_system, port, &change);
     if (!is_done(protocol->process, answer.status, "niw_configure") || !answer.is) return false;
     link->settings.key = change.key;
     link->settings.priority = change.priority;
@@ -38,7 +34,6 @@ static bool change_port(struct protocol *protocol, uint16_t port, const struct s
     return true;
 }
 
-/* Gives a port its activity and timeout; answers whether one differs. */
 static bool change_mode(struct protocol *protocol, uint16_t port, const struct settings *wanted) {
     struct link *link = &protocol->ports->links[port - 1];
     struct niw_port next = port_of(wanted, port);
@@ -49,16 +44,9 @@ static bool change_mode(struct protocol *protocol, uint16_t port, const struct s
     return true;
 }
 
-/* Holds a port, or lets it go; answers whether that differs. */
-static bool change_hold(struct protocol *protocol, uint16_t port, const struct settings *wanted) {
-    bool hold = wants_hold(wanted, port);
-    return protocol->ports->links[port - 1].held != hold && hold_port(protocol, port, hold);
-}
-
-/* Gives a port what the file has of it; answers whether anything differs. */
 static bool change_all(struct protocol *protocol, uint16_t port, const struct settings *wanted) {
-    bool port_changed = change_port(protocol, port, wanted), mode_changed = change_mode(protocol, port, wanted),
-        hold_changed = change_hold(protocol, port, wanted);
+    bool port_changed = change_port(protocol, port, wanted), mode_changed = change_mode(protocol, port, wanted), hold = wants_hold(wanted, port);
+    bool hold_changed = protocol->ports->links[port - 1].held != hold && hold_port(protocol, port, hold);
     return port_changed || mode_changed || hold_changed;
 }
 
@@ -140,11 +128,10 @@ static unsigned apply_settings(struct protocol *protocol, const struct settings 
 
 /* Reads a file; answers whether it is right. The system that an interface gave its address at the start keeps it. */
 static bool read_again(struct process *process, const char *file, struct settings *wanted) {
-    struct lack lack;
     if (!read_file(process, file, wanted)) return false;
     if (!wanted->system_auto || !process->settings->system_auto) return true;
     memcpy(wanted->config.mac, process->settings->config.mac, sizeof wanted->config.mac);
-    lack = lack_of(wanted);
+    struct lack lack = lack_of(wanted);
     if (lack.expected) complain(process, "%s:%u: expected %s: %s", file, line_of(wanted, lack.key), lack.expected, lack.key);
     return !lack.expected;
 }
@@ -152,7 +139,7 @@ static bool read_again(struct process *process, const char *file, struct setting
 /* Reads the file again. One that is wrong changes nothing. */
 void reload(struct protocol *protocol, const char *file) {
     struct settings wanted;
-    notify_reloading();
+    notify("RELOADING=1");
     if (!read_again(protocol->process, file, &wanted)) {
         complain(protocol->process, "%s: the file is wrong, and nothing is changed", file);
     } else if (!place_ports(protocol, &wanted)) {
@@ -167,5 +154,5 @@ void reload(struct protocol *protocol, const char *file) {
         read_views(protocol);
         protocol->plane->changed = true;
     }
-    notify_ready(&protocol->bundle);
+    notify_bundle(&protocol->bundle, READY);
 }

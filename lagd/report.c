@@ -1,19 +1,15 @@
 /* What is written for whoever asks, and what the library tells of a port. */
-#define _GNU_SOURCE
-#include <stdarg.h>
-#include <stdio.h>
-
 #include "control.h"
+
+#include <stdarg.h>
 
 /* Adds to the report, as far as there is room. */
 void add(struct report *report, const char *format, ...) {
     va_list given;
-    int length;
     va_start(given, format);
-    length = vsnprintf(report->text + report->length, sizeof report->text - report->length, format, given);
+    int length = vsnprintf(report->text + report->length, sizeof report->text - report->length, format, given);
     va_end(given);
-    report->length += (size_t)length < sizeof report->text - report->length ? (size_t)length
-        : sizeof report->text - report->length - 1;
+    report->length += (size_t)length < sizeof report->text - report->length ? (size_t)length : sizeof report->text - report->length - 1;
 }
 
 /* Adds a string of JSON. The kernel allows any octets in a name. */
@@ -33,11 +29,10 @@ void add_string(struct report *report, const char *text) {
 bool view_of(struct protocol *protocol, const struct link *link, struct view *view) {
     uint16_t port = link->settings.number;
     uint64_t state = 0;
-    bool told;
     view->facts = facts_of(protocol, link);
     view->own = niw_party(&protocol->own_system, port);
     view->partner = niw_partner(&protocol->own_system, port);
-    told = is_done(protocol->process, view->own.status, "niw_party") && is_done(protocol->process, view->partner.status, "niw_partner")
+    bool told = is_done(protocol->process, view->own.status, "niw_party") && is_done(protocol->process, view->partner.status, "niw_partner")
         && is_told(protocol->process, niw_receive_state(&protocol->own_system, port), "niw_receive_state", &view->receive)
         && is_told(protocol->process, niw_mux_state(&protocol->own_system, port), "niw_mux_state", &view->mux)
         && is_told(protocol->process, niw_current_while(&protocol->own_system, port), "niw_current_while", &view->current_while)

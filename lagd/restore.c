@@ -30,7 +30,6 @@ bool is_restored(struct protocol *protocol, struct link *link) {
     return !link->waits;
 }
 
-/* The carrier of a link went. */
 void forget_carrier(struct link *link) {
     set_waiting(link, false);
 }

@@ -1,7 +1,4 @@
 /* How a daemon goes on where the last one was: the peer hears of no other state, and each conversation stays on its link. */
-#define _GNU_SOURCE
-#include <string.h>
-
 #include "tap/tap.h"
 #include "team/team.h"
 
@@ -39,7 +36,6 @@ static bool goes_on(struct protocol *protocol, const struct link *link) {
         && may_be_partner(link, was->lacpdu, &actor);
 }
 
-/* What was saved of a link, as the library has it. */
 static struct niw_saved saved_of(struct protocol *protocol, const struct link *link) {
     const struct inherited_link *was = inherited_of(protocol->process->inherited, link);
     struct niw_saved saved = {.port = link->settings.number, .aggregator = was->aggregator};
@@ -72,10 +68,10 @@ static void set_other_links(struct protocol *protocol, const bool *back) {
 
 /* What were members, and are no more, get what they had. */
 void release_former_members(struct plane *plane) {
-    const struct inherited *inherited = plane->carry->parts.process->inherited;
+    const struct inherited *inherited = plane->carry->process->inherited;
     for (const struct inherited_link *was = inherited->links; was < inherited->links + inherited->link_count; was++) {
         bool stays = false;
-        EACH_LINK(link, plane->carry->parts.ports) stays = stays || (link->socket >= 0 && link->index == was->index);
+        EACH_LINK(link, plane->carry->ports) stays = stays || (link->socket >= 0 && link->index == was->index);
         if (stays) continue;
         leave_team_port(plane->team, was->index);
         put_back(plane->tap, was->index, was->mac);
@@ -123,9 +119,8 @@ unsigned resume(struct protocol *protocol) {
     return (unsigned)count;
 }
 
-/* A conversation stays on the interface that it was on. */
 static void stay(struct carry *carry, uint16_t number, uint16_t port) {
-    if (niw_adopt(&carry->parts.protocol->own_system, carry->active, number, port) != NIW_OK) return;
+    if (niw_adopt(&carry->protocol->own_system, carry->active, number, port) != NIW_OK) return;
     carry->conversations[number].home = carry->active;
     carry->conversations[number].port = port;
     carry->conversations[number].last = carry->time;
@@ -133,10 +128,9 @@ static void stay(struct carry *carry, uint16_t number, uint16_t port) {
 
 /* The port of an interface that carries in the active aggregator, or 0. */
 static uint16_t port_on(struct carry *carry, int index) {
-    EACH_LINK(link, carry->parts.ports)
-        if (index != 0 && link->socket >= 0 && link->index == index
-            && link->view.aggregator == carry->active
-            && is_distributing(carry->parts.protocol, link->settings.number))
+    EACH_LINK(link, carry->ports)
+        if (index != 0 && link->socket >= 0 && link->index == index && link->view.aggregator == carry->active
+            && is_distributing(carry->protocol, link->settings.number))
             return link->settings.number;
     return 0;
 }
@@ -145,18 +139,17 @@ static uint16_t port_on(struct carry *carry, int index) {
 void resume_conversations(struct plane *plane, bool goes_on) {
     struct carry *carry = plane->carry;
     if (goes_on) {
-        go_on_in(carry, carry->parts.process->inherited->bundle.aggregator);
-        go_on_answering(carry, (enum answering)carry->parts.process->inherited->answering);
+        go_on_in(carry, carry->process->inherited->bundle.aggregator);
+        go_on_answering(carry, (enum answering)carry->process->inherited->answering);
     }
     for (uint16_t number = 0; goes_on && number < CONVERSATIONS; number++) {
         int member = ASK(plane->carrying->member_of, 0, plane, number);
-        uint16_t port = port_on(carry, member != 0 ? member : carry->parts.process->inherited->members[number]);
+        uint16_t port = port_on(carry, member != 0 ? member : carry->process->inherited->members[number]);
         if (port != 0) stay(carry, number, port);
     }
     CALL(plane->passing->resume, plane->tap);
 }
 
-/* After the ports: the bundle and its data go on as they were. */
 void resume_data(struct protocol *protocol, unsigned count) {
     bool goes_on = count > 0 && protocol->process->inherited->bundle.aggregator <= protocol->aggregator_count;
     read_views(protocol);
@@ -164,7 +157,6 @@ void resume_data(struct protocol *protocol, unsigned count) {
     CALL(protocol->plane->carrying->resume, protocol->plane, goes_on);
 }
 
-/* All that goes on was taken over: what is left of the last daemon goes. */
 void end_resuming(struct protocol *protocol) {
     CALL(protocol->plane->carrying->end_resuming, protocol->plane);
     drop_unclaimed(protocol->process->store);

@@ -1,7 +1,7 @@
 /* Which aggregator carries: what each is worth by `select`, and that of a peer which sends in another one alone. */
-#include <linux/ethtool.h>
-
 #include "lagd.h"
+
+#include <linux/ethtool.h>
 
 /* For how long the peer may send in another aggregator alone, in milliseconds of ticks in which a frame came there. */
 #define PATIENCE 3000
@@ -64,9 +64,8 @@ static uint16_t best_after(struct protocol *protocol, uint16_t before) {
     uint16_t chosen = best.links > 0 ? before : 0;
     EACH_LINK(link, protocol->ports) {
         uint16_t aggregator = link->view.aggregator;
-        struct worth now;
         if (aggregator == chosen || !carries(protocol, link)) continue;
-        now = worth_of(protocol, aggregator);
+        struct worth now = worth_of(protocol, aggregator);
         if (now.links == 0 || (chosen != 0 && !is_worth_more(protocol->settings, &now, &best, chosen == before))) continue;
         best = now;
         chosen = aggregator;

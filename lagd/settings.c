@@ -1,15 +1,8 @@
 /* The keys of a bundle and of a port, and their values. The command line and the file have the same ones. */
-#define _GNU_SOURCE
+#include "lagd.h"
 #include "settings.h"
 
 #include <ctype.h>
-#include <stdio.h>
-#include <stdlib.h>
-#include <string.h>
-#include <sys/stat.h>
-#include <unistd.h>
-
-#include "lagd.h"
 
 #define EACH_KEY_ONCE "each key once"
 #define A_NUMBER "a number from 0 to 65535"
@@ -18,7 +11,6 @@
 #define LONGEST_WAIT 3600
 #define A_SYSTEM "PRIORITY,MAC, as 32768,02:00:00:00:00:01, whose MAC address is neither zero nor one of a group"
 
-/* A number in decimal digits alone. */
 static bool read_number(const char *text, unsigned long least, unsigned long most, uint16_t *into) {
     size_t digits = strspn(text, "0123456789");
     unsigned long found = digits > 0 && digits < 6 && !text[digits] ? strtoul(text, NULL, 10) : most + 1;
@@ -27,7 +19,6 @@ static bool read_number(const char *text, unsigned long least, unsigned long mos
     return true;
 }
 
-/* One of two words; `is_first` says whether it is the first one. */
 static bool read_choice(const char *text, const char *first, const char *second, bool *is_first) {
     *is_first = strcmp(text, first) == 0;
     return *is_first || strcmp(text, second) == 0;
@@ -48,7 +39,6 @@ static bool read_mac(const char *text, uint8_t *mac) {
     return !(mac[0] & 1) && memcmp(mac, none, sizeof none) != 0;
 }
 
-/* PRIORITY,MAC. */
 static bool read_system(const char *text, struct system_id *into) {
     char priority[8] = "";
     size_t digits = strcspn(text, ",");
@@ -57,7 +47,6 @@ static bool read_system(const char *text, struct system_id *into) {
     return read_number(priority, 0, UINT16_MAX, &into->priority) && read_mac(text + digits + 1, into->mac);
 }
 
-/* Where a key has its value. */
 static void *value_in(const struct bundle_key *key, const struct settings *settings) {
     return (char *)settings + key->at;
 }
@@ -70,9 +59,8 @@ static bool parse_choice(const struct bundle_key *key, const char *text, struct 
     return read_choice(text, key->first, key->second, value_in(key, settings));
 }
 
-static bool parse_system(const struct bundle_key *key, const char *text, struct settings *settings) {
+static bool parse_system(const struct bundle_key *key UNUSED, const char *text, struct settings *settings) {
     struct system_id own = {.priority = USUAL_PRIORITY};
-    (void)key;
     settings->system_auto = strcmp(text, "auto") == 0;
     if (!settings->system_auto && !read_system(text, &own)) return false;
     settings->config.priority = own.priority;
@@ -80,9 +68,8 @@ static bool parse_system(const struct bundle_key *key, const char *text, struct 
     return true;
 }
 
-static bool parse_partner(const struct bundle_key *key, const char *text, struct settings *settings) {
+static bool parse_partner(const struct bundle_key *key UNUSED, const char *text, struct settings *settings) {
     bool any, named = !read_choice(text, "any", "first", &any);
-    (void)key;
     settings->policy = named ? PARTNER_GIVEN : any ? PARTNER_ANY : PARTNER_FIRST;
     return !named || read_system(text, &settings->partner);
 }
@@ -91,16 +78,14 @@ static bool is_path(const char *text) {
     return text[0] == '/' && strlen(text) < PATH_ROOM;
 }
 
-static bool parse_hook(const struct bundle_key *key, const char *text, struct settings *settings) {
+static bool parse_hook(const struct bundle_key *key UNUSED, const char *text, struct settings *settings) {
     struct stat found;
-    (void)key;
     if (!is_path(text) || stat(text, &found) < 0 || !S_ISREG(found.st_mode) || access(text, X_OK) < 0) return false;
     strcpy(settings->hook, text);
     return true;
 }
 
-static bool parse_state_dir(const struct bundle_key *key, const char *text, struct settings *settings) {
-    (void)key;
+static bool parse_state_dir(const struct bundle_key *key UNUSED, const char *text, struct settings *settings) {
     if (is_path(text)) strcpy(settings->state_dir, text);
     return is_path(text);
 }
@@ -112,16 +97,14 @@ static bool is_name(const char *text, size_t length) {
     return right;
 }
 
-static bool parse_carry(const struct bundle_key *key, const char *text, struct settings *settings) {
+static bool parse_carry(const struct bundle_key *key UNUSED, const char *text, struct settings *settings) {
     size_t length = strlen(text);
-    (void)key;
     if (length >= sizeof settings->carry || strchr(text, '%') || !is_name(text, length)) return false;
     memset(settings->carry, 0, sizeof settings->carry);
     memcpy(settings->carry, text, length);
     return true;
 }
 
-/* By what data goes. */
 const char *way_text(const struct settings *settings) {
     if (settings->plane == PLANE_TEAM) return "team";
     return settings->fast ? "fast" : settings->offload ? "offload" : "plain";
@@ -133,7 +116,6 @@ static const char *const HASHES[] = {[HASH_LAYER2] = "layer2", [HASH_LAYER2_3] =
 static const char *const SELECTIONS[] = {[SELECT_COUNT] = "count", [SELECT_BANDWIDTH] = "bandwidth", [SELECT_PRIORITY] = "priority",
     [SELECT_PRIORITY_STABLE] = "priority-stable", NULL};
 
-/* The word of a hash. */
 const char *hash_text(enum hash hash) {
     return HASHES[hash];
 }
@@ -142,7 +124,6 @@ const char *selection_text(enum selection selection) {
     return SELECTIONS[selection];
 }
 
-/* One of the words of an enum. */
 static bool parse_word(const struct bundle_key *key, const char *text, struct settings *settings) {
     for (unsigned i = 0; key->words[i]; i++) {
         if (strcmp(text, key->words[i]) != 0) continue;
@@ -156,6 +137,7 @@ static bool parse_word(const struct bundle_key *key, const char *text, struct se
 #define NUMBER(field, least, most) offsetof(struct settings, field), least, most, NULL, NULL, NULL
 #define CHOICE(field, first, second) offsetof(struct settings, field), 0, 0, first, second, NULL
 #define WORD(field, words) offsetof(struct settings, field), 0, 0, NULL, NULL, words
+#define TEXT(field) offsetof(struct settings, field), 0, 0, NULL, NULL, NULL
 #define OF_ITS_OWN 0, 0, 0, NULL, NULL, NULL
 static const struct bundle_key BUNDLE_KEYS[] = {
     {"key", A_NUMBER, parse_number, 0, NULL, NULL, NUMBER(key, 0, UINT16_MAX)},
@@ -186,11 +168,11 @@ static const struct bundle_key BUNDLE_KEYS[] = {
     {"marker-responses", "a number from 0 to 10000", parse_number, 'o', "N",
         "the most that a port sends in a second; 10 if not given", NUMBER(marker_responses, 0, 10000)},
     {"hook", "a path that begins with /, of at most 175 characters, of a program that may be run", parse_hook, 'x', "PROGRAM",
-        "is run when the bundle becomes up, degraded or down", OF_ITS_OWN},
+        "is run when the bundle becomes up, degraded or down", TEXT(hook)},
     {"state-dir", "a path that begins with /, of at most 175 characters", parse_state_dir, 'T', "FOLDER",
-        "keeps there what a start after a reboot goes on from", OF_ITS_OWN},
+        "keeps there what a start after a reboot goes on from", TEXT(state_dir)},
     {"carry", "a name of an interface of at most 15 characters", parse_carry, 'C', "NAME",
-        "carries the data of a device of this name, which it makes, with the MAC address of the system", OF_ITS_OWN},
+        "carries the data of a device of this name, which it makes, with the MAC address of the system", TEXT(carry)},
     {"plane", "tap or team", parse_word, 'P', "tap|team",
         "what that device is: a TAP device, as if not given, or one of the kernel's team driver,\nby which the kernel carries", WORD(plane, PLANES)},
     {"members", "given or follow", parse_choice, 'B', "given|follow",
@@ -216,16 +198,14 @@ static const struct bundle_key BUNDLE_KEYS[] = {
 enum { BUNDLE_KEY_COUNT = sizeof BUNDLE_KEYS / sizeof *BUNDLE_KEYS };
 _Static_assert(BUNDLE_KEY_COUNT <= MOST_BUNDLE_KEYS, "each key has room for its line");
 
-/* A key of the bundle, from 0 on; NULL behind the last one. */
 const struct bundle_key *bundle_key(size_t index) {
     return index < BUNDLE_KEY_COUNT ? &BUNDLE_KEYS[index] : NULL;
 }
 
 /* Writes the value that a key has, as it is read; nothing where it has none. */
 static void write_value(const struct bundle_key *key, const struct settings *settings, char text[static PATH_ROOM]) {
-    struct system_id own = {.priority = settings->config.priority};
+    struct system_id own = own_system(settings);
     char room[32];
-    memcpy(own.mac, settings->config.mac, sizeof own.mac);
     text[0] = 0;
     if (key->parse == parse_number) snprintf(text, PATH_ROOM, "%u", *(const uint16_t *)value_in(key, settings));
     if (key->parse == parse_choice) snprintf(text, PATH_ROOM, "%s", *(const bool *)value_in(key, settings) ? key->first : key->second);
@@ -233,9 +213,8 @@ static void write_value(const struct bundle_key *key, const struct settings *set
     if (key->parse == parse_partner) snprintf(text, PATH_ROOM, "%s", settings->policy == PARTNER_FIRST ? "first" : "any");
     if (key->parse == parse_partner && settings->policy == PARTNER_GIVEN)
         snprintf(text, PATH_ROOM, "%s", system_text(&settings->partner, room));
-    if (key->parse == parse_hook) snprintf(text, PATH_ROOM, "%s", settings->hook);
-    if (key->parse == parse_state_dir) snprintf(text, PATH_ROOM, "%s", settings->state_dir);
-    if (key->parse == parse_carry) snprintf(text, PATH_ROOM, "%s", settings->carry);
+    if (key->parse == parse_hook || key->parse == parse_state_dir || key->parse == parse_carry)
+        snprintf(text, PATH_ROOM, "%s", (const char *)value_in(key, settings));
     if (key->parse == parse_word) snprintf(text, PATH_ROOM, "%s", key->words[*(const unsigned *)value_in(key, settings)]);
 }
 
@@ -268,7 +247,6 @@ static const struct {
 
 enum { PORT_KEY_COUNT = sizeof PORT_KEYS / sizeof *PORT_KEYS };
 
-/* What a port has for one of its keys. */
 static int *value_at(struct port_settings *port, size_t index) {
     return (int *)(void *)((char *)port + PORT_KEYS[index].at);
 }
@@ -304,7 +282,6 @@ const char *set_bundle(struct words *words, struct settings *settings, const cha
     return list_words(words, name_of_bundle_key, BUNDLE_KEY_COUNT, " or ", " as a key of [Bundle]");
 }
 
-/* The line that gives a key of the bundle, or 0. */
 unsigned line_of(const struct settings *settings, const char *name) {
     size_t i = 0;
     while (i < BUNDLE_KEY_COUNT && strcmp(name, BUNDLE_KEYS[i].name) != 0) i++;
@@ -316,10 +293,9 @@ const char *set_port(struct words *words, struct port_settings *port, const char
     size_t i = 0;
     uint16_t number;
     bool is_first;
-    int *value;
     while (i < PORT_KEY_COUNT && strcmp(name, PORT_KEYS[i].name) != 0) i++;
     if (i == PORT_KEY_COUNT) return list_words(words, name_of_port_key, PORT_KEY_COUNT, " or ", " as a key of [Port]");
-    value = value_at(port, i);
+    int *value = value_at(port, i);
     if (*value != AS_BUNDLE) return EACH_KEY_ONCE;
     if (!PORT_KEYS[i].first) {
         if (!read_number(text, 0, UINT16_MAX, &number)) return PORT_KEYS[i].expected;
@@ -334,10 +310,9 @@ const char *set_port(struct words *words, struct port_settings *port, const char
 /* The same of a key of a port. */
 bool write_port_key(const struct port_settings *port, size_t index, char text[static LINE_ROOM]) {
     struct port_settings own = *port;
-    int value;
     text[0] = 0;
     if (index >= PORT_KEY_COUNT) return false;
-    value = *value_at(&own, index);
+    int value = *value_at(&own, index);
     if (value != AS_BUNDLE && PORT_KEYS[index].first)
         snprintf(text, LINE_ROOM, "%s=%s", PORT_KEYS[index].name, value ? PORT_KEYS[index].first : PORT_KEYS[index].second);
     else if (value != AS_BUNDLE)
@@ -345,14 +320,12 @@ bool write_port_key(const struct port_settings *port, size_t index, char text[st
     return true;
 }
 
-/* A port of which nothing is given. */
 struct port_settings unset_port(void) {
     struct port_settings port = {.name = ""};
     for (size_t i = 0; i < PORT_KEY_COUNT; i++) *value_at(&port, i) = AS_BUNDLE;
     return port;
 }
 
-/* Adds a port, by the name of its interface; answers NULL, or what was expected. */
 const char *add_port(struct settings *settings, const char *name, size_t length) {
     struct port_settings *port = &settings->ports[settings->port_count];
     if (!is_name(name, length)) return "the name of an interface";
@@ -415,6 +388,8 @@ struct lack lack_of(const struct settings *settings) {
         return (struct lack){"another hash than layer2 beside hash-seed", "hash-seed"};
     if (settings->plane == PLANE_TEAM && (settings->offload || settings->fast))
         return (struct lack){"neither offload nor fast beside plane=team, by which the kernel carries all", "plane"};
+    if (settings->plane == PLANE_TEAM && settings->select != SELECT_COUNT)
+        return (struct lack){"select=count beside plane=team, which does not see in which group the peer sends", "select"};
     if (settings->follow && settings->plane != PLANE_TEAM) return (struct lack){"plane=team beside members=follow", "members"};
     if (settings->plane == PLANE_TEAM && settings->all_queues)
         return (struct lack){"no queues=all beside plane=team, which leaves queues as they are", "queues"};
@@ -432,7 +407,6 @@ static int value_of(int own, int all) {
     return own == AS_BUNDLE ? all : own;
 }
 
-/* A port, from 1, as the library takes it. */
 struct niw_port port_of(const struct settings *settings, uint16_t port) {
     const struct port_settings *own = &settings->ports[port - 1];
     return (struct niw_port){
@@ -445,7 +419,6 @@ struct niw_port port_of(const struct settings *settings, uint16_t port) {
     };
 }
 
-/* Whether a port, from 1, is to be out of use. */
 bool wants_hold(const struct settings *settings, uint16_t port) {
     return value_of(settings->ports[port - 1].hold, false) != 0;
 }

@@ -99,6 +99,11 @@ struct settings {
     struct port_settings ports[NIW_MOST_PORTS];
 };
 
+static inline struct system_id own_system(const struct settings *settings) {
+    const uint8_t *mac = settings->config.mac;
+    return (struct system_id){settings->config.priority, {mac[0], mac[1], mac[2], mac[3], mac[4], mac[5]}};
+}
+
 /* A key of a bundle: the file and the long option have its name. */
 struct bundle_key {
     const char *name, *expected; /* `expected`: of its value */

@@ -1,13 +1,29 @@
-/* The status as text, laid out as Open vSwitch lays out `ovs-appctl lacp/show`. */
-#define _GNU_SOURCE
-#include <inttypes.h>
-#include <string.h>
-
+/* The status as text, laid out as Open vSwitch lays out `ovs-appctl lacp/show`, and as JSON, as each change. */
 #include "control.h"
 
-static void add_time(struct report *report, const char *name, time_t time) {
-    char text[32];
-    if (time) add(report, "  %s: %sZ\n", name, time_text(time, text));
+/* A row: in the text `  NAME: VALUE`, in JSON `,"NAME":VALUE`. A form that has no name for it, and a text of no value, do without. */
+static void add_row(struct report *report, enum form form, const char *text, const char *json, const char *value) {
+    if (form == AS_TEXT && text && value) add(report, "  %s: %s\n", text, value);
+    if (form == AS_JSON && json) add(report, ",\"%s\":%s", json, value ? value : "null");
+}
+
+/* The same of a value that is a text. */
+static void add_words(struct report *report, enum form form, const char *text, const char *json, const char *words) {
+    const char *name = form == AS_TEXT ? text : json;
+    if (!words) add_row(report, form, text, json, NULL);
+    if (words && name) add(report, form == AS_TEXT ? "  %s: %s\n" : ",\"%s\":\"%s\"", name, words);
+}
+
+static void add_number(struct report *report, enum form form, const char *text, const char *json, uint64_t number) {
+    char digits[32];
+    snprintf(digits, sizeof digits, "%" PRIu64, number);
+    add_row(report, form, text, json, digits);
+}
+
+static void add_time(struct report *report, enum form form, time_t time) {
+    char text[32], zoned[40];
+    snprintf(zoned, sizeof zoned, "%sZ", time_text(time, text));
+    add_words(report, form, "last change", "last_change", time ? zoned : NULL);
 }
 
 static void add_policy(struct report *report, const struct settings *settings) {
@@ -34,98 +50,210 @@ static void add_selection(struct report *report, struct protocol *protocol) {
 }
 
 static void add_bundle(struct control *control) {
-    const struct settings *settings = control->parts.settings;
-    const struct bundle *bundle = &control->parts.protocol->bundle;
+    const struct settings *settings = control->settings;
+    const struct bundle *bundle = &control->protocol->bundle;
     char mac[32];
     add(control->report, "---- %s ----\n", settings->name);
     add(control->report, "  status: %s, %u of %u links carry", bundle_state_text(bundle->state), bundle->carrying, bundle->links);
-    EACH_LINK(link, control->parts.ports)
+    EACH_LINK(link, control->ports)
         if (link->away) add(control->report, ", but the carrier of %s is away", link->name);
     add(control->report, "\n");
     add(control->report, "  sys_id: %s\n  sys_priority: %u\n", mac_text(settings->config.mac, mac), settings->config.priority);
     add(control->report, "  aggregation key: %u\n  lacp_time: %s\n", settings->key, settings->short_timeout ? "fast" : "slow");
-    add(control->report, "  aggregator: %u\n  min_links: %u\n  max_links: %u\n", bundle->aggregator, settings->min_links,
-        settings->config.max_links);
-    add_selection(control->report, control->parts.protocol);
+    add(control->report, "  aggregator: %u\n  min_links: %u\n  max_links: %u\n", bundle->aggregator, settings->min_links, settings->config.max_links);
+    add_selection(control->report, control->protocol);
     add_policy(control->report, settings);
-    add_time(control->report, "last change", bundle->changed_at);
-    add(control->report, "  uptime: %" PRIu64 " s, lagd %s\n", seconds_passed(control->parts.protocol->system), VERSION);
+    add_time(control->report, AS_TEXT, bundle->changed_at);
+    add(control->report, "  uptime: %" PRIu64 " s, lagd %s\n", seconds_passed(control->protocol->system), VERSION);
 }
 
-/* One end of a port. */
+static void add_state(struct report *report, enum form form, uint8_t state) {
+    const char *between = "";
+    for (unsigned bit = 0; bit < 8; bit++) {
+        if (!(state >> bit & 1)) continue;
+        add(report, form == AS_TEXT ? "%s %s" : "%s\"%s\"", between, bit_name(bit));
+        if (form == AS_JSON) between = ",";
+    }
+    add(report, form == AS_TEXT ? "\n" : "]}");
+}
+
+/* One end of a port, as text. */
 static void add_side(struct report *report, const char *whose, const uint8_t *mac, const unsigned numbers[static 4], uint8_t state) {
     char text[32];
     add(report, "\n  %s sys_id: %s\n  %s sys_priority: %u\n", whose, mac_text(mac, text), whose, numbers[0]);
     add(report, "  %s port_id: %u\n  %s port_priority: %u\n", whose, numbers[1], whose, numbers[2]);
     add(report, "  %s key: %u\n  %s state:", whose, numbers[3], whose);
-    for (unsigned bit = 0; bit < 8; bit++)
-        if (state >> bit & 1) add(report, " %s", bit_name(bit));
-    add(report, "\n");
+    add_state(report, AS_TEXT, state);
 }
 
-static void add_strangers(struct control *control, const struct link *link) {
-    char system[32], source[32];
-    if (link->pinned) add(control->report, "  pinned to: %s\n", system_text(&link->partner, system));
-    if (link->twin > 0) add(control->report, "  partner port: that of %s, too\n", control->parts.ports->links[link->twin - 1].name);
-    if (!link->strangers.seen) return;
-    add(control->report, "  other system: %s from %s\n", system_text(&link->strangers.system, system), mac_text(link->strangers.source, source));
-}
-
-static void add_counts(struct report *report, const struct link *link) {
-    add(report, "\n");
-    for (unsigned i = 0; i < ALL_COUNTS; i++) {
-        bool last = i % 4 == 3 || i == ALL_COUNTS - 1;
-        add(report, "%s %s %" PRIu64 "%s", i % 4 == 0 ? " " : "", count_name(i), count_at(link, i), last ? "\n" : "");
+static void add_both_ends(struct report *report, enum form form, const struct view *view) {
+    const struct niw_actor *own = &view->own;
+    const struct niw_info *partner = &view->partner;
+    char mac[32];
+    if (form == AS_TEXT) {
+        add_side(report, "actor", own->system_mac, (unsigned[]){own->system_priority, own->port, own->port_priority, own->key}, view->state);
+        add_side(report, "partner", partner->system_mac,
+            (unsigned[]){partner->system_priority, partner->port, partner->port_priority, partner->key}, partner->state);
+        return;
     }
+    add(report, ",\"actor\":{\"key\":%u,\"port_priority\":%u,\"port\":%u,\"state\":[", own->key, own->port_priority, own->port);
+    add_state(report, form, view->state);
+    add(report, ",\"partner\":{\"defaulted\":%s,\"system_priority\":%u,\"system\":\"%s\"", view->facts.defaulted ? "true" : "false",
+        partner->system_priority, mac_text(partner->system_mac, mac));
+    add(report, ",\"key\":%u,\"port_priority\":%u,\"port\":%u,\"state\":[", partner->key, partner->port_priority, partner->port);
+    add_state(report, form, partner->state);
 }
 
-static void add_member(struct control *control, const struct link *link) {
+static void add_strangers(struct control *control, const struct link *link, enum form form) {
+    const struct strangers *others = &link->strangers;
+    const char *twin = link->twin > 0 ? control->ports->links[link->twin - 1].name : NULL;
+    char system[32], source[32];
+    add_words(control->report, form, "pinned to", "pinned", link->pinned ? system_text(&link->partner, system) : NULL);
+    if (form == AS_TEXT && twin) add(control->report, "  partner port: that of %s, too\n", twin);
+    if (form == AS_JSON) {
+        add_row(control->report, form, NULL, "same_partner_port", twin ? "" : NULL);
+        if (twin) add_string(control->report, twin);
+    }
+    (void)system_text(&others->system, system);
+    (void)mac_text(others->source, source);
+    if (form == AS_TEXT && others->seen) add(control->report, "  other system: %s from %s\n", system, source);
+    if (form == AS_JSON)
+        add(control->report, others->seen ? ",\"other_system\":{\"system\":\"%s\",\"source\":\"%s\"}" : ",\"other_system\":null", system, source);
+}
+
+static void add_counts(struct report *report, const struct link *link, enum form form) {
+    add(report, form == AS_TEXT ? "\n" : ",\"counters\":{");
+    for (unsigned i = 0; i < ALL_COUNTS; i++) {
+        if (form == AS_TEXT)
+            add(report, "%s %s %" PRIu64 "%s", i % 4 == 0 ? " " : "", count_name(i), count_at(link, i), i % 4 == 3 || i == ALL_COUNTS - 1 ? "\n" : "");
+        else
+            add(report, "%s\"%s\":%" PRIu64, i ? "," : "", count_name(i), count_at(link, i));
+    }
+    if (form == AS_JSON) add(report, "}");
+}
+
+/* What names a port: its first line, or the first fields of its object. */
+static void add_name(struct report *report, const struct link *link, enum form form, const char *receive, const char *mux) {
+    if (form == AS_TEXT) {
+        add(report, "\nmember: %s: %s, %s\n", link->name, receive, mux);
+        return;
+    }
+    add(report, "{\"port\":%u,\"interface\":", link->settings.number);
+    add_string(report, link->name);
+    add(report, link->socket < 0 ? ",\"index\":null" : ",\"index\":%d", link->index);
+    add_number(report, form, NULL, "key", link->key);
+}
+
+static void add_link(struct control *control, const struct link *link, enum form form) {
+    char text[64];
+    snprintf(text, sizeof text, link->away && form == AS_TEXT ? "%s for %" PRIu64 " of %u ms, while it counts as up" : "%s", link_name(link),
+        milliseconds() - link->carried_at, control->settings->delay_down);
+    add_words(control->report, form, "link", "link", text);
+}
+
+/* One port. */
+static void add_member(struct control *control, const struct link *link, enum form form) {
+    struct report *report = control->report;
     struct view view;
-    const struct niw_actor *own = &view.own;
-    const struct niw_info *partner = &view.partner;
-    char mac[32], speed[40];
-    if (!view_of(control->parts.protocol, link, &view)) return;
-    add(control->report, "\nmember: %s: %s, %s\n", link->name, niw_receive_state_text((uint32_t)view.receive),
-        niw_mux_state_text((uint32_t)view.mux));
-    add(control->report, "  status: %s\n  may_enable: %s\n", status_text(view.facts.status),
-        carries(control->parts.protocol, link) ? "true" : "false");
-    if (link->trouble) add(control->report, "  trouble: %s\n", strerror(link->trouble));
-    add(control->report, "  link: %s", link_name(link));
-    if (link->away)
-        add(control->report, " for %" PRIu64 " of %u ms, while it counts as up", milliseconds() - link->carried_at,
-            control->parts.settings->delay_down);
-    add(control->report, "\n  address: %s\n", mac_text(link->mac, mac));
-    add(control->report, "  port_id: %u\n  port_priority: %u\n", own->port, own->port_priority);
-    add(control->report, "  aggregator: %u\n", view.facts.aggregator);
-    add(control->report, "  current_while: %" PRIu64 "\n  wait_while: %" PRIu64 "\n", view.current_while, view.wait_while);
-    add(control->report, "  actor_churn: %s\n  partner_churn: %s\n", niw_churn_state_text(link->churn.actor.state),
-        niw_churn_state_text(link->churn.partner.state));
-    if (link->has_speed) add(control->report, "  speed: %s\n", speed_text(&link->speed, speed));
-    add_time(control->report, "last change", link->changed_at);
-    add_strangers(control, link);
-    add_side(control->report, "actor", own->system_mac, (unsigned[]){own->system_priority, own->port, own->port_priority, own->key}, view.state);
-    add_side(control->report, "partner", partner->system_mac,
-        (unsigned[]){partner->system_priority, partner->port, partner->port_priority, partner->key}, partner->state);
-    add_counts(control->report, link);
-    CALL(control->parts.plane->carrying->show_member, control, link, AS_TEXT);
+    char text[40];
+    if (!view_of(control->protocol, link, &view)) return;
+    const char *receive = niw_receive_state_text((uint32_t)view.receive);
+    const char *mux = niw_mux_state_text((uint32_t)view.mux);
+    add_name(report, link, form, receive, mux);
+    add_words(report, form, "status", "status", status_text(view.facts.status));
+    add_row(report, form, "may_enable", "carries", carries(control->protocol, link) ? "true" : "false");
+    if (form == AS_TEXT && link->trouble) add(report, "  trouble: %s\n", strerror(link->trouble));
+    add_link(control, link, form);
+    add_words(report, form, "address", "address", mac_text(link->mac, text));
+    add_number(report, form, "port_id", NULL, view.own.port);
+    add_number(report, form, "port_priority", NULL, view.own.port_priority);
+    add_number(report, form, "aggregator", "aggregator", view.facts.aggregator);
+    add_words(report, form, NULL, "receive", receive);
+    add_words(report, form, NULL, "mux", mux);
+    add_number(report, form, "current_while", "current_while", view.current_while);
+    add_number(report, form, "wait_while", "wait_while", view.wait_while);
+    add_words(report, form, "actor_churn", "actor_churn", niw_churn_state_text(link->churn.actor.state));
+    add_words(report, form, "partner_churn", "partner_churn", niw_churn_state_text(link->churn.partner.state));
+    add_words(report, form, "speed", "speed", link->has_speed ? speed_text(&link->speed, text) : NULL);
+    add_time(report, form, link->changed_at);
+    add_strangers(control, link, form);
+    add_both_ends(report, form, &view);
+    add_counts(report, link, form);
+    CALL(control->plane->carrying->show_member, control, link, form);
+    if (form == AS_TEXT) return;
+    add_row(report, form, NULL, "trouble", "");
+    add_string(report, link->trouble ? strerror(link->trouble) : "");
+    add(report, "}");
 }
 
-/* The whole status. */
 void write_text(struct control *control) {
     add_bundle(control);
-    CALL(control->parts.plane->carrying->show, control, AS_TEXT);
-    EACH_LINK(link, control->parts.ports)
-        if (link->used) add_member(control, link);
+    CALL(control->plane->carrying->show, control, AS_TEXT);
+    EACH_LINK(link, control->ports)
+        if (link->used) add_member(control, link, AS_TEXT);
+}
+
+static void add_json_bundle(struct control *control) {
+    add(control->report, "\"bundle\":");
+    add_string(control->report, control->settings->name);
+    add(control->report, ",\"state\":\"%s\",\"links\":%u,\"carrying\":%u,\"away\":%u,\"aggregator\":%u",
+        bundle_state_text(control->protocol->bundle.state), control->protocol->bundle.links,
+        control->protocol->bundle.carrying, count_away(control->ports), control->protocol->bundle.aggregator);
+    add_time(control->report, AS_JSON, control->protocol->bundle.changed_at);
+}
+
+/* The whole status as JSON, in a line. */
+void write_json(struct control *control) {
+    struct report *report = control->report;
+    const struct settings *settings = control->settings;
+    const char *between = "";
+    char mac[32];
+    add(report, "{\"lagd\":\"%s\",", VERSION);
+    add_json_bundle(control);
+    add_number(report, AS_JSON, NULL, "system_priority", settings->config.priority);
+    add_words(report, AS_JSON, NULL, "system", mac_text(settings->config.mac, mac));
+    add_number(report, AS_JSON, NULL, "key", settings->key);
+    add_number(report, AS_JSON, NULL, "collector_max_delay", settings->config.max_delay);
+    add_number(report, AS_JSON, NULL, "min_links", settings->min_links);
+    add_number(report, AS_JSON, NULL, "max_links", settings->config.max_links);
+    add_words(report, AS_JSON, NULL, "select", selection_text(settings->select));
+    add_row(report, AS_JSON, NULL, "follows_peer", is_following(control->protocol->selection) ? "true" : "false");
+    add_number(report, AS_JSON, NULL, "seconds", seconds_passed(control->protocol->system));
+    add(report, ",");
+    CALL(control->plane->carrying->show, control, AS_JSON);
+    add(report, "\"ports\":[");
+    EACH_LINK(link, control->ports) {
+        if (!link->used) continue;
+        add(report, "%s", between);
+        add_member(control, link, AS_JSON);
+        between = ",";
+    }
+    add(report, "]}\n");
+}
+
+/* A change of a port, or of the bundle, where `link` is null, in a line. */
+void write_json_event(struct control *control, const struct link *link) {
+    char text[32];
+    add(control->report, "{\"time\":\"%sZ\",\"event\":\"%s\",", time_text(time(NULL), text), link ? "port" : "bundle");
+    if (link) {
+        add(control->report, "\"bundle\":");
+        add_string(control->report, control->settings->name);
+        add(control->report, ",\"port\":");
+        add_member(control, link, AS_JSON);
+    } else {
+        add_json_bundle(control);
+    }
+    add(control->report, "}\n");
 }
 
 /* The settings that hold now, as a file has them: without ports that leave, and those that the device alone has. */
 void write_config(struct control *control) {
     char text[LINE_ROOM];
-    add(control->report, "# %s\n[Bundle]\n", control->parts.settings->name);
-    for (size_t i = 0; write_bundle_key(control->parts.settings, i, text); i++)
+    add(control->report, "# %s\n[Bundle]\n", control->settings->name);
+    for (size_t i = 0; write_bundle_key(control->settings, i, text); i++)
         if (text[0]) add(control->report, "%s\n", text);
-    EACH_LINK(link, control->parts.ports) {
-        const struct port_settings *port = &control->parts.settings->ports[link - control->parts.ports->links];
+    EACH_LINK(link, control->ports) {
+        const struct port_settings *port = &control->settings->ports[link - control->ports->links];
         if (!link->used || link->leaving || link->followed) continue;
         add(control->report, "\n[Port %s]\n", port->name);
         for (size_t i = 0; write_port_key(port, i, text); i++)

@@ -1,11 +1,8 @@
 /* Signals: which ones end the daemon, after its peers are told, and which do not. */
-#define _GNU_SOURCE
-#include <errno.h>
-#include <signal.h>
-#include <string.h>
-#include <sys/signalfd.h>
-
 #include "lagd.h"
+
+#include <signal.h>
+#include <sys/signalfd.h>
 
 /* Signals that would end the program at once, but for those of a fault in it. */
 static const int ENDS[] = {SIGHUP, SIGINT, SIGQUIT, SIGALRM, SIGVTALRM, SIGPROF, SIGIO, SIGPWR, SIGXCPU, SIGSTKFLT};
@@ -20,7 +17,6 @@ static bool is_ignored(int signal) {
  * that is gone (SIGPIPE) and a hook that ends (SIGCHLD) do not disturb it. */
 int open_signals(const struct settings *settings) {
     sigset_t taken;
-    int fd;
     sigemptyset(&taken);
     sigaddset(&taken, SIGTERM);
     sigaddset(&taken, SIGUSR1);
@@ -34,7 +30,7 @@ int open_signals(const struct settings *settings) {
     signal(SIGXFSZ, SIG_IGN);
     if (!settings->carry[0]) signal(SIGUSR2, SIG_IGN);
     signal(SIGCHLD, SIG_IGN);
-    fd = signalfd(-1, &taken, SFD_CLOEXEC);
+    int fd = signalfd(-1, &taken, SFD_CLOEXEC);
     if (fd < 0) stop(REFUSED, "no signals", strerror(errno));
     return fd;
 }

@@ -1,17 +1,13 @@
 /* The state that a daemon leaves to the next one: a file beside the status socket, written each second and at the end. A line is added to it
- * before the first frame of a conversation goes on another link. It goes with each stop of which the peers are told. With state-dir a daemon
- * that leaves writes a copy, for the first one after a reboot: that knows interfaces by their names, and times by the clock on the wall. */
-#define _GNU_SOURCE
-#include <errno.h>
-#include <fcntl.h>
-#include <inttypes.h>
-#include <net/if.h>
-#include <stdio.h>
-#include <string.h>
-#include <sys/stat.h>
-#include <unistd.h>
-
+ * before the first frame of a conversation goes on another link. It goes with each stop of which the peers are told. With state-dir there is a
+ * copy for the first daemon after a reboot, which knows interfaces by their names, and times by the clock on the wall. It may be on a disk that
+ * takes long, so a process of its own writes it while the daemon runs. */
 #include "team/team.h"
+
+#include <net/if.h>
+#include <poll.h>
+#include <signal.h>
+#include <sys/file.h>
 
 /* It rises with each change of the file, and of what programs of the kernel share with the daemon. */
 #define FORM_VERSION 3
@@ -26,13 +22,23 @@
 #define UNWRITTEN_MARKERS 65536
 /* For how long frames may have waited, in milliseconds: with the second in which a state is written. */
 #define MOST_AWAY 3000
+/* How often a copy is written while the same ports would go on from it, in milliseconds: the oldest one that is of use is 90 s old. */
+#define COPIED_EVERY 10000
+/* How long a daemon that ends waits for who writes a copy, and then for the end of that one, in milliseconds. */
+#define MOST_COPYING 500
+/* The daemon has fewer files open. */
+#define MOST_OPENED 4096
 
 struct state {
     struct carry *carry; /* what is saved, as far as it concerns data */
     struct team_plane *team;
     int file; /* the state that was written last, or -1 */
-    int kept_folder; /* state-dir, or -1 */
+    int kept_folder, lock; /* state-dir, or -1, and the file by which this bundle has its copy there */
+    int copied; /* by which a process tells what became of the copy that it writes, or -1: none does */
+    pid_t copier;
+    uint64_t copied_at, copied_ports; /* when it began, and of which ports, a bit for each */
     bool has_copy; /* whether something may be there */
+    bool copy_failed; /* whether the last one did, which has a line */
     uint64_t space; /* the namespace_cookie of this network namespace */
     int members[CONVERSATIONS]; /* the interface of each conversation that it has, or 0 */
     bool over; /* whether the peers are told of the end */
@@ -44,7 +50,7 @@ struct state *make_state(struct carry *carry, struct team_plane *team) {
     struct state *made = make_room(sizeof *made);
     made->carry = carry;
     made->team = team;
-    made->file = made->kept_folder = -1;
+    made->file = made->kept_folder = made->copied = -1;
     return made;
 }
 
@@ -64,8 +70,7 @@ static uint64_t wall_time(void) {
 /* The settings by which the rest means something. */
 static const char *way(const struct settings *settings, char room[static WAY_ROOM]) {
     char system[32];
-    struct system_id own = {.priority = settings->config.priority};
-    memcpy(own.mac, settings->config.mac, sizeof own.mac);
+    struct system_id own = own_system(settings);
     snprintf(room, WAY_ROOM, "%s/%s/%s/%u/%s", system_text(&own, system), settings->carry[0]
         ? settings->carry : "-", hash_text(settings->hash), settings->hash_seed, way_text(settings));
     return room;
@@ -77,18 +82,21 @@ static bool is_way_of_team(const char *given) {
     return length >= sizeof OF_TEAM - 1 && strcmp(given + length - (sizeof OF_TEAM - 1), OF_TEAM) == 0;
 }
 
+/* Whether a port goes on from what is saved of it. */
+static bool is_carrying(const struct link *link) {
+    return link->view.port_status == NIW_PORT_STATUS_DISTRIBUTING && !link->view.defaulted && link->lacpdu_at != 0;
+}
+
 static void write_link(FILE *file, const struct link *link) {
-    bool carried = link->view.port_status == NIW_PORT_STATUS_DISTRIBUTING && !link->view.defaulted && link->lacpdu_at != 0;
     char mac[32], hex[HEX_ROOM] = "";
     for (size_t i = 0; i < NIW_FRAME; i++) {
         hex[2 * i] = "0123456789abcdef"[link->lacpdu[i] >> 4];
         hex[2 * i + 1] = "0123456789abcdef"[link->lacpdu[i] & 15];
     }
     fprintf(file, "link %d %s %" PRIu32 " %d %" PRIu64 " %" PRIu64 " %s %u\n", link->index, mac_text(link->mac, mac), link->kernel_losses,
-        carried, link->lacpdu_at, link->lacpdus_at[MOST_LACPDUS - 1], hex, link->view.aggregator);
+        is_carrying(link), link->lacpdu_at, link->lacpdus_at[MOST_LACPDUS - 1], hex, link->view.aggregator);
 }
 
-/* Writes which port has which number. */
 static void write_ports(const struct ports *ports, FILE *file) {
     for (uint16_t i = 0; i < ports->count; i++) {
         const struct link *link = &ports->links[i];
@@ -101,30 +109,29 @@ static void write_conversations(struct state *own, FILE *file) {
     for (uint16_t number = 0; number < CONVERSATIONS; number++) {
         struct niw_assignment assigned;
         uint16_t home = own->carry->conversations[number].home;
-        if (home == 0 || !ask_state(own->carry->parts.protocol, home, number, &assigned) || assigned.what == NIW_CONVERSATION_FREE) continue;
-        if (assigned.port == 0 || assigned.port > own->carry->parts.ports->count) continue;
-        own->members[number] = own->carry->parts.ports->links[assigned.port - 1].index;
+        if (home == 0 || !ask_state(own->carry->protocol, home, number, &assigned) || assigned.what == NIW_CONVERSATION_FREE) continue;
+        if (assigned.port == 0 || assigned.port > own->carry->ports->count) continue;
+        own->members[number] = own->carry->ports->links[assigned.port - 1].index;
         fprintf(file, "on %u %d\n", number, own->members[number]);
     }
 }
 
 static void write_state(struct state *own, FILE *file) {
-    struct plane *plane = own->carry->parts.plane;
-    struct niw_marker marker = niw_next_marker(&own->carry->parts.protocol->own_system);
+    struct plane *plane = own->carry->plane;
+    struct niw_marker marker = niw_next_marker(&own->carry->protocol->own_system);
     char boot[BOOT_ROOM], room[WAY_ROOM];
-    fprintf(file, "lagd %u\nboot %s\nway %s\n", FORM_VERSION, boot_id(boot), way(own->carry->parts.settings, room));
+    fprintf(file, "lagd %u\nboot %s\nway %s\n", FORM_VERSION, boot_id(boot), way(own->carry->settings, room));
     fprintf(file, "space %" PRIu64 "\nwritten %" PRIu64 "\n", own->space, boottime());
     if (own->kept_folder >= 0) fprintf(file, "wall %" PRIu64 "\n", wall_time());
-    fprintf(file, "marker %" PRIu32 "\n", is_done(own->carry->parts.process, marker.status, "niw_next_marker") && marker.left ? marker.id : 0);
-    fprintf(file, "bundle %u %u %lld\n", own->carry->parts.protocol->bundle.state, own->carry->parts.protocol->bundle.aggregator,
-        (long long)own->carry->parts.protocol->bundle.changed_at);
-    if (is_following(own->carry->parts.protocol->selection)) fputs("follows\n", file);
-    if (tap_index(own->carry->parts.device) != 0)
-        fprintf(file, "tap %d %d %" PRIu32 " %u\n", tap_index(own->carry->parts.device),
-            ASK(plane->carrying->has_made_device, false, plane),
-            mtu_of_administrator(own->carry->parts.device), peer_answering(own->carry->probe));
-    write_ports(own->carry->parts.ports, file);
-    EACH_LINK(link, own->carry->parts.ports)
+    fprintf(file, "marker %" PRIu32 "\n", is_done(own->carry->process, marker.status, "niw_next_marker") && marker.left ? marker.id : 0);
+    fprintf(file, "bundle %u %u %lld\n", own->carry->protocol->bundle.state, own->carry->protocol->bundle.aggregator,
+        (long long)own->carry->protocol->bundle.changed_at);
+    if (is_following(own->carry->protocol->selection)) fputs("follows\n", file);
+    if (tap_index(own->carry->device) != 0)
+        fprintf(file, "tap %d %d %" PRIu32 " %u\n", tap_index(own->carry->device), ASK(plane->carrying->has_made_device, false, plane),
+            mtu_of_administrator(own->carry->device), peer_answering(own->carry->probe));
+    write_ports(own->carry->ports, file);
+    EACH_LINK(link, own->carry->ports)
         if (link->socket >= 0) write_link(file, link);
     memset(own->members, 0, sizeof own->members);
     write_conversations(own, file);
@@ -140,10 +147,10 @@ static void keep_file(struct state *own, int file) {
 /* Puts a whole file in the place of the last one, which is on the disk before if it `lasts`; answers it, or -errno. */
 static int replace_file(struct state *own, int folder, const char *name, bool lasts) {
     char new_name[NAME_ROOM + 40];
-    int fd, kept;
+    int kept;
     FILE *file;
     snprintf(new_name, sizeof new_name, "%s.new", name);
-    fd = openat(folder, new_name, O_WRONLY | O_CREAT | O_TRUNC | O_APPEND | O_NOFOLLOW | O_CLOEXEC, 0600);
+    int fd = openat(folder, new_name, O_WRONLY | O_CREAT | O_TRUNC | O_APPEND | O_NOFOLLOW | O_CLOEXEC, 0600);
     file = fd < 0 ? NULL : fdopen(fd, "a");
     if (!file) {
         kept = last_fault();
@@ -152,7 +159,7 @@ static int replace_file(struct state *own, int folder, const char *name, bool la
     }
     write_state(own, file);
     kept = fflush(file) == 0 && !ferror(file) && (!lasts || fsync(fd) == 0) ? fcntl(fd, F_DUPFD_CLOEXEC, 0) : -1;
-    if (fclose(file) == 0 && kept >= 0 && !own->carry->parts.process->broken && renameat(folder, new_name, folder, name) == 0) return kept;
+    if (fclose(file) == 0 && kept >= 0 && !own->carry->process->broken && renameat(folder, new_name, folder, name) == 0) return kept;
     fd = last_fault();
     if (kept >= 0) close(kept);
     (void)unlinkat(folder, new_name, 0);
@@ -162,68 +169,155 @@ static int replace_file(struct state *own, int folder, const char *name, bool la
 /* It could not be written: there is none. */
 static void lose_file(struct state *own, int fault) {
     if (!own->failed)
-        (void)say(own->carry->parts.process, LOG_WARNING | ABOUT_HANDOVER, "its state cannot be kept, so the next daemon starts anew: %s",
+        (void)say(own->carry->process, LOG_WARNING | ABOUT_HANDOVER, "its state cannot be kept, so the next daemon starts anew: %s",
             strerror(-fault));
     own->failed = true;
-    (void)unlinkat(own->carry->parts.process->folder, own->name, 0);
+    (void)unlinkat(own->carry->process->folder, own->name, 0);
 }
 
 /* The next frame of a conversation goes on this port: a daemon that goes on from here has to know. */
 void keep_port(struct state *own, uint16_t number, uint16_t port) {
-    int index = own->carry->parts.ports->links[port - 1].index;
+    int index = own->carry->ports->links[port - 1].index;
     char line[32];
-    int length;
     if (own->file < 0 || own->members[number] == index) return;
     own->members[number] = index;
-    length = snprintf(line, sizeof line, "on %u %d\n", number, index);
+    int length = snprintf(line, sizeof line, "on %u %d\n", number, index);
     if (write(own->file, line, (size_t)length) == length) return;
     lose_file(own, last_fault());
     keep_file(own, -1);
 }
 
-static void remove_state(struct state *own, int folder, const char *name) {
-    int emptied;
-    if (unlinkat(folder, name, 0) == 0 || errno == ENOENT) return;
-    emptied = openat(folder, name, O_WRONLY | O_TRUNC | O_NOFOLLOW | O_CLOEXEC);
-    if (emptied >= 0)
-        close(emptied);
-    else
-        (void)say(own->carry->parts.process, LOG_ERR | ABOUT_HANDOVER,
-            "its state cannot be removed: %s: remove %s, or start no daemon for as long as a partner is waited for", strerror(errno), name);
+/* Removes a state, or what it has; answers 0, or -errno. */
+static int remove_file(int folder, const char *name) {
+    if (unlinkat(folder, name, 0) == 0 || errno == ENOENT) return 0;
+    int emptied = openat(folder, name, O_WRONLY | O_TRUNC | O_NOFOLLOW | O_CLOEXEC);
+    if (emptied < 0) return last_fault();
+    close(emptied);
+    return 0;
 }
 
-/* Writes the copy, which is of no use any more while a daemon runs. It may be on a disk that takes long: it is written once, by a daemon that
- * leaves. */
-static void save_copy(struct state *own, bool leaves) {
-    int copy = leaves ? replace_file(own, own->kept_folder, own->kept_name, true) : -1;
-    if (copy >= 0)
-        close(copy);
-    else if (leaves)
-        (void)say(own->carry->parts.process, LOG_WARNING | ABOUT_HANDOVER, "its state cannot be kept in %s, so a start after a reboot begins anew: %s",
-            own->carry->parts.settings->state_dir, strerror(-copy));
-    if (copy < 0 && own->has_copy) remove_state(own, own->kept_folder, own->kept_name);
-    own->has_copy = copy >= 0;
+static void note_removal(struct process *process, const char *name, int fault) {
+    if (fault < 0)
+        (void)say(process, LOG_ERR | ABOUT_HANDOVER,
+            "its state cannot be removed: %s: remove %s, or start no daemon for as long as a partner is waited for", strerror(-fault), name);
+}
+
+/* What became of a copy: each is 0, or -errno. */
+struct copied {
+    int written, removed;
+};
+
+/* Writes the copy, where some port would go on from it; else there is none. */
+static struct copied write_copy(struct state *own, bool wanted) {
+    int copy = wanted ? replace_file(own, own->kept_folder, own->kept_name, true) : -1;
+    if (copy < 0) return (struct copied){wanted ? copy : 0, remove_file(own->kept_folder, own->kept_name)};
+    close(copy);
+    return (struct copied){0, 0};
+}
+
+/* What is wrong with a copy has a line, and of several in a row the first one. */
+static void note_copy(struct state *own, struct copied copied) {
+    struct process *process = own->carry->process;
+    if (copied.written < 0 && !own->copy_failed)
+        (void)say(process, LOG_WARNING | ABOUT_HANDOVER, "its state cannot be kept in %s, so a start after a reboot begins anew: %s",
+            own->carry->settings->state_dir, strerror(-copied.written));
+    if (!own->copy_failed) note_removal(process, own->kept_name, copied.removed);
+    own->copy_failed = copied.written < 0 || copied.removed < 0;
+}
+
+/* The ports that would go on after a reboot, a bit for each: those whose ends wait for 90 s. */
+static uint64_t lasting_ports(const struct ports *ports) {
+    uint64_t found = 0;
+    EACH_LINK_AS_IS(link, ports)
+        if (link->socket >= 0 && is_carrying(link) && !link->settings.short_timeout && !(link->view.partner_state & NIW_STATE_TIMEOUT))
+            found |= (uint64_t)1 << (link->settings.number - 1);
+    return found;
+}
+
+/* A process that writes the copy, or removes it. It has nothing else of the daemon, which may end meanwhile, and prints nothing. */
+static _Noreturn void run_copier(struct state *own, int told) {
+    sigset_t none;
+    for (int fd = STDERR_FILENO + 1; fd < MOST_OPENED; fd++)
+        if (fd != own->kept_folder && fd != told) close(fd);
+    sigemptyset(&none);
+    sigprocmask(SIG_SETMASK, &none, NULL);
+    struct copied copied = write_copy(own, own->copied_ports != 0);
+    (void)!write(told, &copied, sizeof copied);
+    _exit(DONE);
+}
+
+/* Has the copy written or removed; answers 0, or -errno. */
+static int start_copier(struct state *own) {
+    int ends[2], fault;
+    if (pipe2(ends, O_CLOEXEC | O_NONBLOCK) < 0) return last_fault();
+    own->copier = fork();
+    fault = own->copier < 0 ? last_fault() : 0;
+    if (own->copier == 0) run_copier(own, ends[1]);
+    close(ends[1]);
+    if (fault == 0) own->copied = ends[0];
+    else close(ends[0]);
+    return fault;
+}
+
+/* Sees whether a copy was written. One whose process was killed is there, or is not. */
+static void see_copy(struct state *own) {
+    struct copied copied = {-ECANCELED, 0};
+    if (own->copied < 0 || (read(own->copied, &copied, sizeof copied) < 0 && errno == EAGAIN)) return;
+    close(own->copied);
+    own->copied = -1;
+    own->has_copy = copied.removed < 0 || copied.written == -ECANCELED || (copied.written == 0 && own->copied_ports != 0);
+    note_copy(own, copied);
+}
+
+/* A second passed: the copy is written anew where other ports would go on from it, or it gets old. */
+static void pass_copy_second(struct state *own) {
+    uint64_t ports = lasting_ports(own->carry->ports), now = boottime();
+    see_copy(own);
+    if (own->copied >= 0 || (ports == 0 && !own->has_copy) || (ports == own->copied_ports && now - own->copied_at < COPIED_EVERY)) return;
+    own->copied_ports = ports;
+    own->copied_at = now;
+    own->has_copy = true;
+    int fault = start_copier(own);
+    if (fault < 0) note_copy(own, (struct copied){fault, 0});
+}
+
+/* Nobody writes a copy from here on. */
+static void end_copier(struct state *own) {
+    struct pollfd told = {own->copied, POLLIN, 0};
+    if (own->copied < 0) return;
+    if (poll(&told, 1, MOST_COPYING) == 0) {
+        (void)kill(own->copier, SIGKILL);
+        (void)poll(&told, 1, MOST_COPYING);
+    }
+    close(own->copied);
+    own->copied = -1;
 }
 
 /* Writes the state; answers whether it did. Where that fails there is none. */
 bool save_state(struct state *own, bool leaves) {
-    struct process *process = own->carry->parts.process;
-    int file;
+    struct process *process = own->carry->process;
     if (own->over || process->broken || !process->has_started) return false;
-    file = replace_file(own, process->folder, own->name, false);
+    int file = replace_file(own, process->folder, own->name, false);
     keep_file(own, file);
     if (file < 0) lose_file(own, file);
     if (file >= 0) own->failed = false;
-    if (own->kept_folder >= 0 && (leaves ? file >= 0 : own->has_copy)) save_copy(own, leaves);
+    if (own->kept_folder >= 0 && leaves && file >= 0) {
+        end_copier(own);
+        note_copy(own, write_copy(own, true));
+    } else if (own->kept_folder >= 0 && !leaves) {
+        pass_copy_second(own);
+    }
     return file >= 0;
 }
 
 /* The peers are told of the end: no daemon goes on from here. */
 void end_state(struct state *own) {
+    struct process *process = own->carry->process;
     own->over = true;
     keep_file(own, -1);
-    remove_state(own, own->carry->parts.process->folder, own->name);
-    if (own->kept_folder >= 0) remove_state(own, own->kept_folder, own->kept_name);
+    end_copier(own);
+    note_removal(process, own->name, remove_file(process->folder, own->name));
+    if (own->kept_folder >= 0) note_removal(process, own->kept_name, remove_file(own->kept_folder, own->kept_name));
 }
 
 static bool read_hex(const char *text, uint8_t *octets) {
@@ -285,8 +379,7 @@ static bool read_bundle(struct inherited *inherited, FILE *file) {
     long long changed;
     if (fscanf(file, "%u %u %lld", &state, &aggregator, &changed) != 3 || state >= BUNDLE_STATES || aggregator > NIW_MOST_PORTS)
         return false;
-    inherited->bundle = (struct bundle){.state = (enum bundle_state)state, .aggregator = (uint16_t)aggregator,
-        .changed_at = (time_t)changed};
+    inherited->bundle = (struct bundle){.state = (enum bundle_state)state, .aggregator = (uint16_t)aggregator, .changed_at = (time_t)changed};
     return true;
 }
 
@@ -303,8 +396,7 @@ static bool read_rest(struct inherited *inherited, FILE *file) {
         if (strcmp(word, "bundle") == 0) read = read_bundle(inherited, file);
         if (strcmp(word, "follows") == 0) read = inherited->follows = true;
         if (strcmp(word, "tap") == 0)
-            read = fscanf(file, "%d %d %" SCNu32 " %u", &inherited->tap, &inherited->persists, &inherited->mtu,
-                &inherited->answering) == 4
+            read = fscanf(file, "%d %d %" SCNu32 " %u", &inherited->tap, &inherited->persists, &inherited->mtu, &inherited->answering) == 4
                 && inherited->answering <= MUTE;
         if (strcmp(word, "port") == 0) read = read_port_number(inherited, file);
         if (strcmp(word, "link") == 0) read = read_link_line(inherited, file);
@@ -317,7 +409,7 @@ static bool read_rest(struct inherited *inherited, FILE *file) {
 /* By other settings nothing goes on: what stays to be done is to put back what the last daemon changed. It has a line once these interfaces
  * are found. */
 static void keep_interfaces(struct state *own, bool team) {
-    struct inherited *inherited = own->carry->parts.process->inherited;
+    struct inherited *inherited = own->carry->process->inherited;
     inherited->others = true;
     if (team)
         leave_team(own->team, inherited->tap, inherited->persists);
@@ -362,16 +454,15 @@ static const char *bring_over(struct inherited *inherited) {
 
 /* Reads a state; answers NULL, or why it counts for nothing. In another network namespace its numbers of interfaces are those of others. */
 static const char *read_state(struct state *own, FILE *file, bool is_kept) {
-    struct inherited *inherited = own->carry->parts.process->inherited;
+    struct inherited *inherited = own->carry->process->inherited;
     unsigned version;
     char boot[BOOT_ROOM], now[BOOT_ROOM], given[WAY_ROOM], room[WAY_ROOM];
-    bool is_same_way;
     if (fscanf(file, "lagd %u", &version) != 1) return "it is no state of lagd";
     if (version != FORM_VERSION && version != FORM_WITHOUT_SPACE) return "it is of another version";
     if (fscanf(file, " boot %63s way %95s", boot, given) != 2) return "it is cut off";
     if (!is_kept && strcmp(boot, boot_id(now)) != 0) return "it is of another boot";
     if (!read_rest(inherited, file)) return "it is cut off, or wrong";
-    is_same_way = strcmp(given, way(own->carry->parts.settings, room)) == 0;
+    bool is_same_way = strcmp(given, way(own->carry->settings, room)) == 0;
     if (is_kept) return is_same_way ? bring_over(inherited) : "it belongs to other settings";
     if (inherited->space != 0 && inherited->space != own->space) return "it is of another network namespace";
     read_changes(inherited, file);
@@ -391,36 +482,52 @@ static FILE *open_state(int folder, const char *name) {
     return file;
 }
 
+/* Takes the copy for this bundle, as long as the program runs: one of another network namespace may have its name. Else errno tells why not. */
+static bool lock_copy(struct state *own) {
+    char name[NAME_ROOM + 40];
+    snprintf(name, sizeof name, "%s.lock", own->kept_name);
+    own->lock = openat(own->kept_folder, name, O_RDWR | O_CREAT | O_NOFOLLOW | O_CLOEXEC, 0600);
+    if (own->lock >= 0 && flock(own->lock, LOCK_EX | LOCK_NB) == 0) return true;
+    int fault = errno;
+    if (own->lock >= 0) close(own->lock);
+    errno = fault;
+    return false;
+}
+
 /* Opens state-dir. A bundle goes on without the copy. */
 static void open_kept_folder(struct state *own) {
-    const char *folder = own->carry->parts.settings->state_dir, *fault;
+    const char *folder = own->carry->settings->state_dir, *fault;
     if (!folder[0] || own->kept_folder >= 0) return;
     own->kept_folder = try_folder(folder, &fault);
+    if (own->kept_folder >= 0 && !lock_copy(own)) {
+        fault = errno == EWOULDBLOCK ? "another lagd has a bundle of this name there" : strerror(errno);
+        close(own->kept_folder);
+        own->kept_folder = -1;
+    }
     own->has_copy = own->kept_folder >= 0;
+    own->copied_ports = UINT64_MAX;
     if (own->kept_folder < 0)
-        (void)say(own->carry->parts.process, LOG_WARNING | ABOUT_HANDOVER, "no state is kept in %s, so a start after a reboot begins anew: %s", folder,
+        (void)say(own->carry->process, LOG_WARNING | ABOUT_HANDOVER, "no state is kept in %s, so a start after a reboot begins anew: %s", folder,
             fault ? fault : strerror(errno));
 }
 
 /* Reads what the last daemon left. What counts for nothing has a line, and the daemon starts anew. */
 void recall_state(struct state *own) {
-    const struct settings *settings = own->carry->parts.settings;
-    const char *fault;
+    const struct settings *settings = own->carry->settings;
     FILE *file;
-    bool is_kept;
     snprintf(own->name, sizeof own->name, "%lu.%s.state", network_namespace(), settings->name);
     snprintf(own->kept_name, sizeof own->kept_name, "%s.state", settings->name);
     own->space = namespace_cookie();
     open_kept_folder(own);
-    file = open_state(own->carry->parts.process->folder, own->name);
-    is_kept = !file && own->kept_folder >= 0;
+    file = open_state(own->carry->process->folder, own->name);
+    bool is_kept = !file && own->kept_folder >= 0;
     if (is_kept) file = open_state(own->kept_folder, own->kept_name);
     if (!file) return;
-    fault = read_state(own, file, is_kept);
+    const char *fault = read_state(own, file, is_kept);
     fclose(file);
     if (!fault) return;
-    *own->carry->parts.process->inherited = (struct inherited){0};
-    (void)say(own->carry->parts.process, LOG_WARNING | ABOUT_HANDOVER, "the state that the last daemon left is not used: %s", fault);
+    *own->carry->process->inherited = (struct inherited){0};
+    (void)say(own->carry->process, LOG_WARNING | ABOUT_HANDOVER, "the state that the last daemon left is not used: %s", fault);
 }
 
 /* Whether there was no daemon for a moment only: what waits in sockets and in the TAP device is still of use. */

@@ -1,15 +1,7 @@
 /* Whoever asks: a Unix socket, of which each connection has one question, a line, and one answer; or it watches. */
-#define _GNU_SOURCE
-#include <errno.h>
-#include <stdio.h>
-#include <stdlib.h>
-#include <string.h>
-#include <sys/socket.h>
-#include <sys/stat.h>
-#include <sys/un.h>
-#include <unistd.h>
-
 #include "control.h"
+
+#include <sys/un.h>
 
 /* The most connections of one user, so that none takes all of them; how many of these may watch, so that the others can ask; and how many
  * of all are root's alone. */
@@ -42,12 +34,7 @@ struct status_private {
     char own_name[NAME_ROOM + 32];
 };
 
-struct status_private *make_status_private(void) {
-    struct status_private *made = make_room(sizeof *made);
-    made->listener = -1;
-    made->left_in_tick = MOST_IN_TICK;
-    return made;
-}
+MAKES_WITH(status, .listener = -1, .left_in_tick = MOST_IN_TICK)
 
 static void close_caller(struct caller *caller) {
     close(caller->fd);
@@ -55,7 +42,6 @@ static void close_caller(struct caller *caller) {
     *caller = (struct caller){.fd = -1};
 }
 
-/* How many connections a user has, or how many of them watch. */
 static unsigned count_of(const struct status_private *own, uid_t user, bool watching) {
     unsigned count = 0;
     for (unsigned i = 0; i < MOST_CALLERS; i++)
@@ -81,7 +67,6 @@ static struct caller *place_for(struct status_private *own, uid_t user, const ch
     return NULL;
 }
 
-/* Says why somebody gets no answer. */
 static void refuse(int fd, const char *why) {
     char text[128];
     int length = snprintf(text, sizeof text, REFUSAL "%s\n", why);
@@ -128,7 +113,6 @@ static void send_rest(struct process *process, struct caller *caller) {
         close_caller(caller);
 }
 
-/* Whether a question is one that changes something. */
 static bool is_order(const char *asked) {
     static const char *const orders[] = {"add ", "remove ", "removed ", "hold ", "release "};
     for (size_t i = 0; i < sizeof orders / sizeof *orders; i++)
@@ -142,16 +126,15 @@ static void obey(struct control *control, struct caller *caller) {
     if (caller->user != 0) {
         refuse(caller->fd, "root alone may change a bundle");
     } else {
-        answer_order(control->parts.protocol, caller->question, answer);
+        answer_order(control->protocol, caller->question, answer);
         (void)send(caller->fd, answer, strlen(answer), MSG_NOSIGNAL | MSG_DONTWAIT);
     }
     close_caller(caller);
 }
 
-/* Answers a question, a word of one line, or an order. */
 static void answer_caller(struct control *control, struct caller *caller) {
     const char *asked = caller->question;
-    unsigned watching = count_of(control->parts.process->status, caller->user, true);
+    unsigned watching = count_of(control->process->status, caller->user, true);
     if (is_order(asked)) {
         obey(control, caller);
         return;
@@ -169,31 +152,30 @@ static void answer_caller(struct control *control, struct caller *caller) {
     if (strcmp(asked, "config") == 0) write_config(control);
     if (strcmp(asked, "json") == 0) write_json(control);
     if (strcmp(asked, "metrics") == 0) write_metrics(control);
-    if (control->parts.process->broken) control->report->length = 0; /* what the library refuses to tell is not told half */
+    if (control->process->broken) control->report->length = 0; /* what the library refuses to tell is not told half */
     caller->rest = control->report->length > 0 ? malloc(control->report->length) : NULL;
     caller->answer_length = control->report->length;
     if (caller->rest) memcpy(caller->rest, control->report->text, control->report->length);
     if (caller->rest)
-        send_rest(control->parts.process, caller);
+        send_rest(control->process, caller);
     else
         close_caller(caller);
 }
 
 /* Takes what somebody sends, or goes on with an answer. Who watches sends nothing more, but for the end. */
 void serve_caller(struct control *control, uint32_t number) {
-    struct caller *caller = &control->parts.process->status->callers[number];
+    struct caller *caller = &control->process->status->callers[number];
     char *end, scrap[64];
-    ssize_t got;
     if (caller->fd < 0) return;
     if (caller->rest) {
-        send_rest(control->parts.process, caller);
+        send_rest(control->process, caller);
         return;
     }
     if (caller->watches) {
         if (recv(caller->fd, scrap, sizeof scrap, MSG_DONTWAIT) <= 0) close_caller(caller);
         return;
     }
-    got = recv(caller->fd, caller->question + caller->length, sizeof caller->question - 1 - caller->length, MSG_DONTWAIT);
+    ssize_t got = recv(caller->fd, caller->question + caller->length, sizeof caller->question - 1 - caller->length, MSG_DONTWAIT);
     if (got < 0 && (errno == EAGAIN || errno == EINTR)) return;
     if (got > 0) caller->length += (size_t)got;
     caller->question[caller->length] = 0;
@@ -223,20 +205,19 @@ static void tell(struct status_private *own, const char *text, size_t length, bo
     }
 }
 
-/* Tells those who watch a line. */
 void tell_watchers(struct status_private *own, const char *line, size_t length) {
     tell(own, line, length, false);
 }
 
 /* Tells those who watch in JSON how a port is now, or the bundle, where `link` is null. */
 void tell_watchers_of(struct control *control, const struct link *link) {
-    struct status_private *own = control->parts.process->status;
+    struct status_private *own = control->process->status;
     bool any = false;
     for (unsigned i = 0; i < MOST_CALLERS; i++) any = any || (own->callers[i].fd >= 0 && own->callers[i].watches && own->callers[i].json);
     if (!any) return;
     control->report->length = 0;
     write_json_event(control, link);
-    if (!control->parts.process->broken) tell(control->parts.process->status, control->report->text, control->report->length, true);
+    if (!control->process->broken) tell(control->process->status, control->report->text, control->report->length, true);
 }
 
 static void remove_socket(void *given) {
@@ -244,7 +225,6 @@ static void remove_socket(void *given) {
     (void)unlinkat(process->folder, process->status->own_name, 0);
 }
 
-/* Whether somebody listens at an address. */
 static bool is_taken(const struct sockaddr_un *address) {
     int asker = socket(AF_UNIX, SOCK_STREAM | SOCK_NONBLOCK | SOCK_CLOEXEC, 0);
     bool taken = asker >= 0 && (connect(asker, (const struct sockaddr *)address, sizeof *address) == 0 || errno == EAGAIN);
@@ -257,18 +237,15 @@ static bool is_taken(const struct sockaddr_un *address) {
 void open_status(struct process *process, const char *folder) {
     struct status_private *own = process->status;
     struct sockaddr_un address = {.sun_family = AF_UNIX};
-    int length, fault;
-    mode_t mask;
     for (unsigned i = 0; i < MOST_CALLERS; i++) own->callers[i].fd = -1;
     snprintf(own->own_name, sizeof own->own_name, "%lu.%.*s.sock", network_namespace(), LONGEST_NAME, process->settings->name);
-    length = snprintf(address.sun_path, sizeof address.sun_path, "/proc/self/fd/%d/%s", process->folder, own->own_name);
+    int length = snprintf(address.sun_path, sizeof address.sun_path, "/proc/self/fd/%d/%s", process->folder, own->own_name);
     if (length >= (int)sizeof address.sun_path) stop(WRONG_WORD, "too long", own->own_name);
     if (is_taken(&address)) stop(REFUSED, "another lagd has this bundle", process->settings->name);
     (void)unlinkat(process->folder, own->own_name, 0);
     own->listener = socket(AF_UNIX, SOCK_STREAM | SOCK_NONBLOCK | SOCK_CLOEXEC, 0);
-    mask = umask(0117);
-    fault = own->listener < 0 || bind(own->listener, (struct sockaddr *)&address, sizeof address) < 0 || listen(own->listener, 64) < 0
-        ? errno : 0;
+    mode_t mask = umask(0117);
+    int fault = own->listener < 0 || bind(own->listener, (struct sockaddr *)&address, sizeof address) < 0 || listen(own->listener, 64) < 0 ? errno : 0;
     umask(mask);
     if (fault) stop(REFUSED, folder, strerror(fault));
     call_at_exit(process, remove_socket, process);

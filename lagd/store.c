@@ -1,26 +1,20 @@
-/* The store of the manager of services: files that it keeps open while no daemon runs, so that the next one goes on with them. Each has the
+/* The manager of services, if one started the daemon: it is told what that does. And its store: files that it keeps open while no daemon runs, so that the next one goes on with them. Each has the
  * name of its kind, of its network namespace, and a number, mostly that of an interface. */
-#define _GNU_SOURCE
+#include "lagd.h"
+
 #ifdef HAVE_SYSTEMD
 #include <systemd/sd-daemon.h>
 #define HAS_LIBRARY true
 #else
 #define HAS_LIBRARY false
 #define sd_pid_notify_with_fds(...) 0
+#define sd_notify(...) 0
 #define sd_notifyf(...) 0
 #define sd_listen_fds_with_names(...) 0
 #define SD_LISTEN_FDS_START 3
 #endif
-#include <errno.h>
 #include <linux/if_packet.h>
 #include <netinet/in.h>
-#include <stdio.h>
-#include <stdlib.h>
-#include <string.h>
-#include <sys/socket.h>
-#include <unistd.h>
-
-#include "lagd.h"
 
 #define NAME_OF_FILE 64
 /* What the unit lets it keep. */
@@ -37,6 +31,16 @@ struct store_private {
 };
 
 MAKES_ROOM(store)
+
+/* Tells the manager what the daemon does. */
+void notify(const char *what UNUSED) {
+    (void)sd_notify(0, what);
+}
+
+/* And how the bundle is now. */
+void notify_bundle(const struct bundle *bundle UNUSED, const char *what UNUSED) {
+    (void)sd_notifyf(0, "%sSTATUS=%s, %u of %u links carry", what, bundle_state_text(bundle->state), bundle->carrying, bundle->links);
+}
 
 static void name_stored(const char *kind, int number, char room[static NAME_OF_FILE]) {
     snprintf(room, NAME_OF_FILE, "%s-%lu-%d", kind, network_namespace(), number);
@@ -69,7 +73,6 @@ void put_stored(struct store_private *own, const char *kind, int number, int fd)
     if (has_store() && !is_stored(own, kind, number, fd)) tell_store("FDSTORE", kind, number, fd);
 }
 
-/* The manager keeps it no more. */
 void drop_stored(struct store_private *own, const char *kind, int number) {
     char name[NAME_OF_FILE];
     name_stored(kind, number, name);
@@ -136,7 +139,6 @@ void drop_unclaimed(struct store_private *own) {
     for (size_t i = 0; i < own->count; i++) drop_at(own, i);
 }
 
-/* The next daemon goes on with what there is. */
 void leave_store(struct store_private *own) {
     own->stays = true;
 }
@@ -148,7 +150,6 @@ static void empty_store(void *given) {
     for (size_t i = 0; i < own->count; i++) (void)sd_notifyf(0, "FDSTOREREMOVE=1\nFDNAME=%s", own->stored[i].name);
 }
 
-/* Takes over what the last daemon left with the manager. */
 void open_store(struct process *process) {
     struct store_private *own = process->store;
     char **names = NULL;
@@ -174,7 +175,6 @@ void close_stored(struct store_private *own, const char *kind, int number, int f
     errno = fault;
 }
 
-/* Whether a packet socket still has its interface. */
 static bool is_of(int fd, int index) {
     struct sockaddr_ll address = {0};
     socklen_t length = sizeof address;

@@ -1,10 +1,7 @@
 /* The system of the library: time and links go in, frames come out. */
-#define _GNU_SOURCE
-#include <string.h>
-#include <sys/random.h>
-#include <unistd.h>
-
 #include "lagd.h"
+
+#include <sys/random.h>
 
 struct system_private {
     uint64_t ticks;
@@ -14,7 +11,6 @@ struct system_private {
 
 MAKES_ROOM(system)
 
-/* How many ticks passed since the start. */
 uint64_t ticks_passed(const struct system_private *own) {
     return own->ticks;
 }
@@ -26,7 +22,6 @@ uint64_t seconds_passed(const struct system_private *own) {
     return (uint64_t)(now.tv_sec - own->began.tv_sec);
 }
 
-/* The time now, in milliseconds of CLOCK_MONOTONIC. */
 uint64_t milliseconds(void) {
     struct timespec now;
     clock_gettime(CLOCK_MONOTONIC, &now);
@@ -66,7 +61,6 @@ static struct niw_made put_system(struct protocol *protocol, const struct niw_sa
     return niw_resume(&protocol->own_system, config, protocol->system->keys, protocol->aggregator_count, ports, protocol->ports->slots, saved, count);
 }
 
-/* Holds the ports that are to be held. */
 static void hold_by_settings(struct protocol *protocol) {
     for (uint16_t port = 1; port <= protocol->ports->count; port++)
         if (protocol->ports->links[port - 1].held && !apply_hold(protocol, port)) return;
@@ -95,7 +89,6 @@ size_t resume_system(struct protocol *protocol, struct niw_saved *saved, size_t 
     return count;
 }
 
-/* Makes the system of the settings. */
 void make_system(struct protocol *protocol) {
     clock_gettime(CLOCK_MONOTONIC, &protocol->system->began);
     protocol->settings->config.first_marker = first_marker_left(protocol->process->inherited);
@@ -111,7 +104,6 @@ void make_system(struct protocol *protocol) {
     read_views(protocol);
 }
 
-/* Sends what is due on a port. */
 static void send_due_of(struct protocol *protocol, uint16_t port) {
     uint8_t frame[NIW_FRAME];
     for (;;) {
@@ -160,7 +152,6 @@ void set_link(struct protocol *protocol, uint16_t port, bool up) {
     (void)print_change(protocol, link);
 }
 
-/* The interface of a port is gone, or has another name now. */
 void lose_link(struct protocol *protocol, struct link *link) {
     forget_carrier(link);
     set_link(protocol, link->settings.number, false);

@@ -1,7 +1,4 @@
 /* Links whose partners name one port of one system, as no system has: two hosts were given the same system. */
-#define _GNU_SOURCE
-#include <string.h>
-
 #include "lagd.h"
 
 /* For how many seconds they do so before they are told of: cables may have been changed over, and the LACPDUs of one tell of it first. */
@@ -29,7 +26,6 @@ static void tell_twin(struct protocol *protocol, const struct link *link) {
             protocol->ports->links[link->twin - 1].name);
 }
 
-/* A second passed. */
 void look_for_twins(struct protocol *protocol) {
     EACH_LINK(link, protocol->ports) {
         uint16_t twin = twin_of(protocol->ports, link);

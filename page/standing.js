@@ -20,12 +20,14 @@ const isPassive = (it) => !(it.state & ACTIVITY_BIT);
 /* ---- Facts: a name, ports, a title and what to do; one without ports is none ---- */
 
 function linkFacts({ name, told, ports, hash }) {
-    const down = ports.filter((it) => it.link === false), up = ports.filter((it) => isLinked(it) && it.aggregator !== null), linked = ports.filter(isLinked);
+    const down = ports.filter((it) => it.link === false && !it.isWaiting), waiting = ports.filter((it) => it.isWaiting), up = ports.filter((it) => isLinked(it) && it.aggregator !== null), linked = ports.filter(isLinked);
     const parts = [...new Set(up.map((it) => it.aggregator))], standing = ports.filter((it) => it.standsBy), away = ports.filter((it) => it.isAway);
     return [
         { name: "link-down", ports: down, title: `the link of ${namesIn(down)} is down`, advice: "Nothing of LACP is to be judged there: look at the cable and at the other end's port." },
         { name: "away", ports: away, title: `the carrier of ${namesIn(away)} is away, and LACP takes the link as up (delay-down): it passes nothing now`,
             advice: "Read the status again: it comes back within delay-down, or it is down." },
+        { name: "waiting", ports: waiting, title: `the link of ${namesIn(waiting)} is back, and waits until its carrier was steady for so long (wait-to-restore): it is not used before`,
+            advice: "Nothing is to be done. If it still waits later, its carrier comes and goes: look at the cable." },
         { name: "aggregators", ports: parts.length > 1 ? up : [], title: `${told} is in ${parts.length} parts, of which one is used`,
             advice: `${up.map((it) => `${it.name} in ${it.aggregator}`).join(", ")}: each has another partner, key or speed, or no partner.` },
         { name: "speeds", ports: isSeveral(linked, (it) => it.speed) ? linked : [], title: `the links of ${told} differ in speed or duplex`,
@@ -86,7 +88,7 @@ export function factsIn(texts) {
 const RANKS = ["no-lacp", "no-state", "no-root", "set-down", 30, "own-address", "never-heard", 29, 15, "apart", "link-down", "speeds", "stands-by", 5, "passive-unheard", 14, "deaf-there", 12, 22, 17, 2, 3, 4, "too-few"];
 const isUnheard = ({ rank }) => rank === 12;
 /* What calls for nothing by itself. */
-const ASIDE = ["away", "aggregators", "same-partner-port", "one-system", "note", "said"];
+const ASIDE = ["away", "waiting", "aggregators", "same-partner-port", "one-system", "note", "said"];
 
 const isCutIn = (text) => text.bundles.some((it) => it.isCut);
 /* That texts are cut, and where the first one of them is. */
@@ -146,6 +148,7 @@ function howApart(port, used) {
 
 /* Why a port of a text does not carry. */
 function whyIdle(port, bundle) {
+    if (port.isWaiting) return "its link is back, and waits for wait-to-restore";
     if (port.link === false) return "its link is down";
     if (port.isAway) return "its carrier is away now";
     if (port.standsBy) return `it stands by: ${bundle.hash.join(" is ")}`;
@@ -206,8 +209,8 @@ export function headlineOfTexts(texts, lines, causes) {
     if (texts.some(isCutIn)) return [cutSaid(texts), "bad"];
     if (cause) return [`${head}${capitalized(cause.title)}.`, "bad"];
     if (!all) return ["No port of an LACP bundle is in this text.", "bad"];
-    const away = causes.find(({ rank }) => rank === "away");
-    if (away) return [`${head}${capitalized(away.title)}.`, ""];
+    const passing = causes.find(({ rank }) => rank === "away" || rank === "waiting");
+    if (passing) return [`${head}${capitalized(passing.title)}.`, ""];
     if (carry < all) return [`${head}The text does not show why: give the text of the other end, or capture.`, ""];
     const twins = causes.find(({ rank }) => rank === "same-partner-port");
     if (twins) return [`${head}${capitalized(twins.title)}: right if switches act as one (MLAG).`, ""];
@@ -223,7 +226,7 @@ export const areUnread = (texts, causes) => texts.some(isCutIn) || causes.some((
 export function rowsOfTexts(texts) {
     const party = (it) => it ? [it.system ? dashed(it.system) : "not named", it.key ?? "-", it.port ?? "-", bitsOf(it.state).join(", ") || "none"] : ["nobody", "-", "-", "-"];
     return texts.flatMap((text) => text.bundles.flatMap((bundle) => bundle.ports.map((it) => {
-        const link = it.link === null ? "not said" : it.link ? "up" : "down";
+        const link = it.link === null ? "not said" : it.isWaiting ? "waiting" : it.link ? "up" : "down";
         return [it.name, link, `${it.aggregator ?? "-"}`, it.actor ? bitsOf(it.actor.state).join(", ") : "-", ...party(it.partner).map(String)];
     })));
 }

@@ -54,7 +54,7 @@ const bundleOfText = (name, told, ports, given) => ({ name, told, ports, hash: n
 
 /* A port with what a form has of it. */
 const portOfText = (given) => ({
-    link: null, isAway: false, source: "", actor: null, partner: null, aggregator: null, isUsed: null, isAlone: false, isLasting: false, speed: "", facts: [], ...given,
+    link: null, isAway: false, isWaiting: false, source: "", actor: null, partner: null, aggregator: null, isUsed: null, isAlone: false, isLasting: false, speed: "", facts: [], ...given,
 });
 
 const times = (number) => Number(number) === 1 ? "once" : `${number} times`;
@@ -251,8 +251,9 @@ function factsOfShow(part, said, receive, actor) {
 
 const isChurning = (churns) => churns.includes("CHURN");
 
-/* The link of a port, as lagd says it: with `away` LACP takes it as up (delay-down), and nothing passes. */
-const linkOfLagd = (said) => ({ link: said === "up" || said === "away", isAway: said === "away" });
+/* The link of a port, as lagd says it: with `away` LACP takes it as up (delay-down), and nothing passes; with `waiting` it is back, and LACP takes it as
+ * down (wait-to-restore). */
+const linkOfLagd = (said) => ({ link: said === "up" || said === "away", isAway: said === "away", isWaiting: said === "waiting" });
 
 function memberOfShow(part, active) {
     const [, name = "?", receive = ""] = /^(?:member|slave): (.*?): (.*)$/m.exec(part) ?? [], said = valuesIn(part), actor = partyOfShow(said, "actor"), partner = partyOfShow(said, "partner");

@@ -1,12 +1,8 @@
 /* Responses to markers, where data comes by several queues: what came on another one before the marker may still be on its way up. So a
  * response waits for `answer-after`, and then until the socket of its member has nothing more that came before. */
-#define _GNU_SOURCE
-#include <errno.h>
-#include <string.h>
-#include <sys/timerfd.h>
-#include <unistd.h>
-
 #include "tap.h"
+
+#include <sys/timerfd.h>
 
 /* The most that wait for a port. */
 #define MOST_WAITING 64
@@ -27,17 +23,13 @@ struct answers_private {
     int timer;
 };
 
-struct answers_private *make_answers_private(void) {
-    struct answers_private *made = make_room(sizeof *made);
-    made->timer = -1;
-    return made;
-}
+MAKES_WITH(answers, .timer = -1)
 
 /* Opens what wakes the daemon for a response. */
 void start_answers(struct tap_plane *tap) {
     struct answers_private *own = tap->answers;
     own->timer = timerfd_create(CLOCK_MONOTONIC, TFD_NONBLOCK | TFD_CLOEXEC);
-    if (own->timer < 0 || !await_input(tap->parts.process->epoll_file, own->timer, RESPONSES)) stop(REFUSED, "no clock", strerror(errno));
+    if (own->timer < 0 || !await_input(tap->process->epoll_file, own->timer, RESPONSES)) stop(REFUSED, "no clock", strerror(errno));
 }
 
 static struct answer *first_of(struct waiting *waiting) {
@@ -49,7 +41,7 @@ static void wake(struct tap_plane *tap) {
     struct answers_private *own = tap->answers;
     uint64_t now = milliseconds(), next = UINT64_MAX;
     struct itimerspec at = {{0, 0}, {0, 0}};
-    for (uint16_t i = 0; i < tap->parts.ports->count; i++) {
+    for (uint16_t i = 0; i < tap->ports->count; i++) {
         const struct answer *answer = first_of(&own->ports[i]);
         if (answer && answer->due < next) next = answer->due;
     }
@@ -58,19 +50,17 @@ static void wake(struct tap_plane *tap) {
     (void)timerfd_settime(own->timer, TFD_TIMER_ABSTIME, &at, NULL);
 }
 
-/* Sends the response to a marker. */
 bool answer_at_once(struct tap_plane *tap, struct link *link, const uint8_t *response) {
-    send_frame(tap->parts.protocol, link, response);
+    send_frame(tap->protocol, link, response);
     return true;
 }
 
 /* Sends the response to a marker later; answers false where too many wait. */
 bool answer_later(struct tap_plane *tap, struct link *link, const uint8_t *response) {
     struct waiting *waiting = &tap->answers->ports[link->settings.number - 1];
-    struct answer *answer;
     if (waiting->count == MOST_WAITING) return false;
-    answer = &waiting->answers[(waiting->first + waiting->count++) % MOST_WAITING];
-    *answer = (struct answer){.due = milliseconds() + tap->parts.settings->answer_after + 1, .unread = MOST_UNREAD};
+    struct answer *answer = &waiting->answers[(waiting->first + waiting->count++) % MOST_WAITING];
+    *answer = (struct answer){.due = milliseconds() + tap->settings->answer_after + 1, .unread = MOST_UNREAD};
     memcpy(answer->frame, response, sizeof answer->frame);
     if (waiting->count == 1) wake(tap);
     return true;
@@ -100,7 +90,7 @@ static void answer_due(struct tap_plane *tap, uint16_t port) {
     if (!answer || answer->due > now) return;
     if (!has_fast_member(tap->members, port)) receive_data(tap, port);
     while ((answer = first_of(waiting)) && answer->due <= now && (answer->unread == 0 || has_fast_member(tap->members, port))) {
-        send_frame(tap->parts.protocol, &tap->parts.ports->links[port - 1], answer->frame);
+        send_frame(tap->protocol, &tap->ports->links[port - 1], answer->frame);
         waiting->first = (waiting->first + 1) % MOST_WAITING;
         waiting->count--;
     }
@@ -110,6 +100,6 @@ static void answer_due(struct tap_plane *tap, uint16_t port) {
 void serve_answers(struct tap_plane *tap) {
     uint64_t passed;
     (void)!read(tap->answers->timer, &passed, sizeof passed);
-    for (uint16_t port = 1; port <= tap->parts.ports->count; port++) answer_due(tap, port);
+    for (uint16_t port = 1; port <= tap->ports->count; port++) answer_due(tap, port);
     wake(tap);
 }

@@ -1,14 +1,11 @@
 /* Data: on which port each frame of the host goes, which frames wait, and what is handed up. */
-#define _GNU_SOURCE
-#include <string.h>
-
 #include "tap.h"
 
 /* Has a frame wait until its conversation goes on. Where there is no room the oldest one of it is lost, or else this one. */
 static void keep(struct tap_plane *tap, uint16_t number, const uint8_t *packet, size_t length) {
     bool kept = put_held(tap, number, packet, length);
     uint64_t waiting;
-    if (!kept && !tap->parts.process->broken && drop_held(tap, number, QUEUE_FULL)) kept = put_held(tap, number, packet, length);
+    if (!kept && !tap->process->broken && drop_held(tap, number, QUEUE_FULL)) kept = put_held(tap, number, packet, length);
     tap->carry->counts[kept ? HELD_FRAMES : QUEUE_FULL]++;
     if (count_held(tap, number, &waiting) && waiting > tap->carry->counts[LONGEST_QUEUE]) tap->carry->counts[LONGEST_QUEUE] = waiting;
 }
@@ -17,12 +14,11 @@ static void keep(struct tap_plane *tap, uint16_t number, const uint8_t *packet, 
 enum offered { WAITS, LOST, GOES };
 
 static enum offered offer(struct carry *carry, struct conversation *conversation, uint16_t number) {
-    struct niw_number answer;
     if (carry->time < conversation->fast.not_before) return WAITS;
-    answer = niw_offer_conversation_in_active_aggregator(&carry->parts.protocol->own_system, carry->active, number);
+    struct niw_number answer = niw_offer_conversation_in_active_aggregator(&carry->protocol->own_system, carry->active, number);
     if (answer.status == NIW_HELD) return WAITS;
     if (answer.status == NIW_NONE_DISTRIBUTING) return LOST;
-    if (!is_done(carry->parts.process, answer.status, "niw_offer_conversation_in_active_aggregator")) return WAITS;
+    if (!is_done(carry->process, answer.status, "niw_offer_conversation_in_active_aggregator")) return WAITS;
     conversation->home = carry->active;
     conversation->port = (uint16_t)answer.number;
     conversation->since = 0;
@@ -30,7 +26,6 @@ static enum offered offer(struct carry *carry, struct conversation *conversation
     return GOES;
 }
 
-/* Puts a frame behind those of the port of its conversation. */
 static void send_on(struct tap_plane *tap, const struct conversation *conversation, uint8_t *packet, size_t length) {
     note_sent(tap->flight, conversation->port);
     put_data(tap, conversation->port, (uint16_t)(conversation - tap->carry->conversations), packet, length);
@@ -39,8 +34,7 @@ static void send_on(struct tap_plane *tap, const struct conversation *conversati
 /* Whether a frame of the host may go: of a right length, which each member takes, and none of the slow protocols. */
 static bool is_fit(const struct device *own, const uint8_t *packet, size_t length) {
     const uint8_t *frame = packet + head_octets();
-    return has_right_length(packet, length, longest_payload(own))
-        && ((unsigned)frame[12] << 8 | frame[13]) != ETH_P_SLOW;
+    return has_right_length(packet, length, longest_payload(own)) && ((unsigned)frame[12] << 8 | frame[13]) != ETH_P_SLOW;
 }
 
 /* A frame of a conversation came. It overtakes none that waits. */
@@ -55,24 +49,21 @@ static void accept_fit(struct tap_plane *tap, struct conversation *conversation,
     if (offered == LOST) tap->carry->counts[NONE_CARRIES]++;
 }
 
-/* A packet came from the host. */
 void accept_from_host(struct tap_plane *tap, uint8_t *packet, size_t length) {
     uint64_t number;
-    struct conversation *conversation;
     tap->carry->counts[FROM_HOST]++;
     if (length < head_octets() + ETH_HLEN) {
         tap->carry->counts[UNFIT]++;
         return;
     }
-    if (!is_told(tap->parts.process, conversation_of(tap->parts.protocol, packet + head_octets(), length - head_octets()), "niw_conversation",
-        &number)) {
+    if (!is_told(tap->process, conversation_of(tap->protocol, packet + head_octets(), length - head_octets()), "niw_conversation", &number)) {
         tap->carry->counts[UNFIT]++;
         return;
     }
-    conversation = &tap->carry->conversations[number % CONVERSATIONS];
+    struct conversation *conversation = &tap->carry->conversations[number % CONVERSATIONS];
     note_taken(conversation, count_segments(packet, length));
     if (has_segments(packet)) tap->carry->counts[SEGMENTED]++;
-    if (is_fit(tap->parts.device, packet, length))
+    if (is_fit(tap->device, packet, length))
         accept_fit(tap, conversation, (uint16_t)number, packet, length);
     else
         tap->carry->counts[UNFIT]++;
@@ -85,7 +76,6 @@ uint64_t frames_handed_up(struct plane *plane, bool counts_now) {
     return carry->counts[HANDED_UP] + carry->counts[HOST_UNTAKEN];
 }
 
-/* A packet came in an aggregator. */
 void hand_up(struct tap_plane *tap, uint32_t aggregator, uint8_t *packet, size_t length) {
     if (aggregator == tap->carry->active) {
         put_host(tap, packet, length);
@@ -99,11 +89,10 @@ void hand_up(struct tap_plane *tap, uint32_t aggregator, uint8_t *packet, size_t
 static bool release_one(struct tap_plane *tap, struct conversation *conversation, uint16_t number) {
     enum offered offered = tap->carry->active == 0 ? WAITS : offer(tap->carry, conversation, number);
     size_t length;
-    uint8_t *packet;
     if (offered == WAITS) return false;
     conversation->fast.touched = true;
     if (offered == LOST) return drop_held(tap, number, NONE_CARRIES);
-    packet = remove_held(tap, number, &length);
+    uint8_t *packet = remove_held(tap, number, &length);
     if (!packet) return false;
     conversation->used = true; /* from now on it is on its way */
     send_on(tap, conversation, packet, length);
@@ -124,14 +113,14 @@ static void release(struct tap_plane *tap) {
     }
     tap->carry->waiting = any_left;
     flush_data(tap);
-    CALL(tap->parts.plane->passing->pass_on, tap);
+    CALL(tap->plane->passing->pass_on, tap);
 }
 
 /* The host sees how fast the ports are that carry, and a carrier where there are some. */
 void tell_speed_and_carrier(struct plane *plane) {
     struct tap_plane *tap = plane->tap;
-    set_speed(tap->parts.device, sum_speeds(tap));
-    set_carrier(tap->parts.device, tap->carry->active != 0);
+    set_speed(tap->device, sum_speeds(tap));
+    set_carrier(tap->device, tap->carry->active != 0);
 }
 
 /* What goes on of the frames that come here, and the next moves. */

@@ -2,14 +2,10 @@
  * kernel/programs.bpf.c read: the member on which its frames go, or none, and how many are on their way to the daemon. The daemon names a
  * member only while none is, and takes the name back before a marker goes: then it waits until each frame for which the old row was
  * read is with the member. All that the kernel runs is held by files of this process, and ends with it. */
-#define _GNU_SOURCE
-#include <errno.h>
-#include <linux/membarrier.h>
-#include <string.h>
-#include <sys/syscall.h>
-#include <unistd.h>
-
 #include "tap.h"
+
+#include <linux/membarrier.h>
+#include <sys/syscall.h>
 
 /* How long the conversations of a link that went down wait, in milliseconds: the peer's kernel may still have frames to hand up. */
 #define DOWN_WAIT 100
@@ -31,12 +27,7 @@ struct fast_private {
     uint64_t counted_overflows, counted_unfit;
 };
 
-struct fast_private *make_fast_private(void) {
-    struct fast_private *made = make_room(sizeof *made);
-    made->sender = -1;
-    made->handover = -1;
-    return made;
-}
+MAKES_WITH(fast, .sender = -1, .handover = -1)
 
 /* Waits until each program that runs now, and what it does with its frame, is done; answers whether the kernel can. */
 static bool wait_for_programs(void) {
@@ -50,7 +41,7 @@ static int needed(int program) {
 
 /* Has a program run at the TAP device; answers what keeps it there. */
 static int keep_program(struct tap_plane *tap, const char *kind, int program, bool egress) {
-    int opened = attach_stored(tap->parts.process->store, kind, program, tap->fast->tap_at, egress);
+    int opened = attach_stored(tap->process->store, kind, program, tap->fast->tap_at, egress);
     if (opened < 0) stop(REFUSED, "fast: no program of an interface, which Linux has from 6.6 on", strerror(-opened));
     close(program);
     return opened;
@@ -58,15 +49,14 @@ static int keep_program(struct tap_plane *tap, const char *kind, int program, bo
 
 /* A table that the programs share with the daemon: that of the last daemon, where that left one for this device, or a new one. */
 static void *open_map(struct tap_plane *tap, int number, uint32_t size, uint32_t count, int *map) {
-    int left = tap->parts.process->inherited->tap;
-    void *at;
-    *map = claim_stored(tap->parts.process->store, "map", number);
-    at = *map >= 0 && left != 0 && left == tap->fast->tap_at ? map_again(size, count, *map) : NULL;
+    int left = tap->process->inherited->tap;
+    *map = claim_stored(tap->process->store, "map", number);
+    void *at = *map >= 0 && left != 0 && left == tap->fast->tap_at ? map_again(size, count, *map) : NULL;
     if (at) return at;
-    if (*map >= 0) close_stored(tap->parts.process->store, "map", number, *map);
+    if (*map >= 0) close_stored(tap->process->store, "map", number, *map);
     at = make_map(size, count, map);
     need(at != NULL, "fast: no table of the kernel");
-    put_stored(tap->parts.process->store, "map", number, *map);
+    put_stored(tap->process->store, "map", number, *map);
     return at;
 }
 
@@ -79,7 +69,7 @@ static void begin_counts(struct tap_plane *tap) {
         fast->overflowed = __atomic_load_n(&own->rows[number].overflowed, __ATOMIC_ACQUIRE);
     }
     memcpy(own->counted, own->entries, sizeof own->counted);
-    for (uint16_t i = tap->parts.ports->count; i < NIW_MOST_PORTS; i++) __atomic_store_n(&own->entries[i].up_to, 0, __ATOMIC_SEQ_CST);
+    for (uint16_t i = tap->ports->count; i < NIW_MOST_PORTS; i++) __atomic_store_n(&own->entries[i].up_to, 0, __ATOMIC_SEQ_CST);
     own->counted_overflows = __atomic_load_n(&own->host->overflowed, __ATOMIC_RELAXED);
     own->counted_unfit = __atomic_load_n(&own->host->unfit, __ATOMIC_RELAXED);
 }
@@ -89,16 +79,16 @@ void start_fast(struct tap_plane *tap) {
     struct fast_private *own = tap->fast;
     struct fast_maps maps;
     need(wait_for_programs(), "fast: the kernel cannot wait for its programs (membarrier)");
-    own->tap_at = tap_index(tap->parts.device);
+    own->tap_at = tap_index(tap->device);
     own->rows = open_map(tap, 0, sizeof *own->rows, CONVERSATIONS, &maps.rows);
     own->entries = open_map(tap, 1, sizeof *own->entries, NIW_MOST_PORTS, &maps.members);
     own->host = open_map(tap, 2, sizeof *own->host, 1, &maps.host);
     own->places = open_map(tap, 3, sizeof *own->places, PLACES, &maps.places);
     begin_counts(tap);
-    if (own->host->mac == 0) memcpy(&own->host->mac, tap->parts.settings->config.mac, ETH_ALEN);
-    own->receiver = needed(load_program(tap->parts.settings, "receiver", &maps));
-    own->handover = keep_program(tap, "handover", needed(load_program(tap->parts.settings, "handover", &maps)), false);
-    own->sender = keep_program(tap, "sender", needed(load_program(tap->parts.settings, "sender", &maps)), true);
+    if (own->host->mac == 0) memcpy(&own->host->mac, tap->settings->config.mac, ETH_ALEN);
+    own->receiver = needed(load_program(tap->settings, "receiver", &maps));
+    own->handover = keep_program(tap, "handover", needed(load_program(tap->settings, "handover", &maps)), false);
+    own->sender = keep_program(tap, "sender", needed(load_program(tap->settings, "sender", &maps)), true);
 }
 
 /* Nothing is passed on any more, from the first line on. */
@@ -107,9 +97,9 @@ void end_fast(struct tap_plane *tap) {
     open_host(tap, false);
     for (uint16_t number = 0; number < CONVERSATIONS; number++)
         (void)__atomic_and_fetch(&own->rows[number].word, ~(uint64_t)UINT32_MAX, __ATOMIC_SEQ_CST);
-    for (uint16_t i = 0; i < tap->parts.ports->count; i++) __atomic_store_n(&own->entries[i].up_to, 0, __ATOMIC_SEQ_CST);
-    if (own->sender >= 0) detach_stored(tap->parts.process->store, "sender", own->tap_at, own->sender);
-    if (own->handover >= 0) detach_stored(tap->parts.process->store, "handover", own->tap_at, own->handover);
+    for (uint16_t i = 0; i < tap->ports->count; i++) __atomic_store_n(&own->entries[i].up_to, 0, __ATOMIC_SEQ_CST);
+    if (own->sender >= 0) detach_stored(tap->process->store, "sender", own->tap_at, own->sender);
+    if (own->handover >= 0) detach_stored(tap->process->store, "handover", own->tap_at, own->handover);
     own->sender = own->handover = -1;
     own->tap_at = 0;
 }
@@ -125,8 +115,8 @@ static uint64_t place_word(const struct link *link) {
 
 /* Whether another member of now has the place of this one. */
 static bool is_place_taken(struct tap_plane *tap, const struct link *link) {
-    for (uint16_t i = 0; i < tap->parts.ports->count; i++) {
-        const struct link *other = &tap->parts.ports->links[i];
+    for (uint16_t i = 0; i < tap->ports->count; i++) {
+        const struct link *other = &tap->ports->links[i];
         if (other != link && other->socket >= 0 && member_place((uint32_t)other->index) == member_place((uint32_t)link->index)
             && __atomic_load_n(place_at(tap->fast, other), __ATOMIC_SEQ_CST) == place_word(other))
             return true;
@@ -138,7 +128,7 @@ static bool is_place_taken(struct tap_plane *tap, const struct link *link) {
 int open_fast_receiver(struct tap_plane *tap, const struct link *link) {
     if (is_place_taken(tap, link)) return -EBUSY;
     __atomic_store_n(place_at(tap->fast, link), place_word(link), __ATOMIC_SEQ_CST);
-    return attach_stored(tap->parts.process->store, "guard", tap->fast->receiver, link->index, false);
+    return attach_stored(tap->process->store, "guard", tap->fast->receiver, link->index, false);
 }
 
 /* The interface is no member any more. */
@@ -151,7 +141,6 @@ static uint64_t word_of(struct fast_private *own, uint16_t number) {
     return __atomic_load_n(&own->rows[number].word, __ATOMIC_SEQ_CST);
 }
 
-/* The number of a conversation. */
 static uint16_t number_in(const struct carry *carry, const struct conversation *conversation) {
     return (uint16_t)(conversation - carry->conversations);
 }
@@ -165,7 +154,6 @@ static void subtract(struct fast_private *own, uint16_t number, uint32_t segment
     } while (!__atomic_compare_exchange_n(&own->rows[number].word, &before, after, false, __ATOMIC_SEQ_CST, __ATOMIC_SEQ_CST));
 }
 
-/* Takes off what overflowed. */
 static void subtract_overflowed(struct tap_plane *tap, struct conversation *conversation) {
     uint64_t overflowed = __atomic_load_n(&tap->fast->rows[number_in(tap->carry, conversation)].overflowed, __ATOMIC_ACQUIRE);
     if (overflowed == conversation->fast.overflowed) return;
@@ -185,12 +173,10 @@ static bool count_passed(struct tap_plane *tap, struct conversation *conversatio
     return true;
 }
 
-/* Counts what the kernel did since the last time. */
 void count_fast_frames(struct tap_plane *tap) {
     struct fast_private *own = tap->fast;
-    uint64_t overflowed, unfit;
     for (uint16_t number = 0; number < CONVERSATIONS; number++) (void)count_passed(tap, &tap->carry->conversations[number]);
-    for (uint16_t i = 0; i < tap->parts.ports->count; i++) {
+    for (uint16_t i = 0; i < tap->ports->count; i++) {
         struct fast_member now = {
             .passed_up = __atomic_load_n(&own->entries[i].passed_up, __ATOMIC_RELAXED),
             .uncollected = __atomic_load_n(&own->entries[i].uncollected, __ATOMIC_RELAXED),
@@ -201,11 +187,11 @@ void count_fast_frames(struct tap_plane *tap) {
         own->counted[i] = now;
         add_fast_counts(tap, (uint16_t)(i + 1), &more);
     }
-    overflowed = __atomic_load_n(&own->host->overflowed, __ATOMIC_RELAXED);
+    uint64_t overflowed = __atomic_load_n(&own->host->overflowed, __ATOMIC_RELAXED);
     tap->carry->counts[FROM_HOST] += overflowed - own->counted_overflows;
     tap->carry->counts[OVERFLOWED] += overflowed - own->counted_overflows;
     own->counted_overflows = overflowed;
-    unfit = __atomic_load_n(&own->host->unfit, __ATOMIC_RELAXED);
+    uint64_t unfit = __atomic_load_n(&own->host->unfit, __ATOMIC_RELAXED);
     tap->carry->counts[FROM_HOST] += unfit - own->counted_unfit;
     tap->carry->counts[UNFIT] += unfit - own->counted_unfit;
     own->counted_unfit = unfit;
@@ -218,17 +204,17 @@ static bool may_pass(struct tap_plane *tap, const struct conversation *conversat
     if (own->tap_at == 0 || own->queue_holds || conversation->home != tap->carry->active || tap->carry->active == 0
         || !has_fast_member(tap->members, port))
         return false;
-    return ask_state(tap->parts.protocol, tap->carry->active, number_in(tap->carry, conversation), &state) && state.what == NIW_CONVERSATION_ON
+    return ask_state(tap->protocol, tap->carry->active, number_in(tap->carry, conversation), &state) && state.what == NIW_CONVERSATION_ON
         && state.port == port;
 }
 
 /* Waits for the programs. Where the kernel does so no longer, the peers are told, and the daemon ends. */
 static void wait_or_end(struct tap_plane *tap) {
     if (wait_for_programs()) return;
-    (void)say(tap->parts.process, LOG_ERR | ABOUT_DATA, "fast: the kernel waits no longer for its programs: %s; "
+    (void)say(tap->process, LOG_ERR | ABOUT_DATA, "fast: the kernel waits no longer for its programs: %s; "
         "the peers are told, and the daemon ends",
         strerror(errno));
-    tap->parts.process->broken = true;
+    tap->process->broken = true;
     end_fast(tap);
 }
 
@@ -252,32 +238,25 @@ static void withdraw_chosen(struct tap_plane *tap, bool (*is_chosen)(struct tap_
     }
 }
 
-static bool is_wrong(struct tap_plane *tap, const struct conversation *conversation, uint16_t port) {
-    (void)port;
+static bool is_wrong(struct tap_plane *tap, const struct conversation *conversation, uint16_t port UNUSED) {
     return tap->carry->port_of[number_in(tap->carry, conversation)] != conversation->fast.port
         || !has_fast_member(tap->members, conversation->fast.port);
 }
 
 /* Where the library refuses to tell, or the queue of the TAP device holds frames, the kernel passes nothing on. */
-static bool is_any(struct tap_plane *tap, const struct conversation *conversation, uint16_t port) {
-    (void)tap;
-    (void)conversation;
-    (void)port;
+static bool is_any(struct tap_plane *tap UNUSED, const struct conversation *conversation UNUSED, uint16_t port UNUSED) {
     return true;
 }
 
-static bool is_on(struct tap_plane *tap, const struct conversation *conversation, uint16_t port) {
-    (void)tap;
+static bool is_on(struct tap_plane *tap UNUSED, const struct conversation *conversation, uint16_t port) {
     return conversation->fast.port == port;
 }
 
 /* One that rests for a flight: towards a peer that answers no markers it is free then, and no frame of it may pass meanwhile. */
-static bool is_resting(struct tap_plane *tap, const struct conversation *conversation, uint16_t port) {
-    (void)port;
-    return !conversation->used && tap->carry->time - conversation->last >= tap->parts.settings->flight;
+static bool is_resting(struct tap_plane *tap, const struct conversation *conversation, uint16_t port UNUSED) {
+    return !conversation->used && tap->carry->time - conversation->last >= tap->settings->flight;
 }
 
-/* The interface on which the kernel passes a conversation on, or 0. */
 int fast_member_of(struct tap_plane *tap, uint16_t number) {
     return (int)(uint32_t)word_of(tap->fast, number);
 }
@@ -289,8 +268,7 @@ void resume_fast(struct tap_plane *tap) {
         struct conversation *conversation = &tap->carry->conversations[number];
         int member = fast_member_of(tap, number);
         if (member == 0) continue;
-        if (conversation->port != 0 && member == tap->parts.ports->links[conversation->port - 1].index
-            && may_pass(tap, conversation, conversation->port)) {
+        if (conversation->port != 0 && member == tap->ports->links[conversation->port - 1].index && may_pass(tap, conversation, conversation->port)) {
             conversation->fast.port = conversation->port;
         } else {
             (void)__atomic_and_fetch(&tap->fast->rows[number].word, ~(uint64_t)UINT32_MAX, __ATOMIC_SEQ_CST);
@@ -302,7 +280,7 @@ void resume_fast(struct tap_plane *tap) {
 
 /* Takes back what is not, or no longer, on the port where the kernel passes it on: before a marker goes there. */
 void withdraw(struct tap_plane *tap) {
-    withdraw_chosen(tap, ask_ports(tap->parts.protocol, tap->carry->active, tap->carry->port_of) ? is_wrong : is_any, 0);
+    withdraw_chosen(tap, ask_ports(tap->protocol, tap->carry->active, tap->carry->port_of) ? is_wrong : is_any, 0);
 }
 
 /* The link of a port goes down, or its interface: before the library hears of it. */
@@ -324,7 +302,7 @@ void follow_host_queue(struct tap_plane *tap, const char *discipline) {
     if (!discipline[0] || holds == own->queue_holds) return;
     own->queue_holds = holds;
     if (holds) withdraw_chosen(tap, is_any, 0);
-    (void)say(tap->parts.process, LOG_WARNING | ABOUT_DATA, "carry %s: its queueing discipline is %s: its data %s", tap->parts.settings->carry,
+    (void)say(tap->process, LOG_WARNING | ABOUT_DATA, "carry %s: its queueing discipline is %s: its data %s", tap->settings->carry,
         discipline, holds ? "stays with the daemon, since that discipline may hold frames" : "may go by the kernel");
 }
 
@@ -332,13 +310,13 @@ void follow_host_queue(struct tap_plane *tap, const char *discipline) {
  * markers, too, which go up behind the data. */
 void set_collecting(struct tap_plane *tap) {
     struct fast_private *own = tap->fast;
-    bool tap_up = is_tap_up(tap->parts.device);
-    for (uint16_t i = 0; i < tap->parts.ports->count; i++) {
-        uint16_t port = tap->parts.ports->links[i].settings.number;
+    bool tap_up = is_tap_up(tap->device);
+    for (uint16_t i = 0; i < tap->ports->count; i++) {
+        uint16_t port = tap->ports->links[i].settings.number;
         uint64_t state = 0;
-        bool up = tap_up && own->tap_at != 0 && tap->carry->active != 0 && tap->parts.ports->links[i].view.aggregator == tap->carry->active
+        bool up = tap_up && own->tap_at != 0 && tap->carry->active != 0 && tap->ports->links[i].view.aggregator == tap->carry->active
             && has_fast_member(tap->members, port)
-            && is_told(tap->parts.process, niw_state(&tap->parts.protocol->own_system, port), "niw_state", &state)
+            && is_told(tap->process, niw_state(&tap->protocol->own_system, port), "niw_state", &state)
             && (state & NIW_STATE_COLLECTING) != 0;
         __atomic_store_n(&own->entries[i].up_to, up ? (uint64_t)own->tap_at : 0, __ATOMIC_SEQ_CST);
     }
@@ -355,7 +333,6 @@ void open_host(struct tap_plane *tap, bool open) {
         __ATOMIC_SEQ_CST);
 }
 
-/* A packet of a conversation came to the daemon. */
 void note_taken(struct conversation *conversation, uint32_t segments) {
     conversation->fast.touched = true;
     conversation->fast.taken += segments;
@@ -365,7 +342,7 @@ void note_taken(struct conversation *conversation, uint32_t segments) {
 static void pass(struct tap_plane *tap, struct conversation *conversation) {
     struct fast_row *row = &tap->fast->rows[number_in(tap->carry, conversation)];
     uint16_t port = conversation->port;
-    uint64_t none = 0, member = (uint32_t)tap->parts.ports->links[port - 1].index;
+    uint64_t none = 0, member = (uint32_t)tap->ports->links[port - 1].index;
     if (__atomic_load_n(&row->opaque, __ATOMIC_SEQ_CST) != 0) return;
     if (__atomic_compare_exchange_n(&row->word, &none, member, false, __ATOMIC_SEQ_CST, __ATOMIC_SEQ_CST)) conversation->fast.port = port;
 }
@@ -404,9 +381,8 @@ static void confirm_loss(struct tap_plane *tap, struct conversation *conversatio
  * put back. It only tells how many may wait, so a frame too many is lost by the kernel, which counts it. The order rests on the rows. */
 void note_read(struct tap_plane *tap, unsigned packets, bool drained) {
     struct fast_private *own = tap->fast;
-    int64_t left;
-    if (tap->parts.process->broken) return;
-    left = __atomic_sub_fetch(&own->host->left, packets, __ATOMIC_SEQ_CST);
+    if (tap->process->broken) return;
+    int64_t left = __atomic_sub_fetch(&own->host->left, packets, __ATOMIC_SEQ_CST);
     if (drained && (left > MOST_BETWEEN || left < 0)) (void)__atomic_sub_fetch(&own->host->left, left, __ATOMIC_SEQ_CST);
     for (uint16_t number = 0; drained && !own->queue_holds && number < CONVERSATIONS; number++) {
         struct conversation *conversation = &tap->carry->conversations[number];
@@ -417,10 +393,9 @@ void note_read(struct tap_plane *tap, unsigned packets, bool drained) {
 /* Suspects rows with frames that do not come: none came since the last tick. */
 static bool suspect(struct tap_plane *tap, struct conversation *conversation) {
     struct fast_row *row = &tap->fast->rows[number_in(tap->carry, conversation)];
-    uint64_t word, opaque;
     subtract_overflowed(tap, conversation);
-    word = word_of(tap->fast, number_in(tap->carry, conversation));
-    opaque = __atomic_load_n(&row->opaque, __ATOMIC_SEQ_CST);
+    uint64_t word = word_of(tap->fast, number_in(tap->carry, conversation));
+    uint64_t opaque = __atomic_load_n(&row->opaque, __ATOMIC_SEQ_CST);
     if (conversation->fast.port > 0 || conversation->used || conversation->fast.suspected || (word == 0 && opaque == 0)) return false;
     conversation->fast.suspected = true;
     conversation->fast.suspected_word = word;
@@ -428,12 +403,11 @@ static bool suspect(struct tap_plane *tap, struct conversation *conversation) {
     return true;
 }
 
-/* 100 ms passed. */
 void pass_fast_tick(struct tap_plane *tap) {
     bool any = false;
-    (void)read_tap_mac(tap->parts.device, (uint8_t *)&tap->fast->host->mac);
+    (void)read_tap_mac(tap->device, (uint8_t *)&tap->fast->host->mac);
     withdraw(tap);
-    open_host(tap, has_carrier(tap->parts.device));
+    open_host(tap, has_carrier(tap->device));
     count_fast_frames(tap);
     if (peer_answering(tap->carry->probe) == MUTE) withdraw_chosen(tap, is_resting, 0);
     for (uint16_t number = 0; number < CONVERSATIONS; number++) any = suspect(tap, &tap->carry->conversations[number]) || any;

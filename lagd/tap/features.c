@@ -1,10 +1,8 @@
 /* What of an interface puts received frames together: a marker may overtake data then. By the names that the kernel gives its features
  * (ethtool). */
-#include <linux/ethtool.h>
-#include <stdlib.h>
-#include <string.h>
-
 #include "tap.h"
+
+#include <linux/ethtool.h>
 
 /* GRO by the kernel, JOINED_BY_KERNEL, and by the card, and LRO: a bit for each. */
 static const char *const joining[] = {"rx-gro", "rx-gro-hw", "rx-lro"};
@@ -13,7 +11,6 @@ static const char *const joining[] = {"rx-gro", "rx-gro-hw", "rx-lro"};
 #define MOST_FEATURES 256
 #define WORDS (MOST_FEATURES / 32)
 
-/* How many features the kernel knows, or 0. */
 static uint32_t count_features(int index) {
     union {
         uint8_t room[sizeof(struct ethtool_sset_info) + sizeof(uint32_t)];

@@ -1,7 +1,4 @@
 /* What is held for longer than a frame can be on its way, and ports that sleep. */
-#define _GNU_SOURCE
-#include <inttypes.h>
-
 #include "tap.h"
 
 /* After how many ticks without a response the same marker is sent again. */
@@ -27,7 +24,6 @@ static bool is_without_partner(struct protocol *protocol, uint16_t port) {
     return protocol->ports->links[port - 1].view.defaulted || distributes(protocol, port, false);
 }
 
-/* A frame goes on a port. */
 void note_sent(struct flight_private *own, uint16_t port) {
     own->silent_since[port - 1] = 0;
 }
@@ -36,39 +32,38 @@ void note_sent(struct flight_private *own, uint16_t port) {
 static void watch_port(struct tap_plane *tap, uint16_t port) {
     struct carry *carry = tap->carry;
     uint64_t held, freed, *since = &tap->flight->silent_since[port - 1];
-    bool holds = is_without_partner(tap->parts.protocol, port)
-        && is_told(tap->parts.process, niw_held(&tap->parts.protocol->own_system, port), "niw_held", &held) && held > 0;
+    bool holds = is_without_partner(tap->protocol, port)
+        && is_told(tap->process, niw_held(&tap->protocol->own_system, port), "niw_held", &held) && held > 0;
     if (!holds || *since == 0) *since = holds ? carry->time : 0;
-    if (!holds || carry->time - *since < tap->parts.settings->flight) return;
+    if (!holds || carry->time - *since < tap->settings->flight) return;
     *since = 0;
-    if (!is_told(tap->parts.process, niw_force_port(&tap->parts.protocol->own_system, port), "niw_force_port", &freed)) return;
+    if (!is_told(tap->process, niw_force_port(&tap->protocol->own_system, port), "niw_force_port", &freed)) return;
     carry->counts[FORCED] += freed;
-    (void)say(tap->parts.process, LOG_WARNING | ABOUT_DATA, "port %u %s: it carries no more, and %" PRIu64 " conversations leave it", port,
-        tap->parts.ports->links[port - 1].name, freed);
+    (void)say(tap->process, LOG_WARNING | ABOUT_DATA, "port %u %s: it carries no more, and %" PRIu64 " conversations leave it", port,
+        tap->ports->links[port - 1].name, freed);
 }
 
 /* Loses what has waited for longer than a flight and a second. */
 static void drop_old(struct tap_plane *tap, uint16_t number) {
     uint64_t came;
-    while (oldest_held(tap, number, &came) && tap->carry->time - came >= tap->parts.settings->flight + 1000u
-        && drop_held(tap, number, HELD_TOO_LONG))
+    while (oldest_held(tap, number, &came) && tap->carry->time - came >= tap->settings->flight + 1000u && drop_held(tap, number, HELD_TOO_LONG))
         continue;
 }
 
 /* Frees a conversation from the port that it is on: nothing of it was sent for a flight, so its next frame overtakes none. */
 static void rest(struct carry *carry, struct conversation *conversation, uint16_t number) {
-    if (!is_done(carry->parts.process, niw_rest(&carry->parts.protocol->own_system, conversation->home, number), "niw_rest")) return;
+    if (!is_done(carry->process, niw_rest(&carry->protocol->own_system, conversation->home, number), "niw_rest")) return;
     carry->counts[RESTED]++;
-    carry->parts.plane->changed = true;
+    carry->plane->changed = true;
     conversation->since = 0;
 }
 
 /* Frees a conversation that is held, and whose marker nobody answered: nothing of it was sent since. */
 static void force(struct carry *carry, struct conversation *conversation, uint16_t number) {
-    if (!is_done(carry->parts.process, niw_force(&carry->parts.protocol->own_system, conversation->home, number), "niw_force")) return;
+    if (!is_done(carry->process, niw_force(&carry->protocol->own_system, conversation->home, number), "niw_force")) return;
     if (conversation->home == carry->active) suspect_partner(carry->probe);
     carry->counts[FORCED]++;
-    carry->parts.plane->changed = true;
+    carry->plane->changed = true;
     conversation->since = 0;
 }
 
@@ -77,7 +72,7 @@ static void force(struct carry *carry, struct conversation *conversation, uint16
 static void watch_free(struct carry *carry, struct conversation *conversation, uint16_t number, const struct niw_assignment *state) {
     conversation->since = 0;
     if (peer_answering(carry->probe) != MUTE || state->what != NIW_CONVERSATION_ON || conversation->fast.port != 0
-        || carry->time - conversation->last < carry->parts.settings->flight)
+        || carry->time - conversation->last < carry->settings->flight)
         return;
     rest(carry, conversation, number);
 }
@@ -85,10 +80,10 @@ static void watch_free(struct carry *carry, struct conversation *conversation, u
 /* A conversation that is held for long goes on: nothing of it was sent since. It waits for a peer that answers markers, which may have
  * been stopped for a while, and for a flight else. What is held on a port that does not distribute is for watch_port. */
 static void watch_held(struct carry *carry, struct conversation *conversation, uint16_t number, const struct niw_assignment *state) {
-    bool answered = is_held(state) && peer_answering(carry->probe) != MUTE && carry->parts.settings->flight < UNANSWERED;
+    bool answered = is_held(state) && peer_answering(carry->probe) != MUTE && carry->settings->flight < UNANSWERED;
     if (conversation->since == 0) conversation->since = carry->time;
-    if (carry->time - conversation->since < (answered ? UNANSWERED : carry->parts.settings->flight)) return;
-    if (is_held(state) && !distributes(carry->parts.protocol, state->port, true)) return;
+    if (carry->time - conversation->since < (answered ? UNANSWERED : carry->settings->flight)) return;
+    if (is_held(state) && !distributes(carry->protocol, state->port, true)) return;
     if (is_held(state))
         force(carry, conversation, number);
     else
@@ -98,12 +93,11 @@ static void watch_held(struct carry *carry, struct conversation *conversation, u
 static void watch_conversation(struct tap_plane *tap, uint16_t number, uint64_t *again) {
     struct conversation *conversation = &tap->carry->conversations[number];
     struct niw_assignment state;
-    bool away;
     drop_old(tap, number);
     if (conversation->used) conversation->last = tap->carry->time;
     conversation->used = false;
-    if (conversation->home == 0 || !ask_state(tap->parts.protocol, conversation->home, number, &state)) return;
-    away = conversation->home != tap->carry->active && tap->carry->active != 0 && state.what == NIW_CONVERSATION_ON;
+    if (conversation->home == 0 || !ask_state(tap->protocol, conversation->home, number, &state)) return;
+    bool away = conversation->home != tap->carry->active && tap->carry->active != 0 && state.what == NIW_CONVERSATION_ON;
     if (state.what == NIW_CONVERSATION_FLUSHING && state.age > 0 && state.age % AGAIN_TICKS == 0)
         *again |= (uint64_t)1 << (state.port - 1);
     if (is_held(&state) || (away && !none_held(tap, number)))
@@ -112,13 +106,12 @@ static void watch_conversation(struct tap_plane *tap, uint16_t number, uint64_t 
         watch_free(tap->carry, conversation, number, &state);
 }
 
-/* 100 ms passed. */
 void pass_flight_tick(struct tap_plane *tap) {
     uint64_t again = 0;
-    for (uint16_t number = 0; !tap->parts.process->broken && number < CONVERSATIONS; number++) watch_conversation(tap, number, &again);
-    if (tap->parts.process->broken) return;
+    for (uint16_t number = 0; !tap->process->broken && number < CONVERSATIONS; number++) watch_conversation(tap, number, &again);
+    if (tap->process->broken) return;
     pass_probe_tick(tap);
-    for (uint16_t port = 1; port <= tap->parts.ports->count; port++) {
+    for (uint16_t port = 1; port <= tap->ports->count; port++) {
         watch_port(tap, port);
         if (again >> (port - 1) & 1 && send_marker_again(tap, port)) tap->carry->counts[MARKERS_AGAIN]++;
     }

@@ -1,9 +1,8 @@
 /* Frames of one stream of TCP that came in a row from a member go up as one of several segments, as the kernel puts them together (generic
  * receive offload): each packet that goes up costs a call. No frame overtakes another one, and what cannot go up so goes up frame by frame. */
-#define _GNU_SOURCE
-#include <sys/uio.h>
-
 #include "segments.h"
+
+#include <sys/uio.h>
 
 /* The octets of the headers of a packet at most. */
 #define MOST_HEADERS 256
@@ -36,13 +35,12 @@ static size_t ip_octets(unsigned type, const uint8_t *ip, size_t length) {
 /* Reads where a packet has its headers, if it may be one of several: of TCP, with a payload, and no flag that asks for something. */
 static bool read_tcp(const uint8_t *packet, size_t length, struct tcp_packet *tcp) {
     size_t head = head_octets(), network = head + ETH_HLEN + tag_octets(packet + head, length - head, USUAL_TAGS), octets;
-    const uint8_t *flags;
     if (has_segments(packet) || length < network) return false;
     octets = ip_octets(read16(packet + network - 2), packet + network, length - network);
     if (octets == 0 || network + octets + TCP_OCTETS > length) return false;
     *tcp = (struct tcp_packet){.network = network, .transport = network + octets, .length = length};
     tcp->payload = tcp->transport + 4 * ((size_t)packet[tcp->transport + TCP_LENGTH] >> 4);
-    flags = packet + tcp->transport + TCP_FLAGS;
+    const uint8_t *flags = packet + tcp->transport + TCP_FLAGS;
     return tcp->payload >= tcp->transport + TCP_OCTETS && tcp->payload < length && tcp->payload <= MOST_HEADERS
         && (packet[tcp->transport + TCP_LENGTH] & 15) == 0 && (*flags & ~FLAG_PSH) == FLAG_ACK;
 }
@@ -99,11 +97,10 @@ static bool give_all(struct tap_plane *tap) {
         .csum_start = (uint16_t)(all->transport - head_octets()), .csum_offset = TCP_SUM};
     uint8_t headers[MOST_HEADERS];
     struct iovec parts[1 + BATCH] = {{headers, all->payload}};
-    uint16_t sum;
     memcpy(headers, first, all->payload);
     memcpy(headers, &told, sizeof told);
     write_length(headers, all);
-    sum = fold(sum_beside(headers, all));
+    uint16_t sum = fold(sum_beside(headers, all));
     memcpy(headers + all->transport + TCP_SUM, &sum, sizeof sum);
     headers[all->transport + TCP_FLAGS] |= last[all->transport + TCP_FLAGS];
     for (unsigned i = 0; i < own->count; i++) {
@@ -113,7 +110,6 @@ static bool give_all(struct tap_plane *tap) {
     return give_host(tap, parts, 1 + own->count, all->length);
 }
 
-/* Hands up what waits. */
 void flush_host(struct tap_plane *tap) {
     struct gro_private *own = tap->gro;
     unsigned given = own->count > 1 && give_all(tap) ? own->count : 0, first = given;

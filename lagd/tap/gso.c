@@ -1,6 +1,5 @@
 /* Frames of several segments that came from the host, where members get none: they are cut as the kernel would cut them (generic segmentation
  * offload), which hands over fewer packets so. */
-#define _GNU_SOURCE
 #include "segments.h"
 
 /* Whether a packet of this kind, as the kernel tells it, has this version of IP. */
@@ -15,15 +14,13 @@ static bool is_of(unsigned kind, unsigned version) {
 bool read_cut(const uint8_t *packet, size_t length, struct cut *cut) {
     size_t head = head_octets(), behind_ip;
     struct tcp_packet *whole = &cut->whole;
-    struct virtio_net_hdr told;
-    unsigned version;
     if (length < head + ETH_HLEN) return false;
-    told = head_of(packet);
+    struct virtio_net_hdr told = head_of(packet);
     *cut = (struct cut){packet, {.transport = head + told.csum_start, .length = length}, told.gso_size, 0};
     whole->network = head + ETH_HLEN + tag_octets(packet + head, length - head, ALL_TAGS);
     if (!(told.flags & VIRTIO_NET_HDR_F_NEEDS_CSUM) || told.csum_offset != TCP_SUM || cut->size == 0) return false;
     if (whole->network + IPV4_OCTETS > whole->transport || whole->transport + TCP_OCTETS > length) return false;
-    version = packet[whole->network] >> 4;
+    unsigned version = packet[whole->network] >> 4;
     behind_ip = whole->network + (version == 4 ? 4 * (packet[whole->network] & 15u) : IPV6_OCTETS);
     whole->payload = whole->transport + 4 * ((size_t)packet[whole->transport + TCP_LENGTH] >> 4);
     if (!is_of(told.gso_type & ~(unsigned)VIRTIO_NET_HDR_GSO_ECN, version) || behind_ip < whole->network + IPV4_OCTETS

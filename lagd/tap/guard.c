@@ -1,36 +1,15 @@
 /* What an interface does not do while it is a member of a bundle that carries data: put frames together, have them in several queues,
  * and hand them to its own network stack. */
-#define _GNU_SOURCE
-#include <errno.h>
+#include "tap.h"
+
 #include <linux/ethtool.h>
 #include <linux/sockios.h>
 #include <net/if.h>
-#include <stdio.h>
-#include <stdlib.h>
-#include <string.h>
 #include <sys/ioctl.h>
-#include <sys/socket.h>
-#include <unistd.h>
-
-#include "tap.h"
 
 /* The program that keeps data from the stack of a member is loaded once, while the daemon may. */
 void load_guard(struct tap_plane *tap) {
-    tap->dropper = load_program(tap->parts.settings, "dropper", NULL);
-}
-
-/* Asks the driver of an interface something, or for something. */
-bool ask_driver(int index, void *value) {
-    struct ifreq request;
-    int fd = socket(AF_UNIX, SOCK_DGRAM | SOCK_CLOEXEC, 0);
-    bool done;
-    memset(&request, 0, sizeof request);
-    request.ifr_ifindex = index;
-    done = fd >= 0 && ioctl(fd, SIOCGIFNAME, &request) == 0;
-    request.ifr_data = value;
-    done = done && ioctl(fd, SIOCETHTOOL, &request) == 0;
-    if (fd >= 0) close(fd);
-    return done;
+    tap->dropper = load_program(tap->settings, "dropper", NULL);
 }
 
 /* How many queues the kernel has for one direction of an interface whose driver does not tell. */
@@ -42,14 +21,12 @@ static unsigned count_queues(int index) {
 
 /* How many queues an interface has for one direction, as `channels` tells in full: in several of them a marker may overtake data. */
 static unsigned queues_of(int index, struct ethtool_channels *channels) {
-    uint32_t more;
     *channels = (struct ethtool_channels){.cmd = ETHTOOL_GCHANNELS};
     if (!ask_driver(index, channels)) return count_queues(index);
-    more = channels->rx_count > channels->tx_count ? channels->rx_count : channels->tx_count;
+    uint32_t more = channels->rx_count > channels->tx_count ? channels->rx_count : channels->tx_count;
     return channels->combined_count + more;
 }
 
-/* Gives an interface one queue for each direction, where its driver can. */
 static void give_one_queue(int index) {
     struct ethtool_channels wanted;
     if (queues_of(index, &wanted) <= 1) return;
@@ -95,7 +72,6 @@ void gather(struct process *process, int index) {
         process->settings->carry);
 }
 
-/* What an interface has that is changed while it is a member. */
 static void look_before(const struct plane *plane, const struct link *link, struct kept *before) {
     char path[128];
     *before = (struct kept){.joins = read_joins(link->index).wanted};
@@ -121,24 +97,21 @@ unsigned count_fifos(int index) {
 void look_at_discipline(struct tap_plane *tap, struct link *link, struct guard *guard) {
     bool given = false;
     (void)read_discipline(link->index, link->discipline);
-    if (tap->parts.plane->wants_fifo && !is_unqueued(link) && strcmp(link->discipline, "noqueue") != 0)
-        given = give_each_fifo(link->index, ASK(tap->parts.plane->queueing->fifos_of, 1, link->index), read_speed(link->socket, link->name).megabits);
+    if (tap->plane->wants_fifo && !is_unqueued(link) && strcmp(link->discipline, "noqueue") != 0)
+        given = give_each_fifo(link->index, ASK(tap->plane->queueing->fifos_of, 1, link->index), read_speed(link->socket, link->index).megabits);
     if (given) (void)read_discipline(link->index, link->discipline);
     link->has_fifos = given && strcmp(link->discipline, "mq") == 0;
     guard->in_order = keeps_order(link->discipline) || link->has_fifos;
-    if (tap->parts.plane->segments && !guard->in_order && !is_unqueued(link))
-        (void)say(tap->parts.process, LOG_WARNING | ABOUT_DATA,
+    if (tap->plane->segments && !guard->in_order && !is_unqueued(link))
+        (void)say(tap->process, LOG_WARNING | ABOUT_DATA,
             "port %u %s: its queueing discipline is neither noqueue, bfifo nor pfifo: it loses frames of "
             "several segments, if its card cannot cut them", link->settings.number, link->name);
 }
 
 /* The link comes up: the queue of its interface, if that is one of the daemon, has the length of its speed from now on. */
-void fit_queue(const struct plane *plane, const struct link *link, const char *interface) {
+void fit_queue(const struct plane *plane, const struct link *link) {
     if (!plane->wants_fifo) return;
-    if (link->has_fifos)
-        fit_each_fifo(link->index, ASK(plane->queueing->fifos_of, 1, link->index), read_speed(link->socket, interface).megabits);
-    else
-        fit_root_fifo(link->index, read_speed(link->socket, interface).megabits);
+    fit_each_fifo(link->index, link->has_fifos ? ASK(plane->queueing->fifos_of, 1, link->index) : 1, read_speed(link->socket, link->index).megabits);
 }
 
 /* Why the kernel may not pass on what goes and comes at an interface, or NULL: a marker would overtake the data before it. */
@@ -154,30 +127,27 @@ static const char *fault_of_fast(const struct link *link, const struct guard *gu
 
 /* Has the kernel pass on what goes and comes at a member, where it may; a line says why not. */
 static void open_fast(struct tap_plane *tap, const struct link *link, struct guard *guard) {
-    const char *fault;
     guard->unusual = guard->spread && !has_usual_queues(tap, guard);
-    fault = fault_of_fast(link, guard);
+    const char *fault = fault_of_fast(link, guard);
     if (!fault) guard->opened = open_fast_receiver(tap, link);
     guard->fast = guard->opened >= 0;
     if (!fault && !guard->fast) fault = strerror(-guard->opened);
     if (fault && !is_unqueued(link)) /* it is looked at again then */
-        (void)say(tap->parts.process, LOG_WARNING | ABOUT_DATA, "port %u %s: its data stays with the daemon: %s", link->settings.number, link->name,
-            fault);
+        (void)say(tap->process, LOG_WARNING | ABOUT_DATA, "port %u %s: its data stays with the daemon: %s", link->settings.number, link->name, fault);
 }
 
 /* Keeps data from the stack of an interface: by TCX, or, where the kernel has none, by a classifier. */
 void keep_from_stack(struct tap_plane *tap, const struct link *link, struct guard *guard) {
     uint16_t port = link->settings.number;
-    if (tap->dropper >= 0) guard->opened = attach_stored(tap->parts.process->store, "guard", tap->dropper, link->index, false);
+    if (tap->dropper >= 0) guard->opened = attach_stored(tap->process->store, "guard", tap->dropper, link->index, false);
     if (tap->dropper >= 0 && guard->opened < 0) guard->classifier = set_classifier(tap->dropper, link->index);
     if (guard->classifier == CLASSIFIER_BEHIND_OTHERS)
-        (void)say(tap->parts.process, LOG_WARNING | ABOUT_DATA,
+        (void)say(tap->process, LOG_WARNING | ABOUT_DATA,
             "port %u %s: it has a clsact already: its own network stack has what filters there accept", port, link->name);
     if (guard->opened < 0 && guard->classifier == NO_CLASSIFIER)
-        (void)say(tap->parts.process, LOG_WARNING | ABOUT_DATA, "port %u %s: its own network stack has its frames, too", port, link->name);
+        (void)say(tap->process, LOG_WARNING | ABOUT_DATA, "port %u %s: its own network stack has its frames, too", port, link->name);
 }
 
-/* Has the kernel pass on what goes and comes at a member, or keep it from the stack. */
 void run_fast_programs(struct tap_plane *tap, const struct link *link, struct guard *guard) {
     open_fast(tap, link, guard);
     if (guard->opened < 0) keep_from_stack(tap, link, guard);
@@ -199,7 +169,6 @@ static void regain_queues(int folder, const struct link *link, struct ethtool_ch
         (void)part_queues(link->index, before);
 }
 
-/* Gives a member one queue. */
 bool join_queues(struct tap_plane *tap, struct link *link, struct guard *guard) {
     look_at_discipline(tap, link, guard);
     give_one_queue(link->index);
@@ -209,32 +178,30 @@ bool join_queues(struct tap_plane *tap, struct link *link, struct guard *guard) 
 /* Lets a member keep all its queues, where it can, or gives it one; answers false where it has no queue yet: it is looked at again then. */
 bool keep_queues(struct tap_plane *tap, struct link *link, struct guard *guard) {
     struct ethtool_channels *before = &guard->before.queues;
-    regain_queues(tap->parts.process->folder, link, before);
+    regain_queues(tap->process->folder, link, before);
     look_at_discipline(tap, link, guard);
     if (is_unqueued(link)) return false;
     spread(tap, link, guard);
     if (guard->spread && has_channels(link->index, before)) *before = (struct ethtool_channels){0};
-    write_settings(tap->parts.process, link, &guard->before);
+    write_settings(tap->process, link, &guard->before);
     if (!guard->spread) give_one_queue(link->index);
     return true;
 }
 
-/* The same of a member that has another queueing discipline. */
 void keep_queues_again(struct tap_plane *tap, struct link *link, struct guard *guard) {
     (void)keep_queues(tap, link, guard);
 }
 
-/* Has programs run for the frames of an interface. */
 static void run_programs(struct tap_plane *tap, const struct link *link, struct guard *guard) {
     guard->opened = -1;
     guard->classifier = NO_CLASSIFIER;
     guard->fast = guard->unusual = false;
-    tap->parts.plane->passing->run_programs(tap, link, guard);
-    if (guard->before.joins != 0) set_joins(link->index, guard->before.joins & joins_allowed(tap->parts.settings, link, guard));
+    tap->plane->passing->run_programs(tap, link, guard);
+    if (guard->before.joins != 0) set_joins(link->index, guard->before.joins & joins_allowed(tap->settings, link, guard));
 }
 
 static void stop_programs(struct tap_plane *tap, const struct link *link, struct guard *guard) {
-    if (guard->opened >= 0) detach_stored(tap->parts.process->store, "guard", link->index, guard->opened);
+    if (guard->opened >= 0) detach_stored(tap->process->store, "guard", link->index, guard->opened);
     if (guard->fast) close_fast_receiver(tap->fast, link);
     if (guard->classifier != NO_CLASSIFIER) drop_classifier(link->index);
     guard->opened = -1;
@@ -245,7 +212,7 @@ static void stop_programs(struct tap_plane *tap, const struct link *link, struct
 /* An interface has another queueing discipline: its programs are chosen anew. What it had before it was a member stays kept. */
 void reopen_guard(struct tap_plane *tap, struct link *link, struct guard *guard) {
     stop_programs(tap, link, guard);
-    tap->parts.plane->queueing->set_again(tap, link, guard);
+    tap->plane->queueing->set_again(tap, link, guard);
     run_programs(tap, link, guard);
     note_channels(link, guard);
 }
@@ -254,23 +221,22 @@ void reopen_guard(struct tap_plane *tap, struct link *link, struct guard *guard)
 void open_guard(struct tap_plane *tap, struct link *link, struct guard *guard) {
     struct ethtool_channels queues;
     uint16_t port = link->settings.number;
-    bool has_queues;
     guard->spread = false;
     guard->queues = 1;
     guard->chooser = -1;
-    look_before(tap->parts.plane, link, &guard->before);
-    keep_settings(tap->parts.process, link, &guard->before);
-    has_queues = tap->parts.plane->queueing->set(tap, link, guard);
+    look_before(tap->plane, link, &guard->before);
+    keep_settings(tap->process, link, &guard->before);
+    bool has_queues = tap->plane->queueing->set(tap, link, guard);
     run_programs(tap, link, guard);
     note_channels(link, guard);
-    if ((read_joins(link->index).on & ~joins_allowed(tap->parts.settings, link, guard)) != 0)
-        (void)say(tap->parts.process, LOG_WARNING | ABOUT_DATA, "port %u %s: GRO or LRO stays on, and markers may overtake data", port, link->name);
-    if (link->stacked && !tap->parts.plane->passing->steers)
-        (void)say(tap->parts.process, LOG_WARNING | ABOUT_DATA,
+    if ((read_joins(link->index).on & ~joins_allowed(tap->settings, link, guard)) != 0)
+        (void)say(tap->process, LOG_WARNING | ABOUT_DATA, "port %u %s: GRO or LRO stays on, and markers may overtake data", port, link->name);
+    if (link->stacked && !tap->plane->passing->steers)
+        (void)say(tap->process, LOG_WARNING | ABOUT_DATA,
             "port %u %s: it stands on another interface, whose queues are not seen: markers may overtake "
             "data", port, link->name);
     if (!guard->spread && has_queues && queues_of(link->index, &queues) > 1)
-        (void)say(tap->parts.process, LOG_WARNING | ABOUT_DATA, "port %u %s: it has several queues, and markers may overtake data", port, link->name);
+        (void)say(tap->process, LOG_WARNING | ABOUT_DATA, "port %u %s: it has several queues, and markers may overtake data", port, link->name);
 }
 
 /* Sets back which processors take what an interface receives; answers whether these do now. */
@@ -283,28 +249,27 @@ static bool steer_back(int index, const char *mask) {
 /* The interface is no member any more. What cannot be set back stays kept, as without CAP_NET_ADMIN. */
 void close_guard(struct tap_plane *tap, const struct link *link, struct guard *guard) {
     struct kept *before = &guard->before;
-    bool done;
     stop_programs(tap, link, guard);
-    stop_spreading(tap->parts.process->store, link, guard);
-    done = part_queues(link->index, &before->queues);
-    gather_back(tap->parts.process->folder, link, done);
+    stop_spreading(tap->process->store, link, guard);
+    bool done = part_queues(link->index, &before->queues);
+    gather_back(tap->process->folder, link, done);
     if (before->joins != 0) set_joins(link->index, before->joins);
     if (before->joins != 0) done = (before->joins & ~read_joins(link->index).wanted) == 0 && done;
     drop_fifo(link->index); /* with all its queues the kernel gives each of them what it chooses */
     if (before->steered[0]) done = steer_back(link->index, before->steered) && done;
-    if (done) forget_settings(tap->parts.process->folder, link);
+    if (done) forget_settings(tap->process->folder, link);
 }
 
 /* An interface was a member of the last daemon, and is none of this one: it gets what it had, unless somebody else has it by now. */
 void put_back(struct tap_plane *tap, int index, const uint8_t *mac) {
     struct link link = {.index = index};
     struct guard guard = {.classifier = CLASSIFIER_ALONE};
-    int lock = lock_interface(tap->parts.process, index);
+    int lock = lock_interface(tap->process, index);
     if (lock < 0) return;
-    guard.opened = claim_stored(tap->parts.process->store, "guard", index);
-    guard.chooser = claim_stored(tap->parts.process->store, "queues", index);
+    guard.opened = claim_stored(tap->process->store, "guard", index);
+    guard.chooser = claim_stored(tap->process->store, "queues", index);
     memcpy(link.mac, mac, sizeof link.mac);
-    recall_settings(tap->parts.process->folder, &link, &guard.before);
+    recall_settings(tap->process->folder, &link, &guard.before);
     close_guard(tap, &link, &guard);
-    return_stored(tap->parts.process->store, "lock", index, lock);
+    return_stored(tap->process->store, "lock", index, lock);
 }

@@ -1,6 +1,7 @@
 /* The conversation of a frame of the host: frames of one keep their order. */
+#include "lagd.h"
+
 #include <netinet/in.h>
-#include <string.h>
 
 struct frame {
     const uint8_t *octets;
@@ -18,7 +19,6 @@ static __always_inline bool read_octets(const struct frame *frame, uint64_t at, 
     return true;
 }
 
-/* The hash of a frame, all of whose tags stand in it. */
 static uint64_t hash_of(const struct settings *settings, const struct frame *frame) {
     const uint64_t start = HASH_START ^ settings->hash_seed;
     struct place place = {0, 0};

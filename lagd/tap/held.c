@@ -1,12 +1,9 @@
 /* Frames of conversations that are held. The library has a queue of each conversation, of numbers of slots: it tells which frame is next,
  * how many wait, and whether one more may. The frames are here, in the slots of one block that is taken at the start: small ones, and
  * large ones for those of several segments. */
-#define _GNU_SOURCE
-#include <errno.h>
-#include <string.h>
-#include <sys/mman.h>
-
 #include "tap.h"
+
+#include <sys/mman.h>
 
 /* How many frames of a conversation wait at most, and how many of all. */
 #define MOST_OF_ONE 2048
@@ -37,11 +34,7 @@ struct held_private {
     size_t octets; /* of all slots, while the queues are there */
 };
 
-struct held_private *make_held_private(void) {
-    struct held_private *made = make_room(sizeof *made);
-    made->leaving = NONE;
-    return made;
-}
+MAKES_WITH(held, .leaving = NONE)
 
 static struct pool *pool_of(struct held_private *own, uint32_t at) {
     return at & LARGE ? &own->large : &own->small;
@@ -67,19 +60,18 @@ void start_held(struct tap_plane *tap) {
     own->small.slots = mmap(NULL, before + behind, PROT_READ | PROT_WRITE, MAP_PRIVATE | MAP_ANONYMOUS | MAP_NORESERVE, -1, 0);
     if (own->small.slots == MAP_FAILED) stop(REFUSED, "no room for held frames", strerror(errno));
     own->large.slots = own->small.slots + before;
-    if (!is_done(tap->parts.process, niw_queue_new(&own->queues, CONVERSATIONS, MOST_WAIT, MOST_OF_ONE), "niw_queue_new")) return;
+    if (!is_done(tap->process, niw_queue_new(&own->queues, CONVERSATIONS, MOST_WAIT, MOST_OF_ONE), "niw_queue_new")) return;
     own->octets = before + behind;
 }
 
 /* The daemon ends: once the library has no number of a slot, the memory goes back. */
 void end_held(struct tap_plane *tap) {
     struct held_private *own = tap->held;
-    if (own->octets == 0 || !is_done(tap->parts.process, niw_queue_free(&own->queues), "niw_queue_free")) return;
+    if (own->octets == 0 || !is_done(tap->process, niw_queue_free(&own->queues), "niw_queue_free")) return;
     (void)munmap(own->small.slots, own->octets);
     own->octets = 0;
 }
 
-/* A slot that is not in use, or NONE. */
 static uint32_t claim_slot(struct held_private *own, struct pool *pool) {
     uint32_t at = pool->idle;
     if (at != NONE)
@@ -98,23 +90,20 @@ static void free_slot(struct held_private *own, uint32_t at) {
 /* Writes how many frames of a conversation wait; answers whether that is known. While no frame waits at all, the library is not asked. */
 bool count_held(struct tap_plane *tap, uint16_t number, uint64_t *waiting) {
     *waiting = 0;
-    return !tap->carry->waiting || is_told(tap->parts.process, niw_queue_waiting(&tap->held->queues, number), "niw_queue_waiting", waiting);
+    return !tap->carry->waiting || is_told(tap->process, niw_queue_waiting(&tap->held->queues, number), "niw_queue_waiting", waiting);
 }
 
-/* Whether it is known that no frame of a conversation waits. */
 bool none_held(struct tap_plane *tap, uint16_t number) {
     uint64_t waiting;
     return count_held(tap, number, &waiting) && waiting == 0;
 }
 
-/* Writes how many frames wait in all; answers whether that is known. */
 bool count_all_held(struct tap_plane *tap, uint64_t *waiting) {
     struct niw_counts counts = niw_queue_counts(&tap->held->queues);
     *waiting = counts.waiting;
-    return is_done(tap->parts.process, counts.status, "niw_queue_counts");
+    return is_done(tap->process, counts.status, "niw_queue_counts");
 }
 
-/* How many frames wait in all, as far as that is known. */
 unsigned count_frames_waiting(struct plane *plane) {
     uint64_t waiting;
     return count_all_held(plane->tap, &waiting) ? (unsigned)waiting : 0;
@@ -127,11 +116,9 @@ static uint32_t slot_told(struct process *process, const struct niw_queued *queu
 
 /* Writes the time at which the oldest frame of a conversation came; answers whether one waits. */
 bool oldest_held(struct tap_plane *tap, uint16_t number, uint64_t *came) {
-    struct niw_queued queued;
-    uint32_t at;
     if (!tap->carry->waiting) return false;
-    queued = niw_queue_oldest(&tap->held->queues, number);
-    at = slot_told(tap->parts.process, &queued, "niw_queue_oldest");
+    struct niw_queued queued = niw_queue_oldest(&tap->held->queues, number);
+    uint32_t at = slot_told(tap->process, &queued, "niw_queue_oldest");
     if (at != NONE) *came = slot_of(tap->held, at)->came;
     return at != NONE;
 }
@@ -142,7 +129,7 @@ bool put_held(struct tap_plane *tap, uint16_t number, const uint8_t *packet, siz
     uint32_t at = claim_slot(tap->held, length > SMALL_ROOM ? &own->large : &own->small), status;
     if (at == NONE) return false;
     status = niw_queue_put(&own->queues, number, at);
-    if (status == NIW_CONVERSATION_FULL || status == NIW_ALL_FULL || !is_done(tap->parts.process, status, "niw_queue_put")) {
+    if (status == NIW_CONVERSATION_FULL || status == NIW_ALL_FULL || !is_done(tap->process, status, "niw_queue_put")) {
         free_slot(tap->held, at);
         return false;
     }
@@ -153,10 +140,9 @@ bool put_held(struct tap_plane *tap, uint16_t number, const uint8_t *packet, siz
     return true;
 }
 
-/* Loses the oldest frame of a conversation, and counts why; answers whether one waited. */
 bool drop_held(struct tap_plane *tap, uint16_t number, enum carry_count why) {
     struct niw_queued queued = niw_queue_drop(&tap->held->queues, number);
-    uint32_t at = slot_told(tap->parts.process, &queued, "niw_queue_drop");
+    uint32_t at = slot_told(tap->process, &queued, "niw_queue_drop");
     if (at == NONE) return false;
     free_slot(tap->held, at);
     tap->carry->counts[why]++;
@@ -168,7 +154,7 @@ bool drop_held(struct tap_plane *tap, uint16_t number, enum carry_count why) {
 uint8_t *remove_held(struct tap_plane *tap, uint16_t number, size_t *length) {
     struct held_private *own = tap->held;
     struct niw_queued queued = niw_queue_next(&own->queues, number);
-    uint32_t at = slot_told(tap->parts.process, &queued, "niw_queue_next");
+    uint32_t at = slot_told(tap->process, &queued, "niw_queue_next");
     if (at == NONE) return NULL;
     slot_of(tap->held, at)->next = own->leaving;
     own->leaving = at;

@@ -1,11 +1,7 @@
 /* The host's end of data: the TAP device, whose frames are read and written here. */
-#define _GNU_SOURCE
-#include <errno.h>
-#include <string.h>
-#include <sys/uio.h>
-#include <unistd.h>
-
 #include "tap.h"
+
+#include <sys/uio.h>
 
 /* The most segments of a packet that is cut at once: more than one of a usual stream has. */
 #define MOST_AT_ONCE 128
@@ -33,37 +29,32 @@ struct host_private {
     unsigned of_one[CONVERSATIONS]; /* how many of each conversation wait */
 };
 
-struct host_private *make_host_private(void) {
-    struct host_private *made = make_room(sizeof *made);
-    made->tap = -1;
-    return made;
-}
+MAKES_WITH(host, .tap = -1)
 
 /* The device is gone, or it is in another namespace, where interfaces of others have the numbers of our members: first of all nothing
  * is passed on any more. Then the peers are told, and the daemon ends, so that whoever started it starts it again, with a new device. */
 void lose_device(struct plane *plane) {
     struct tap_plane *tap = plane->tap;
     struct host_private *own = tap->host;
-    if (tap->parts.process->broken) return;
-    tap->parts.process->broken = true;
+    if (tap->process->broken) return;
+    tap->process->broken = true;
     CALL(plane->passing->end, tap);
-    forget_tap(tap->parts.device);
-    drop_stored(tap->parts.process->store, "tap", 0);
-    if (own->tap >= 0) await_no_more(tap->parts.process->epoll_file, own->tap);
-    (void)say(tap->parts.process, LOG_ERR | ABOUT_CARRIER, "carry %s: the device was deleted, or moved to another namespace; "
-        "the peers are told, and the daemon ends", tap->parts.settings->carry);
+    forget_tap(tap->device);
+    drop_stored(tap->process->store, "tap", 0);
+    if (own->tap >= 0) await_no_more(tap->process->epoll_file, own->tap);
+    (void)say(tap->process, LOG_ERR | ABOUT_CARRIER, "carry %s: the device was deleted, or moved to another namespace; "
+        "the peers are told, and the daemon ends", tap->settings->carry);
 }
 
-/* Whether packets wait to be cut. */
 bool is_cutting(struct tap_plane *tap) {
-    return tap->host->count > 0 && !tap->parts.process->broken;
+    return tap->host->count > 0 && !tap->process->broken;
 }
 
 /* Takes segments of a packet from this one on, so many at most; answers how many. */
 static unsigned cut_segments(struct tap_plane *tap, const struct cut *cut, uint32_t from, unsigned most) {
     struct host_private *own = tap->host;
     unsigned taken = 0;
-    for (; taken < most && from + taken < cut->count && !tap->parts.process->broken; taken++) {
+    for (; taken < most && from + taken < cut->count && !tap->process->broken; taken++) {
         uint8_t *packet = room_at(own->segments, taken % BATCH);
         if (taken > 0 && taken % BATCH == 0) flush_data(tap);
         accept_from_host(tap, packet, put_segment(cut, from + taken, packet));
@@ -113,9 +104,8 @@ static void cut_waiting(struct tap_plane *tap, unsigned most) {
     struct host_private *own = tap->host;
     for (unsigned taken = 0; taken < most && is_cutting(tap);) {
         struct uncut *uncut = &own->waiting[own->first];
-        unsigned now;
         if (uncut->cut.count > 0 && uncut->next == 0) tap->carry->counts[SEGMENTED]++;
-        now = uncut->cut.count > 0 ? cut_segments(tap, &uncut->cut, uncut->next, most - taken)
+        unsigned now = uncut->cut.count > 0 ? cut_segments(tap, &uncut->cut, uncut->next, most - taken)
                                    : accept_whole(tap, room_at(own->rooms, own->first), uncut->length);
         uncut->next += now;
         taken += now;
@@ -136,9 +126,8 @@ static bool is_long(const uint8_t *packet, size_t length) {
  * answers how many frames it has. */
 static unsigned accept_in_turn(struct tap_plane *tap, uint8_t *packet, size_t length) {
     size_t head = head_octets();
-    struct niw_number number;
     if (length < head + ETH_HLEN || (!is_cutting(tap) && !is_long(packet, length))) return accept_whole(tap, packet, length);
-    number = conversation_of(tap->parts.protocol, packet + head, length - head);
+    struct niw_number number = conversation_of(tap->protocol, packet + head, length - head);
     if (number.status != NIW_OK || (tap->host->of_one[number.number % CONVERSATIONS] == 0 && !is_long(packet, length)))
         return accept_whole(tap, packet, length);
     return wait_uncut(tap, packet, length, (uint16_t)(number.number % CONVERSATIONS));
@@ -146,15 +135,14 @@ static unsigned accept_in_turn(struct tap_plane *tap, uint8_t *packet, size_t le
 
 /* Takes one packet of the TAP device; answers how many frames it has, or 0 where there is none. */
 static unsigned read_next(struct tap_plane *tap, uint8_t *packet) {
-    ssize_t length;
-    if (tap->parts.process->broken) return 0;
-    length = read(tap->host->tap, packet, packet_room());
+    if (tap->process->broken) return 0;
+    ssize_t length = read(tap->host->tap, packet, packet_room());
     if (length < 0 && (errno == EAGAIN || errno == EINTR)) return 0;
     if (length < 0 && (errno == EBADFD || errno == EIO || errno == ENODEV)) {
-        lose_device(tap->parts.plane);
+        lose_device(tap->plane);
         return 0;
     }
-    if (length >= (ssize_t)head_octets() && !tap->parts.plane->segments) return accept_in_turn(tap, packet, (size_t)length);
+    if (length >= (ssize_t)head_octets() && !tap->plane->segments) return accept_in_turn(tap, packet, (size_t)length);
     accept_from_host(tap, packet, length < 0 ? 0 : (size_t)length); /* one that cannot be read has no octets */
     return 1;
 }
@@ -172,24 +160,24 @@ void read_host(struct tap_plane *tap) {
     cut_waiting(tap, MOST_CUT);
     flush_data(tap);
     if (left == 0 || is_cutting(tap)) tap->carry->more_waits = true;
-    CALL(tap->parts.plane->passing->note_read, tap, got, left > 0);
-    CALL(tap->parts.plane->passing->pass_on, tap);
+    CALL(tap->plane->passing->note_read, tap, got, left > 0);
+    CALL(tap->plane->passing->pass_on, tap);
 }
 
 /* Hands a packet up, which lies in parts; answers whether the device took it. */
 bool give_host(struct tap_plane *tap, const struct iovec *parts, unsigned count, size_t length) {
-    return !tap->parts.process->broken && writev(tap->host->tap, parts, (int)count) == (ssize_t)length;
+    return !tap->process->broken && writev(tap->host->tap, parts, (int)count) == (ssize_t)length;
 }
 
 /* Serves what is ready: a member, or the TAP device, whose frames come after what was released. */
 void serve_data(struct tap_plane *tap, uint32_t tag) {
-    if (tap->parts.process->broken) return;
+    if (tap->process->broken) return;
     if (tag == RESPONSES) serve_answers(tap);
     if (tag >= MEMBERS && tag < RESPONSES) {
         receive_data(tap, (uint16_t)(tag - MEMBERS + 1));
-        if (tap->parts.plane->changed) send_due(tap->parts.protocol);
+        if (tap->plane->changed) send_due(tap->protocol);
     }
-    settle_carry(tap->parts.plane);
+    settle_carry(tap->plane);
     if (tag == HOST) read_host(tap);
 }
 
@@ -200,7 +188,6 @@ void lose_data(struct plane *plane, uint16_t port) {
     forget_answers(tap->answers, port);
 }
 
-/* The interface by which the kernel passes a conversation on, or 0. */
 int passing_member_of(struct plane *plane, uint16_t number) {
     return ASK(plane->passing->member_of, 0, plane->tap, number);
 }
@@ -216,19 +203,19 @@ void open_tap_plane(struct plane *plane) {
     start_members(tap->members);
     load_guard(tap);
     CALL(plane->queueing->start, tap);
-    call_at_exit(tap->parts.process, put_back_members, tap);
-    own->tap = open_tap(tap->parts.device, tap->parts.settings->carry, tap->parts.settings->config.mac);
-    gather(tap->parts.process, tap_index(tap->parts.device));
+    call_at_exit(tap->process, put_back_members, tap);
+    own->tap = open_tap(tap->device, tap->settings->carry, tap->settings->config.mac);
+    gather(tap->process, tap_index(tap->device));
     CALL(plane->passing->start, tap);
-    if (!await_input(tap->parts.process->epoll_file, own->tap, HOST)) stop(REFUSED, "epoll", strerror(errno));
+    if (!await_input(tap->process->epoll_file, own->tap, HOST)) stop(REFUSED, "epoll", strerror(errno));
 }
 
 /* Members are as they were before, and the device goes with the program. */
 void end_tap_plane(struct plane *plane) {
     struct tap_plane *tap = plane->tap;
-    await_no_more(tap->parts.process->epoll_file, tap->host->tap);
-    set_carrier(tap->parts.device, false);
-    remove_all_members(tap->parts.protocol);
+    await_no_more(tap->process->epoll_file, tap->host->tap);
+    set_carrier(tap->device, false);
+    remove_all_members(tap->protocol);
     CALL(plane->passing->end, tap);
     end_held(tap);
 }
@@ -238,7 +225,6 @@ void open_carry(struct protocol *protocol) {
     if (protocol->settings->carry[0]) CALL(protocol->plane->carrying->open, protocol->plane);
 }
 
-/* No interface is a member any more. */
 void remove_all_members(struct protocol *protocol) {
     EACH_LINK(link, protocol->ports)
         if (link->socket >= 0) CALL(protocol->plane->carrying->remove, protocol->plane, link);

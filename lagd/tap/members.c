@@ -1,16 +1,11 @@
 /* Members: a packet socket of each for data and markers, and what is sent there many at a time. */
-#define _GNU_SOURCE
-#include <errno.h>
+#include "tap.h"
+
 #include <linux/filter.h>
 #include <linux/if_packet.h>
 #include <linux/virtio_net.h>
 #include <netinet/in.h>
-#include <string.h>
-#include <sys/socket.h>
 #include <sys/uio.h>
-#include <unistd.h>
-
-#include "tap.h"
 
 /* Of the frames that wait in a socket. */
 #define SOCKET_ROOM (8 << 20)
@@ -45,11 +40,16 @@ struct members_private *make_members_private(void) {
 }
 
 static struct member *member_of(struct tap_plane *tap, const struct link *link) {
-    return &tap->members->members[link - tap->parts.ports->links];
+    return &tap->members->members[link - tap->ports->links];
 }
 
 uint64_t member_count(const struct members_private *own, uint16_t port, enum member_count count) {
     return own->members[port - 1].counts[count];
+}
+
+static bool attach(int fd, struct sock_filter *code, unsigned short count) {
+    struct sock_fprog wanted = {count, code};
+    return setsockopt(fd, SOL_SOCKET, SO_ATTACH_FILTER, &wanted, sizeof wanted) == 0;
 }
 
 /* Lets a socket have data and markers, or all slow protocols but markers: so a marker comes in one row with the data before it, and no
@@ -74,8 +74,7 @@ static bool filter(int fd, bool data) {
         BPF_STMT(BPF_RET | BPF_K, taken), /* data */
         BPF_STMT(BPF_RET | BPF_K, ~taken), /* another of the slow protocols */
     };
-    struct sock_fprog wanted = {sizeof code / sizeof code[0], code};
-    return setsockopt(fd, SOL_SOCKET, SO_ATTACH_FILTER, &wanted, sizeof wanted) == 0;
+    return attach(fd, code, sizeof code / sizeof code[0]);
 }
 
 /* Lets a socket of the TAP device have the markers that a program marked with the number of a port; with 0, let a socket have nothing. */
@@ -88,8 +87,7 @@ static bool filter_marked(int fd, uint16_t port) {
         BPF_STMT(BPF_RET | BPF_K, port > 0 ? UINT32_MAX : 0),
         BPF_STMT(BPF_RET | BPF_K, 0),
     };
-    struct sock_fprog wanted = {sizeof code / sizeof code[0], code};
-    return setsockopt(fd, SOL_SOCKET, SO_ATTACH_FILTER, &wanted, sizeof wanted) == 0;
+    return attach(fd, code, sizeof code / sizeof code[0]);
 }
 
 static void enlarge(int fd, int forced, int plain) {
@@ -97,20 +95,17 @@ static void enlarge(int fd, int forced, int plain) {
         (void)setsockopt(fd, SOL_SOCKET, plain, &(int){SOCKET_ROOM}, sizeof(int));
 }
 
+static bool set_packet(int fd, int what, int value) {
+    return setsockopt(fd, SOL_PACKET, what, &value, sizeof value) == 0;
+}
+
 /* Has what is sent go round a queueing discipline that does not keep the order: fq_codel has a queue for each flow, and a marker would
  * overtake the data before it. */
 static bool set_bypass(int fd, bool in_order) {
-    return setsockopt(fd, SOL_PACKET, PACKET_QDISC_BYPASS, &(int){!in_order}, sizeof(int)) == 0;
+    return set_packet(fd, PACKET_QDISC_BYPASS, !in_order);
 }
 
-/* How a packet is sent and taken. */
-static bool set_ways(int fd, bool in_order) {
-    return set_bypass(fd, in_order)
-        && setsockopt(fd, SOL_PACKET, PACKET_VNET_HDR, &(int){1}, sizeof(int)) == 0
-        && setsockopt(fd, SOL_PACKET, PACKET_AUXDATA, &(int){1}, sizeof(int)) == 0;
-}
-
-/* A packet socket for the data of an interface, and its markers; or -errno. Where the kernel hands up what comes, it only sends. */
+/* A packet socket of an interface: for its data and markers, of which it only sends where the kernel hands up what comes; or -errno. */
 static int open_data(struct process *process, int index, const struct guard *guard) {
     struct sockaddr_ll address = {.sll_family = AF_PACKET, .sll_protocol = htons(ETH_P_ALL), .sll_ifindex = index};
     struct packet_mreq all = {index, PACKET_MR_PROMISC, 0, {0}};
@@ -118,9 +113,9 @@ static int open_data(struct process *process, int index, const struct guard *gua
     if (fd < 0) return fd;
     enlarge(fd, SO_RCVBUFFORCE, SO_RCVBUF);
     enlarge(fd, SO_SNDBUFFORCE, SO_SNDBUF);
-    (void)setsockopt(fd, SOL_PACKET, PACKET_IGNORE_OUTGOING, &(int){1}, sizeof(int));
-    if ((guard->fast ? filter_marked(fd, 0) : filter(fd, true)) && set_ways(fd, guard->in_order)
-        && bind(fd, (struct sockaddr *)&address, sizeof address) == 0
+    (void)set_packet(fd, PACKET_IGNORE_OUTGOING, 1);
+    if ((guard->fast ? filter_marked(fd, 0) : filter(fd, true)) && set_bypass(fd, guard->in_order) && set_packet(fd, PACKET_VNET_HDR, 1)
+        && set_packet(fd, PACKET_AUXDATA, 1) && bind(fd, (struct sockaddr *)&address, sizeof address) == 0
         && setsockopt(fd, SOL_PACKET, PACKET_ADD_MEMBERSHIP, &all, sizeof all) == 0)
         return fd;
     close_stored(process->store, "data", index, fd);
@@ -135,53 +130,47 @@ static int open_markers(struct process *process, const struct link *link, int in
     const char *kind = port > 0 ? "markers" : "direct";
     int fd = packet_socket(process, kind, link->index, index, SOCK_RAW);
     if (fd < 0) return fd;
-    (void)setsockopt(fd, SOL_PACKET, PACKET_IGNORE_OUTGOING, &(int){1}, sizeof(int));
-    if ((port > 0 ? filter_marked(fd, port) : filter(fd, true)) && setsockopt(fd, SOL_PACKET, PACKET_AUXDATA, &(int){1}, sizeof(int)) == 0
+    (void)set_packet(fd, PACKET_IGNORE_OUTGOING, 1);
+    if ((port > 0 ? filter_marked(fd, port) : filter(fd, true)) && set_packet(fd, PACKET_AUXDATA, 1)
         && bind(fd, (struct sockaddr *)&address, sizeof address) == 0)
         return fd;
     close_stored(process->store, kind, link->index, fd);
     return last_fault();
 }
 
-/* Makes room for what comes by members. */
 void start_members(struct members_private *own) {
     own->member_packets = make_rooms();
 }
 
 static void close_sockets(struct tap_plane *tap, struct member *member) {
-    int index = tap->parts.ports->links[member - tap->members->members].index;
-    if (member->socket >= 0) close_stored(tap->parts.process->store, "data", index, member->socket);
-    if (member->markers >= 0) close_stored(tap->parts.process->store, "markers", index, member->markers);
-    if (member->direct >= 0) close_stored(tap->parts.process->store, "direct", index, member->direct);
+    int index = tap->ports->links[member - tap->members->members].index;
+    if (member->socket >= 0) close_stored(tap->process->store, "data", index, member->socket);
+    if (member->markers >= 0) close_stored(tap->process->store, "markers", index, member->markers);
+    if (member->direct >= 0) close_stored(tap->process->store, "direct", index, member->direct);
     member->socket = member->markers = member->direct = -1;
 }
 
-/* The manager of services keeps the sockets of a member, too. */
-static void store_sockets(struct store_private *store, const struct member *member, int index) {
-    put_stored(store, "data", index, member->socket);
-    if (member->markers >= 0) put_stored(store, "markers", index, member->markers);
-    if (member->direct >= 0) put_stored(store, "direct", index, member->direct);
-}
-
-/* Opens the sockets of a member; answers 0, or -errno. */
 static int open_member_sockets(struct tap_plane *tap, struct member *member, const struct link *link) {
-    int epoll_file = tap->parts.process->epoll_file;
+    int epoll_file = tap->process->epoll_file;
     uint32_t tag = MEMBERS + (uint32_t)(member - tap->members->members);
-    member->socket = open_data(tap->parts.process, link->index, &member->guard);
+    member->socket = open_data(tap->process, link->index, &member->guard);
     if (member->socket < 0) return member->socket;
     if (!member->guard.fast) return await_input(epoll_file, member->socket, tag) ? 0 : last_fault();
-    member->markers = open_markers(tap->parts.process, link, tap_index(tap->parts.device), link->settings.number);
+    member->markers = open_markers(tap->process, link, tap_index(tap->device), link->settings.number);
     if (member->markers < 0) return member->markers;
-    member->direct = open_markers(tap->parts.process, link, link->index, 0);
+    member->direct = open_markers(tap->process, link, link->index, 0);
     if (member->direct < 0) return member->direct;
     return await_input(epoll_file, member->markers, tag) && await_input(epoll_file, member->direct, tag) ? 0 : last_fault();
 }
 
 /* Opens the sockets of a member whose programs run; answers 0, or -errno, and then it is no member any more. */
 static int open_or_close(struct tap_plane *tap, struct member *member, const struct link *link) {
+    struct store_private *store = tap->process->store;
     int fault = open_member_sockets(tap, member, link);
     if (fault == 0) {
-        store_sockets(tap->parts.process->store, member, link->index);
+        put_stored(store, "data", link->index, member->socket);
+        if (member->markers >= 0) put_stored(store, "markers", link->index, member->markers);
+        if (member->direct >= 0) put_stored(store, "direct", link->index, member->direct);
         begin_queues(tap->queues, link->settings.number, member->guard.queues);
     } else {
         close_sockets(tap, member);
@@ -190,7 +179,6 @@ static int open_or_close(struct tap_plane *tap, struct member *member, const str
     return fault;
 }
 
-/* Takes up an interface for data; answers 0, or -errno. */
 int open_member(struct plane *plane, struct link *link) {
     struct tap_plane *tap = plane->tap;
     struct member *member = member_of(tap, link);
@@ -211,11 +199,11 @@ static void count_loss(struct member *member) {
 /* The programs and sockets of a member are chosen anew; answers whether it is still taken up. */
 static bool renew_member(struct tap_plane *tap, struct link *link) {
     struct member *member = member_of(tap, link);
-    CALL(tap->parts.plane->passing->withdraw_port, tap, link->settings.number);
+    CALL(tap->plane->passing->withdraw_port, tap, link->settings.number);
     count_loss(member);
     close_sockets(tap, member);
     reopen_guard(tap, link, &member->guard);
-    tap->parts.plane->changed = true;
+    tap->plane->changed = true;
     return open_or_close(tap, member, link) == 0;
 }
 
@@ -227,7 +215,6 @@ bool reopen_member(struct plane *plane, struct link *link) {
     return ASK(plane->carrying->renew, true, plane, link);
 }
 
-/* The same of a member. */
 bool renew_for_discipline(struct plane *plane, struct link *link) {
     struct tap_plane *tap = plane->tap;
     struct member *member = member_of(tap, link);
@@ -237,7 +224,6 @@ bool renew_for_discipline(struct plane *plane, struct link *link) {
     return set_bypass(member->socket, member->guard.in_order);
 }
 
-/* An interface has this MAC address now. */
 void follow_address(struct plane *plane, struct link *link, const uint8_t *mac) {
     if (memcmp(link->mac, mac, sizeof link->mac) == 0) return;
     CALL(plane->carrying->move, plane, link, mac);
@@ -249,8 +235,8 @@ void move_member(struct plane *plane, struct link *link, const uint8_t *mac) {
     struct tap_plane *tap = plane->tap;
     struct member *member = member_of(tap, link);
     if (member->socket < 0) return;
-    move_former(tap->parts.process->folder, link, mac);
-    write_settings(tap->parts.process, link, &member->guard.before);
+    move_former(tap->process->folder, link, mac);
+    write_settings(tap->process, link, &member->guard.before);
 }
 
 /* A queueing discipline of an interface came, changed or went: where each queue has one of the daemon, others may have put another one there,
@@ -259,7 +245,7 @@ bool follow_member_queues(struct tap_plane *tap, struct link *link) {
     struct member *member = member_of(tap, link);
     bool kept = link->has_fifos ? have_order(link->index) : member->guard.in_order || !may_have_order(link->index);
     if (member->socket < 0 || kept) return true;
-    (void)say(tap->parts.process, LOG_NOTICE | ABOUT_DATA, "port %u %s: its queues were changed", link->settings.number, link->name);
+    (void)say(tap->process, LOG_NOTICE | ABOUT_DATA, "port %u %s: its queues were changed", link->settings.number, link->name);
     return renew_member(tap, link);
 }
 
@@ -267,31 +253,29 @@ bool follow_member_queues(struct tap_plane *tap, struct link *link) {
  * the others by now. */
 void watch_queues(struct tap_plane *tap) {
     struct members_private *own = tap->members;
-    if (ticks_passed(tap->parts.protocol->system) % SECOND != 0) return;
-    for (uint16_t i = 0; i < tap->parts.ports->count; i++) {
-        struct link *link = &tap->parts.ports->links[i];
+    if (ticks_passed(tap->protocol->system) % SECOND != 0) return;
+    for (uint16_t i = 0; i < tap->ports->count; i++) {
+        struct link *link = &tap->ports->links[i];
         const struct guard *guard = &own->members[i].guard;
-        bool anew = own->members[i].socket >= 0 && is_spread_anew(tap->parts.protocol->system, link, guard);
-        if (anew) (void)say(tap->parts.process, LOG_NOTICE | ABOUT_DATA, "port %u %s: its queues were changed", link->settings.number, link->name);
+        bool anew = own->members[i].socket >= 0 && is_spread_anew(tap->protocol->system, link, guard);
+        if (anew) (void)say(tap->process, LOG_NOTICE | ABOUT_DATA, "port %u %s: its queues were changed", link->settings.number, link->name);
         anew = anew || (own->members[i].socket >= 0 && guard->unusual && has_usual_queues(tap, guard));
         if (!anew || renew_member(tap, link)) continue;
-        look_again(tap->parts.protocol->changes);
-        lose_link(tap->parts.protocol, link);
+        look_again(tap->protocol->changes);
+        lose_link(tap->protocol, link);
     }
 }
 
-/* By how many queues of a member its data goes. */
 unsigned member_queues(const struct members_private *own, uint16_t port) {
     return own->members[port - 1].socket < 0 ? 0 : own->members[port - 1].guard.queues;
 }
 
-/* Whether the kernel may pass on what goes on a port. */
 bool has_fast_member(const struct members_private *own, uint16_t port) {
     return own->members[port - 1].socket >= 0 && own->members[port - 1].guard.fast;
 }
 
 void count_losses(struct tap_plane *tap) {
-    for (uint16_t i = 0; i < tap->parts.ports->count; i++) count_loss(&tap->members->members[i]);
+    for (uint16_t i = 0; i < tap->ports->count; i++) count_loss(&tap->members->members[i]);
 }
 
 /* The interface is gone, or the daemon ends. */
@@ -318,11 +302,11 @@ void forget_member(struct plane *plane, uint16_t port) {
 void put_back_members(void *given) {
     struct tap_plane *tap = given;
     struct members_private *own = tap->members;
-    if (tap->parts.process->has_left) return;
-    for (uint16_t i = 0; i < tap->parts.ports->count; i++) {
+    if (tap->process->has_left) return;
+    for (uint16_t i = 0; i < tap->ports->count; i++) {
         if (own->members[i].socket < 0) continue;
         close_sockets(tap, &own->members[i]);
-        close_guard(tap, &tap->parts.ports->links[i], &own->members[i].guard);
+        close_guard(tap, &tap->ports->links[i], &own->members[i].guard);
     }
 }
 
@@ -333,14 +317,14 @@ void follow_member_mtu(struct plane *plane, struct link *link, uint32_t mtu) {
     uint32_t least = 0;
     if (member_of(tap, link)->mtu == mtu) return;
     member_of(tap, link)->mtu = mtu;
-    for (uint16_t i = 0; i < tap->parts.ports->count; i++)
+    for (uint16_t i = 0; i < tap->ports->count; i++)
         if (own->members[i].mtu > 0 && (least == 0 || own->members[i].mtu < least)) least = own->members[i].mtu;
-    if (least != 0) limit_mtu(tap->parts.device, least);
+    if (least != 0) limit_mtu(tap->device, least);
 }
 
 /* The kernel told of an interface whose link is up, which may have another speed. */
-void follow_speed(struct plane *plane, const struct link *link, const char *interface) {
-    uint32_t now = read_speed(link->socket, interface).megabits;
+void follow_speed(struct plane *plane, const struct link *link) {
+    uint32_t now = read_speed(link->socket, link->index).megabits;
     member_of(plane->tap, link)->megabits = now == (uint32_t)SPEED_UNKNOWN ? 0 : now;
     plane->changed = true;
 }
@@ -361,7 +345,7 @@ void add_fast_counts(struct tap_plane *tap, uint16_t port, const struct fast_mem
     counts[UNCOLLECTED] += more->uncollected;
     counts[WRONG_LENGTH] += more->wrong_length;
     tap->carry->counts[HANDED_UP] += more->passed_up;
-    if (more->uncollected > 0) suspect_aggregator(tap->carry, tap->parts.ports->links[port - 1].view.aggregator);
+    if (more->uncollected > 0) suspect_aggregator(tap->carry, tap->ports->links[port - 1].view.aggregator);
 }
 
 /* So many frames more were passed on by the kernel alone, on a port. */
@@ -385,21 +369,20 @@ static void flush_member(struct changes_private *own, struct member *member) {
     member->out = 0;
 }
 
-/* Sends what waits for any member. */
 void flush_data(struct tap_plane *tap) {
     struct members_private *own = tap->members;
-    for (uint16_t i = 0; i < tap->parts.ports->count; i++)
-        if (own->members[i].out > 0) flush_member(tap->parts.protocol->changes, &own->members[i]);
+    for (uint16_t i = 0; i < tap->ports->count; i++)
+        if (own->members[i].out > 0) flush_member(tap->protocol->changes, &own->members[i]);
     free_left(tap->held);
 }
 
 /* Puts a packet of a conversation behind those that wait for a port. It stays where it is until flush_data. */
 void put_data(struct tap_plane *tap, uint16_t port, uint16_t number, uint8_t *packet, size_t length) {
     struct member *member = &tap->members->members[port - 1];
-    if (member->out == BATCH) flush_member(tap->parts.protocol->changes, member);
+    if (member->out == BATCH) flush_member(tap->protocol->changes, member);
     member->parts[member->out] = (struct iovec){packet, length};
     member->messages[member->out].msg_hdr = (struct msghdr){.msg_iov = &member->parts[member->out], .msg_iovlen = 1};
-    CALL(tap->parts.plane->queueing->mark, tap, port, number, &member->messages[member->out].msg_hdr);
+    CALL(tap->plane->queueing->mark, tap, port, number, &member->messages[member->out].msg_hdr);
     member->out++;
 }
 
@@ -413,25 +396,22 @@ bool give_marker(struct tap_plane *tap, struct link *link, const uint8_t *marker
     memcpy(sent + head_octets(), marker, NIW_FRAME);
     memcpy(sent + head_octets() + ETH_ALEN, link->mac, ETH_ALEN);
     if (member->socket < 0 || sendmsg(member->socket, message, 0) != (ssize_t)part.iov_len) return false;
-    return is_done(tap->parts.process, niw_count_sent(&link->counters, marker, NIW_FRAME), "niw_count_sent");
+    return is_done(tap->process, niw_count_sent(&link->counters, marker, NIW_FRAME), "niw_count_sent");
 }
 
-/* Sends a marker of a member of one queue, for the first time or again. */
-bool send_by_one_queue(struct tap_plane *tap, struct link *link, const uint8_t *marker, bool again) {
+bool send_by_one_queue(struct tap_plane *tap, struct link *link, const uint8_t *marker, bool again UNUSED) {
     struct msghdr message = {0};
-    (void)again;
     return give_marker(tap, link, marker, &message);
 }
 
 /* Sends a marker behind the data of its port, by the same socket: by another one, of another priority, it would overtake them. What the
  * kernel passes on and no longer may is taken back before. */
 static bool send_marker(struct tap_plane *tap, struct link *link, const uint8_t *marker, bool again) {
-    flush_member(tap->parts.protocol->changes, member_of(tap, link));
-    CALL(tap->parts.plane->passing->withdraw, tap);
-    return tap->parts.plane->queueing->send_marker(tap, link, marker, again);
+    flush_member(tap->protocol->changes, member_of(tap, link));
+    CALL(tap->plane->passing->withdraw, tap);
+    return tap->plane->queueing->send_marker(tap, link, marker, again);
 }
 
-/* A marker is due on a port. */
 void send_new_marker(struct plane *plane, struct link *link, const uint8_t *frame) {
     struct tap_plane *tap = plane->tap;
     struct member *member = member_of(tap, link);
@@ -444,13 +424,11 @@ void send_new_marker(struct plane *plane, struct link *link, const uint8_t *fram
 /* Sends the last marker of a port again: a cable may repeat control frames, and may lose one. Answers whether it went. */
 bool send_marker_again(struct tap_plane *tap, uint16_t port) {
     struct members_private *own = tap->members;
-    return own->members[port - 1].has_marker && send_marker(tap, &tap->parts.ports->links[port - 1], own->members[port - 1].marker, true);
+    return own->members[port - 1].has_marker && send_marker(tap, &tap->ports->links[port - 1], own->members[port - 1].marker, true);
 }
 
-/* Accepts a response to the one marker of a port. */
-void accept_only_response(struct tap_plane *tap, struct link *link, const struct arrival *arrival, uint32_t id) {
-    (void)id;
-    accept_response(tap->parts.protocol, link, arrival);
+void accept_only_response(struct tap_plane *tap, struct link *link, const struct arrival *arrival, uint32_t id UNUSED) {
+    accept_response(tap->protocol, link, arrival);
 }
 
 /* Accepts a response to a marker of one queue: the library has the last one that was missing. */
@@ -458,13 +436,13 @@ void accept_response_of_queue(struct tap_plane *tap, struct link *link, const st
     uint8_t frame[NIW_FRAME];
     struct arrival last = {frame, sizeof frame, arrival->packet_type, arrival->index, arrival->tagged};
     bool ends = ends_flight(tap->queues, link, &id);
-    if (!ends && !is_done(tap->parts.process, niw_count_received(&link->counters, arrival->frame, arrival->length, NIW_RECEIVED_RELEASED),
+    if (!ends && !is_done(tap->process, niw_count_received(&link->counters, arrival->frame, arrival->length, NIW_RECEIVED_RELEASED),
         "niw_count_received"))
         return;
     if (!ends) return;
     memcpy(frame, arrival->frame, sizeof frame);
     set_identifier(frame, id);
-    accept_response(tap->parts.protocol, link, &last);
+    accept_response(tap->protocol, link, &last);
 }
 
 /* Hands a frame of data to the library, and up. */
@@ -472,9 +450,9 @@ static void deliver(struct tap_plane *tap, struct link *link, uint8_t *packet, s
     struct member *member = member_of(tap, link);
     uint8_t response[NIW_FRAME];
     size_t octets = length - head_octets() < LONGEST_SHOWN ? length - head_octets() : LONGEST_SHOWN;
-    struct niw_received received = niw_receive(&tap->parts.protocol->own_system, link->settings.number, packet + head_octets(), octets, response,
+    struct niw_received received = niw_receive(&tap->protocol->own_system, link->settings.number, packet + head_octets(), octets, response,
         sizeof response);
-    if (is_done(tap->parts.process, received.status, "niw_receive") && received.what == NIW_RECEIVED_HANDED_UP)
+    if (is_done(tap->process, received.status, "niw_receive") && received.what == NIW_RECEIVED_HANDED_UP)
         hand_up(tap, received.number, packet, length);
     else
         member->counts[UNCOLLECTED]++;
@@ -485,8 +463,8 @@ static void accept_slow(struct tap_plane *tap, struct link *link, const struct s
     size_t length) {
     struct arrival arrival = {frame, length, from->sll_pkttype, handed_up ? link->index : from->sll_ifindex, false};
     flush_host(tap); /* what came before it */
-    accept_frame(tap->parts.protocol, link, &arrival);
-    tap->parts.plane->changed = true;
+    accept_frame(tap->protocol, link, &arrival);
+    tap->plane->changed = true;
 }
 
 /* Takes a packet that came: a marker alone, without a head, where the kernel hands up the data. */
@@ -516,35 +494,29 @@ static void accept_packet(struct tap_plane *tap, struct link *link, struct mmsgh
         deliver(tap, link, packet, length);
 }
 
-/* The kernel has a frame of segments that it cannot describe: it is lost. */
-static bool is_unreadable(int got) {
-    return got < 0 && errno == EINVAL;
-}
-
 /* Takes the packets that wait in a socket of a member, some at most. What the kernel tells of links comes before them: what was sent after
  * a link went is not handed up before it. */
 static void receive_packets(struct tap_plane *tap, uint16_t port, const int *fd, bool only_markers) {
-    struct link *link = &tap->parts.ports->links[port - 1];
+    struct link *link = &tap->ports->links[port - 1];
     struct member *member = &tap->members->members[port - 1];
     struct mmsghdr messages[BATCH];
     struct iovec parts[BATCH];
     struct sockaddr_ll from[BATCH];
     _Alignas(struct cmsghdr) uint8_t controls[BATCH][CMSG_SPACE(sizeof(struct tpacket_auxdata))];
-    int got;
     if (*fd < 0) return;
     for (unsigned i = 0; i < BATCH; i++) {
         parts[i] = (struct iovec){room_at(tap->members->member_packets, i), packet_room()};
         messages[i].msg_hdr = (struct msghdr){.msg_name = &from[i], .msg_namelen = sizeof from[i],
             .msg_iov = &parts[i], .msg_iovlen = 1, .msg_control = controls[i], .msg_controllen = sizeof controls[i]};
     }
-    got = recvmmsg(*fd, messages, BATCH, MSG_DONTWAIT, NULL);
+    int got = recvmmsg(*fd, messages, BATCH, MSG_DONTWAIT, NULL);
     if (!only_markers) note_unread(tap->answers, port, got > 0 ? (unsigned)got : 0, got >= 0 ? got < BATCH : errno == EAGAIN);
-    if (is_unreadable(got)) {
+    if (got < 0 && errno == EINVAL) { /* the kernel has a frame of segments that it cannot describe: it is lost */
         member->counts[DATA_RECEIVED]++;
         member->counts[WRONG_LENGTH]++;
     }
     if (got <= 0) return;
-    receive_changes(tap->parts.protocol);
+    receive_changes(tap->protocol);
     tap->carry->taken += (unsigned)got;
     if (got == BATCH) tap->carry->more_waits = true;
     for (int i = 0; i < got; i++) accept_packet(tap, link, &messages[i], only_markers);
@@ -556,14 +528,13 @@ void drain_member(struct plane *plane, uint16_t port) {
     struct tap_plane *tap = plane->tap;
     struct member *member = &tap->members->members[port - 1];
     if (member->socket < 0) return;
-    for (unsigned turn = 0; turn < MOST_DRAINED && !tap->parts.process->broken; turn++) {
+    for (unsigned turn = 0; turn < MOST_DRAINED && !tap->process->broken; turn++) {
         tap->carry->more_waits = false;
         receive_data(tap, port);
         if (!tap->carry->more_waits) return;
     }
 }
 
-/* Takes what waits at a member. */
 void receive_data(struct tap_plane *tap, uint16_t port) {
     struct member *member = &tap->members->members[port - 1];
     if (member->markers < 0) {

@@ -5,38 +5,33 @@
 static bool none_moves(struct carry *carry) {
     uint64_t held;
     for (uint16_t i = 0; i < carry->active_count; i++)
-        if (!is_told(carry->parts.process, niw_held(&carry->parts.protocol->own_system, carry->active_ports[i]), "niw_held", &held)
-            || held > 0)
+        if (!is_told(carry->process, niw_held(&carry->protocol->own_system, carry->active_ports[i]), "niw_held", &held) || held > 0)
             return false;
     return true;
 }
 
-/* Moves a conversation to a port; answers whether it is on the move. */
 static bool move(struct carry *carry, uint16_t number, uint16_t port) {
-    uint32_t status = niw_move_conversation(&carry->parts.protocol->own_system, carry->active, number, port);
+    uint32_t status = niw_move_conversation(&carry->protocol->own_system, carry->active, number, port);
     if (status >= NIW_HELD && status <= NIW_MARKERS_SPENT) return false;
-    if (!is_done(carry->parts.process, status, "niw_move_conversation")) return false;
+    if (!is_done(carry->process, status, "niw_move_conversation")) return false;
     carry->conversations[number].port = port;
     carry->counts[MOVES]++;
-    return ask_ports(carry->parts.protocol, carry->active, carry->port_of);
+    return ask_ports(carry->protocol, carry->active, carry->port_of);
 }
 
-/* The port behind this one. */
 static uint16_t next_port(const struct carry *carry, uint16_t port) {
     for (uint16_t i = 0; i < carry->active_count; i++)
         if (carry->active_ports[i] > port) return carry->active_ports[i];
     return carry->active_ports[0];
 }
 
-/* Moves the conversations that were asked to; answers whether some are on the move. */
 static bool move_asked(struct carry *carry) {
     bool any = false;
     for (uint16_t number = 0; number < CONVERSATIONS; number++) {
         struct conversation *conversation = &carry->conversations[number];
         if (!conversation->asked) continue;
         conversation->asked = false;
-        if (is_busy(carry, conversation) && carry->port_of[number] != 0
-            && move(carry, number, next_port(carry, carry->port_of[number])))
+        if (is_busy(carry, conversation) && carry->port_of[number] != 0 && move(carry, number, next_port(carry, carry->port_of[number])))
             any = true;
     }
     return any;
@@ -51,7 +46,7 @@ static bool level(struct carry *carry) {
         carried[number] = (struct niw_carried){carry->port_of[number], is_busy(carry, &carry->conversations[number])};
     for (;;) {
         struct niw_move next = niw_next_move(carry->active_ports, carry->active_count, carried, CONVERSATIONS);
-        if (!is_done(carry->parts.process, next.status, "niw_next_move") || !next.is || !move(carry, next.conversation, next.port)) return any;
+        if (!is_done(carry->process, next.status, "niw_next_move") || !next.is || !move(carry, next.conversation, next.port)) return any;
         carried[next.conversation].port = next.port;
         any = true;
     }
@@ -63,7 +58,7 @@ bool can_empty(struct plane *plane, uint16_t port) {
     unsigned others = 0;
     for (uint16_t i = 0; i < carry->active_count; i++) others += carry->active_ports[i] != port;
     return others > 0 && peer_answering(carry->probe) == ANSWERS && carry->active != 0
-        && carry->parts.ports->links[port - 1].view.aggregator == carry->active;
+        && carry->ports->links[port - 1].view.aggregator == carry->active;
 }
 
 /* The port that carries fewest conversations of a list, of those that carry. */
@@ -79,20 +74,18 @@ bool empty_port(struct plane *plane, uint16_t port) {
     struct carry *carry = plane->carry;
     unsigned loads[NIW_MOST_PORTS + 1] = {0};
     uint64_t load, held;
-    if (!can_empty(plane, port) || !ask_ports(carry->parts.protocol, carry->active, carry->port_of)) return true;
+    if (!can_empty(plane, port) || !ask_ports(carry->protocol, carry->active, carry->port_of)) return true;
     for (uint16_t number = 0; number < CONVERSATIONS; number++) loads[carry->port_of[number]]++;
     for (uint16_t number = 0; number < CONVERSATIONS; number++) {
-        uint16_t other;
         if (carry->port_of[number] != port) continue;
-        other = emptiest(carry, loads);
+        uint16_t other = emptiest(carry, loads);
         if (move(carry, number, other)) loads[other]++;
     }
-    send_due(carry->parts.protocol);
-    return is_told(carry->parts.process, niw_load(&carry->parts.protocol->own_system, port), "niw_load", &load) && load == 0
-        && is_told(carry->parts.process, niw_held(&carry->parts.protocol->own_system, port), "niw_held", &held) && held == 0;
+    send_due(carry->protocol);
+    return is_told(carry->process, niw_load(&carry->protocol->own_system, port), "niw_load", &load) && load == 0
+        && is_told(carry->process, niw_held(&carry->protocol->own_system, port), "niw_held", &held) && held == 0;
 }
 
-/* Whether a port is emptied, so that no other move is asked for. */
 static bool is_any_emptied(const struct ports *ports) {
     EACH_LINK_AS_IS(link, ports)
         if (link->emptying) return true;
@@ -101,13 +94,12 @@ static bool is_any_emptied(const struct ports *ports) {
 
 /* Moves what has to move, once a tick, towards a peer that answers markers: one marker of a port tells of all that leave it. */
 void balance(struct carry *carry) {
-    if (carry->active_count < 2 || peer_answering(carry->probe) != ANSWERS || is_any_emptied(carry->parts.ports) || !none_moves(carry)
-        || !ask_ports(carry->parts.protocol, carry->active, carry->port_of))
+    if (carry->active_count < 2 || peer_answering(carry->probe) != ANSWERS || is_any_emptied(carry->ports) || !none_moves(carry)
+        || !ask_ports(carry->protocol, carry->active, carry->port_of))
         return;
-    if (move_asked(carry) || level(carry)) send_due(carry->parts.protocol);
+    if (move_asked(carry) || level(carry)) send_due(carry->protocol);
 }
 
-/* Each busy conversation is to move to the next port. */
 void ask_moves(struct carry *carry) {
     for (uint16_t number = 0; number < CONVERSATIONS; number++)
         carry->conversations[number].asked = is_busy(carry, &carry->conversations[number]);

@@ -1,10 +1,8 @@
 /* Packets: a frame, and before it the virtio_net_hdr by which the kernel tells what was left to a card: how the frame is cut into
  * segments, and where its checksum is still to be put. */
-#define _GNU_SOURCE
-#include <errno.h>
-#include <sys/mman.h>
-
 #include "segments.h"
+
+#include <sys/mman.h>
 
 /* The octets of a packet of several segments, without its head: those of an IP packet, and of its header of Ethernet with two tags. */
 #define LONGEST_SEGMENTED (65536 + ETH_HLEN + USUAL_TAGS * TAG_OCTETS)
@@ -15,12 +13,10 @@
 
 static const size_t head = sizeof(struct virtio_net_hdr);
 
-/* The octets before each frame. */
 size_t head_octets(void) {
     return head;
 }
 
-/* The room of a packet. */
 size_t packet_room(void) {
     return head + LONGEST_SEGMENTED;
 }
@@ -38,7 +34,6 @@ uint8_t *make_rooms(void) {
     return rooms;
 }
 
-/* One of these rooms. */
 uint8_t *room_at(uint8_t *rooms, unsigned number) {
     return rooms + number * room_octets() + TAG_OCTETS;
 }
@@ -59,7 +54,6 @@ static size_t octets_before(const uint8_t *packet, size_t length) {
     return told.csum_start + 4 * ((size_t)packet[at + TCP_LENGTH] >> 4);
 }
 
-/* Into how many frames a packet is cut. */
 uint32_t count_segments(const uint8_t *packet, size_t length) {
     struct virtio_net_hdr told = head_of(packet);
     size_t before = head + octets_before(packet, length);
@@ -67,7 +61,6 @@ uint32_t count_segments(const uint8_t *packet, size_t length) {
     return (uint32_t)((length - before + told.gso_size - 1) / told.gso_size);
 }
 
-/* The octets of the tags of a frame, of so many tags at most. */
 size_t tag_octets(const uint8_t *frame, size_t length, size_t most) {
     size_t octets = 0;
     while (octets / TAG_OCTETS < most && ETH_HLEN + octets + TAG_OCTETS <= length) {
@@ -81,9 +74,8 @@ size_t tag_octets(const uint8_t *frame, size_t length, size_t most) {
 /* Whether a frame has a header, and its payload behind tags, or that of each of its segments, has so many octets at most. A bridge before
  * the TAP device looks at no segment. */
 bool has_right_length(const uint8_t *packet, size_t length, uint32_t mtu) {
-    size_t octets;
     if (length < head + ETH_HLEN) return false;
-    octets = has_segments(packet) ? octets_before(packet, length) + head_of(packet).gso_size : length - head;
+    size_t octets = has_segments(packet) ? octets_before(packet, length) + head_of(packet).gso_size : length - head;
     return octets <= ETH_HLEN + tag_octets(packet + head, length - head, USUAL_TAGS) + (size_t)mtu;
 }
 

@@ -1,13 +1,8 @@
 /* Which processors send and receive by the queues of an interface: what the kernel has of it in /sys. */
-#define _GNU_SOURCE
+#include "tap.h"
+
 #include <dirent.h>
 #include <net/if.h>
-#include <stdio.h>
-#include <stdlib.h>
-#include <string.h>
-#include <unistd.h>
-
-#include "tap.h"
 
 /* The most processors that are named for RPS. */
 #define MOST_PROCESSORS 32
@@ -27,14 +22,12 @@ static bool path_of(int index, const char *what, char *path, size_t room) {
     return atoi(number) == index;
 }
 
-/* A file of a queue, as `rx-0/rps_cpus`. */
 bool path_of_queue(int index, const char *what, char *path, size_t room) {
     char below[64];
     snprintf(below, sizeof below, "queues/%s", what);
     return path_of(index, below, path, room);
 }
 
-/* How many queues of an interface have a name that begins so. */
 unsigned count_entries(int index, const char *begin) {
     char path[PATH_OCTETS];
     unsigned count = 0;
@@ -73,7 +66,6 @@ bool write_processors(const char *path, const char *mask) {
     return file && fclose(file) == 0 && done;
 }
 
-/* Whether a mask names one processor. */
 bool is_one(const char *mask) {
     unsigned bits = 0;
     for (; *mask; mask++)
@@ -81,7 +73,6 @@ bool is_one(const char *mask) {
     return bits == 1;
 }
 
-/* Whether a mask names no processor. */
 bool is_none(const char *mask) {
     return strspn(mask, "0,") == strlen(mask);
 }

@@ -1,14 +1,8 @@
 /* Loads the programs that the kernel runs for frames (kernel/programs.bpf.c), by libbpf. */
-#define _GNU_SOURCE
-#include <bpf/bpf.h>
-#include <errno.h>
-#include <fcntl.h>
-#include <stdio.h>
-#include <stdlib.h>
-#include <string.h>
-
-#include "programs.skel.h"
 #include "tap.h"
+#include "programs.skel.h"
+
+#include <bpf/bpf.h>
 
 /* The room of what the verifier of the kernel writes, and of the line of it that is told. */
 #define LOG_ROOM (1 << 20)
@@ -21,7 +15,6 @@ const char *program_fault(void) {
     return reason;
 }
 
-/* Keeps a line. */
 static void keep_line(const char *line) {
     snprintf(reason, sizeof reason, "%.*s", (int)strcspn(line, "\n"), line);
 }
@@ -39,8 +32,7 @@ static int keep_first(enum libbpf_print_level level, const char *format, va_list
 static void keep_last(char *log) {
     char *rest = log;
     for (char *line; (line = strsep(&rest, "\n"));)
-        if (line[0] && strncmp(line, "processed ", 10) != 0 && strncmp(line, "verification time", 17) != 0
-            && strncmp(line, "stack depth", 11) != 0)
+        if (line[0] && strncmp(line, "processed ", 10) != 0 && strncmp(line, "verification time", 17) != 0 && strncmp(line, "stack depth", 11) != 0)
             keep_line(line);
 }
 
@@ -56,8 +48,7 @@ static bool share_maps(const struct programs *made, const struct fast_maps *maps
 /* Says which program is loaded, and what it has of the settings; answers whether all of it can be. */
 static bool prepare(const struct settings *settings, const struct programs *made, const char *name, const struct fast_maps *maps) {
     struct bpf_program *program;
-    bpf_object__for_each_program(program, made->obj) (void)bpf_program__set_autoload(program,
-        strcmp(bpf_program__name(program), name) == 0);
+    bpf_object__for_each_program(program, made->obj) (void)bpf_program__set_autoload(program, strcmp(bpf_program__name(program), name) == 0);
     made->rodata->way = settings->hash;
     made->rodata->hash_seed = settings->hash_seed;
     made->rodata->all_queues = settings->all_queues;
@@ -78,10 +69,9 @@ static int load_with_log(const struct settings *settings, const char *name, cons
 /* Loads one program, with the tables that it has, if it has some; answers its file, or -errno, and a reason. */
 int load_program(const struct settings *settings, const char *name, const struct fast_maps *maps) {
     char *log = make_room(LOG_ROOM); /* the kernel fills what it needs of it */
-    int loaded;
     reason[0] = 0;
     (void)libbpf_set_print(keep_first);
-    loaded = load_with_log(settings, name, maps, log);
+    int loaded = load_with_log(settings, name, maps, log);
     if (loaded < 0) keep_last(log);
     if (loaded < 0 && !reason[0]) keep_line(strerror(-loaded));
     free(log);

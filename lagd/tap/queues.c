@@ -1,10 +1,6 @@
 /* The queues of a member, where it keeps all of them: by which one a conversation goes, and the markers of each. A frame in one queue may
  * overtake those in others. So a marker goes by each queue that may have frames before it, with the number of the queue in its
  * identifier, and the library has the last of its responses. */
-#define _GNU_SOURCE
-#include <string.h>
-#include <sys/socket.h>
-
 #include "tap.h"
 
 /* Where a Marker PDU has the identifier of its requester (IEEE 802.1AX-2014, 6.5.3.3), and which of its bits are the queue. */
@@ -50,12 +46,11 @@ void begin_queues(struct queues_private *own, uint16_t port, unsigned count) {
 
 /* Has a frame go by a queue of a member, if there are several. */
 static void mark_queue(struct queues_private *own, const struct queues *queues, unsigned queue, struct msghdr *message) {
-    struct cmsghdr *head;
     uint32_t mark = QUEUE_MARK | (queue + 1);
     if (queues->count < 2) return;
     message->msg_control = own->marks[queue];
     message->msg_controllen = sizeof own->marks[queue];
-    head = CMSG_FIRSTHDR(message);
+    struct cmsghdr *head = CMSG_FIRSTHDR(message);
     head->cmsg_len = CMSG_LEN(sizeof mark);
     head->cmsg_level = SOL_SOCKET;
     head->cmsg_type = SO_MARK;
@@ -75,7 +70,6 @@ static uint32_t identifier_of(const uint8_t *frame) {
     return (uint32_t)at[0] << 24 | (uint32_t)at[1] << 16 | (uint32_t)at[2] << 8 | at[3];
 }
 
-/* Gives a Marker PDU another identifier. */
 void set_identifier(uint8_t *frame, uint32_t id) {
     for (unsigned i = 0; i < 4; i++) frame[IDENTIFIER_AT + i] = (uint8_t)(id >> (24 - 8 * i));
 }

@@ -2,11 +2,10 @@
 #ifndef LAGD_SEGMENTS_H
 #define LAGD_SEGMENTS_H
 
+#include "tap.h"
+
 #include <linux/virtio_net.h>
 #include <netinet/in.h>
-#include <string.h>
-
-#include "tap.h"
 
 /* Where headers of IP and TCP have what differs between segments, and flags of TCP. */
 enum {

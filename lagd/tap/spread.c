@@ -1,19 +1,11 @@
 /* A member that keeps all its queues. Each conversation goes by one of them, so nothing but the daemon may choose the queue of a frame: XPS
  * is off. What comes by one of them is taken by one processor. What the queues had is in a file beside the status socket until they
  * have it again. */
-#define _GNU_SOURCE
-#include <errno.h>
-#include <fcntl.h>
-#include <net/if.h>
-#include <stdio.h>
-#include <string.h>
-#include <unistd.h>
-
 #include "tap.h"
 
-/* The head of the file; then each line has a setting and what it was. */
-#define HEAD "boot=%s\nmac=%s\n"
-#define READ_HEAD "boot=%63s mac=%31s"
+#include <net/if.h>
+
+/* A line of the file: a setting, and what it was. */
 #define READ_LINE "%31s %" PROCESSORS_LENGTH "s"
 #define NAME_OCTETS 32
 
@@ -25,18 +17,14 @@ struct spread_private {
     unsigned usual; /* by how many queues the kernel passes data on, while it does so of any member */
 };
 
-struct spread_private *make_spread_private(void) {
-    struct spread_private *made = make_room(sizeof *made);
-    made->program = -1;
-    return made;
-}
+MAKES_WITH(spread, .program = -1)
 
 /* Loads the program that chooses queues, while the daemon may, and opens what wakes it for responses. */
 void start_all_queues(struct tap_plane *tap) {
     struct spread_private *own = tap->spread;
-    int fault = fault_of_programs(tap->parts.settings);
+    int fault = fault_of_programs(tap->settings);
     if (fault != 0) stop(REFUSED, "queues=all: no program of an interface, which Linux has from 6.6 on", strerror(-fault));
-    own->program = load_program(tap->parts.settings, "chooser", NULL);
+    own->program = load_program(tap->settings, "chooser", NULL);
     if (own->program < 0) stop(REFUSED, "queues=all: the kernel takes no program", program_fault());
     start_answers(tap);
 }
@@ -46,7 +34,6 @@ static void name_setting(enum setting setting, unsigned queue, char name[static 
     snprintf(name, NAME_OCTETS, "%s-%u/%s", setting == TAKEN_BY ? "rx" : "tx", queue, ends[setting]);
 }
 
-/* Whether a name is that of a setting. */
 static bool is_setting(const char *name) {
     char own[NAME_OCTETS];
     unsigned queue;
@@ -66,29 +53,14 @@ static const char *wanted_of(const struct link *link, enum setting setting, unsi
     return mask;
 }
 
-/* Opens what an interface had, behind the head; or answers NULL. What is of another boot, or another interface, counts for nothing. */
-static FILE *open_former(int folder, const struct link *link) {
-    char boot[BOOT_ROOM], now[BOOT_ROOM], mac[32], own[32];
-    FILE *file = open_kept(folder, link, "queues", O_RDONLY, "r");
-    if (!file) return NULL;
-    if (fscanf(file, READ_HEAD, boot, mac) == 2 && strcmp(boot, boot_id(now)) == 0 && strcmp(mac, mac_text(link->mac, own)) == 0)
-        return file;
-    fclose(file);
-    return NULL;
-}
-
 /* An interface has another MAC address from now on: what its queues had stays known by that one. */
 void move_former(int folder, struct link *link, const uint8_t *mac) {
-    char name[NAME_OCTETS], boot[BOOT_ROOM], text[32], mask[PROCESSORS_ROOM];
-    FILE *file = open_former(folder, link), *next = file ? open_kept(folder, link, "queues.new", O_WRONLY | O_CREAT | O_TRUNC, "w") : NULL;
-    bool done;
+    char name[NAME_OCTETS], mask[PROCESSORS_ROOM];
+    FILE *file = read_kept(folder, link, "queues"), *next;
     memcpy(link->mac, mac, sizeof link->mac);
-    if (next) {
-        fprintf(next, HEAD, boot_id(boot), mac_text(mac, text));
-        while (fscanf(file, READ_LINE, name, mask) == 2) fprintf(next, "%s %s\n", name, mask);
-        done = !ferror(next);
-        if (fclose(next) == 0 && done) (void)replace_kept(folder, link, "queues.new", "queues");
-    }
+    next = file ? begin_kept(folder, link, "queues") : NULL;
+    while (next && fscanf(file, READ_LINE, name, mask) == 2) fprintf(next, "%s %s\n", name, mask);
+    if (next) (void)end_kept(folder, link, "queues", next, true);
     if (file) fclose(file);
 }
 
@@ -96,7 +68,7 @@ void move_former(int folder, struct link *link, const uint8_t *mac) {
 static bool is_known(int folder, const struct link *link, const char *wanted, FILE *next) {
     char name[NAME_OCTETS], mask[PROCESSORS_ROOM];
     bool found = false;
-    FILE *file = open_former(folder, link);
+    FILE *file = read_kept(folder, link, "queues");
     while (file && fscanf(file, READ_LINE, name, mask) == 2) {
         if (next) fprintf(next, "%s %s\n", name, mask);
         found = found || (wanted && strcmp(name, wanted) == 0);
@@ -113,10 +85,9 @@ static bool change_processors(int folder, const struct link *link, FILE *next) {
     for (enum setting setting = 0; setting < SETTINGS; setting++) {
         unsigned count = count_entries(link->index, setting == TAKEN_BY ? "rx-" : "tx-");
         for (unsigned queue = 0; queue < count; queue++) {
-            const char *wanted;
             name_setting(setting, queue, name);
             if (!path_of_queue(link->index, name, path, sizeof path) || !read_processors(path, now, sizeof now)) continue;
-            wanted = wanted_of(link, setting, queue, now, mask);
+            const char *wanted = wanted_of(link, setting, queue, now, mask);
             if (wanted && next) done = (is_known(folder, link, name, NULL) || fprintf(next, "%s %s\n", name, now) > 0) && done;
             if (wanted && !next) done = write_processors(path, wanted) && done;
         }
@@ -126,14 +97,10 @@ static bool change_processors(int folder, const struct link *link, FILE *next) {
 
 /* Keeps what the queues have now, before it is changed, beside what they had before an earlier daemon changed it; answers whether it did. */
 static bool keep_all(int folder, const struct link *link) {
-    FILE *next = open_kept(folder, link, "queues.new", O_WRONLY | O_CREAT | O_TRUNC, "w");
-    char boot[BOOT_ROOM], mac[32];
-    bool done;
+    FILE *next = begin_kept(folder, link, "queues");
     if (!next) return false;
-    fprintf(next, HEAD, boot_id(boot), mac_text(link->mac, mac));
     (void)is_known(folder, link, NULL, next);
-    done = change_processors(folder, link, next) && !ferror(next);
-    return fclose(next) == 0 && done && replace_kept(folder, link, "queues.new", "queues");
+    return end_kept(folder, link, "queues", next, change_processors(folder, link, next));
 }
 
 /* How many queues an interface has, those that send above those that receive; 0 where the kernel does not tell of both. */
@@ -164,25 +131,24 @@ static bool may_set(int index) {
  * known that settings of them are to be changed, these must be changeable. */
 bool may_spread(int folder, const struct link *link) {
     char name[NAME_OCTETS];
-    FILE *file = open_former(folder, link);
+    FILE *file = read_kept(folder, link, "queues");
     bool changes = file && fscanf(file, "%31s", name) == 1;
     if (file) fclose(file);
     return !link->stacked && may_have_order(link->index) && (!changes || may_set(link->index));
 }
 
-/* Lets a member keep all its queues, where it can. */
 void spread(struct tap_plane *tap, const struct link *link, struct guard *guard) {
     unsigned count = count_entries(link->index, "tx-");
-    const char *fault = fault_of_spreading(tap->parts.process->folder, link, guard, count);
+    const char *fault = fault_of_spreading(tap->process->folder, link, guard, count);
     guard->queues = fault ? 1 : count < MOST_QUEUES ? count : MOST_QUEUES;
     if (guard->queues > 1 && guard->chooser < 0) /* a program chooses the queue of each frame that the daemon sends there */
-        guard->chooser = attach_stored(tap->parts.process->store, "queues", tap->spread->program, link->index, true);
+        guard->chooser = attach_stored(tap->process->store, "queues", tap->spread->program, link->index, true);
     if (guard->queues > 1 && guard->chooser < 0) fault = strerror(-guard->chooser);
     guard->spread = !fault;
     if (!fault) return;
     guard->queues = 1;
-    stop_spreading(tap->parts.process->store, link, guard);
-    (void)say(tap->parts.process, LOG_WARNING | ABOUT_DATA, "port %u %s: it gets one queue: %s", link->settings.number, link->name, fault);
+    stop_spreading(tap->process->store, link, guard);
+    (void)say(tap->process, LOG_WARNING | ABOUT_DATA, "port %u %s: it gets one queue: %s", link->settings.number, link->name, fault);
 }
 
 /* Frames of the daemon go by any queue again. */
@@ -206,8 +172,7 @@ bool is_spread_anew(const struct system_private *own, const struct link *link, c
     for (enum setting setting = 0; guard->spread && setting < SETTINGS; setting++) {
         unsigned queue = (unsigned)seconds_passed(own) % (setting == TAKEN_BY ? channels & 0xffff : channels >> 16);
         name_setting(setting, queue, name);
-        if (path_of_queue(link->index, name, path, sizeof path)
-            && read_processors(path, now, sizeof now)
+        if (path_of_queue(link->index, name, path, sizeof path) && read_processors(path, now, sizeof now)
             && wanted_of(link, setting, queue, now, mask))
             return true;
     }
@@ -215,7 +180,7 @@ bool is_spread_anew(const struct system_private *own, const struct link *link, c
 }
 
 static bool has_any_fast(struct tap_plane *tap) {
-    for (uint16_t port = 1; port <= tap->parts.ports->count; port++)
+    for (uint16_t port = 1; port <= tap->ports->count; port++)
         if (has_fast_member(tap->members, port)) return true;
     return false;
 }
@@ -232,13 +197,12 @@ bool has_usual_queues(struct tap_plane *tap, const struct guard *guard) {
 void gather_back(int folder, const struct link *link, bool whole) {
     char name[NAME_OCTETS], path[128], interface[IF_NAMESIZE], mask[PROCESSORS_ROOM], now[PROCESSORS_ROOM];
     bool done = whole && if_indextoname((unsigned)link->index, interface);
-    FILE *file = open_former(folder, link);
+    FILE *file = read_kept(folder, link, "queues");
     if (!file) return;
     while (fscanf(file, READ_LINE, name, mask) == 2) {
         if (!is_setting(name) || !path_of_queue(link->index, name, path, sizeof path)) continue;
         if (write_processors(path, mask)) continue;
-        if (read_processors(path, now, sizeof now)
-            && strcmp(now, mask) != 0)
+        if (read_processors(path, now, sizeof now) && strcmp(now, mask) != 0)
             done = false;
     }
     fclose(file);

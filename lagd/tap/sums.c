@@ -1,6 +1,4 @@
 /* The checksum of IP, TCP and UDP (RFC 1071). */
-#include <string.h>
-
 #include "tap.h"
 
 /* Adds octets as words of this processor, whose order does not matter to the sum. */
@@ -24,7 +22,6 @@ uint64_t add_octets(uint64_t sum, const uint8_t *octets, size_t length) {
     return sum + word;
 }
 
-/* A sum as a header has it. */
 uint16_t fold(uint64_t sum) {
     while (sum > UINT16_MAX) sum = (sum & UINT16_MAX) + (sum >> 16);
     return (uint16_t)sum;

@@ -2,10 +2,10 @@
 #ifndef LAGD_TAP_H
 #define LAGD_TAP_H
 
+#include "carry.h"
+
 #include <linux/ethtool.h>
 #include <net/ethernet.h>
-
-#include "carry.h"
 
 /* The library takes a frame of so many octets at most: of a longer one it is shown the beginning. */
 #define LONGEST_SHOWN (ETH_HLEN + ETH_DATA_LEN + TAG_OCTETS)
@@ -15,7 +15,7 @@
     DO(answers, answers) DO(fast, fast) DO(flight, flight) DO(gro, gro) DO(held, held) DO(host, host) \
     DO(members, members) DO(queues, queues) DO(spread, spread)
 struct tap_plane {
-    struct parts parts;
+    KNOWS_PARTS
     struct carry *carry;
     int dropper; /* the program that keeps data from the stack of a member, or -1 */
     EACH_FILE_OF_TAP(KEEPS)
@@ -61,8 +61,9 @@ struct kept {
     char steered[PROCESSORS_ROOM];  /* the processors that RPS named, or empty where that was one, or is not changed */
     struct ethtool_channels queues; /* what there was; all 0 where there was one queue */
 };
-FILE *open_kept(int folder, const struct link *link, const char *kind, int flags, const char *mode);
-bool replace_kept(int folder, const struct link *link, const char *from, const char *to);
+FILE *read_kept(int folder, const struct link *link, const char *kind);
+FILE *begin_kept(int folder, const struct link *link, const char *kind);
+bool end_kept(int folder, const struct link *link, const char *kind, FILE *file, bool done);
 void drop_kept(int folder, const struct link *link, const char *kind);
 void write_settings(struct process *process, const struct link *link, const struct kept *kept);
 void keep_settings(struct process *process, const struct link *link, struct kept *kept);
@@ -88,7 +89,6 @@ bool read_discipline(int index, char name[static DISCIPLINE_ROOM]);
 bool have_order(int index);
 bool may_have_order(int index);
 bool give_each_fifo(int index, unsigned queues, uint32_t megabits);
-void fit_root_fifo(int index, uint32_t megabits);
 void fit_each_fifo(int index, unsigned queues, uint32_t megabits);
 void drop_fifo(int index);
 void give_no_queue(int index);
@@ -108,7 +108,6 @@ struct guard {
     unsigned channels;  /* how many it has, as spread.c has it */
     int chooser;        /* what keeps the program there by which a frame of the daemon goes by its queue, or -1 */
 };
-bool ask_driver(int index, void *value);
 void load_guard(struct tap_plane *tap);
 void gather(struct process *process, int index);
 void open_guard(struct tap_plane *tap, struct link *link, struct guard *guard);
@@ -129,7 +128,7 @@ void close_member(struct plane *plane, struct link *link);
 void forget_member(struct plane *plane, uint16_t port);
 void drain_member(struct plane *plane, uint16_t port);
 void send_new_marker(struct plane *plane, struct link *link, const uint8_t *frame);
-void follow_speed(struct plane *plane, const struct link *link, const char *interface);
+void follow_speed(struct plane *plane, const struct link *link);
 void start_members(struct members_private *own);
 bool renew_for_discipline(struct plane *plane, struct link *link);
 void move_member(struct plane *plane, struct link *link, const uint8_t *mac);

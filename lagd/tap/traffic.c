@@ -1,14 +1,12 @@
 /* What the kernel does with frames at a member beside its programs (traffic control): the queueing discipline of what it sends, and a
  * classifier of what it receives. */
-#define _GNU_SOURCE
+#include "tap.h"
+#include "netlink.h"
+
 #include <linux/pkt_cls.h>
 #include <linux/pkt_sched.h>
 #include <linux/rtnetlink.h>
 #include <netinet/in.h>
-#include <string.h>
-
-#include "netlink.h"
-#include "tap.h"
 
 /* What waits at a member: the octets of 50 ms at the speed of its link, within these bounds; the most of them where nobody tells a
  * speed. */
@@ -26,11 +24,6 @@ static union message question_of(uint16_t type, unsigned flags, int index, uint3
     return message_of(type, NLM_F_ACK | flags, &about, sizeof about);
 }
 
-static bool order(const union message *question) {
-    return ask_netlink(NETLINK_ROUTE, question, NULL, NULL);
-}
-
-/* The name of the queueing discipline that an interface has now; answers whether the kernel tells it. */
 bool read_discipline(int index, char name[static DISCIPLINE_ROOM]) {
     struct interface interface;
     if (!ask_interface(index, NULL, &interface) || !interface.discipline[0]) return false;
@@ -38,7 +31,6 @@ bool read_discipline(int index, char name[static DISCIPLINE_ROOM]) {
     return true;
 }
 
-/* Whether what is sent stays in its order in a queueing discipline. */
 bool keeps_order(const char *discipline) {
     return strcmp(discipline, "noqueue") == 0 || strcmp(discipline, "bfifo") == 0 || strcmp(discipline, "pfifo") == 0;
 }
@@ -56,12 +48,6 @@ static bool set_fifo(int index, uint32_t megabits, unsigned flags, uint32_t pare
     mnl_attr_put_strz(&question.head, TCA_KIND, "bfifo");
     mnl_attr_put(&question.head, TCA_OPTIONS, sizeof most, &most);
     return order(&question);
-}
-
-/* Gives an interface one queue that keeps the order, in place of what the kernel gave it by itself: where an administrator set another
- * one, the kernel refuses. Answers whether it has one of the daemon now. */
-static bool give_root_fifo(int index, uint32_t megabits) {
-    return set_fifo(index, megabits, NLM_F_CREATE, TC_H_ROOT, FIFO);
 }
 
 /* Gives an interface a discipline that has a queue for each of its own, in place of what the kernel gave it by itself. */
@@ -90,11 +76,10 @@ static void parse_discipline(const struct nlmsghdr *message, void *into) {
     struct disciplines *seen = into;
     const struct tcmsg *about = mnl_nlmsg_get_payload(message);
     char kind[DISCIPLINE_ROOM] = "";
-    bool in_order;
     if (message->nlmsg_type != RTM_NEWQDISC || mnl_nlmsg_get_payload_len(message) < sizeof *about) return;
     if (about->tcm_ifindex != seen->index || about->tcm_parent == TC_H_CLSACT) return;
     read_attributes(message, sizeof *about, read_kind, kind);
-    in_order = about->tcm_parent == TC_H_ROOT ? about->tcm_handle == FIFO && strcmp(kind, "mq") == 0 : strcmp(kind, "tbf") == 0;
+    bool in_order = about->tcm_parent == TC_H_ROOT ? about->tcm_handle == FIFO && strcmp(kind, "mq") == 0 : strcmp(kind, "tbf") == 0;
     in_order = in_order || keeps_order(kind);
     seen->queues += TC_H_MAJ(about->tcm_parent) == FIFO && TC_H_MIN(about->tcm_parent) <= seen->sends;
     seen->in_order = seen->in_order && in_order;
@@ -115,31 +100,27 @@ bool have_order(int index) {
     return seen.in_order && seen.queues == seen.sends;
 }
 
-/* Whether each queue of an interface keeps the order, or would as soon as give_fifos gave it a discipline. */
+/* Whether each queue of an interface keeps the order, or would as soon as give_each_fifo gave it a discipline. */
 bool may_have_order(int index) {
     return read_disciplines(index).changeable;
 }
 
-/* As give_fifo, for each queue of an interface: so the order of one stays, and none waits for another one. The last daemon may have left one
- * for all. What an administrator gave a queue stays; answers whether all keep the order. */
+/* Gives an interface one queue that keeps the order, in place of what the kernel gave it by itself, or one for each of its own: so the order of
+ * one stays, and none waits for another one. The last daemon may have left one for all. What an administrator set stays; answers whether all keep
+ * the order. */
 bool give_each_fifo(int index, unsigned queues, uint32_t megabits) {
-    bool given;
-    if (queues <= 1) return give_root_fifo(index, megabits);
-    given = give_queues(index);
+    if (queues <= 1) return set_fifo(index, megabits, NLM_F_CREATE, TC_H_ROOT, FIFO);
+    bool given = give_queues(index);
     if (!given) drop_fifo(index);
     if (!given && !give_queues(index)) return false;
     fit_each_fifo(index, queues, megabits);
     return have_order(index);
 }
 
-/* The link has this speed now: the queue of an interface gets its length, if it is one of the daemon. */
-void fit_root_fifo(int index, uint32_t megabits) {
-    (void)set_fifo(index, megabits, 0, TC_H_ROOT, FIFO);
-}
-
-/* The same, for each queue. Where an administrator set another one, the kernel refuses. */
+/* The link has this speed now: each queue of an interface gets its length, if it is one of the daemon. Where an administrator set another one, the
+ * kernel refuses. */
 void fit_each_fifo(int index, unsigned queues, uint32_t megabits) {
-    if (queues <= 1) fit_root_fifo(index, megabits);
+    if (queues <= 1) (void)set_fifo(index, megabits, 0, TC_H_ROOT, FIFO);
     for (unsigned queue = 0; queues > 1 && queue < queues; queue++)
         (void)set_fifo(index, megabits, NLM_F_CREATE, FIFO | (queue + 1), 0);
 }
@@ -165,9 +146,8 @@ static union message question_of_place(uint16_t type, unsigned flags, int index)
 
 static union message question_of_classifier(uint16_t type, unsigned flags, int index, uint32_t handle) {
     struct tcmsg about = {.tcm_ifindex = index, .tcm_parent = TC_H_MAKE(TC_H_CLSACT, TC_H_MIN_INGRESS), .tcm_handle = handle};
-    union message question;
     about.tcm_info = TC_H_MAKE(PRIORITY, htons(ETH_P_ALL));
-    question = message_of(type, NLM_F_ACK | flags, &about, sizeof about);
+    union message question = message_of(type, NLM_F_ACK | flags, &about, sizeof about);
     mnl_attr_put_strz(&question.head, TCA_KIND, "bpf");
     return question;
 }
@@ -210,9 +190,8 @@ static void leave_place(int index, bool made) {
 enum classifier set_classifier(int program, int index) {
     union message place = question_of_place(RTM_NEWQDISC, NLM_F_CREATE | NLM_F_EXCL, index), question;
     bool made = order(&place) || has_classifier(index, PLACE_MADE);
-    struct nlattr *nest;
     question = question_of_classifier(RTM_NEWTFILTER, NLM_F_CREATE, index, made ? PLACE_MADE : PLACE_FOUND);
-    nest = mnl_attr_nest_start(&question.head, TCA_OPTIONS);
+    struct nlattr *nest = mnl_attr_nest_start(&question.head, TCA_OPTIONS);
     mnl_attr_put_u32(&question.head, TCA_BPF_FD, (uint32_t)program);
     mnl_attr_put_u32(&question.head, TCA_BPF_FLAGS, TCA_BPF_FLAG_ACT_DIRECT);
     mnl_attr_nest_end(&question.head, nest);

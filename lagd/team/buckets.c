@@ -1,12 +1,9 @@
 /* The buckets of the team device: each has the frames of one conversation, and a port by which they go. The driver holds no frame. So a
  * bucket goes to another port when it was still for a flight, or at once where its port carries no more. */
-#define _GNU_SOURCE
-#include <errno.h>
-#include <net/if.h>
-#include <string.h>
-
-#include "netlink.h"
 #include "team.h"
+#include "netlink.h"
+
+#include <net/if.h>
 
 /* How often all is looked at, in milliseconds: while a bucket waits for its stillness, at ticks that are not made up, and else. */
 #define LOOKED_WAITING 50
@@ -38,7 +35,6 @@ struct buckets_private {
 
 MAKES_ROOM(buckets)
 
-/* The interface by which the frames of a bucket went at the start, or 0. */
 int bucket_member_of(struct plane *plane, uint16_t number) {
     return plane->team->buckets->members_at_start[number];
 }
@@ -49,7 +45,7 @@ void forget_port(struct team_plane *team, uint16_t port) {
     own->passes[port - 1] = UNKNOWN;
     for (uint16_t number = 0; number < CONVERSATIONS; number++)
         if (own->buckets[number].port == port) own->buckets[number].port = 0;
-    team->parts.plane->changed = true;
+    team->plane->changed = true;
 }
 
 /* A bucket that has sent is not still. */
@@ -65,12 +61,12 @@ static void note_octets(struct team_plane *team, const struct team_now *now) {
 /* What others than the daemon set is set again. */
 static void note_changes(struct team_plane *team, const struct team_now *now) {
     struct buckets_private *own = team->buckets;
-    for (uint16_t i = 0; i < team->parts.ports->count; i++)
+    for (uint16_t i = 0; i < team->ports->count; i++)
         for (unsigned at = 0; at < now->port_count; at++)
-            if (now->ports[at] == team->parts.ports->links[i].index && now->enabled[at] != (own->passes[i] == PASSES)) own->passes[i] = UNKNOWN;
+            if (now->ports[at] == team->ports->links[i].index && now->enabled[at] != (own->passes[i] == PASSES)) own->passes[i] = UNKNOWN;
     for (uint16_t number = 0; number < CONVERSATIONS; number++) {
         uint16_t port = own->buckets[number].port;
-        if (port != 0 && now->members[number] != team->parts.ports->links[port - 1].index) own->buckets[number].port = 0;
+        if (port != 0 && now->members[number] != team->ports->links[port - 1].index) own->buckets[number].port = 0;
     }
 }
 
@@ -93,10 +89,10 @@ static void look_at_driver(struct team_plane *team) {
     struct interface device;
     struct team_now now;
     team->buckets->looked_at = team->carry->time;
-    if (!ask_interface(tap_index(team->parts.device), NULL, &device) || !read_team(team->team_netlink, tap_index(team->parts.device), &now)) {
+    if (!ask_interface(tap_index(team->device), NULL, &device) || !read_team(team->team_netlink, tap_index(team->device), &now)) {
         if (++team->buckets->unseen == MOST_UNSEEN)
-            (void)say(team->parts.process, LOG_WARNING | ABOUT_DATA,
-                "carry %s: the team driver does not tell what it has, so no bucket goes back to its own port: %s", team->parts.settings->carry,
+            (void)say(team->process, LOG_WARNING | ABOUT_DATA,
+                "carry %s: the team driver does not tell what it has, so no bucket goes back to its own port: %s", team->settings->carry,
                 strerror(errno));
         return;
     }
@@ -107,19 +103,17 @@ static void look_at_driver(struct team_plane *team) {
     note_counted(team, &now, device.octets_sent);
 }
 
-/* How many frames of the peer came, as the driver told last, or tells now. */
 uint64_t team_frames_received(struct plane *plane, bool looks) {
     struct team_plane *team = plane->team;
     if (looks) look_at_driver(team);
     return team->buckets->frames_received;
 }
 
-/* What the device has at the start. */
 void start_buckets(struct team_plane *team) {
     struct buckets_private *own = team->buckets;
     struct team_now now;
     team->carry->time = milliseconds();
-    if (!read_team(team->team_netlink, tap_index(team->parts.device), &now)) return;
+    if (!read_team(team->team_netlink, tap_index(team->device), &now)) return;
     memcpy(own->members_at_start, now.members, sizeof own->members_at_start);
     note_octets(team, &now);
     for (uint16_t number = 0; number < CONVERSATIONS; number++) own->buckets[number].moved_at = team->carry->time;
@@ -128,17 +122,17 @@ void start_buckets(struct team_plane *team) {
 
 /* The conversation leaves its port at once: its frames cannot be held. */
 static bool force_free(struct carry *carry, uint16_t aggregator, uint16_t number) {
-    if (!is_done(carry->parts.process, niw_force(&carry->parts.protocol->own_system, aggregator, number), "niw_force")) return false;
+    if (!is_done(carry->process, niw_force(&carry->protocol->own_system, aggregator, number), "niw_force")) return false;
     carry->counts[FORCED]++;
     return true;
 }
 
 /* The port by which the frames of a conversation go from now on; 0 where the library tells none. */
 static uint16_t place(struct carry *carry, uint16_t number) {
-    struct niw_number answer = niw_offer_conversation(&carry->parts.protocol->own_system, carry->active, number);
+    struct niw_number answer = niw_offer_conversation(&carry->protocol->own_system, carry->active, number);
     if (answer.status == NIW_HELD && force_free(carry, carry->active, number))
-        answer = niw_offer_conversation(&carry->parts.protocol->own_system, carry->active, number);
-    if (answer.status == NIW_NONE_DISTRIBUTING || !is_done(carry->parts.process, answer.status, "niw_offer_conversation")) return 0;
+        answer = niw_offer_conversation(&carry->protocol->own_system, carry->active, number);
+    if (answer.status == NIW_NONE_DISTRIBUTING || !is_done(carry->process, answer.status, "niw_offer_conversation")) return 0;
     carry->conversations[number].home = carry->active;
     carry->conversations[number].port = (uint16_t)answer.number;
     return (uint16_t)answer.number;
@@ -150,10 +144,9 @@ static void leave_last_aggregator(struct team_plane *team) {
     if (own->previous == team->carry->active) return;
     for (uint16_t number = 0; own->previous != 0 && number < CONVERSATIONS; number++) {
         struct niw_assignment state;
-        if (!ask_state(team->parts.protocol, own->previous, number, &state)) return;
+        if (!ask_state(team->protocol, own->previous, number, &state)) return;
         if (is_held(&state) && !force_free(team->carry, own->previous, number)) return;
-        if (state.what == NIW_CONVERSATION_ON
-            && !is_done(team->parts.process, niw_rest(&team->parts.protocol->own_system, own->previous, number), "niw_rest"))
+        if (state.what == NIW_CONVERSATION_ON && !is_done(team->process, niw_rest(&team->protocol->own_system, own->previous, number), "niw_rest"))
             return;
     }
     own->previous = team->carry->active;
@@ -178,7 +171,7 @@ static void note_refusal(struct team_plane *team, uint16_t port) {
     own->shortages = is_short ? own->shortages + 1 : 0;
     if (is_short && own->shortages < MOST_SHORTAGES) return;
     own->shortages = 0;
-    lose_port(team->parts.protocol, port);
+    lose_port(team->protocol, port);
 }
 
 /* Has the driver pass data on a port, or none; answers whether it does so. */
@@ -186,7 +179,7 @@ static bool set_passes(struct team_plane *team, uint16_t port, bool wanted) {
     struct buckets_private *own = team->buckets;
     enum passes now = wanted ? PASSES : PASSES_NOT;
     if (own->passes[port - 1] == now) return true;
-    if (!set_port_enabled(team->team_netlink, tap_index(team->parts.device), team->parts.ports->links[port - 1].index, wanted)) {
+    if (!set_port_enabled(team->team_netlink, tap_index(team->device), team->ports->links[port - 1].index, wanted)) {
         note_refusal(team, port);
         return false;
     }
@@ -200,7 +193,7 @@ static bool place_buckets(struct team_plane *team) {
     for (uint16_t number = 0; number < CONVERSATIONS; number++) {
         uint16_t port = place(team->carry, number);
         if (port == 0 || port == own->buckets[number].port) continue;
-        if (!set_bucket(team->team_netlink, tap_index(team->parts.device), number, team->parts.ports->links[port - 1].index)) {
+        if (!set_bucket(team->team_netlink, tap_index(team->device), number, team->ports->links[port - 1].index)) {
             note_refusal(team, port);
             return false;
         }
@@ -210,7 +203,6 @@ static bool place_buckets(struct team_plane *team) {
     return true;
 }
 
-/* Whether a port carries in the active aggregator. */
 static bool is_active(const struct carry *carry, uint16_t port) {
     for (uint16_t i = 0; i < carry->active_count; i++)
         if (carry->active_ports[i] == port) return true;
@@ -221,18 +213,18 @@ static bool is_active(const struct carry *carry, uint16_t port) {
  * has no port goes by the choice of the driver, which is another one for another number of ports. */
 void settle_buckets(struct team_plane *team) {
     struct buckets_private *own = team->buckets;
-    if (team->carry->active == 0) set_carrier(team->parts.device, false);
+    if (team->carry->active == 0) set_carrier(team->device, false);
     leave_last_aggregator(team);
     for (uint16_t i = 0; i < team->carry->active_count; i++)
         if (!set_passes(team, team->carry->active_ports[i], true)) return;
     if (team->carry->active != 0 && !place_buckets(team)) return;
-    for (uint16_t port = 1; port <= team->parts.ports->count; port++) {
+    for (uint16_t port = 1; port <= team->ports->count; port++) {
         if (!is_team_port(team, port) || is_active(team->carry, port)) continue;
         if (!set_passes(team, port, false)) return;
     }
     own->shortages = 0;
     for (uint16_t number = 0; team->carry->active == 0 && number < CONVERSATIONS; number++) own->buckets[number].port = 0;
-    if (team->carry->active != 0) set_carrier(team->parts.device, true);
+    if (team->carry->active != 0) set_carrier(team->device, true);
 }
 
 /* The port to which a bucket goes by its number, once it is still. */
@@ -240,7 +232,6 @@ static uint16_t usual_port(const struct carry *carry, uint16_t number) {
     return carry->active_ports[number % carry->active_count];
 }
 
-/* Whether a bucket is on another port than it is to be. */
 static bool waits(struct team_plane *team, uint16_t number) {
     struct buckets_private *own = team->buckets;
     return team->carry->active_count > 0 && own->buckets[number].port != 0 && own->buckets[number].port != usual_port(team->carry, number);
@@ -251,25 +242,23 @@ static void rest_still(struct team_plane *team) {
     struct buckets_private *own = team->buckets;
     for (uint16_t number = 0; number < CONVERSATIONS; number++) {
         struct niw_assignment state;
-        if (!waits(team, number) || own->counted_until < own->buckets[number].moved_at + team->parts.settings->flight) continue;
-        if (!ask_state(team->parts.protocol, team->carry->active, number, &state)) return;
+        if (!waits(team, number) || own->counted_until < own->buckets[number].moved_at + team->settings->flight) continue;
+        if (!ask_state(team->protocol, team->carry->active, number, &state)) return;
         if (state.what != NIW_CONVERSATION_ON) continue;
-        if (!is_done(team->parts.process, niw_rest(&team->parts.protocol->own_system, team->carry->active, number), "niw_rest")) return;
+        if (!is_done(team->process, niw_rest(&team->protocol->own_system, team->carry->active, number), "niw_rest")) return;
         team->carry->counts[RESTED]++;
     }
 }
 
-/* How many buckets wait until they are still. */
 unsigned count_waiting_buckets(struct team_plane *team) {
     unsigned count = 0;
     for (uint16_t number = 0; number < CONVERSATIONS; number++) count += waits(team, number);
     return count;
 }
 
-/* 100 ms passed. */
 void pass_bucket_tick(struct team_plane *team) {
     unsigned waiting = count_waiting_buckets(team);
     if (team->carry->time - team->buckets->looked_at >= (waiting > 0 ? LOOKED_WAITING : LOOKED_EVERY)) look_at_driver(team);
     if (waiting > 0) rest_still(team);
-    if (ticks_passed(team->parts.protocol->system) % SECOND == 0) give_team_addresses(team);
+    if (ticks_passed(team->protocol->system) % SECOND == 0) give_team_addresses(team);
 }

@@ -1,15 +1,10 @@
 /* The plane of the team driver: a team device in the place of the TAP device, and members that are its ports. The kernel passes all data by
  * itself, also while no daemon runs: the next one takes the device over. */
-#define _GNU_SOURCE
-#include <errno.h>
+#include "team.h"
+#include "netlink.h"
+
 #include <net/if.h>
 #include <poll.h>
-#include <stdio.h>
-#include <stdlib.h>
-#include <string.h>
-
-#include "netlink.h"
-#include "team.h"
 
 #define MODE "loadbalance"
 /* The mode of a device that has none yet. */
@@ -23,7 +18,6 @@ bool is_team_port(const struct team_plane *team, uint16_t port) {
     return team->taken[port - 1];
 }
 
-/* Whether a daemon made the device. */
 bool has_made_team(struct plane *plane) {
     return plane->team->made;
 }
@@ -37,8 +31,7 @@ bool is_team_new(struct plane *plane) {
 bool has_team_mode(const struct team_netlink_private *own) {
     static const uint8_t mac[ETH_ALEN] = {2, 0, 0, 0, 0, 1};
     struct interface device;
-    return make_team_device("team0", mac, ETH_DATA_LEN) && ask_interface(0, "team0", &device)
-        && set_team_text(own, device.index, "mode", MODE);
+    return make_team_device("team0", mac, ETH_DATA_LEN) && ask_interface(0, "team0", &device) && set_team_text(own, device.index, "mode", MODE);
 }
 
 /* The lowest MTU of the interfaces that are there: the driver gives its ports that of the device. */
@@ -53,28 +46,25 @@ static uint32_t least_mtu(const struct settings *settings) {
     return least == 0 ? ETH_DATA_LEN : least;
 }
 
-/* Takes the lock of a device. */
 static void lock_device(struct team_plane *team, int index) {
     char what[128], holder[HOLDER_ROOM];
-    team->lock = lock_interface(team->parts.process, index);
+    team->lock = lock_interface(team->process, index);
     if (team->lock == -EADDRINUSE) {
-        snprintf(what, sizeof what, "another lagd has the interface, %s", holder_of(team->parts.ports, index, holder));
-        stop(REFUSED, what, team->parts.settings->carry);
+        snprintf(what, sizeof what, "another lagd has the interface, %s", holder_of(team->ports, index, holder));
+        stop(REFUSED, what, team->settings->carry);
     }
-    if (team->lock < 0) stop(REFUSED, team->parts.settings->carry, strerror(-team->lock));
+    if (team->lock < 0) stop(REFUSED, team->settings->carry, strerror(-team->lock));
     team->locked = index;
-    put_stored(team->parts.process->store, "lock", index, team->lock);
+    put_stored(team->process->store, "lock", index, team->lock);
 }
 
-/* Whether each port of a device is an interface of this bundle. */
 static bool has_own_ports(const struct settings *settings, const struct team_now *now) {
     bool all = true;
     for (unsigned at = 0; at < now->port_count; at++) {
         bool own = false;
         for (uint16_t i = 0; i < settings->port_count && !own; i++) {
             struct interface member;
-            own = settings->ports[i].name[0] && ask_interface(0, settings->ports[i].name, &member)
-                && member.index == now->ports[at];
+            own = settings->ports[i].name[0] && ask_interface(0, settings->ports[i].name, &member) && member.index == now->ports[at];
         }
         all = all && own;
     }
@@ -84,18 +74,18 @@ static bool has_own_ports(const struct settings *settings, const struct team_now
 /* Takes a device that is there: that of the last daemon, or one that is of no use to others. */
 static void adopt_device(struct team_plane *team, const struct interface *device, const uint8_t *mac) {
     struct team_now now;
-    bool known = device->index == team->parts.process->inherited->tap;
+    bool known = device->index == team->process->inherited->tap;
     if (strcmp(device->kind, TEAM_KIND) != 0)
-        stop(REFUSED, team->parts.settings->carry, "an interface of this name is there, and is no team device");
+        stop(REFUSED, team->settings->carry, "an interface of this name is there, and is no team device");
     lock_device(team, device->index);
-    need(read_team(team->team_netlink, device->index, &now), team->parts.settings->carry);
+    need(read_team(team->team_netlink, device->index, &now), team->settings->carry);
     if (strcmp(now.mode, MODE) != 0 && strcmp(now.mode, NO_MODE) != 0)
-        stop(REFUSED, team->parts.settings->carry, "a team device of another mode is there");
-    if (!team->parts.settings->follow && !has_own_ports(team->parts.settings, &now) && !known)
-        stop(REFUSED, team->parts.settings->carry, "a team device with ports of others is there");
-    team->made = known && team->parts.process->inherited->persists;
-    need(known || set_address(device->index, mac), team->parts.settings->carry);
-    use_team_device(team->parts.device, device->index);
+        stop(REFUSED, team->settings->carry, "a team device of another mode is there");
+    if (!team->settings->follow && !has_own_ports(team->settings, &now) && !known)
+        stop(REFUSED, team->settings->carry, "a team device with ports of others is there");
+    team->made = known && team->process->inherited->persists;
+    need(known || set_address(device->index, mac), team->settings->carry);
+    use_team_device(team->device, device->index);
 }
 
 /* Finds the device of the last daemon, whatever an administrator named it since, or else one of this name; answers whether there is one. A
@@ -115,9 +105,9 @@ static bool find_device(struct process *process, const char *name, struct interf
 /* Has the driver spread frames over buckets, and tell what each of them sent. */
 static void configure_driver(struct team_plane *team, const char *mode_now) {
     struct sock_filter steps[MOST_HASH_STEPS];
-    int index = tap_index(team->parts.device);
+    int index = tap_index(team->device);
     need(strcmp(mode_now, MODE) == 0 || set_team_text(team->team_netlink, index, "mode", MODE), "team: mode " MODE);
-    need(set_team_hash(team->team_netlink, index, steps, make_team_hash(team->parts.settings, steps)), "team: bpf_hash_func");
+    need(set_team_hash(team->team_netlink, index, steps, make_team_hash(team->settings, steps)), "team: bpf_hash_func");
     need(set_team_text(team->team_netlink, index, "lb_tx_method", "hash_to_port_mapping"), "team: lb_tx_method");
     need(set_team_number(team->team_netlink, index, "lb_stats_refresh_interval", COUNTED_EVERY), "team: lb_stats_refresh_interval");
 }
@@ -137,32 +127,31 @@ static int give_address(int index, const uint8_t *mac) {
  * taken up anew. */
 void give_team_addresses(struct team_plane *team) {
     uint8_t mac[ETH_ALEN];
-    if (!read_tap_mac(team->parts.device, mac)) return;
-    EACH_LINK(link, team->parts.ports) {
-        bool differs = team->taken[link - team->parts.ports->links] && memcmp(link->mac, mac, sizeof mac) != 0;
+    if (!read_tap_mac(team->device, mac)) return;
+    EACH_LINK(link, team->ports) {
+        bool differs = team->taken[link - team->ports->links] && memcmp(link->mac, mac, sizeof mac) != 0;
         int fault = differs ? give_address(link->index, mac) : 0;
         if (fault == 0) continue;
-        (void)say(team->parts.process, LOG_WARNING | ABOUT_DATA, "port %u %s: it does not take the address of %s: %s", link->settings.number,
-            link->name, team->parts.settings->carry, strerror(-fault));
-        lose_link(team->parts.protocol, link);
-        look_again(team->parts.protocol->changes);
+        (void)say(team->process, LOG_WARNING | ABOUT_DATA, "port %u %s: it does not take the address of %s: %s", link->settings.number,
+            link->name, team->settings->carry, strerror(-fault));
+        lose_link(team->protocol, link);
+        look_again(team->protocol->changes);
     }
 }
 
 /* Takes an interface out of the device, by which it goes down: also where the device is gone, or somebody else took it out. */
 void leave_team_port(struct team_plane *team, int index) {
     struct interface port;
-    bool up;
-    if (!team->opened || !ask_interface(index, NULL, &port) || (port.master != 0 && port.master != tap_index(team->parts.device))) return;
-    up = port.master == 0 || (port.flags & IFF_UP);
+    if (!team->opened || !ask_interface(index, NULL, &port) || (port.master != 0 && port.master != tap_index(team->device))) return;
+    bool up = port.master == 0 || (port.flags & IFF_UP);
     if ((port.master == 0 || set_master(index, 0)) && up) (void)set_interface_up(index, true);
 }
 
 /* Makes an interface a new port of the device, which takes it while it is down, and passes no data on it until it is told to: the driver would
  * at once. Answers 0, or -errno. */
 static int make_port(struct team_plane *team, int index, bool up) {
-    bool done = (!up || set_interface_up(index, false)) && set_master(index, tap_index(team->parts.device))
-        && set_port_enabled(team->team_netlink, tap_index(team->parts.device), index, false);
+    bool done = (!up || set_interface_up(index, false)) && set_master(index, tap_index(team->device))
+        && set_port_enabled(team->team_netlink, tap_index(team->device), index, false);
     return done ? 0 : last_fault();
 }
 
@@ -172,24 +161,22 @@ int open_team_port(struct plane *plane, struct link *link) {
     struct interface port;
     uint8_t mac[ETH_ALEN];
     int fault = 0;
-    bool up;
-    if (!ask_interface(link->index, NULL, &port) || !read_tap_mac(team->parts.device, mac)) return last_fault();
-    up = (port.flags & IFF_UP) != 0;
-    if (port.master != tap_index(team->parts.device) && (port.master != 0 || !may_put_in(team->parts.protocol, link))) return -EBUSY;
+    if (!ask_interface(link->index, NULL, &port) || !read_tap_mac(team->device, mac)) return last_fault();
+    bool up = (port.flags & IFF_UP) != 0;
+    if (port.master != tap_index(team->device) && (port.master != 0 || !may_put_in(team->protocol, link))) return -EBUSY;
     if (port.master == 0) fault = make_port(team, link->index, up);
     if (fault == 0 && memcmp(port.mac, mac, sizeof mac) != 0) fault = give_address(link->index, mac);
-    team->taken[link - team->parts.ports->links] = fault == 0;
+    team->taken[link - team->ports->links] = fault == 0;
     forget_port(team, link->settings.number);
     if (fault != 0) leave_team_port(team, link->index);
     if (fault != 0 && up) (void)set_interface_up(link->index, true);
     return fault;
 }
 
-/* The interface is no member any more, or the daemon ends. */
 void close_team_port(struct plane *plane, struct link *link) {
     struct team_plane *team = plane->team;
-    if (!team->taken[link - team->parts.ports->links]) return;
-    team->taken[link - team->parts.ports->links] = false;
+    if (!team->taken[link - team->ports->links]) return;
+    team->taken[link - team->ports->links] = false;
     forget_port(team, link->settings.number);
     leave_team_port(team, link->index);
 }
@@ -199,11 +186,11 @@ void close_team_port(struct plane *plane, struct link *link) {
 bool is_still_team_port(struct plane *plane, const struct link *link, int master) {
     struct team_plane *team = plane->team;
     struct interface now;
-    if (!team->taken[link - team->parts.ports->links] || master == tap_index(team->parts.device) || !ask_interface(link->index, NULL, &now))
+    if (!team->taken[link - team->ports->links] || master == tap_index(team->device) || !ask_interface(link->index, NULL, &now))
         return true;
-    if (now.master == tap_index(team->parts.device)) return true;
-    (void)say(team->parts.process, LOG_WARNING | ABOUT_DATA, "port %u %s: it was taken out of %s", link->settings.number, link->name,
-        team->parts.settings->carry);
+    if (now.master == tap_index(team->device)) return true;
+    (void)say(team->process, LOG_WARNING | ABOUT_DATA, "port %u %s: it was taken out of %s", link->settings.number, link->name,
+        team->settings->carry);
     return false;
 }
 
@@ -219,60 +206,57 @@ static void free_inherited_ports(const struct inherited *inherited, int index) {
  * all stays as it is. */
 void leave_team(struct team_plane *team, int index, bool with_device) {
     struct interface device;
-    int held;
     if (!find_team_driver(team->team_netlink) || !ask_interface(index, NULL, &device) || strcmp(device.kind, TEAM_KIND) != 0) return;
-    held = lock_interface(team->parts.process, index);
+    int held = lock_interface(team->process, index);
     if (held < 0) return;
-    free_inherited_ports(team->parts.process->inherited, index);
+    free_inherited_ports(team->process->inherited, index);
     if (with_device) (void)remove_device(index);
-    close_stored(team->parts.process->store, "lock", index, held);
+    close_stored(team->process->store, "lock", index, held);
 }
 
 /* The program ends, and no other one goes on: its ports are free, also those that a start did not come to, and the device goes if a daemon made
  * it. */
 static void end_team(void *given) {
     struct team_plane *team = given;
-    if (!team->opened || team->parts.process->has_left) return;
-    EACH_LINK(link, team->parts.ports) close_team_port(team->parts.plane, link);
-    if (tap_index(team->parts.device) != 0) free_inherited_ports(team->parts.process->inherited, tap_index(team->parts.device));
-    if (team->made && tap_index(team->parts.device) != 0) (void)remove_device(tap_index(team->parts.device));
-    if (team->lock >= 0) close_stored(team->parts.process->store, "lock", team->locked, team->lock);
+    if (!team->opened || team->process->has_left) return;
+    EACH_LINK(link, team->ports) close_team_port(team->plane, link);
+    if (tap_index(team->device) != 0) free_inherited_ports(team->process->inherited, tap_index(team->device));
+    if (team->made && tap_index(team->device) != 0) (void)remove_device(tap_index(team->device));
+    if (team->lock >= 0) close_stored(team->process->store, "lock", team->locked, team->lock);
     team->opened = false;
 }
 
 /* Opens the device: it has no carrier, unless the data of the last daemon goes on. */
 void open_team(struct plane *plane) {
     struct team_plane *team = plane->team;
-    const char *name = team->parts.settings->carry;
-    const uint8_t *mac = team->parts.settings->config.mac;
+    const char *name = team->settings->carry;
+    const uint8_t *mac = team->settings->config.mac;
     struct interface device;
     struct team_now now;
     need(find_team_driver(team->team_netlink), "plane=team: this kernel has no team driver");
-    call_at_exit(team->parts.process, end_team, team);
+    call_at_exit(team->process, end_team, team);
     team->opened = true;
-    if (find_device(team->parts.process, name, &device)) {
+    if (find_device(team->process, name, &device)) {
         adopt_device(team, &device, mac);
     } else {
-        need(make_team_device(name, mac, least_mtu(team->parts.settings)) && ask_interface(0, name, &device), name);
+        need(make_team_device(name, mac, least_mtu(team->settings)) && ask_interface(0, name, &device), name);
         lock_device(team, device.index); /* another one may have taken it at once */
         team->made = team->is_new = true;
-        use_team_device(team->parts.device, device.index);
+        use_team_device(team->device, device.index);
     }
-    need(read_team(team->team_netlink, tap_index(team->parts.device), &now), "team");
+    need(read_team(team->team_netlink, tap_index(team->device), &now), "team");
     configure_driver(team, now.mode);
     start_buckets(team);
 }
 
-/* Has the device a carrier, or none; answers whether the kernel does so. */
 bool give_team_carrier(struct plane *plane, bool on) {
-    return set_device_carrier(tap_index(plane->carry->parts.device), on);
+    return set_device_carrier(tap_index(plane->carry->device), on);
 }
 
-/* The daemon ends, or the library refused a call. */
 void end_team_plane(struct plane *plane) {
     struct team_plane *team = plane->team;
-    set_carrier(team->parts.device, false);
-    remove_all_members(team->parts.protocol);
+    set_carrier(team->device, false);
+    remove_all_members(team->protocol);
     end_team(team);
 }
 
@@ -285,7 +269,6 @@ void settle_team(struct plane *plane) {
     if (team->carry->active != before) forget_heard(team->carry); /* until now frames came by the ports of the last one */
 }
 
-/* 100 ms passed, for all of the data. */
 void pass_tick_of_team(struct plane *plane) {
     struct team_plane *team = plane->team;
     begin_carry_tick(team->carry);

@@ -2,9 +2,9 @@
 #ifndef LAGD_TEAM_H
 #define LAGD_TEAM_H
 
-#include <linux/filter.h>
-
 #include "carry.h"
+
+#include <linux/filter.h>
 
 /* The kind of its devices, as rtnetlink has it. */
 #define TEAM_KIND "team"
@@ -23,7 +23,7 @@ struct team_now {
 
 #define EACH_FILE_OF_TEAM(DO) DO(buckets, buckets) DO(team_netlink, team_netlink)
 struct team_plane {
-    struct parts parts;
+    KNOWS_PARTS
     struct carry *carry;
     bool opened;
     bool made; /* whether a daemon made the device, so that it goes at the end */

@@ -1,11 +1,9 @@
 /* The bucket of a frame, by a program of the team driver in classic BPF: frames of one conversation have one bucket, as in hash.c, whose
  * numbers may be others. The driver joins the four octets of what it answers by exclusive or. Where a frame ends before what it is to have,
  * the program ends with 0. */
-#define _GNU_SOURCE
-#include <netinet/in.h>
-#include <string.h>
-
 #include "team.h"
+
+#include <netinet/in.h>
 
 /* The words that the program has for itself. */
 enum { HASH, SKIPPED, PORTS, PROTOCOL, IS_IP, VLAN_FOUND };
@@ -25,8 +23,7 @@ enum { HASH, SKIPPED, PORTS, PROTOCOL, IS_IP, VLAN_FOUND };
 
 /* The last octets of both MAC addresses: as the library has it. */
 static const struct sock_filter BY_MACS[] = {
-    LOAD(BPF_B, ETH_ALEN - 1), BPF_STMT(BPF_MISC | BPF_TAX, 0), LOAD(BPF_B, 2 * ETH_ALEN - 1), COUNT_X(BPF_XOR),
-        BPF_STMT(BPF_RET | BPF_A, 0)};
+    LOAD(BPF_B, ETH_ALEN - 1), BPF_STMT(BPF_MISC | BPF_TAX, 0), LOAD(BPF_B, 2 * ETH_ALEN - 1), COUNT_X(BPF_XOR), BPF_STMT(BPF_RET | BPF_A, 0)};
 
 static const struct sock_filter CLEAR[] = {NUMBER(0), KEEP(SKIPPED), KEEP(PORTS), KEEP(PROTOCOL), KEEP(IS_IP), KEEP(VLAN_FOUND)};
 
@@ -77,7 +74,6 @@ static void append(struct sock_filter *steps, size_t *count, const struct sock_f
     *count += more;
 }
 
-/* Writes the program of the settings; answers how many steps it has. */
 size_t make_team_hash(const struct settings *settings, struct sock_filter steps[static MOST_HASH_STEPS]) {
     const struct sock_filter begin[] = {NUMBER(HASH_START ^ settings->hash_seed), KEEP(HASH)};
     static const struct sock_filter end[] = {RECALL(HASH), BPF_STMT(BPF_RET | BPF_A, 0)};

@@ -1,15 +1,12 @@
 /* What the kernel is told of the team driver, and tells: by rtnetlink of its device and ports as of any interface, and by generic netlink
  * of its options. */
-#define _GNU_SOURCE
-#include <errno.h>
+#include "team.h"
+#include "netlink.h"
+
 #include <linux/genetlink.h>
 #include <linux/if_team.h>
 #include <linux/rtnetlink.h>
 #include <net/if.h>
-#include <string.h>
-
-#include "netlink.h"
-#include "team.h"
 
 /* The types of options that are of use here, as include/net/netlink.h of the kernel has them; no header for programs does. */
 enum { TYPE_U32 = 3, TYPE_STRING = 5, TYPE_FLAG = 6, TYPE_BINARY = 11 };
@@ -20,10 +17,6 @@ struct team_netlink_private {
 
 MAKES_ROOM(team_netlink)
 
-static bool order(const union message *wanted) {
-    return ask_netlink(NETLINK_ROUTE, wanted, NULL, NULL);
-}
-
 static int parse_family(const struct nlattr *attribute, void *into) {
     if (mnl_attr_get_type(attribute) == CTRL_ATTR_FAMILY_ID) (void)copy_value(attribute, into, sizeof(uint16_t));
     return MNL_CB_OK;
@@ -33,7 +26,6 @@ static void read_family(const struct nlmsghdr *message, void *into) {
     read_attributes(message, sizeof(struct genlmsghdr), parse_family, into);
 }
 
-/* Asks for the number of the driver; answers whether it is there. */
 static bool find_family(struct team_netlink_private *own) {
     struct genlmsghdr about = {.cmd = CTRL_CMD_GETFAMILY, .version = 1};
     union message question = message_of(GENL_ID_CTRL, NLM_F_ACK, &about, sizeof about);
@@ -45,18 +37,15 @@ static bool find_family(struct team_netlink_private *own) {
  * an address that none may have there is none, and by a name that it is to complete none is taken. */
 bool find_team_driver(struct team_netlink_private *own) {
     static const uint8_t no_address[ETH_ALEN];
-    return find_family(own)
-        || (!make_team_device("team%d", no_address, ETH_DATA_LEN) && errno == EADDRNOTAVAIL && find_family(own));
+    return find_family(own) || (!make_team_device("team%d", no_address, ETH_DATA_LEN) && errno == EADDRNOTAVAIL && find_family(own));
 }
 
-/* Makes a device of the driver; answers whether it did. */
 bool make_team_device(const char *name, const uint8_t *mac, uint32_t mtu) {
     union message wanted = message_of_interface(RTM_NEWLINK, NLM_F_ACK | NLM_F_CREATE | NLM_F_EXCL, 0);
-    struct nlattr *nest;
     mnl_attr_put_strz(&wanted.head, IFLA_IFNAME, name);
     mnl_attr_put(&wanted.head, IFLA_ADDRESS, ETH_ALEN, mac);
     mnl_attr_put_u32(&wanted.head, IFLA_MTU, mtu);
-    nest = mnl_attr_nest_start(&wanted.head, IFLA_LINKINFO);
+    struct nlattr *nest = mnl_attr_nest_start(&wanted.head, IFLA_LINKINFO);
     mnl_attr_put_strz(&wanted.head, IFLA_INFO_KIND, TEAM_KIND);
     mnl_attr_nest_end(&wanted.head, nest);
     return order(&wanted);
@@ -67,21 +56,18 @@ bool remove_device(int index) {
     return order(&wanted);
 }
 
-/* Sets an interface up or down. */
 bool set_interface_up(int index, bool up) {
     struct ifinfomsg about = {.ifi_index = index, .ifi_flags = up ? IFF_UP : 0, .ifi_change = IFF_UP};
     union message wanted = message_of(RTM_SETLINK, NLM_F_ACK, &about, sizeof about);
     return order(&wanted);
 }
 
-/* Sets what an attribute says of an interface. */
 static bool set_attribute(int index, uint16_t type, const void *value, size_t length) {
     union message wanted = message_of_interface(RTM_SETLINK, NLM_F_ACK, index);
     mnl_attr_put(&wanted.head, type, length, value);
     return order(&wanted);
 }
 
-/* Makes an interface a port of another one, or, with 0, of none. */
 bool set_master(int index, int master) {
     return set_attribute(index, IFLA_MASTER, &master, sizeof master);
 }
@@ -136,7 +122,6 @@ bool set_team_hash(const struct team_netlink_private *own, int index, const stru
     return set_option(own, index, "bpf_hash_func", (struct place){0, -1}, TYPE_BINARY, steps, count * sizeof *steps);
 }
 
-/* Whether a port passes data, in either direction. */
 bool set_port_enabled(const struct team_netlink_private *own, int index, int port, bool enabled) {
     return set_option(own, index, "enabled", (struct place){port, -1}, TYPE_FLAG, enabled ? "" : NULL, 0);
 }
@@ -200,7 +185,6 @@ static void parse_team(const struct nlmsghdr *message, void *into) {
     read_attributes(message, sizeof(struct genlmsghdr), parse_list, into);
 }
 
-/* Reads the options of a device; answers whether it could. */
 bool read_team(struct team_netlink_private *own, int index, struct team_now *now) {
     union message question = message_of_team(own, TEAM_CMD_OPTIONS_GET, 0, index);
     *now = (struct team_now){0};

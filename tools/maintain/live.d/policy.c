@@ -233,7 +233,8 @@ void set_carrier(struct device *device, bool on) {
     CHECK(!on || (end_of(device)->lagd.carry.active_count > 0 && any_distributes(&end_of(device)->lagd)));
     end_of(device)->carrier = on;
 }
-void notify_state(const struct bundle *bundle) {
+void notify_bundle(const struct bundle *bundle, const char *what) {
+    (void)what;
     CHECK(bundle->state == BUNDLE_DOWN || any_distributes(&end_of(bundle)->lagd));
 }
 
@@ -310,12 +311,12 @@ struct niw_number conversation_of(struct protocol *protocol, const uint8_t *fram
 
 /* and what is of members with several queues, of which there are none here; */
 static bool answer(struct tap_plane *tap, struct link *link, const uint8_t *response) {
-    send_frame(tap->parts.protocol, link, response);
+    send_frame(tap->protocol, link, response);
     return true;
 }
 static void accept(struct tap_plane *tap, struct link *link, const struct arrival *arrival, uint32_t id) {
     (void)id;
-    accept_response(tap->parts.protocol, link, arrival);
+    accept_response(tap->protocol, link, arrival);
 }
 
 /* and what is not here: the settings of the device. */

@@ -17,6 +17,8 @@ from spaces import OURS, THEIRS, ip, make_pair
 
 # What the first line says that the next daemon prints: it went on, or why it did not.
 WENT_ON, NOT_USED = "2 of 2 links go on", "the state that the last daemon left is not used: "
+# By when a copy is written after ports came or went, and by when it is written anew, in seconds.
+COPIED, RENEWED = 4, 14
 # An end with short timeouts waits so long for an LACPDU, in seconds.
 TIMEOUT = 3
 
@@ -183,11 +185,16 @@ def things_change(part: Part) -> None:
 UP = 3
 
 
-def boots(part: Part, ours: Daemon, kept: str, change: Callable[[str], str] = lambda text: text) -> Daemon:
+def own_process(daemon: Daemon) -> int:
+    """The process of a daemon, which one that makes its namespace of times may have started."""
+    children = open(f"/proc/{daemon.process.pid}/task/{daemon.process.pid}/children", encoding="utf-8").read().split()
+    return int(children[0]) if "unshare" in daemon.words and children else daemon.process.pid
+
+
+def boots(part: Part, ours: Daemon, kept: str, change: Callable[[str], str] = lambda text: text, by: signal.Signals = signal.SIGUSR1) -> Daemon:
     """Our daemon leaves its state, which is changed. The next one has another boot: its clock of that begins anew, and what was in /run is gone."""
-    children = open(f"/proc/{ours.process.pid}/task/{ours.process.pid}/children", encoding="utf-8").read().split()
     if ours.process.poll() is None:
-        os.kill(int(children[0]) if children else ours.process.pid, signal.SIGUSR1)
+        os.kill(own_process(ours), by)
         ours.process.wait(ENDS)
     for path in glob.glob(f"{ours.folder}/*.state"):
         os.unlink(path)
@@ -223,7 +230,6 @@ def outlives_boot(part: Part) -> None:
     ]
     for what, text, change in rows:
         both_up(ours, theirs, "both links come to distribute")
-        check(not os.path.exists(f"{kept}/a0.state"), "no copy is kept while a daemon runs")
         lines = theirs.printed()
         ours = boots(part, ours, kept, change)
         check(text in ours.printed(), f"a state {what}: a line says so", ours.printed())
@@ -233,8 +239,7 @@ def outlives_boot(part: Part) -> None:
             time.sleep(TIMEOUT)
             check(theirs.printed() == lines and ours.distributes("a0", "a1"), "its peer has seen nothing", theirs.printed(), ours.printed())
     both_up(ours, theirs, "both links come to distribute")
-    child = open(f"/proc/{ours.process.pid}/task/{ours.process.pid}/children", encoding="utf-8").read().split()[0]
-    os.kill(int(child), signal.SIGTERM)
+    os.kill(own_process(ours), signal.SIGTERM)
     ours.process.wait(ENDS)
     check(not os.path.exists(f"{kept}/a0.state"), "a stop leaves none")
     ours = part.ours(options=["--timeout", "long", "--state-dir", "/proc/kept"])
@@ -242,5 +247,76 @@ def outlives_boot(part: Part) -> None:
     check("no state is kept in /proc/kept" in ours.printed(), "and a line says so", ours.printed())
 
 
-PARTS = {"the next daemon goes on": goes_on, "a state beyond a reboot": outlives_boot, "restarts in a row": in_a_row, "a limit of links through a restart": keeps_limit,
+def carried_in(path: str) -> list[str]:
+    """Of each link in a copy whether its port goes on; nothing where there is no whole one."""
+    text = open(path, encoding="utf-8").read() if os.path.exists(path) else ""
+    return re.findall(r"^link \d+ \S+ \d+ (\d) ", text, re.M) if text.endswith("end\n") else []
+
+
+def outlives_crash(part: Part) -> None:
+    """With state-dir, and long timeouts at both ends, there is a copy while a daemon runs, too: the first one after a crash of the machine goes on."""
+    if command("unshare", "--time", "true").returncode:
+        raise Skipped("no namespaces of times")
+    kept = os.path.join(part.folder, "crashed")
+    os.makedirs(kept, exist_ok=True)
+    copy, options = f"{kept}/a0.state", ["--timeout", "long", "--state-dir", kept]
+    ours, theirs = part.ours(options=options), part.theirs(options=["--timeout", "long"])
+    both_up(ours, theirs, "both links come to distribute")
+    check(within(COPIED, lambda: carried_in(copy) == ["1", "1"]), "a copy is kept while the daemon runs", os.listdir(kept))
+    first = os.stat(copy).st_ino
+    check(within(RENEWED, lambda: os.path.exists(copy) and os.stat(copy).st_ino != first), "it is renewed", os.listdir(kept))
+    lines = theirs.printed()
+    ours = boots(part, ours, kept, by=signal.SIGKILL)
+    check(WENT_ON in ours.printed(), "the first daemon after a crash of the machine goes on", ours.printed())
+    time.sleep(TIMEOUT)
+    check(theirs.printed() == lines and ours.distributes("a0", "a1"), "its peer has seen nothing", theirs.printed(), ours.printed())
+    ip(OURS, "link", "set", "a1", "down")
+    check(within(COPIED, lambda: carried_in(copy) == ["1", "0"]), "a link that goes is no more in the copy", ours.printed())
+    ip(OURS, "link", "set", "a0", "down")
+    check(within(COPIED, lambda: not os.path.exists(copy)), "without a link that carries there is none", ours.printed())
+    for name in ("a0", "a1"):
+        ip(OURS, "link", "set", name, "up")
+    both_up(ours, theirs, "both links come back")
+    check(within(COPIED, lambda: carried_in(copy) == ["1", "1"]), "and then there is one again", ours.printed())
+    other_name(part, kept)
+    os.kill(own_process(ours), signal.SIGTERM)
+    ours.process.wait(ENDS)
+    time.sleep(1)
+    check(not os.path.exists(copy), "a stop leaves none", os.listdir(kept))
+    theirs.ends("their daemon")
+    short_of_time(part, kept)
+
+
+def other_name(part: Part, kept: str) -> None:
+    """A bundle of that name in another network namespace does without the copy, and the one that has it is not disturbed."""
+    make_pair(2)
+    ip(THEIRS, "link", "property", "add", "dev", "b2", "altname", "a0")
+    before = os.stat(f"{kept}/a0.state").st_mtime
+    second = part.theirs("a0", options=["--timeout", "long", "--state-dir", kept])
+    text = f"no state is kept in {kept}, so a start after a reboot begins anew: another lagd has a bundle of this name there"
+    check(within(ENDS, lambda: text in second.printed()), "a bundle of one name in another network namespace says that it does without", second.printed())
+    second.ends("the second one")
+    check(os.stat(f"{kept}/a0.state").st_mtime >= before, "the copy of the first one stays")
+
+
+def short_of_time(part: Part, kept: str) -> None:
+    """Where an end waits for 3 s, no start after a reboot is in time: only a daemon that leaves writes a copy. What cannot be written has a line."""
+    ours, theirs = part.ours(options=["--state-dir", kept]), part.theirs(options=["--timeout", "long"])
+    both_up(ours, theirs, "with a short timeout both links come to distribute")
+    time.sleep(2)
+    check(not os.path.exists(f"{kept}/a0.state"), "with a short timeout no copy is kept", os.listdir(kept))
+    ours.ends("the daemon")
+    os.makedirs(f"{kept}/a0.state.new", exist_ok=True)
+    ours = part.ours(options=["--timeout", "long", "--state-dir", kept])
+    both_up(ours, theirs, "both links come to distribute")
+    line = f"its state cannot be kept in {kept}, so a start after a reboot begins anew: Is a directory"
+    check(within(COPIED, lambda: line in ours.printed()), "a copy that cannot be written has a line", ours.printed())
+    os.rmdir(f"{kept}/a0.state.new")
+    check(within(RENEWED, lambda: carried_in(f"{kept}/a0.state") == ["1", "1"]), "it is tried again", ours.printed())
+    check(ours.printed().count(line) == 1, "of several faults in a row one has a line", ours.printed())
+    ours.ends("the daemon")
+    check(not os.path.exists(f"{kept}/a0.state"), "a stop leaves none", os.listdir(kept))
+
+
+PARTS = {"the next daemon goes on": goes_on, "a state beyond a reboot": outlives_boot, "a state beyond a crash": outlives_crash, "restarts in a row": in_a_row, "a limit of links through a restart": keeps_limit,
          "a state of no use": begins_anew, "what changes between two daemons": things_change}

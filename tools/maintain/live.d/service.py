@@ -69,6 +69,7 @@ WRONG = {
     FILE.replace("key=23\n", ""): " expected key=NUMBER in [Bundle]",
     FILE.partition("[Port")[0].replace(f"32768,{SYSTEM}", "auto"): "4: expected system=PRIORITY,MAC beside no section [Port INTERFACE]: by auto it is the address of the first one: system",
     FILE.replace("[Port a0]", "carry=lag0\nmembers=follow\n[Port a0]", 1): "9: expected plane=team beside members=follow: members",
+    FILE.replace("[Port a0]", "carry=lag0\nplane=team\nselect=priority\n[Port a0]", 1): "10: expected select=count beside plane=team, which does not see in which group the peer sends: select",
     "[Bundle]\nmembers=all\n": "2: expected given or follow: members=all",
     "".join(f"[Port a{port}]\n" for port in range(65)): "65: expected at most 64 interfaces: [Port a64]",
 }

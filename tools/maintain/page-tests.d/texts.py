@@ -96,6 +96,17 @@ def of_programs(tests: Tests) -> None:
     tests.same("who churns for 60 s does not start", ["Look again in 10 s" in churned, "It has been so for 60 s or more" in churned], [False, True])
 
 
+def of_waiting(tests: Tests) -> None:
+    """A link that is back, and that lagd does not use yet, is no fault, and does not carry; another one that is down is."""
+    word = "1 of 2 links carries. The link of p2 is back, and waits until its carrier was steady for so long (wait-to-restore): it is not used before."
+    text, line = (read(os.path.join(STATUS, f"waiting-lagd{end}")) for end in (".txt", "-json.json"))
+    for form, it in ("text", text), ("JSON", line):
+        ended, said = told_of(it)
+        tests.same(f"a link that waits, as {form}", [ended, said.partition("\n")[0], "\n1. remark: the link of p2 is back" in said, "down" in said], [1, word, True, False])
+    both = told_of(text.replace("link: up", "link: down").replace("may_enable: true", "may_enable: false"))[1]
+    tests.same("beside one that is down", [both.partition("\n")[0], "remark: the link of p2 is back" in both], ["0 of 2 links carry. The link of p1 is down.", True])
+
+
 def of_away(tests: Tests) -> None:
     """A link whose carrier is away, and that lagd takes as up, is no fault, and does not carry."""
     away, word = "its carrier is away, for less than delay-down so far", "1 of 2 links carries. The carrier of p2 is away, and LACP takes the link as up (delay-down): it passes nothing now."
@@ -169,7 +180,7 @@ def of_texts(tests: Tests, browser: Browser) -> None:
     of_ways(tests, browser)
     of_cuts(tests, browser)
     of_explain(tests, browser)
-    for it in of_words, of_endings, of_programs, of_away, of_speeds, of_partners, of_hashes:
+    for it in of_words, of_endings, of_programs, of_away, of_waiting, of_speeds, of_partners, of_hashes:
         it(tests)
     passive = read(os.path.join(STATUS, "healthy-bonding.txt")).replace("port state: 63", "port state: 62")
     tests.same("two passive ends do not carry, as in a capture", pasted(browser, passive)[0], "0 of 2 links carry. Both ends are passive: p1, p2.")
