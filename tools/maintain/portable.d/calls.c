@@ -4,7 +4,8 @@
  *
  *     calls COUNT [granted]
  *
- * Linked by -Wl,--wrap=malloc,--wrap=realloc, so that memory can be refused; by `granted` none is. By -DNIW_POOL the library has a pool of its own. */
+ * Linked by -Wl,--wrap=malloc,--wrap=realloc, so that memory can be refused; by `granted` none is. By -DNIW_POOL the library has a pool of its own,
+ * and no word is wanted. */
 #include "lag.h"
 
 #include <stdio.h>
@@ -213,6 +214,7 @@ int main(int argc, char **argv) {
     const unsigned long count = argc > 1 ? strtoul(argv[1], NULL, 10) : 20000;
     is_granted = argc > 2;
 #ifdef NIW_POOL
+    is_granted = true;
     niw_give_memory(pool + 1, sizeof pool - 1);
 #endif
     for (unsigned long call = 0; call < count; call++) {

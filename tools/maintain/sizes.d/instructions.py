@@ -1,0 +1,94 @@
+"""Counts the instructions of calls of c/lag.c: an emulator of qemu runs calls.c beside it, and tells each instruction with its function."""
+
+from __future__ import annotations
+
+import os
+import shutil
+import subprocess
+import tempfile
+from typing import Iterable, Iterator, NamedTuple
+
+import board
+from library import PORTABLE, printed
+from repository import Missing
+
+PROGRAM = os.path.join(os.path.dirname(os.path.abspath(__file__)), "calls.c")
+PORTS = (2, 8)
+# The calls, in the order of the program.
+CALLS = [
+    "`niw_tick`, nothing due",
+    "`niw_active_aggregator`, `niw_distributing`, and `niw_defaulted` of each port, together",
+    "`niw_due`",
+    "`niw_tick` that makes an LACPDU due on each port",
+    "`niw_transmit` of an LACPDU",
+    "`niw_receive` of an LACPDU that changes nothing",
+    "`niw_receive` of one that flips Sync: the port leaves the trunk",
+    "`niw_tick` at which all ports lose their partner",
+]
+MEMORY = {b"memcpy", b"memmove", b"memset"}
+
+
+class Counted(NamedTuple):
+    """A processor, and its C library: its compiler with its words, those that its programs are linked by, what runs them, and packages of Debian."""
+
+    name: str
+    compiler: list[str]
+    linked: list[str]
+    runs: list[str]
+    packages: str
+
+
+# picolibc's script for the linker wants to know where memory is; the program has a start of its own.
+PLACES = {"__flash": 1 << 20, "__flash_size": 1 << 20, "__ram": 1 << 24, "__ram_size": 1 << 20}
+RV32_LINKED = ["--specs=picolibc.specs", "-nostartfiles", *(f"-Wl,--defsym={name}={value}" for name, value in PLACES.items())]
+COUNTED = [
+    Counted(f"{board.NAME}, newlib", board.COMPILER, board.LARGE.linked, board.LARGE.runs, board.PACKAGES),
+    Counted("RV32, picolibc", ["riscv64-unknown-elf-gcc", "-march=rv32imac", "-mabi=ilp32"], RV32_LINKED, ["qemu-riscv32"],
+            "gcc-riscv64-unknown-elf, picolibc-riscv64-unknown-elf, qemu-user"),
+    Counted("PowerPC, glibc", ["powerpc-linux-gnu-gcc", "-fno-pie"], ["-static"], ["qemu-ppc"], "gcc-powerpc-linux-gnu with what it recommends, qemu-user"),
+]
+HEAD = f"|instructions ({'; '.join(f'{ports} ports' for ports in PORTS)})|" + "|".join(it.name for it in COUNTED) + "|\n|---|" + "---:|" * len(COUNTED) + "\n"
+
+
+def lacks() -> list[str]:
+    """What is not here of what the table is counted with."""
+    return [f"{it.name}: {it.runs[0]} and {it.compiler[0]} with its C library (Debian: {it.packages})" for it in COUNTED
+            if not (shutil.which(it.runs[0]) and board.links(*it.compiler, *it.linked))]
+
+
+def between(told: Iterable[bytes]) -> Iterator[tuple[int, int]]:
+    """Of each counted call how many instructions it took, and how many of them were in memcpy and its like."""
+    whole = memory = 0
+    for line in told:
+        if not line.startswith(b"Trace"):
+            continue
+        function = line.rstrip().rpartition(b" ")[2]
+        if function == b"count_to":
+            if whole:
+                yield whole, memory
+            whole = memory = 0
+        elif function == b"count_from":
+            whole = memory = 0
+        else:
+            whole += 1
+            memory += function in MEMORY
+    
+
+def counts(it: Counted, ports: int, words: list[str]) -> list[tuple[int, int]]:
+    """The counts of the calls, of a LAG of so many ports, on a processor."""
+    with tempfile.TemporaryDirectory() as folder:
+        made = os.path.join(folder, "calls")
+        printed(*it.compiler, *words, f"-DPORTS={ports}", *it.linked, "-o", made, PROGRAM, PORTABLE)
+        called = board.command([it.runs[0], "-singlestep", "-d", "exec,nochain", *it.runs[1:]], made)
+        with subprocess.Popen(called, stdin=subprocess.DEVNULL, stdout=subprocess.DEVNULL, stderr=subprocess.PIPE) as ran:
+            found = list(between(ran.stderr or ()))
+    if ran.returncode or len(found) != len(CALLS):
+        raise Missing(f"{it.name}: sizes.d/calls.c of {ports} ports ended with {ran.returncode} after {len(found)} of {len(CALLS)} calls")
+    return found
+
+
+def table(words: list[str]) -> str:
+    """The table: by -Os and these words, of each call, and each number of ports, the instructions and those of them in memcpy and its like."""
+    cells = [[counts(it, ports, words) for ports in PORTS] for it in COUNTED]
+    rows = [[call, *("; ".join("{:,} ({:,})".format(*found[place]) for found in its) for its in cells)] for place, call in enumerate(CALLS)]
+    return HEAD + "".join("|" + "|".join(row) + "|\n" for row in rows)
