@@ -44,8 +44,9 @@ static void settle(struct box *here, struct box *peer) {
             if (!niw_defaulted(&here->system, ports[i]).is) members |= UINT32_C(1) << (ports[i] - 1);
     }
     here->trunk = members;
-    for (uint16_t port = 1; port <= PORTS; port++)
-        while (niw_transmit(&here->system, port, frame, sizeof frame).is) send(peer, port, frame, sizeof frame);
+    for (uint64_t due; (due = niw_due(&here->system).number) != 0;)
+        for (uint16_t port = 1; port <= PORTS; port++)
+            if (due >> (port - 1) & 1 && niw_transmit(&here->system, port, frame, sizeof frame).is) send(peer, port, frame, sizeof frame);
 }
 
 /* A frame to 01-80-C2-00-00-02 came on a port of the chip. */

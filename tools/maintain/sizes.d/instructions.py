@@ -17,15 +17,15 @@ PORTS = (2, 8)
 # The calls, in the order of the program.
 CALLS = [
     "`niw_tick`, nothing due",
-    "`niw_active_aggregator`, `niw_distributing`, and `niw_defaulted` of each port, together",
-    "`niw_due`",
+    "`settle` of `pool.c`, nothing due",
     "`niw_tick` that makes an LACPDU due on each port",
     "`niw_transmit` of an LACPDU",
     "`niw_receive` of an LACPDU that changes nothing",
     "`niw_receive` of one that flips Sync: the port leaves the trunk",
     "`niw_tick` at which all ports lose their partner",
 ]
-MEMORY = {b"memcpy", b"memmove", b"memset"}
+# What the functions of C libraries begin with that copy and fill memory: glibc's memmove calls others.
+MEMORY = (b"mem", b"_wordcopy")
 
 
 class Counted(NamedTuple):
@@ -71,24 +71,29 @@ def between(told: Iterable[bytes]) -> Iterator[tuple[int, int]]:
             whole = memory = 0
         else:
             whole += 1
-            memory += function in MEMORY
+            memory += function.startswith(MEMORY)
     
 
-def counts(it: Counted, ports: int, words: list[str]) -> list[tuple[int, int]]:
-    """The counts of the calls, of a LAG of so many ports, on a processor."""
+def counts(it: Counted, words: list[str]) -> list[list[tuple[int, int]]]:
+    """Of a LAG of each number of ports the counts of the calls, on a processor."""
+    found = []
     with tempfile.TemporaryDirectory() as folder:
-        made = os.path.join(folder, "calls")
-        printed(*it.compiler, *words, f"-DPORTS={ports}", *it.linked, "-o", made, PROGRAM, PORTABLE)
-        called = board.command([it.runs[0], "-singlestep", "-d", "exec,nochain", *it.runs[1:]], made)
-        with subprocess.Popen(called, stdin=subprocess.DEVNULL, stdout=subprocess.DEVNULL, stderr=subprocess.PIPE) as ran:
-            found = list(between(ran.stderr or ()))
-    if ran.returncode or len(found) != len(CALLS):
-        raise Missing(f"{it.name}: sizes.d/calls.c of {ports} ports ended with {ran.returncode} after {len(found)} of {len(CALLS)} calls")
+        library, made = os.path.join(folder, "lag.o"), os.path.join(folder, "calls")
+        printed(*it.compiler, *words, "-c", "-o", library, PORTABLE)
+        for ports in PORTS:
+            printed(*it.compiler, *words, f"-DPORTS={ports}", *it.linked, "-o", made, PROGRAM, library)
+            called = board.command([it.runs[0], "-singlestep", "-d", "exec,nochain", *it.runs[1:]], made)
+            with subprocess.Popen(called, stdin=subprocess.DEVNULL, stdout=subprocess.DEVNULL, stderr=subprocess.PIPE) as ran:
+                found.append(list(between(ran.stderr or ())))
+            if ran.returncode or len(found[-1]) != len(CALLS):
+                raise Missing(f"{it.name}: sizes.d/calls.c of {ports} ports ended with {ran.returncode} after {len(found[-1])} of {len(CALLS)} calls")
     return found
 
 
 def table(words: list[str]) -> str:
-    """The table: by -Os and these words, of each call, and each number of ports, the instructions and those of them in memcpy and its like."""
-    cells = [[counts(it, ports, words) for ports in PORTS] for it in COUNTED]
-    rows = [[call, *("; ".join("{:,} ({:,})".format(*found[place]) for found in its) for its in cells)] for place, call in enumerate(CALLS)]
+    """The table: by -Os and these words, of each call, and each number of ports, the instructions; at last how many of them copy and fill memory."""
+    found = [counts(it, words) for it in COUNTED]
+    rows = [[call, *("; ".join(f"{its[place][0]:,}" for its in of) for of in found)] for place, call in enumerate(CALLS)]
+    shares = [[round(100 * memory / whole) for its in of for whole, memory in its] for of in found]
+    rows.append(["of 100 of these in `memcpy`, `memmove`, `memset`", *(f"{min(it)} to {max(it)}" for it in shares)])
     return HEAD + "".join("|" + "|".join(row) + "|\n" for row in rows)
