@@ -176,8 +176,8 @@ pub use Rattle.lagprogress.specs.HostFreed.{NoneIsHeldBesideCutOffsByHosts, None
 pub use Rattle.lagprogress.specs.HostFreed.{RoundIsDraining, sent_nothing}
 pub use Rattle.lagprogress.specs.HostRounds.{AfterTick, AskingIsPlayed, Asks, AsksAfterTick, AsksIn, AtSomeWorld, Clearing, EventsAreOfHosts}
 pub use Rattle.lagprogress.specs.HostRounds.{HostRounds, IsBetweenTicks, IsHostRound, IsPlayed, IsPlayedAmong, IsQuiet, IsTickOf, NoneIsLeft}
-pub use Rattle.lagprogress.specs.HostRounds.{PlayedAmong, PlayedRounds, RoundIsHostRound, RoundsAreHostRounds, RunReplies, StepReplies, TickOnce}
-pub use Rattle.lagprogress.specs.HostRounds.{TickOnceAmong}
+pub use Rattle.lagprogress.specs.HostRounds.{PlayedAmong, PlayedRounds, RoundIsHostRound, RoundsAreHostRounds, RunReplies, RunsHaveReplies}
+pub use Rattle.lagprogress.specs.HostRounds.{StepReplies, TickOnce, TickOnceAmong, as_played}
 pub use Rattle.lagprogress.specs.LateRounds.{ArriveIn, HostRoundIsLateRound, HostRoundsAreLateRounds, IsArrivalAt, IsLateRound, LateRounds, OldArrive}
 pub use Rattle.lagprogress.specs.Passing.{DeliverProcessesLacpdu, EmitSendsLacpdu, EndIsUp, IsHeardOn, IsSentOn}
 pub use Rattle.lagprogress.specs.Played.{Delivers, EachAgrees, EachDistributes, HasTooManyCables, IsOutOfMemoryOrSpent, IsReached, IsReady, LeadsTo}

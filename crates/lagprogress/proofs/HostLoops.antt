@@ -6,17 +6,17 @@ use Rattle.lagprogress.proofs.Common.{is_due, Assignment, Flushing, Wanted, afte
 use Rattle.lagprogress.proofs.Common.{count_conversations, next_identifier, SystemFault, SystemPort, Step, Transmit, SendsMarkerOf, TransmitsAt}
 use Rattle.lagprogress.proofs.Common.{TransmitsIf, SystemState, machines_of, port_index, all-get, found_place, ports_rise, Event, Reply}
 use Rattle.lagprogress.proofs.Common.{AfterTransmit, Algorithms, WorldEmits, WorldRuns, sent_reply, side_of, payload_in, HalfState, LinkState}
-use Rattle.lagprogress.proofs.Common.{WorldState, half, is_accepted, port_at, with_half, half_there, HostEvent, HostRuns, HostSteps, Plays, Sets}
-use Rattle.lagprogress.proofs.Common.{OfEach, Tick-each, placed, AtPort, at_number, LeavesPorts, AskingInVainIsDraining, AsksInVain}
-use Rattle.lagprogress.proofs.Common.{AsksInVainAfterTick, DrainingRounds, IsNoMoveOf, NothingIsDue, RoundIsDraining, sent_nothing, AfterTick}
-use Rattle.lagprogress.proofs.Common.{AskingIsPlayed, Asks, AsksAfterTick, AsksIn, AtSomeWorld, Clearing, EventsAreOfHosts, HostRounds}
-use Rattle.lagprogress.proofs.Common.{IsBetweenTicks, IsTickOf, RoundIsHostRound, RoundsAreHostRounds, RunReplies, StepReplies, TickOnce}
-use Rattle.lagprogress.proofs.Common.{TickOnceAmong, AtEnd, IsDeliver, IsHealthyAt, OfPort, Rounds, asks_all, ticks_of_both, IsSteady}
+use Rattle.lagprogress.proofs.Common.{WorldState, half, is_accepted, port_at, with_half, half_there, HostEvent, HostSteps, Plays, Sets, OfEach}
+use Rattle.lagprogress.proofs.Common.{Tick-each, placed, AtPort, at_number, LeavesPorts, AskingInVainIsDraining, AsksInVain, AsksInVainAfterTick}
+use Rattle.lagprogress.proofs.Common.{DrainingRounds, IsNoMoveOf, NothingIsDue, RoundIsDraining, sent_nothing, AfterTick, AskingIsPlayed, Asks}
+use Rattle.lagprogress.proofs.Common.{AsksAfterTick, AsksIn, AtSomeWorld, Clearing, EventsAreOfHosts, HostRounds, IsBetweenTicks, IsTickOf}
+use Rattle.lagprogress.proofs.Common.{RoundIsHostRound, RoundsAreHostRounds, RunReplies, RunsHaveReplies, StepReplies, TickOnce, TickOnceAmong}
+use Rattle.lagprogress.proofs.Common.{as_played, AtEnd, IsDeliver, IsHealthyAt, OfPort, Rounds, asks_all, ticks_of_both, IsSteady}
+use Rattle.distributor.specs.Conversations.{sum_below}
 use Rattle.lagprogress.proofs.HostRound.{side_among, of_side, turned}
 use Rattle.lagprogress.proofs.HostSteady.{sets_up}
 use Rattle.lagprogress.proofs.Quieting.{calm_timely, place_stays}
 use Rattle.lagprogress.proofs.Halves.{AreTimely, timely}
-use Rattle.distributor.specs.Conversations.{sum_below}
 use Rattle.std.specs.Prelude.{map}
 use Rattle.lagprogress.proofs.EachRound.{each_between, EachAt, own_keeps, own_ticks, hosts_steady}
 use Rattle.lagworld.specs.declared.reply.Reply.TheVariants as reply
@@ -312,9 +312,7 @@ stays_first gives s i l old steady y =
           (at_number (λ q. q.enabled ≡ true) 0 st.system_ports e.0 e.1 (ports_rise st (steady s).0.ports) e.3 e.4);
     }
 
--- a run of hosts has replies
-pub with_replies : (gives : Algorithms) (es : List HostEvent) (old new : WorldState) → HostRuns gives old es new
-    → (rs : List Reply) × RunReplies gives old es rs new
+pub with_replies : (gives : Algorithms) → RunsHaveReplies gives
 with_replies gives [] old new h = ([], h)
 with_replies gives (e ∷ es) old new h =
     let one = replied e h.1 in let more = with_replies gives es h.0 new h.2 in (one.0 ∷ more.0, (h.0, one.1, more.1))
@@ -328,24 +326,20 @@ events_are_of_hosts gives [] [] old new h = h
 events_are_of_hosts gives (e ∷ es) (r ∷ rs) old new h = (h.0, (r, h.1), events_are_of_hosts gives es rs h.0 new h.2)
 events_are_of_hosts gives es rs old new h = absurd h
 
--- and a run of events is one, with its replies
-unfoldable pub as_played : (gives : Algorithms) (es : List Event) (rs : List Reply) (old new : WorldState) → WorldRuns gives old es rs new
-    → RunReplies gives old (map Plays es) rs new
-as_played gives [] [] old new h = h
-as_played gives (e ∷ es) (r ∷ rs) old new h = (h.0, h.1, as_played gives es rs h.0 new h.2)
-as_played gives es rs old new h = absurd h
-
 pub asking_is_played : (May : HostEvent → Type 0) → ((e : HostEvent) → May e → MayCome e) → (E : Clearing) (gives : Algorithms)
     → AskingIsPlayed May E gives
-asking_is_played May wide E gives events old new timely turns acts asks clears = let x = with_replies gives events old new acts in record {
-  events = events;
-  replies = x.0;
-  ticks = turns;
-  acts = x.1;
-  asked = λ s i l y. after_on gives s (port_at s l) May wide events x.0 old new true true (side_among May s events turns) x.1 (asks s i l y)
-      (stays_first gives s i l old timely y);
-  empties = clears;
-}
+asking_is_played May wide E gives events replies old new timely turns acts asks clears = (
+  record {
+    events = events;
+    replies = replies;
+    ticks = turns;
+    acts = acts;
+    asked = λ s i l y. after_on gives s (port_at s l) May wide events replies old new true true (side_among May s events turns) acts (asks s i l y)
+        (stays_first gives s i l old timely y);
+    empties = clears;
+  },
+  refl,
+)
 
 -- a healthy round is a round of hosts
 
@@ -456,13 +450,14 @@ round_is_draining gives t g k old new steady h = record {
     drained s i l y = after s i l y h.replies run
 
 pub round_is_host_round : (gives : Algorithms) → RoundIsHostRound gives
-round_is_host_round gives old new steady h = (round_is_draining gives One 0 0 old new steady h).round
+unfolding round_is_draining
+round_is_host_round gives old new steady h = ((round_is_draining gives One 0 0 old new steady h).round, refl)
 
 pub rounds_are_host_rounds : (gives : Algorithms) → RoundsAreHostRounds gives
 rounds_are_host_rounds gives zero old new steady h = h
 rounds_are_host_rounds gives (suc n) old new steady h =
     let before = rounds_are_host_rounds gives n old h.0 steady h.1 in
-    (h.0, before, round_is_host_round gives h.0 new (hosts_steady gives n old h.0 steady before) h.2)
+    (h.0, before, (round_is_host_round gives h.0 new (hosts_steady gives n old h.0 steady before) h.2).0)
 
 pub rounds_are_draining : (gives : Algorithms) (t : Side) (g k n : ℕ) (old new : WorldState) → IsSteady old → Rounds gives n old new
     → DrainingRounds t g k gives n old new

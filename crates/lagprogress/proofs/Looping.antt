@@ -3,11 +3,11 @@ use Rattle.lagprogress.proofs.Common.{List, None, Option, Some, [], ap, arith, i
 use Rattle.lagprogress.proofs.Common.{sym, true, zero, ℕ, ◌++◌, ◌+◌, ◌<◌, ◌∙◌, ◌∷◌, ◌≡◌, ◌≤◌, false≢true, same_Some, slice_get_within, AllByRecursion}
 use Rattle.lagprogress.proofs.Common.{all-append, One, Side, Two, WorldSetup, end_at, Event, WorldFault, Reply, Algorithms, WorldRuns, WorldSteps}
 use Rattle.lagprogress.proofs.Common.{cause, cause_or_no_memory, has_system, world_setup, ends_of_cable, ports_joined, LinkState, WorldState, port_at}
-use Rattle.lagprogress.proofs.Common.{end_is, Plays, AsksInVain, DrainingRounds, IsDrainingRound, IsNoMoveOf, sent_nothing, IsBetweenTicks, Delivers}
-use Rattle.lagprogress.proofs.Common.{IsOutOfMemoryOrSpent, RefusesDelivery, RunsAll, AsksEnds, AsksOrDelivers, AsksPort, DeliversAndAsks}
+use Rattle.lagprogress.proofs.Common.{end_is, Plays, AsksInVain, DrainingRounds, IsDrainingRound, IsNoMoveOf, sent_nothing, IsBetweenTicks, as_played}
+use Rattle.lagprogress.proofs.Common.{Delivers, IsOutOfMemoryOrSpent, RefusesDelivery, RunsAll, AsksEnds, AsksOrDelivers, AsksPort, DeliversAndAsks}
 use Rattle.lagprogress.proofs.Common.{EmptiesCables, PlaysBetween, PlaysHostPart, PlaysHostRound, PlaysHostRounds, StopsBetween, IsDeliver}
 use Rattle.lagprogress.proofs.Common.{ticks_of_both, IsSteady}
-use Rattle.lagprogress.proofs.HostLoops.{as_played, asking_in_vain_is_draining, both_tick, draining_are_host, vain_after_ticks}
+use Rattle.lagprogress.proofs.HostLoops.{asking_in_vain_is_draining, both_tick, draining_are_host, vain_after_ticks}
 use Rattle.std.specs.Prelude.{map}
 use Rattle.lagprogress.proofs.EachRound.{hosts_steady}
 use Rattle.lagprogress.proofs.Linked.{each_side}

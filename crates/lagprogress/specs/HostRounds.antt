@@ -1,6 +1,6 @@
 -- A healthy round of a world as hosts play it: in any order, each system ticks once, is asked, is offered frames, and is called as hosts
 -- with a data plane do (profile).
-use Rattle.std.specs.Prelude.{◌≡◌, ◌⊎◌, ℕ, zero, suc, Bool, true, false, List, [], ◌∷◌, map, Some}
+use Rattle.std.specs.Prelude.{◌≡◌, ◌⊎◌, ℕ, zero, suc, Bool, true, false, List, [], ◌∷◌, ◌++◌, map, Some}
 use Rattle.lagmodel.specs.World.{Side, One, peer}
 use Rattle.portmachines.specs.Transmit.{is_due}
 use Rattle.lagscript.specs.declared.event.Event.{Event}
@@ -12,7 +12,7 @@ use Rattle.lagsystem.specs.Settings.{Set_max_delay}
 use Rattle.lagsystem.specs.Sound.{IsSound}
 use Rattle.lagbeside.specs.Timers.{PortsAreTimed}
 use Rattle.laghosts.specs.HostEvents.{HostEvent, HostRuns, HostSteps, Plays, Sets}
-use Rattle.lagprogress.specs.Rounds.{AtEnd, IsHealthyAt, IsRound, NothingInFlight, Rounds}
+use Rattle.lagprogress.specs.Rounds.{AtEnd, IsHealthyAt, IsRound, NothingInFlight, Rounds, asks_all, ticks_of_both}
 use Rattle.lagprogress.specs.Steady.{IsSteady}
 
 -- the event is one tick of system s
@@ -60,6 +60,13 @@ RunReplies gives old (e ∷ es) (r ∷ rs) new = (mid : WorldState) × StepRepli
 RunReplies gives old [] (r ∷ rs) new = ⊥
 RunReplies gives old (e ∷ es) [] new = ⊥
 
+-- A run of events is such a run, with the same replies and the same worlds.
+unfoldable pub as_played : (gives : Algorithms) (es : List Event) (rs : List Reply) (old new : WorldState) → WorldRuns gives old es rs new
+    → RunReplies gives old (map Plays es) rs new
+as_played gives [] [] old new run = run
+as_played gives (e ∷ es) (r ∷ rs) old new run = (run.0, run.1, as_played gives es rs run.0 new run.2)
+as_played gives es rs old new run = absurd run
+
 -- at some world of the run this holds
 abbrev pub AtSomeWorld : (P : WorldState → Type 0) (gives : Algorithms) (es : List HostEvent) (rs : List Reply) (old new : WorldState)
     → RunReplies gives old es rs new → Type 0
@@ -89,6 +96,20 @@ pub record IsPlayedAmong (May : HostEvent → Type 0) (Clears : Clearing) (gives
   pub asked : (s : Side) (i : ℕ) (l : LinkState) → IsHealthyAt i l old
       → AfterTick s (λ j. AtEnd (λ p. is_due p ≡ false) s l j) gives events replies old new acts
   pub empties : Clears events old new
+
+-- a run of hosts from old to new: its events, their replies, and its worlds
+abbrev pub Run : Algorithms → WorldState → WorldState → Type 0
+Run gives old new = (events : List HostEvent) × (replies : List Reply) × RunReplies gives old events replies new
+
+-- the run of a round
+abbrev pub run_of : (May : HostEvent → Type 0) (Clears : Clearing) (gives : Algorithms) (old new : WorldState)
+    → IsPlayedAmong May Clears gives old new → Run gives old new
+run_of May Clears gives old new q = (q.events, q.replies, q.acts)
+
+-- so this run is a round, with just its events, replies and worlds
+abbrev pub RunIsPlayed : (HostEvent → Type 0) → Clearing → (gives : Algorithms) (old new : WorldState) → Run gives old new → Type 0
+RunIsPlayed May Clears gives old new run =
+    (q : IsPlayedAmong May Clears gives old new) × (run_of May Clears gives old new q ≡ run)
 
 -- so many of them lead from one world to the other
 abbrev pub PlayedAmong : (HostEvent → Type 0) → Clearing → Algorithms → ℕ → WorldState → WorldState → Type 0
@@ -129,23 +150,31 @@ abbrev pub AsksAfterTick : Side → ℕ → List HostEvent → Type 0
 AsksAfterTick s p [] = ⊥
 AsksAfterTick s p (e ∷ es) = (IsTickOf s e × AsksIn s p es) ⊎ AsksAfterTick s p es
 
--- These events, which may come, are a round of this kind if each end of a healthy cable is asked after its system's tick, once at least, and
+-- Each run of hosts has replies.
+abbrev pub RunsHaveReplies : Algorithms → Type 0
+RunsHaveReplies gives = (events : List HostEvent) (old new : WorldState) → HostRuns gives old events new
+    → (replies : List Reply) × RunReplies gives old events replies new
+
+-- A run of events, which may come, is a round of this kind if each end of a healthy cable is asked after its system's tick, once at least, and
 -- the cables are cleared so far: whatever else they are, and in what order. Both systems are sound, their timers within their bounds.
 abbrev pub AskingIsPlayed : (HostEvent → Type 0) → Clearing → Algorithms → Type 0
-AskingIsPlayed May Clears gives = (events : List HostEvent) (old new : WorldState)
+AskingIsPlayed May Clears gives = (events : List HostEvent) (replies : List Reply) (old new : WorldState)
     → ((s : Side) → IsSound (half s old).state × PortsAreTimed (half s old).state) → TickOnceAmong May One true true events
-    → HostRuns gives old events new
+    → (acts : RunReplies gives old events replies new)
     → ((s : Side) (i : ℕ) (l : LinkState) → IsHealthyAt i l old → AsksAfterTick s (port_at s l) events) → Clears events old new
-    → IsPlayedAmong May Clears gives old new
+    → RunIsPlayed May Clears gives old new (events, replies, acts)
 
 -- A list of events that acts is a run of hosts, so what is said of runs of hosts holds of events.
 abbrev pub EventsAreOfHosts : Algorithms → Type 0
 EventsAreOfHosts gives = (events : List Event) (replies : List Reply) (old new : WorldState) → WorldRuns gives old events replies new
     → HostRuns gives old (map Plays events) new
 
--- Each healthy round is a healthy round of hosts, in which both systems tick first, and each end is asked twice before anything is delivered
+-- Each healthy round is a healthy round of hosts, with its own events, replies and worlds. Both systems tick first in it, and each end is
+-- asked twice before anything is delivered.
 abbrev pub RoundIsHostRound : Algorithms → Type 0
-RoundIsHostRound gives = (old new : WorldState) → IsSteady old → IsRound gives old new → IsHostRound gives old new
+RoundIsHostRound gives = (old new : WorldState) → IsSteady old → (q : IsRound gives old new)
+    → let events = ticks_of_both ++ (asks_all old.links ++ q.delivers) in
+    RunIsPlayed IsBetweenTicks NoneIsLeft gives old new (map Plays events, q.replies, as_played gives events q.replies old new q.acts)
 
 -- and so many of them are as many
 abbrev pub RoundsAreHostRounds : Algorithms → Type 0

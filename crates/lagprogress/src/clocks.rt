@@ -10,9 +10,11 @@ ghost use Rattle.lagprogress.specs.LateRounds.{HostRoundIsLateRound, HostRoundsA
 // contract: `clocks_play_rounds` (`asking`, `host`, `hosts`)
 // premises: both systems are sound, with timers within bounds; the events acted, the calls kept their contracts; for `host` and `hosts` no port
 //    has two cables
-// promise: so are they beside a link, if settings come among them, of which none holds, lets go or sets a port at its ends, whatever ports are held
+// promise: events, calls and settings are a late round beside a link (`RoundsBeside`) if each system ticks once, every other one may come in a
+//    healthy round of hosts or is a setting that neither holds, lets go nor sets a port at an end of the link, each end of a healthy cable is
+//    asked after its system's tick, and what was on each healthy cable before has arrived; ports may be held
 // contract: `clocks_play_rounds` (`beside`: `RoundsBeside`)
-// premises: the same
+// premises: both systems are sound, with timers within bounds; the events acted, the calls and settings kept their contracts
 /// Which events are a late round: each system ticks once, and every other event or call is as `hosts_play_rounds` has it, in any order; each
 /// end of a healthy cable is asked at least once after the tick of its system; and what was on each healthy cable before has arrived,
 /// while frames may be on it in the end. Settings may come among them, too, for rounds beside the ends of a cable, as

@@ -1,28 +1,30 @@
 //! Healthy rounds as hosts play them.
 
 ghost use Rattle.lagworld.specs.Sound.{both_algorithms};
-ghost use Rattle.lagprogress.specs.HostRounds.{AskingIsPlayed, EventsAreOfHosts, IsBetweenTicks, NoneIsLeft, RoundIsHostRound, RoundsAreHostRounds};
+ghost use Rattle.lagprogress.specs.HostRounds.{AskingIsPlayed, EventsAreOfHosts, IsBetweenTicks, NoneIsLeft};
+ghost use Rattle.lagprogress.specs.HostRounds.{RoundIsHostRound, RoundsAreHostRounds, RunsHaveReplies};
 
-// promise: events and calls are such a round in which each system ticks once, every other one is Emit, Deliver, Offer, Move or Force, or
-//    `offer_conversation`, `leave_conversation`, `probe`, `rest`, `force_port` or `set_max_delay`, each end of a healthy cable is asked after
-//    its system's tick, and nothing is on any cable in the end
-// contract: `hosts_play_rounds` (`asking`: `IsBetweenTicks`)
+// promise: events and calls, with their replies and the worlds between them, are a healthy round of hosts in which each system ticks once, every
+//    other one is Emit, Deliver, Offer, Move or Force, or `offer_conversation`, `leave_conversation`, `probe`, `rest`, `force_port` or
+//    `set_max_delay`, each end of a healthy cable is asked after its system's tick, and nothing is on any cable in the end
+// contract: `hosts_play_rounds` (`asking`: `IsBetweenTicks`; `replies`)
 // premises: both systems are sound, with timers within bounds; the events acted, the calls kept their contracts
 // promise: a list of events is one of such events and calls, so each of these laws holds of events alone
 // contract: `hosts_play_rounds` (`events`)
 // premises: the events acted
-// promise: each healthy round is a healthy round of hosts
+// promise: each healthy round is a healthy round of hosts, with the same events, replies and worlds
 // contract: `hosts_play_rounds` (`round`, `rounds`)
 // premises: steady
 /// Which events are a healthy round of hosts: each system ticks once, and every other event is Emit, Deliver, Offer, Move or Force, or a
 /// call `offer_conversation`, `leave_conversation`, `probe`, `rest`, `force_port` or `set_max_delay`, in any order; each end of a healthy
-/// cable is asked at least once after the tick of its system; and nothing is on any cable in the end. So are the rounds that
-/// `play_round` plays, and those of a host that asks each port after each of its calls until nothing is due. The timers of both systems
-/// are within their bounds, and no port is held. A list of events alone is such a list, so what follows from rounds of hosts follows, after
-/// as many, from rounds of events (6.4.16; profile).
+/// cable is asked at least once after the tick of its system; and nothing is on any cable in the end. The round has just these events, their
+/// replies and the worlds between them. The systems are sound, and their timers within their bounds; ports may be held. If no port is held,
+/// each healthy round, as `play_round` plays it, is one, with the same events, replies and worlds. Events and calls that act have replies. A
+/// list of events alone is such a list, so what follows from rounds of hosts follows, after as many, from rounds of events (6.4.16; profile).
 pub fn hosts_play_rounds<F: Fn(u16, usize) -> usize>()
     ensures asking { (one two : F) → AskingIsPlayed IsBetweenTicks NoneIsLeft (both_algorithms (F.post one) (F.post two)) }
     ensures events { (one two : F) → EventsAreOfHosts (both_algorithms (F.post one) (F.post two)) }
+    ensures replies { (one two : F) → RunsHaveReplies (both_algorithms (F.post one) (F.post two)) }
     ensures round { (one two : F) → RoundIsHostRound (both_algorithms (F.post one) (F.post two)) }
     ensures rounds { (one two : F) → RoundsAreHostRounds (both_algorithms (F.post one) (F.post two)) }
 {}

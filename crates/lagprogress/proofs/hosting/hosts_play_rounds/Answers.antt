@@ -1,5 +1,6 @@
-use Rattle.lagprogress.proofs.HostLoops.{asking_is_played, come_between, events_are_of_hosts, round_is_host_round, rounds_are_host_rounds}
 use Rattle.lagprogress.proofs.Common.{IsBetweenTicks, NoneIsLeft}
+use Rattle.lagprogress.proofs.HostLoops.{asking_is_played, come_between, events_are_of_hosts, round_is_host_round, rounds_are_host_rounds}
+use Rattle.lagprogress.proofs.HostLoops.{with_replies}
 use Rattle.lagprogress.proofs.hosting.hosts_play_rounds.Goals as goal
 
 pub returns-clause-asking : goal.returns-clause-asking
@@ -10,6 +11,9 @@ returns-clause-round g c = λ one two. round_is_host_round _
 
 pub returns-clause-rounds : goal.returns-clause-rounds
 returns-clause-rounds g c = λ one two. rounds_are_host_rounds _
+
+pub returns-clause-replies : goal.returns-clause-replies
+returns-clause-replies g c = λ one two. with_replies _
 
 pub returns-clause-events : goal.returns-clause-events
 returns-clause-events g c = λ one two. events_are_of_hosts _
