@@ -339,16 +339,17 @@ link 02-00-00-00-00-01 port 2: not seen: nobody answers, and its end may use it 
 links 1 carrying 0
 link 02-00-00-00-00-01 port 1 - 02-00-00-00-00-01 port 2: does not carry: both ends have one system address, a loop or a copied identifier
 ";
-    for (state, second, lines) in [
-        (0xc7, 3, alone),
-        (0xc7, 4, looped),
-        (0x47, 12, alone),
-        (0x87, 12, alone),
+    for (state, since, second, lines) in [
+        (0xc7, 0, 3, alone),
+        (0xc7, 0, 4, looped),
+        (0x47, 9, 12, alone),
+        (0x47, 9, 13, looped),
+        (0x87, 9, 12, alone),
     ] {
         let all = [
             Sent(0, port(1, state), NOBODY),
             Sent(0, port(2, 0x47), NOBODY),
-            Sent(second.saturating_sub(3), port(1, 0xc7), NOBODY),
+            Sent(since, port(1, 0xc7), NOBODY),
             Sent(second, port(1, 0xc7), NOBODY),
             Sent(second, port(2, 0x47), NOBODY),
         ];
