@@ -59,6 +59,10 @@ longer None other = other
 abbrev pub hears_partner : Lacpdu → Bool
 hears_partner v = not (bits_of v.actor.state).defaulted && not (bits_of v.actor.state).expired
 
+-- its sender is Defaulted and Expired at once (6.4.2.3)
+abbrev pub is_expired_on_defaults : Lacpdu → Bool
+is_expired_on_defaults v = (bits_of v.actor.state).defaulted && (bits_of v.actor.state).expired
+
 -- the partner that its sender has, or had when it last heard one
 abbrev pub partner_after : Lacpdu → Option Info → Option Info
 partner_after v before = if hears_partner v then Some v.partner else before
@@ -77,6 +81,7 @@ first_seen s time v = record {
   collecting = first_phase (bits_of v.actor.state).collecting time;
   distributing = first_phase (bits_of v.actor.state).distributing time;
   hearing = first_phase (hears_partner v) time;
+  expired_on_defaults = first_phase (is_expired_on_defaults v) time;
   partner = partner_after v None;
   last = v;
 }
@@ -95,6 +100,7 @@ seen_again time v e = record {
   collecting = next_phase (bits_of e.last.actor.state).collecting (bits_of v.actor.state).collecting time e.collecting;
   distributing = next_phase (bits_of e.last.actor.state).distributing (bits_of v.actor.state).distributing time e.distributing;
   hearing = next_phase (hears_partner e.last) (hears_partner v) time e.hearing;
+  expired_on_defaults = next_phase (is_expired_on_defaults e.last) (is_expired_on_defaults v) time e.expired_on_defaults;
   partner = partner_after v e.partner;
   last = v;
 }

@@ -20,12 +20,20 @@ use Rattle.lagtool_capture.specs.declared.links.LinkCounts.{LinkCounts}
 use Rattle.lagtool_capture.specs.declared.links.LinkState.{LinkState}
 use Rattle.lagtool_capture.specs.declared.links.LinkState.TheVariants as is
 use Rattle.lagtool_capture.specs.Counting.{one_more}
-use Rattle.lagtool_capture.specs.Ends.{hears_partner, longer}
+use Rattle.lagtool_capture.specs.Ends.{hears_partner, is_expired_on_defaults, longer}
 
 -- ---- What is known of an end at last ----
 
 abbrev pub last_sent : LacpduSender → LastSent
-last_sent e = record { sender = e.sender; first = e.first; time = e.latest; partner = e.partner; lost = e.hearing.ended; lacpdu = e.last }
+last_sent e = record {
+  sender = e.sender;
+  first = e.first;
+  time = e.latest;
+  partner = e.partner;
+  lost = e.hearing.ended;
+  expired = e.expired_on_defaults.began;
+  lacpdu = e.last;
+}
 
 -- it hears its partner: neither Defaulted nor Expired (6.4.2.3)
 abbrev pub hears : LastSent → Bool
@@ -82,13 +90,12 @@ until_of = until_from None
 abbrev pub same_address : LastSent → LastSent → Bool
 same_address e x = bytes_eq e.lacpdu.actor.system.mac x.lacpdu.actor.system.mac
 
--- it is Defaulted and Expired at once, and has sent for more than the 3 seconds after which an end without LACPDUs is Expired no
--- more (6.4.12): LACPDUs come, and it records none
+-- it has said for more than 3 seconds that it is Defaulted and Expired at once; without LACPDUs it is Expired no more after 3
+-- (6.4.12): LACPDUs come, and it records none
 abbrev pub records_none : LastSent → Bool
-records_none s =
-    (bits_of s.lacpdu.actor.state).defaulted && ((bits_of s.lacpdu.actor.state).expired && is_past (nanoseconds 3) s.first s.time)
+records_none s = is_expired_on_defaults s.lacpdu && is_past (nanoseconds 3) s.expired s.time
 
--- two ends that hear nobody were partners, or have one system, the LACPDUs of which one of them records not
+-- two ends hear nobody; and one had the other as its partner, or their systems have one MAC address, and one of them records none
 abbrev pub lost_each_other : LastSent → LastSent → Bool
 lost_each_other e x =
     (not (hears e) && not (hears x))
@@ -132,8 +139,8 @@ far_end es e = far_from e None es
 abbrev pub is_before : List LacpduSender → LinkEnd → LinkEnd → Bool
 is_before es s t = and_if (λ x. same_end x.sender s) (find (λ x. same_end x.sender s || same_end x.sender t) es)
 
--- the link of an end (e) and its other end (x), which has y as its other end, is told elsewhere: if y is e, at the first of both in
--- the capture; if y is another one, which began when e sent no more, there
+-- the link of an end (e) and its other end (x), which has y as its other end, is not told at e: if y is e, it is told at x if that is
+-- the first of both in the capture; if y is another one, it is not told if y began when e sent no more
 abbrev pub is_told_at : List LacpduSender → LastSent → LastSent → Option LastSent → Bool
 is_told_at all e x None = false
 is_told_at all e x (Some y) = if same_end y.sender e.sender then is_before all x.sender e.sender else is_past 0 e.time y.first
@@ -279,7 +286,7 @@ state_of all until near (Some far) = of_both all until near far
 abbrev pub link_from : List LacpduSender → Option ℕ → LastSent → Option LastSent → Link
 link_from all until near far = record { near = near; far = far; state = state_of all until near far }
 
--- the link of an end, unless it is told at another one
+-- the link of an end, unless it is told at its other end, or not told
 unfoldable pub link_of : List LacpduSender → Option ℕ → LacpduSender → Option Link
 link_of all until e = if is_told all (last_sent e) then None else Some (link_from all until (last_sent e) (far_end all (last_sent e)))
 

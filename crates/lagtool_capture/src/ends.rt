@@ -1,5 +1,5 @@
 ghost use Rattle.std.specs.Prelude.{◌≡◌, ◌<◌, ◌^◌, List, length, IfSome};
-ghost use Rattle.lagtool_capture.specs.Ends.{Sent, end_of, end_index, first_phase, first_seen, gap_between, gaps_between, partner_after, hears_partner, is_named_by, last_of, longer, named_by, next_phase, seen_again, shorter};
+ghost use Rattle.lagtool_capture.specs.Ends.{Sent, end_of, end_index, first_phase, first_seen, gap_between, gaps_between, partner_after, hears_partner, is_expired_on_defaults, is_named_by, last_of, longer, named_by, next_phase, seen_again, shorter};
 ghost use Rattle.lagtool_capture.specs.Gaps.{IsMedianOf, median};
 
 use crate::gaps::Gaps;
@@ -94,6 +94,8 @@ pub struct LacpduSender {
     pub distributing: Phase,
     /// When it heard its partner: it was neither Defaulted nor Expired.
     pub hearing: Phase,
+    /// When it was Defaulted and Expired at once.
+    pub expired_on_defaults: Phase,
     /// The partner that it has, or had when it last heard one.
     pub partner: Option<Info>,
     /// The last of them.
@@ -106,6 +108,14 @@ pub(crate) fn hears_partner(lacpdu: &Lacpdu) -> bool
 {
     let state = lacpdu.actor.state;
     !state.is_defaulted() && !state.is_expired()
+}
+
+/// Whether the sender of this LACPDU is Defaulted and Expired at once (6.4.2.3).
+pub(crate) fn is_expired_on_defaults(lacpdu: &Lacpdu) -> bool
+    ensures { result ≡ is_expired_on_defaults lacpdu.now }
+{
+    let state = lacpdu.actor.state;
+    state.is_defaulted() && state.is_expired()
 }
 
 /// The partner that the sender of this LACPDU has, or had when it last heard one.
@@ -182,6 +192,7 @@ impl LacpduSender {
             collecting: Phase::first(state.is_collecting(), time),
             distributing: Phase::first(state.is_distributing(), time),
             hearing: Phase::first(hears_partner(&lacpdu), time),
+            expired_on_defaults: Phase::first(is_expired_on_defaults(&lacpdu), time),
             partner: partner_after(&lacpdu, None),
             last: lacpdu,
         }
@@ -220,6 +231,10 @@ impl LacpduSender {
             .then(was.is_distributing(), is.is_distributing(), time);
         let heard = hears_partner(&self.last);
         self.hearing = self.hearing.then(heard, hears_partner(&lacpdu), time);
+        let expired = is_expired_on_defaults(&self.last);
+        self.expired_on_defaults = self
+            .expired_on_defaults
+            .then(expired, is_expired_on_defaults(&lacpdu), time);
         self.partner = partner_after(&lacpdu, self.partner);
         self.last = lacpdu;
     }

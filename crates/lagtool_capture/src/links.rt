@@ -2,7 +2,7 @@ ghost use Rattle.std.specs.Prelude.{◌≡◌, option_map};
 ghost use Rattle.lagtool_capture.specs.declared.links.Apart.TheVariants.{Individual};
 ghost use Rattle.lagtool_capture.specs.Links.{agreed, apart_at, apart_by, apart_of, awaited, carries, carrying, deaf, evidence, evidence_there, far_after, far_end, far_sender, had_as_partner, has_as_partner, has_other_link, hears, idle, individual, is_apart, is_before, is_likelier, is_other_link, is_own_system, is_passive, is_past, is_periodic, is_silent, is_told, is_told_at, is_told_beside, is_true, is_up, key_apart, keys_apart, last_sent, link_counts, link_of, lost_before, lost_each_other, of_both, of_one, partnered, records_none, same_actor, same_address, share_interface, single_or_waiting, speaking, state_of, until_of, waiting, with_link};
 
-use crate::ends::{LacpduSender, hears_partner, longer};
+use crate::ends::{LacpduSender, hears_partner, is_expired_on_defaults, longer};
 use findings::LinkEnd;
 use lagtypes::Key;
 use slowpdu::{Info, Lacpdu};
@@ -28,6 +28,8 @@ pub struct LastSent {
     pub partner: Option<Info>,
     /// The time of the LACPDU in which it last lost its partner, in nanoseconds.
     pub lost: Option<u64>,
+    /// The time of the LACPDU in which it last became Defaulted and Expired at once, in nanoseconds.
+    pub expired: Option<u64>,
     /// The last LACPDU.
     pub lacpdu: Lacpdu,
 }
@@ -71,7 +73,7 @@ pub enum LinkState {
     Silent(LastSent),
     /// This end is Defaulted or Expired (6.4.12).
     HearsNobody(LinkEnd),
-    /// Both ends are Defaulted or Expired since one time.
+    /// Both ends are Defaulted or Expired, and neither is known to have lost the other earlier.
     BothDeaf,
     /// This end has another partner than the other end (6.4.2.3).
     OtherPartner(LinkEnd),
@@ -90,7 +92,7 @@ pub enum LinkState {
 /// A link of a capture.
 #[derive(Clone, Copy, Debug, PartialEq, Eq)]
 pub struct Link {
-    /// Its end that comes first in the capture.
+    /// The end at which it is told: the first of both in the capture, unless its other end has another one.
     pub near: LastSent,
     /// Its other end, if that is in the capture.
     pub far: Option<LastSent>,
@@ -190,6 +192,7 @@ impl LastSent {
             time: end.latest,
             partner: end.partner,
             lost: end.hearing.ended,
+            expired: end.expired_on_defaults.began,
             lacpdu: end.last,
         }
     }
@@ -271,12 +274,11 @@ impl LastSent {
     fn records_none(&self) -> bool
         ensures { result ≡ records_none self.now }
     {
-        let state = self.lacpdu.actor.state;
-        state.is_defaulted()
-            && (state.is_expired() && is_past(SHORT_TIMEOUT, self.first, self.time))
+        is_expired_on_defaults(&self.lacpdu) && is_past(SHORT_TIMEOUT, self.expired, self.time)
     }
 
-    /// Whether both hear nobody, and were partners, or have one system.
+    /// Whether both hear nobody; and one had the other as its partner, or their systems have one MAC address, and one of them
+    /// records no LACPDUs.
     fn lost_each_other(&self, other: &LastSent) -> bool
         ensures { result ≡ lost_each_other self.now other.now }
     {
@@ -374,7 +376,8 @@ fn is_before(ends: &[LacpduSender], end: &LinkEnd, other: &LinkEnd) -> bool
     false
 }
 
-/// Whether the link of an end and its other end, which has this one (`near`) as its own other end, is told elsewhere.
+/// Whether the link of an end and its other end, which has this one (`near`) as its own other end, is not told at this end: it is
+/// told at the other end, or this end sent no more when `near` began.
 fn is_told_at(all: &[LacpduSender], end: &LastSent, far: &LastSent, near: Option<LastSent>) -> bool
     ensures { result ≡ is_told_at all.now end.now far.now near }
 {
@@ -385,7 +388,7 @@ fn is_told_at(all: &[LacpduSender], end: &LastSent, far: &LastSent, near: Option
     }
 }
 
-/// Whether the link of an end is told at another one.
+/// Whether the link of an end is not told at this end.
 fn is_told(all: &[LacpduSender], end: &LastSent) -> bool
     ensures { result ≡ is_told all.now end.now }
 {
@@ -693,7 +696,7 @@ impl LinkState {
 
 // promise: a link is said to carry only if the last LACPDUs of both ends say that they collect and distribute, hear their partner, and have each other as partner
 // contract: `link_of` (`link_of`, `of_both`)
-/// The link of an end among all ends of a capture whose last LACPDU has this time; None if it is told at another one.
+/// The link of an end among all ends of a capture whose last LACPDU has this time; None if it is told at its other end, or not told.
 #[tactic(auto, unfolding(crate::specs::Links::link_of))]
 pub(crate) fn link_of(all: &[LacpduSender], until: Option<u64>, end: &LacpduSender) -> Option<Link>
     ensures { result ≡ link_of all.now until end.now }

@@ -325,6 +325,39 @@ fn ends_of_one_system_make_a_link(rt: HostRuntime) -> Result<(), Fail> {
     Ok(())
 }
 
+// 6.4.12: without LACPDUs an end is Expired for 3 seconds, and on defaults then; two ports of one machine that nobody answers, as
+// one interface.
+#[test]
+fn an_end_that_starts_anew_on_defaults_is_no_loop(rt: HostRuntime) -> Result<(), Fail> {
+    let port = |number, state| End(1, 15, number, state);
+    let alone = "\
+links 2 carrying 0
+link 02-00-00-00-00-01 port 1: not seen: nobody answers, and its end may use it alone
+link 02-00-00-00-00-01 port 2: not seen: nobody answers, and its end may use it alone
+";
+    let looped = "\
+links 1 carrying 0
+link 02-00-00-00-00-01 port 1 - 02-00-00-00-00-01 port 2: does not carry: both ends have one system address, a loop or a copied identifier
+";
+    for (state, since, second, lines) in [
+        (0xc7, 0, 3, alone),
+        (0xc7, 0, 4, looped),
+        (0x47, 9, 12, alone),
+        (0x47, 9, 13, looped),
+        (0x87, 9, 12, alone),
+    ] {
+        let all = [
+            Sent(0, port(1, state), NOBODY),
+            Sent(0, port(2, 0x47), NOBODY),
+            Sent(since, port(1, 0xc7), NOBODY),
+            Sent(second, port(1, 0xc7), NOBODY),
+            Sent(second, port(2, 0x47), NOBODY),
+        ];
+        begins(&rt, rt.alloc(), &all, lines)?;
+    }
+    Ok(())
+}
+
 /// Two ends that carry, of which the second loses its partner at second 3, and the first at this one.
 fn lost(second: u32) -> [Sent; 6] {
     let (one, two) = (End(1, 1, 1, UP), End(2, 1, 1, UP));
@@ -398,6 +431,35 @@ link 02-00-00-00-00-03 port 1 - 02-00-00-00-00-01 port 1: does not carry: 02-00-
 link 02-00-00-00-00-01 port 1 - 02-00-00-00-00-02 port 1: carries, both ways
 ";
     begins(&rt, rt.alloc(), &all, lines)
+}
+
+// As of a hub, where the two ends that name the first one change places: it has a fourth as its partner.
+#[test]
+fn of_two_ends_the_one_that_spoke_last_is_the_other_end(rt: HostRuntime) -> Result<(), Fail> {
+    let (one, hidden) = (End(1, 1, 1, UP), End(4, 1, 1, UP));
+    let (two, three) = (End(2, 1, 1, UP), End(3, 1, 1, UP));
+    let all = |before, last| {
+        [
+            Sent(0, one, hidden),
+            Sent(1, two, one),
+            Sent(1, three, one),
+            Sent(2, before, one),
+            Sent(3, last, one),
+            Sent(3, one, hidden),
+        ]
+    };
+    let lines = "\
+links 2 carrying 0
+link 02-00-00-00-00-01 port 1 - 02-00-00-00-00-03 port 1: does not carry: 02-00-00-00-00-01 has another partner
+link 02-00-00-00-00-02 port 1 - 02-00-00-00-00-01 port 1: does not carry: 02-00-00-00-00-01 has another partner
+";
+    begins(&rt, rt.alloc(), &all(two, three), lines)?;
+    let lines = "\
+links 2 carrying 0
+link 02-00-00-00-00-01 port 1 - 02-00-00-00-00-02 port 1: does not carry: 02-00-00-00-00-01 has another partner
+link 02-00-00-00-00-03 port 1 - 02-00-00-00-00-01 port 1: does not carry: 02-00-00-00-00-01 has another partner
+";
+    begins(&rt, rt.alloc(), &all(three, two), lines)
 }
 
 // As of Open vSwitch: one bond leads to two switches, each with one port that is individual (6.3.5).
