@@ -1,16 +1,19 @@
 /* What a rule says of a text: its title where a status is one moment, what is seen, and what to do, in the words of the program whose text it is. */
 
-import { TWO_BOXES } from "./keys.js";
+import { capitalized, TWO_BOXES } from "./keys.js";
 
-/* For each form of a text how its program counts LACPDUs, and what gives its ports one key. */
-const BONDING = { counts: "it counts no LACPDUs, so capture at both ends (tcpdump -i PORT 'ether proto 0x8809')", key: "one speed, and full duplex" };
+/* For each form of a text how its program counts LACPDUs, what gives its ports one key, and how it uses one link, with a spare, without LACP. */
+const BONDING = {
+    counts: "it counts no LACPDUs, so capture at both ends (tcpdump -i PORT 'ether proto 0x8809')",
+    key: "one speed, and full duplex", backup: "mode=active-backup",
+};
 const PROGRAMS = new Map([
     ["bonding", BONDING],
     ["ip", BONDING],
-    ["teamd", { ...BONDING, key: "one lacp_key, one speed, and full duplex" }],
+    ["teamd", { ...BONDING, key: "one lacp_key, one speed, and full duplex", backup: "the runner activebackup" }],
     ["openvswitch", {
         counts: "compare the counts of ovs-appctl lacp/show-stats with those of the other end, or capture; ovs-appctl lacp/show does not say whether the link is up, ip link does",
-        key: "one bond (other_config:lacp-aggregation-key)",
+        key: "one bond (other_config:lacp-aggregation-key)", backup: "bond_mode=active-backup and lacp=off",
     }],
     ["lagd", { counts: "compare its counts with those of the other end, or capture", key: "one key" }],
 ]);
@@ -47,19 +50,44 @@ function aloneSaid(ports, form) {
 /* A start lasts less than 10 s; who churns has been so for 60 s (6.4.17). */
 const asLong = ({ isLasting }) => isLasting ? "It has been so for 60 s or more, so it is no start: " : "Look again in 10 s: after a start it ends by itself. If it is still so: ";
 
+/* The partner of a port, with its port there. */
+const partnerSaid = ({ partner: { system, port } }) => `${system ? dashed(system) : "a system that is not named"}${port ? ` port ${port}` : ""}`;
+
+/* What to do where nobody is heard: by the other end, by this end now, or by it ever. A partner that is known sent an LACPDU, which this end has read. */
+function adviceOnUnheard(it) {
+    const heard = heardIn(it.meant), named = it.meant.filter(({ far }) => far), path = "Look at its receiver, at a filter, and at the path";
+    const deaf = named.map(({ name, far }) => `${name} does not hear ${far}`).join("; ");
+    const before = heard.map((port) => `${port.name} heard ${partnerSaid(port)} before`).join("; ");
+    if (it.isImplied) return `${asLong(it)}the other end sends LACPDUs, so LACP is on there, and it does not hear those of this end. ${path} from here to there.`;
+    if (deaf) return `${asLong(it)}both texts have LACP, and ${deaf}. ${path} to it.`;
+    if (before) return `${before}: look what changed at that port, or on the path from there. `
+        + "It is so for 3 s: if it comes again and again, LACPDUs are lost, or come too seldom.";
+    return `${asLong(it)}look whether the port at the other end is in a bundle with LACP `
+        + "(switch: channel-group, mode active, not on; Linux bonding: mode=802.3ad). "
+        + `If it is, no status says who is deaf: ${PROGRAMS.get(it.form).counts}.`;
+}
+
 /* Ports whose partners name one port of one system. */
 export const portsNamedAlike = (ports) => heardIn(ports).filter((it) => it.partner.port !== null && heardIn(ports).some((other) => other !== it && other.partner.system === it.partner.system && other.partner.port === it.partner.port));
 
 /* Whether these differ in keys, so that no group of one box could hold them. */
 export const areTwinsApart = (ports) => isSeveral(portsNamedAlike(ports), (it) => it.partner.key) && !keysFollowSpeed(ports);
 
+/* Numbers of ports that lie so far apart are seldom those of one switch. */
+const FAR = 16384;
+const areFarApart = ({ partner: one }, { partner: other }) => one.system === other.system && other.port - one.port >= FAR;
+const areOfTwoSwitches = (ports) => heardIn(ports).some((one) => heardIn(ports).some((other) => areFarApart(one, other)));
+
 function adviceOnKeys({ ports, form }) {
     if (areTwinsApart(ports)) {
         return `${namesIn(portsNamedAlike(ports))} name one port of one system, so ${TWO_BOXES}`;
     }
-    const sides = sidesWithKeys(ports), there = "one group there (switch: one channel-group; bonding: one bond, one speed, duplex and ad_user_port_key; Open vSwitch: one bond; teamd: one lacp_key)";
+    const sides = sidesWithKeys(ports), there = "one group there (switch: one channel-group, at both switches of an MLAG pair one MLAG number; "
+        + "bonding: one bond, one speed, duplex and ad_user_port_key; Open vSwitch: one bond; teamd: one lacp_key)";
     const ways = sides.map((side) => side === "actor" ? `give these ports of this end ${PROGRAMS.get(form).key}` : `put the other ends of these ports into ${there}`).join(", and ");
-    return ways ? `${ways[0].toUpperCase()}${ways.slice(1)}; or these are two bundles, and cables are crossed.` : null;
+    const pair = "The numbers of the ports there lie far apart, as of two switches that are an MLAG pair: then give both the same MLAG number. Else: ";
+    const two = areOfTwoSwitches(ports) ? pair : "";
+    return ways ? `${two}${two ? ways : capitalized(ways)}; or these are two bundles, and cables are crossed.` : null;
 }
 
 /* Whether the partners of ports have one address, and several priorities. */
@@ -69,13 +97,18 @@ const isOfOneAddress = (ports) => !isSeveral(heardIn(ports), (it) => it.partner.
 const systemSaid = (ports) => ({ partner: { system, priority } }) =>
     system ? `${isOfOneAddress(ports) ? `priority ${priority} of ` : ""}${dashed(system)}` : "a system that is not named";
 
+/* What the module advises where links lead to two systems, and what goes where those cannot be one. */
+const withoutMlag = (advice, backup) =>
+    backup ? `${advice} Or, without MLAG: ${backup}, which needs no LACP, has one link in use and the other as a spare.` : advice;
+
 /* What rules say of texts; what stands not here is said as of a capture. `ports` are those of the text, `isLasting` is whether one of those that
- * are meant churns, `isImplied` whether all are the other ends; for these `implied` has the title. `case` has another title where one is due. */
+ * are meant churns, `isImplied` whether all are the other ends; for these `implied` has the title. `meant` are the ports that are meant, and `advice` is
+ * the module's. `case` has another title where one is due. */
 export const RULES = new Map([
     [5, { title: "both ends are passive" }],
     [12, {
-        title: "a port hears nobody", said: ({ ports, form }) => aloneSaid(ports, form),
-        advice: (it) => `${asLong(it)}look whether the port at the other end is in a bundle with LACP (switch: channel-group, mode active, not on; Linux bonding: mode=802.3ad). If it is, no status says who is deaf: ${PROGRAMS.get(it.form).counts}.`,
+        title: "a port hears nobody", advice: adviceOnUnheard,
+        said: ({ ports, form, meant, isImplied }) => isImplied || heardIn(meant).length ? [] : aloneSaid(ports, form),
     }],
     [14, {
         title: "one end is individual",
@@ -97,8 +130,9 @@ export const RULES = new Map([
     [29, {
         title: "links lead to two systems", said: ({ ports }) => [eachOf(ports, systemSaid(ports))],
         case: ({ ports }) => isOfOneAddress(ports) ? "links lead to one address with several system priorities" : null,
-        advice: ({ ports }) => isOfOneAddress(ports)
-            ? "These are priorities of one address: give the far end one LACP system priority; of an MLAG pair both switches the same." : null,
+        advice: ({ ports, form, advice }) => isOfOneAddress(ports)
+            ? "These are priorities of one address: give the far end one LACP system priority; of an MLAG pair both switches the same."
+            : withoutMlag(advice, PROGRAMS.get(form).backup),
     }],
     [30, { title: "the partner is this system itself" }],
 ]);

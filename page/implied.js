@@ -23,9 +23,9 @@ function filledIn(port, number) {
 
 const isSame = (one, other) => one.system === other.system && one.port === other.port && (one.priority === other.priority || !one.priority || !other.priority);
 
-/* Both ends of each link, as far as texts have them. */
+/* Both ends of each link, as far as texts have them; `said` is the port as its text has it. */
 export function linksOfTexts(texts) {
-    const all = texts.flatMap((text, at) => text.bundles.flatMap((bundle) => bundle.ports.map((port) => ({ ...port, at, bundle: bundle.name }))));
+    const all = texts.flatMap((text, at) => text.bundles.flatMap((bundle) => bundle.ports.map((port) => ({ ...port, at, said: port }))));
     const ends = all.filter((it) => it.actor && it.link !== false).map((it, number) => ({ ...it, ...filledIn(it, number), isHeard: it.partner !== null }));
     const links = [], seen = new Set();
     for (const end of ends) {
@@ -59,8 +59,8 @@ function lacpduOctets(source, actor, partner) {
 /* Who sends on a link: its end, and the other one, as a text has it or as this end was told. An implied peer has an address of its own, and is
  * left out where it has the end's system, since another LACPDU would be the same. */
 function sendersOf([end, far], number) {
-    const sender = (it) => ({ number, source: it.source || it.actor.system, actor: it.actor, partner: it.partner, of: it });
-    if (far) return [sender(end), sender(far)];
+    const sender = (it, other = null) => ({ number, source: it.source || it.actor.system, actor: it.actor, partner: it.partner, of: { ...it, far: other?.name } });
+    if (far) return [sender(end, far), sender(far, end)];
     if (!end.isHeard || end.actor.state & EXPIRED_BIT || end.partner.system === end.actor.system) return [sender(end)];
     return [sender(end), { number, source: `02:fe:00:00:${hexadecimal(number >> 8)}:${hexadecimal(number & 255)}`, actor: end.partner, partner: end.actor, of: { ...end, isImplied: true } }];
 }

@@ -140,8 +140,8 @@ function ofSeveralKeys(group) {
     return {
         lines: [`${who} has keys ${joinedBy(keys)}, where ${addressOf(systems[1 - way])} has ${own[1 - way]}`, ...keys.map((key) => `key ${key}: ${listOf(group.filter((it) => it.keys[way] === key))}`)],
         advice: twins.length ? `The far ends of ${listOf(twins)} call themselves one port of one system, so ${TWO_BOXES}`
-            : `Give the ports of ${who} on these links one key: put them into one group (switch: same channel-group; bonding: it follows speed, duplex, `
-            + "ad_user_port_key; Open vSwitch: one bond; teamd: lacp_key). Or a cable ends there in a port of another bundle: move it. If they are to be two bundles, give the other end two groups as well.",
+            : `Give the ports of ${who} on these links one key: put them into one group (switch: same channel-group, of an MLAG pair the same MLAG number; `
+            + "bonding: it follows speed, duplex, ad_user_port_key; Open vSwitch: one bond; teamd: lacp_key). Or a cable ends there in a port of another bundle: move it. If they are to be two bundles, give the other end two groups as well.",
     };
 }
 

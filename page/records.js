@@ -27,6 +27,13 @@ export function machinesOf(octet) {
     return { receive, mux };
 }
 
+const MUX_SAID = new Map([
+    ["DETACHED or WAITING", "has not attached it: it waits for an aggregator, or the 2 s before it attaches"],
+    ["ATTACHED", "has attached it, and does not collect"], ["COLLECTING", "collects, and does not distribute"], ["DISTRIBUTING", "says that it distributes"],
+]);
+/* What an end does with its link by its state octet, behind the name of the end. */
+export const muxSaid = (octet) => MUX_SAID.get(machinesOf(octet).mux);
+
 /* What a frame says, in few words. */
 export function saidBy(frame) {
     if (frame.kind === "lacpdu") return `LACPDU ${hexadecimal(frame.actor.state)} ${bitsOf(frame.actor.state).join(", ") || "none"}`;

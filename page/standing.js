@@ -1,12 +1,12 @@
 /* What texts of a status say: a line a port, and the causes, the first one first. The findings are those of the rules that want no times, of the
  * LACPDUs that the texts imply; facts that no LACPDU has get their own words. A text is a moment: what is starting looks as what stays so. */
 
-import { bitsOf, machinesOf } from "./records.js";
+import { bitsOf, muxSaid } from "./records.js";
 import { capitalized, counted } from "./keys.js";
 import { EFFECT, FAULT, REMARK } from "./causes.js";
 import { ALONE, CARRIES, howManyCarry, IDLE, UNKNOWN } from "./summary.js";
 import { flowSaid, hashesSaid } from "./hashes.js";
-import { ACTIVITY_BIT, DEFAULTED_BIT, DISTRIBUTING_BIT, EXPIRED_BIT } from "./status.js";
+import { ACTIVITY_BIT, COLLECTING_BIT, DEFAULTED_BIT, DISTRIBUTING_BIT, EXPIRED_BIT } from "./status.js";
 import { linksOfTexts } from "./implied.js";
 import { areTwinsApart, dashed, isLinked, isSeveral, keysFollowSpeed, namesIn, RULES, portsNamedAlike } from "./advice.js";
 
@@ -76,10 +76,22 @@ function systemFacts(texts) {
     return facts;
 }
 
+/* Several bundles in one text: those of one system, or both ends of links, which are counted as more links then. */
+function severalFacts({ bundles }) {
+    const systemOf = ({ ports }) => ports.find((it) => it.actor)?.actor.system;
+    const said = bundles.map((it) => `${it.told}${systemOf(it) ? ` is of the system ${dashed(systemOf(it))}` : ""}`);
+    const named = (one, other) => other !== one && one.ports.some(({ partner }) => partner?.system && partner.system === systemOf(other));
+    const ends = bundles.filter((one) => bundles.some((other) => named(one, other)));
+    if (bundles.length < 2) return [];
+    const title = ends.length ? "both ends of links are in one text, which is read as of one end" : `${bundles.length} bundles are in one text`;
+    const what = ends.length ? "Give the far end's apart" : "If one is the far end's, give it apart";
+    return [{ name: "several", ports: [], title, advice: `${capitalized(said.join(", "))}. ${what}, as the second text.` }];
+}
+
 export function factsIn(texts) {
     const bundles = texts.flatMap((text) => text.bundles.map((it) => ({ ...it, form: text.form })));
     const facts = bundles.flatMap((it) => [...linkFacts(it), ...silentFacts(it, it.form), ...partnerFacts(it)]);
-    return [...facts.filter((it) => it.ports.length), ...systemFacts(texts)];
+    return [...facts.filter((it) => it.ports.length), ...systemFacts(texts), ...texts.flatMap(severalFacts)];
 }
 
 /* ---- Causes ---- */
@@ -88,7 +100,7 @@ export function factsIn(texts) {
 const RANKS = ["no-lacp", "no-state", "no-root", "set-down", 30, "own-address", "never-heard", 29, 15, "apart", "link-down", "speeds", "stands-by", 5, "passive-unheard", 14, "deaf-there", 12, 22, 17, 2, 3, 4, "too-few"];
 const isUnheard = ({ rank }) => rank === 12;
 /* What calls for nothing by itself. */
-const ASIDE = ["away", "waiting", "aggregators", "same-partner-port", "one-system", "note", "said"];
+const ASIDE = ["away", "waiting", "aggregators", "same-partner-port", "one-system", "several", "note", "said"];
 
 const isCutIn = (text) => text.bundles.some((it) => it.isCut);
 /* That texts are cut, and where the first one of them is. */
@@ -98,11 +110,16 @@ function cutSaid(texts) {
 }
 const causeOf = (given) => ({ kind: FAULT, lines: [], effects: [], ports: [], ...given });
 
+/* What is told as one: a rule; of who hears nobody (12), the other ends, those whose link has two texts, those that heard somebody before, and the rest
+ * are told apart. */
+const toldAs = ({ rule, isImplied, port }) => rule === 12 ? `${rule} ${isImplied} ${Boolean(port.far)} ${port.said.partner !== null}` : `${rule}`;
+
 function causesOfRules(found, { bundles, form }) {
-    const rules = [...new Set(found.map((it) => it.rule))].map((rule) => found.filter((it) => it.rule === rule)), ports = bundles.flatMap((it) => it.ports);
+    const rules = [...new Set(found.map(toldAs))].map((told) => found.filter((it) => toldAs(it) === told)), ports = bundles.flatMap((it) => it.ports);
     return rules.map((list) => {
         const [{ rule, clause, name, advice }] = list, own = RULES.get(rule) ?? {}, here = list.filter((it) => !it.isImplied), meant = list.map((it) => it.port);
-        const who = here.length ? namesIn(here.map((it) => it.port)) : `the other end of ${namesIn(meant)}`, seen = { ports, form, isLasting: meant.some((it) => it.isLasting), isImplied: !here.length };
+        const who = here.length ? namesIn(here.map((it) => it.port)) : `the other end of ${namesIn(meant)}`;
+        const seen = { ports, form, advice, meant: meant.map(({ said, far }) => ({ ...said, far })), isLasting: meant.some((it) => it.isLasting), isImplied: !here.length };
         const title = (!here.length && own.implied?.(namesIn(meant))) || `${own.case?.(seen) ?? own.title ?? name}: ${who}`;
         return causeOf({ rank: rule, rule, clause, title, advice: own.advice?.(seen) ?? advice, lines: own.said?.(seen) ?? [], ports: meant });
     });
@@ -130,7 +147,9 @@ export function causesOfTexts(texts, { found, left }) {
     const causes = inOrder([...notes, ...facts, ...causesOfRules(found, texts[0])].filter((it) => it.kind === FAULT), texts[0].bundles.flatMap((it) => it.ports));
     const whole = causes.length ? [] : texts[0].bundles.filter(({ ports }) => ports.length > 1 && ports.every(saysCarry));
     const hashes = hashesSaid(whole).map((it) => causeOf({ rank: "hash", kind: REMARK, ...it }));
-    return [...causes, ...[...notes, ...facts].filter((it) => it.kind === REMARK), ...hashes, ...more, ...said];
+    const meant = new Set(causes.flatMap((it) => it.ports).map((it) => it.name));
+    const isExplained = ({ rank, ports }) => rank === "aggregators" && ports.some((it) => meant.has(it.name));
+    return [...causes, ...[...notes, ...facts].filter((it) => it.kind === REMARK && !isExplained(it)), ...hashes, ...more, ...said];
 }
 
 /* ---- Lines ---- */
@@ -160,8 +179,9 @@ function whyIdle(port, bundle) {
         return `it is in aggregator ${port.aggregator}, ${used.aggregator} is in use${differs ? `: ${differs}` : ""}`;
     }
     if (hearsNobody(port.partner)) return "the other end said that it hears nobody";
+    if (hearsNobody(port.actor)) return "it hears nobody now";
     if (!state.includes("synchronized")) return "the other end has not attached it";
-    return `this end is ${machinesOf(port.actor.state).mux}`;
+    return `this end ${muxSaid(port.actor.state)}`;
 }
 
 /* Whether a port says that it carries data; null where nothing says so. */
@@ -175,6 +195,7 @@ function stateOfPort(port, bundle, far) {
     if (carries && !port.partner) return [IDLE, "it hears nobody, and this end sends on it alone"];
     if (carries === null && port.link !== false) return [UNKNOWN, whyIdle(port, bundle)];
     if (!carries) return [IDLE, whyIdle(port, bundle)];
+    if (!far && port.partner && !(port.partner.state & COLLECTING_BIT)) return [IDLE, "one way: this end uses it, and the other end does not collect"];
     if (!far) return [CARRIES, "as this end says"];
     return saysCarry(far) === false ? [IDLE, `this end uses it, and the other, ${far.name}, does not`] : [CARRIES, "both ways"];
 }
@@ -182,7 +203,7 @@ function stateOfPort(port, bundle, far) {
 /* A line for each port of the first text, those that do not carry first. */
 export function linesOfTexts(texts) {
     const links = linksOfTexts(texts), lines = texts[0].bundles.flatMap((bundle) => bundle.ports.map((port) => {
-        const [, far] = links.find(([end]) => end.at === 0 && end.name === port.name && end.bundle === bundle.name) ?? [port, null], { partner } = port;
+        const [, far] = links.find(([end]) => end.said === port) ?? [port, null], { partner } = port;
         const who = partner?.system ? ` (partner ${dashed(partner.system)}${partner.port ? ` port ${partner.port}` : ""})` : "", [how, why] = stateOfPort(port, bundle, far);
         return { name: `${port.name}${who}`, how, why };
     }));
@@ -190,10 +211,11 @@ export function linesOfTexts(texts) {
 }
 
 /* How many links carry, and which are in use without a partner; nothing where that is not known. */
-function howManySaid(lines, ports) {
+function howManySaid(lines, bundles) {
+    const ports = bundles.flatMap((it) => it.ports), several = bundles.length > 1 ? `, in ${bundles.length} bundles` : "";
     const [carry, alone] = [CARRIES, ALONE].map((how) => lines.filter((it) => it.how === how).length), all = lines.length;
     if (!all || lines.some(({ how }) => how === UNKNOWN)) return "";
-    if (!alone) return `${howManyCarry(carry, all)}. `;
+    if (!alone) return `${howManyCarry(carry, all)}${several}. `;
     const who = `${namesIn(ports.filter((it) => it.isAlone))}, without a partner`;
     const [is, itself] = alone === 1 ? ["is", "itself"] : ["are", "themselves"];
     return carry ? `${howManyCarry(carry, all)}, and ${who}, ${is} in use. ` : `${alone} of ${counted(all, "link")} ${is} in use by ${itself}: ${who}. `;
@@ -205,7 +227,7 @@ const ONE_OF_TEXT = "The one link of this text carries. If the bundle has more, 
 /* The headline, and how it looks. */
 export function headlineOfTexts(texts, lines, causes) {
     const carry = lines.filter(({ how }) => how === CARRIES).length, all = lines.length, [cause] = causes.filter(({ kind }) => kind === FAULT);
-    const head = howManySaid(lines, texts[0].bundles.flatMap((it) => it.ports));
+    const head = howManySaid(lines, texts[0].bundles);
     if (texts.some(isCutIn)) return [cutSaid(texts), "bad"];
     if (cause) return [`${head}${capitalized(cause.title)}.`, "bad"];
     if (!all) return ["No port of an LACP bundle is in this text.", "bad"];

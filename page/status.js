@@ -16,6 +16,7 @@ const WORDS = [
 ];
 export const ACTIVITY_BIT = 1;
 export const TIMEOUT_BIT = 2;
+export const COLLECTING_BIT = 16;
 export const DISTRIBUTING_BIT = 32;
 export const DEFAULTED_BIT = 64;
 export const EXPIRED_BIT = 128;
@@ -129,11 +130,18 @@ function bondOf(text) {
     return { bundles: [bundleOfText("the bond", "the bond", ports, { isCut: cut !== "", cut, hash: hash ? ["xmit_hash_policy", hash] : null })], notes };
 }
 
+/* Several texts of one form, one behind the other, as one; each note once. */
+function joinedTexts(form, all) {
+    const notes = new Map(all.flatMap((it) => it.notes).map((it) => [`${it.name} ${it.text}`, it]));
+    return { form, bundles: all.flatMap((it) => it.bundles), notes: [...notes.values()] };
+}
+
 /* One text, or several one behind the other (cat /proc/net/bonding/*); it does not have the names of the bonds. */
 function bonding(text) {
-    const all = text.split(/^(?=Ethernet Channel Bonding Driver: )/m).filter((it) => it.startsWith("Ethernet")).map(bondOf), bundles = all.flatMap((it) => it.bundles);
+    const parts = text.split(/^(?=Ethernet Channel Bonding Driver: )/m).filter((it) => it.startsWith("Ethernet"));
+    const found = joinedTexts("bonding", parts.map(bondOf)), { bundles } = found;
     if (bundles.length > 1) bundles.forEach((it, number) => { it.name = it.told = `bond ${number + 1} of the text`; });
-    return { form: "bonding", bundles, notes: all.flatMap((it) => it.notes) };
+    return found;
 }
 
 /* ---- ip -d -j link show, ip -d link show: states, but no numbers of ports ---- */
@@ -173,6 +181,16 @@ function ipLink(links) {
     return { form: "ip", bundles, notes };
 }
 
+/* The links of texts one behind the other, apart: where a bond stands there twice, each interface stands once in a text. */
+function ofEachText(links) {
+    const texts = [[]], names = links.filter((it) => it.linkinfo.info_kind === "bond").map((it) => it.ifname), isTwice = new Set(names).size < names.length;
+    for (const link of links) {
+        if (isTwice && texts.at(-1).some((it) => it.ifname === link.ifname)) texts.push([]);
+        texts.at(-1).push(link);
+    }
+    return texts;
+}
+
 /* The same of the text for people. */
 function ipLinkOfText(text) {
     const links = text.split(/^(?=\d+: )/m).map((part) => {
@@ -189,7 +207,7 @@ function ipLinkOfText(text) {
         } });
         return it;
     });
-    return ipLink(links.filter((it) => it.ifname));
+    return joinedTexts("ip", ofEachText(links.filter((it) => it.ifname)).map(ipLink));
 }
 
 /* ---- teamdctl TEAM state dump ---- */
@@ -215,8 +233,8 @@ function team(json, hash) {
 
 /* A state, a configuration (config dump, or the file), or both. */
 function teamOf(values) {
-    const state = values.find((it) => it.setup || it.team_device), config = values.find((it) => it.runner?.name);
-    if (state) return team(state, config?.runner.tx_hash);
+    const states = values.filter((it) => it.setup || it.team_device), config = values.find((it) => it.runner?.name);
+    if (states.length) return joinedTexts("teamd", states.map((it) => team(it, config?.runner.tx_hash)));
     const note = { name: "no-state", text: "this is the configuration of a team, and its state is wanted", advice: "teamdctl team0 state dump has the state." };
     return config ? { form: "teamd", bundles: [], notes: [note] } : null;
 }
@@ -342,14 +360,14 @@ function valuesOfJson(text) {
     try {
         return [JSON.parse(text)];
     } catch {
-        const lines = text.split("\n");
+        const lines = text.split("\n").filter((it) => it.trim());
         return lines.some((it) => it === "}") ? text.match(/^\{[\s\S]*?^\}/gm).map((it) => JSON.parse(it)) : lines.map((it) => JSON.parse(it));
     }
 }
 
 function ofJson(text) {
     const values = valuesOfJson(text);
-    if (Array.isArray(values[0])) return ipLink(values[0]);
+    if (Array.isArray(values[0])) return joinedTexts("ip", values.filter(Array.isArray).map(ipLink));
     return values[0].lagd ? lagdJson(values) : teamOf(values);
 }
 

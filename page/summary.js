@@ -1,7 +1,7 @@
 /* What is said before all else: of each link in one line whether it carries, and why not; and a headline. */
 
-import { addressOf, isKnown, isSilent, machinesOf, namesLast, roundedSeconds } from "./records.js";
-import { astrayIn, capitalized, counted, groupOf, isCrossed, joinedBy, keyGroups, linkName } from "./keys.js";
+import { addressOf, isKnown, isSilent, machinesOf, muxSaid, namesLast, roundedSeconds } from "./records.js";
+import { astrayIn, capitalized, counted, distinct, groupOf, isCrossed, joinedBy, keyGroups, linkName } from "./keys.js";
 import { CAUSELESS, EFFECT, FAULT, PAST, REMARK } from "./causes.js";
 import { flowSaid } from "./hashes.js";
 
@@ -34,6 +34,18 @@ function keyDifference(link, groups) {
     return [0, 1].map(said).filter(Boolean).join("; ");
 }
 
+/* That links which carry, and share a system and its key with this one, lead to another system; nothing where none does. */
+function systemDifference(link, groups) {
+    const group = groupOf(link, groups), own = group?.find((it) => it.link === link);
+    const said = (way) => {
+        const others = group.filter((it) => it.link.carries && it.joins[way] === own.joins[way] && it.systems[1 - way] !== own.systems[1 - way]);
+        const far = distinct(others.map((it) => it.systems[1 - way])), isOne = (system) => addressOf(system) === addressOf(own.systems[1 - way]);
+        const nameOf = (system) => `${addressOf(system)}${isOne(system) ? ` with priority ${system.split("/")[0]}` : ""}`;
+        return far.length ? `${addressOf(own.systems[way])} leads to ${joinedBy(far.map(nameOf))} on ${others.length === 1 ? "the other link" : "other links"}` : "";
+    };
+    return own && link.carries ? [0, 1].map(said).filter(Boolean).join("; ") : "";
+}
+
 /* Since when an end says, without a break, that it hears nobody. */
 function lostSince({ frames }) {
     const lacpdus = frames.filter((it) => it.kind === "lacpdu"), before = lacpdus.findLastIndex((it) => !["EXPIRED", "DEFAULTED"].includes(machinesOf(it.actor.state).receive));
@@ -59,7 +71,8 @@ function ofOneEnd(end, until, beside) {
 
 /* Whether a link with both ends carries, and why not; and whether that says no more than their states. `beside` are the links of its systems. */
 function ofBothEnds(link, groups, until, beside) {
-    const { ends } = link, silent = ends.filter((it) => isSilent(it, until)), deaf = deafEnds(ends), keys = keyDifference(link, groups);
+    const { ends } = link, silent = ends.filter((it) => isSilent(it, until)), deaf = deafEnds(ends);
+    const keys = keyDifference(link, groups) || systemDifference(link, groups);
     if (link.carries) return keys ? [CARRIES_APART, `both ways: ${keys}`] : [CARRIES, "both ways"];
     const [one, other] = ends.map((it) => it.system), isOwn = one === other || (deaf.length > 0 && addressOf(one) === addressOf(other));
     if (isOwn) return [IDLE, "both ends have one system: a loop, or a copied identifier"];
@@ -86,7 +99,7 @@ function ofStates(ends) {
     const single = ends.filter((it) => !it.has("aggregatable")), waits = ends.filter((it) => !it.has("synchronized"));
     if (waits.length === 1) return [IDLE, `${waits[0].short} has not attached it: another aggregator is in use there, or it has links enough`];
     if (single.length === 1) return [IDLE, `${single[0].short} is individual`];
-    return [IDLE, ends.map((it) => `${it.short} is ${machinesOf(it.last.actor.state).mux}`).join(", "), "is vague"];
+    return [IDLE, ends.map((it) => `${it.short} ${muxSaid(it.last.actor.state)}`).join("; "), "is vague"];
 }
 
 /* Of a link: its name, its ends, how it is, and why. */
@@ -142,11 +155,19 @@ function ofHealthy(lines, causes) {
     return [all === 1 ? `${links}, both ways${since}. ${ONE}` : `${links}, both ways${since}: LACP is not your trouble. ${flowSaid([])}`, "good"];
 }
 
+/* How links that carry do so, where some lead to another system or have another key: of these a bond has one group in use. */
+function apartSaid(lines, all) {
+    const groups = lagsOf(lines).length;
+    if (lines.length < all) return `${lines.length} of them apart`;
+    return groups < all ? `as ${groups} groups, of which a bond uses one` : "each by itself: a bond uses one of its links";
+}
+
 /* The headline: how many links carry, and the first cause; with how it looks. */
 export function headlineOf(lines, causes) {
-    const [cause] = causes.filter(({ kind }) => kind === FAULT), all = lines.length, apart = lines.filter(({ how }) => how === CARRIES_APART).length;
+    const [cause] = causes.filter(({ kind }) => kind === FAULT), all = lines.length;
+    const those = lines.filter(({ how }) => how === CARRIES_APART), apart = those.length;
     const carry = apart + lines.filter(({ how }) => how === CARRIES).length, more = causes.filter(({ kind }) => kind === FAULT).length - 1;
-    const head = `${howManyCarry(carry, all)}${apart && carry > 1 ? `, ${apart === all ? "each by itself" : `${apart} of them apart`}` : ""}`;
+    const head = `${howManyCarry(carry, all)}${apart && carry > 1 ? `, ${apartSaid(those, all)}` : ""}`;
     if (cause) return [`${all ? `${head}. ` : ""}${capitalized(cause.title)}${more ? `, and ${counted(more, "more cause")}` : ""}.`, "bad"];
     if (!all) return ["", ""];
     const idle = lines.find(({ how, isVague }) => how === IDLE && !isVague);

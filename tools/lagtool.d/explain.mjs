@@ -69,7 +69,8 @@ async function main(paths) {
     for (const path of paths) files.push(await opened(path).catch((error) => { throw new Error(`cannot read ${path}: ${ERRORS[error.code] ?? error.message}`); }));
     const texts = files.map((it) => it.status).filter(Boolean), unknown = files.findIndex((it) => !it.status && it.isText);
     if (unknown >= 0) throw new Error(`cannot read ${paths[unknown]}: neither a capture nor a known status`);
-    if (texts.length && texts.length < files.length) throw new Error("captures and texts are explained apart");
+    const of = (isText) => paths.filter((_, number) => Boolean(files[number].status) === isText).join(" ");
+    if (texts.length && texts.length < files.length) throw new Error(`captures and texts are explained apart: give ${of(false)} without ${of(true)}`);
     const told = texts.length ? await ofTexts(lagtool, texts) : await ofCaptures(lagtool, files.map((it) => it.file));
     console.log(textOfAll(told));
     if (told.said) console.error(`lagtool: ${told.said.trim()}`);

@@ -10,6 +10,17 @@ from repository import CRATES
 
 TEXTS = os.path.join(CRATES, "lagtool", "src", "help.rt")
 
+EXPLAIN = """\
+  lagtool explain FILE..  Says which links of a bundle carry, and why not; in a clone alone, by node
+      FILE..: Captures of the members, all of them at once; or what systems print (/proc/net/bonding/bond0,
+              ip -d -j link, teamdctl team0 state dump, ovs-appctl lacp/show, lagd --status): this end's
+              text, then the far end's if it is there; or - for standard input
+      Status 0: each link carries, and no cause holds. Status 1: something is found. Status 2: a file
+      cannot be read, or has no LACPDU.
+
+      Example: lagtool explain /proc/net/bonding/bond0
+"""
+
 
 def texts() -> dict[str, str]:
     """The constants of the file: their names and texts."""
@@ -28,4 +39,4 @@ def text(program: str) -> str:
         told.append("  ".join([" ".join([f"  {program} {name.lower()}", *words]), known[name]]))
         told += [textwrap.indent(f"{it}: {more[it]}", "      ") for it in words]
         told += [textwrap.indent(more[it], "      ") for it in more if it not in words] + [""]
-    return "\n".join([*told, known["STATUSES"], "", "docs/COMMAND.md has the rest. The program itself is not built yet."])
+    return "\n".join([*told, EXPLAIN, known["STATUSES"], "", "docs/COMMAND.md has the rest. The program itself is not built yet."])

@@ -9,6 +9,7 @@ from typing import Any
 import made
 from browser import Browser
 from stored import CAPTURES, UNEQUAL, Tests, captures, printed, read
+from summing import EACH
 
 HOSTILE = '<img src=x onerror="window.taken = true"><script>window.taken = true</script>'
 # The frame that is chosen, and the packet whose fields are shown.
@@ -111,7 +112,7 @@ def of_verdicts(tests: Tests, browser: Browser, folder: str) -> None:
     browser.choose(split)
     said = "Links of one system lead to two systems", "02-00-00-00-00-01 leads to 02-00-00-00-00-02 and 02-00-00-00-00-03"
     named = [*browser.value(VERDICT), browser.value(TITLES), browser.value("document.querySelector('#findings .first').textContent")]
-    tests.same("links to two systems are one fault, which names both", named, [f"2 of 2 links carry. {said[0]}.", "bad", [said[0]], said[1]])
+    tests.same("links to two systems are one fault, which names both", named, [f"2 of 2 links carry, {EACH}. {said[0]}.", "bad", [said[0]], said[1]])
 
 
 def of_idle_links(tests: Tests, browser: Browser, folder: str) -> None:

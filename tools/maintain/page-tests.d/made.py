@@ -60,6 +60,14 @@ def keyed(path: str, keys: Iterable[tuple[int, int]], up: tuple[int, int] | None
     pcap(path, sorted(packets))
 
 
+def led(path: str, systems: Iterable[int]) -> None:
+    """Links of system 1, with one key, each to one of these systems; all carry."""
+    packets: list[tuple[float, bytes]] = []
+    for port, far in enumerate(systems, 1):
+        packets += exchange(Party(1, 7, port, FAST), Party(far, 8, port, FAST), (second + port / 100 for second in range(20)))
+    pcap(path, sorted(packets))
+
+
 def dead(path: str) -> None:
     """From 20 s on system 1 sends nothing more on link 2: system 2 is Expired there, and then sends each 30 s."""
     packets = exchange(Party(1, 7, 1, FAST), Party(2, 8, 1, FAST), range(100))

@@ -15,6 +15,7 @@ CAUSES = "[...document.querySelectorAll('#findings > li')].map((it) => it.queryS
 ADVICE = "[...document.querySelectorAll('#findings > li > span')].map((it) => it.textContent).join(' ')"
 HASH = "LACP is not your trouble. One flow has the speed of one link: the hash chooses it."
 APART = "If they are to be one, give them one key at each end; else LACP is not your trouble."
+EACH = "each by itself: a bond uses one of its links"
 SYSTEM = "02-00-00-00-00-0"
 
 
@@ -72,15 +73,20 @@ def of_crossing(tests: Tests, browser: Browser, folder: str) -> None:
     made.between(path)
     headline, causes, _ = said_of(browser, path)
     crossed = "ables of two bundles are crossed, or a port is in the group of another link"
-    tests.same("cables crossed between two switches", [headline, causes], [f"4 of 4 links carry, each by itself. C{crossed}.", [f"C{crossed}"]])
+    tests.same("cables crossed between two switches", [headline, causes], [f"4 of 4 links carry, {EACH}. C{crossed}.", [f"C{crossed}"]])
     swaps = "Swap the far ends of ports 2-1 and ports 3-2, or swap the far ends of ports 1-1 and ports 4-2;"
     tests.same("it says which far ends to swap there", swaps in browser.value(ADVICE), True)
     made.priorities(path)
     headline, causes, _ = said_of(browser, path)
     several = "inks lead to one address with several system priorities"
-    tests.same("one address with two system priorities", [headline, causes], [f"2 of 2 links carry. L{several}.", [f"L{several}"]])
+    tests.same("one address with two system priorities", [headline, causes], [f"2 of 2 links carry, {EACH}. L{several}.", [f"L{several}"]])
+    for far, how, where in ((2, 3), EACH, "the other link"), ((2, 2, 3, 3), "as 2 groups, of which a bond uses one", "other links"):
+        made.led(path, far)
+        headline, _, lines = said_of(browser, path)
+        wanted = [f"{len(far)} of {len(far)} links carry, {how}. Links of one system lead to two systems.", f"carries apart, both ways: {SYSTEM}1 leads to {SYSTEM}3 on {where}"]
+        tests.same(f"{len(far)} links to two switches", [headline, lines[0].split(": ", 1)[1]], wanted)
     made.behind(path)
-    tests.same("captures one behind the other are sorted", said_of(browser, path)[:2], ["2 of 2 links carry, each by itself. Keys differ within one pair of systems.", ["Keys differ within one pair of systems"]])
+    tests.same("captures one behind the other are sorted", said_of(browser, path)[:2], [f"2 of 2 links carry, {EACH}. Keys differ within one pair of systems.", ["Keys differ within one pair of systems"]])
     made.often(path)
     headline, causes, _ = said_of(browser, path)
     seldom = "An end sends less often than its partner asks"

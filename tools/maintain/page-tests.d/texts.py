@@ -64,6 +64,14 @@ def of_words(tests: Tests) -> None:
     for path, why in (os.path.join(STATUS, "none.txt"), "no such file"), (STATUS, "is a folder"):
         ended = subprocess.run([*words, path], stdin=subprocess.DEVNULL, capture_output=True, text=True)
         tests.same(f"explain: {why}", [ended.returncode, ended.stderr], [2, f"lagtool: cannot read {path}: {why}\n"])
+    text, capture = os.path.join(STATUS, "keys-bonding.txt"), os.path.join(CAPTURES, "bonding.pcap")
+    ended = subprocess.run([*words, text, capture], stdin=subprocess.DEVNULL, capture_output=True, text=True)
+    apart = f"lagtool: captures and texts are explained apart: give {capture} without {text}\n"
+    tests.same("explain of a text and a capture says what to give", [ended.returncode, ended.stderr], [2, apart])
+    for given in ["explain", "--help"], ["--help"]:
+        ended = subprocess.run([os.path.join(TOOLS, "lagtool"), *given], stdin=subprocess.DEVNULL, capture_output=True, text=True)
+        found = [ended.returncode, ended.stderr, "  lagtool explain FILE..  " in ended.stdout]
+        tests.same(f"lagtool {' '.join(given)} has the words of explain", found, [0, "", True])
 
 
 def of_endings(tests: Tests) -> None:
@@ -147,6 +155,60 @@ def of_partners(tests: Tests) -> None:
         tests.same(f"of a partner: {first}", [said.partition("\n")[0], line in said, advice in said], [f"1 of 2 links carries. {first}", True, True])
 
 
+def second_port(own: int, there: int, key: int = 15, port: int = 2) -> str:
+    """A bond of two links: what it says of the second one: the states of both ends, and of its partner the key and the port."""
+    head, last = read(os.path.join(STATUS, "healthy-bonding.txt")).split("Slave Interface: p2")
+    before, partner = last.rsplit("details partner", 1)
+    for name, now, value in ("oper key", 15, key), ("port number", 2, port), ("port state", 63, there):
+        partner = partner.replace(f"{name}: {now}", f"{name}: {value}")
+    before = before.replace("Aggregator ID: 1", f"Aggregator ID: {1 if key == 15 else 2}").replace("port state: 63", f"port state: {own}")
+    return f"{head.replace('ports: 2', 'ports: 1')}Slave Interface: p2{before}details partner{partner}"
+
+
+def of_partner_states(tests: Tests) -> None:
+    """What the states of both ends tell: who hears nobody, whether LACP is on there, and what the other end does with the link."""
+    cases = {
+        "the other end is deaf": (13, 69, "A port hears nobody: the other end of p2.", "the other end said that it hears nobody",
+                                  "so LACP is on there, and it does not hear those of this end."),
+        "the other end stopped": (135, 63, "A port hears nobody: p2.", "it hears nobody now",
+                                  "p2 heard 02-00-00-01-0b-01 port 2 before: look what changed at that port, or on the path from there."),
+        "the other end does not collect": (61, 5, "It distributes, and the other end does not collect: p2.",
+                                           "one way: this end uses it, and the other end does not collect", "Look at its status."),
+        "this end waits": (7, 15, "The partner of p2 says that it is synchronized, and this end does not.",
+                           "this end has not attached it: it waits for an aggregator, or the 2 s before it attaches", ""),
+    }  # fmt: skip
+    for name, (own, there, cause, why, advice) in cases.items():
+        headline, line, _, _, told, *_ = told_of(second_port(own, there))[1].split("\n")
+        wanted = [f"1 of 2 links carries. {cause}", why, True, False]
+        tests.same(name, [headline, line.split("does not carry: ")[-1], advice in told, "channel-group" in told], wanted)
+    deaf = read(os.path.join(STATUS, "deaf-bonding.txt")).replace(":0b:", ":0c:").replace(":0a:", ":0b:").replace(":0c:", ":0a:").replace("p2", "q2")
+    with tempfile.NamedTemporaryFile("w", suffix=".txt") as one, tempfile.NamedTemporaryFile("w", suffix=".txt") as other:
+        for file, text in (one, second_port(13, 69)), (other, deaf):
+            file.write(text)
+            file.flush()
+        both = subprocess.run(["node", EXPLAIN, one.name, other.name], stdin=subprocess.DEVNULL, capture_output=True, text=True).stdout
+    tests.same("the same with the text of the deaf end", ["both texts have LACP, and q2 does not hear p2." in both, "channel-group" in both], [True, False])
+    far = "The numbers of the ports there lie far apart"
+    for port, is_two in (3, False), (32770, True):
+        said = told_of(second_port(7, 15, 16, port))[1]
+        found = [it in said for it in (far, "one MLAG number", "each has another partner, key or speed")]
+        tests.same(f"keys that differ, with port {port} there", found, [is_two, True, False])
+    for name, word in ("third-bonding.txt", "mode=active-backup"), ("third-teamd.json", "the runner activebackup"):
+        tests.same(f"{name}: what goes without MLAG", f"without MLAG: {word}, which needs no LACP" in told_of(read(os.path.join(STATUS, name)))[1], True)
+
+
+def of_one_file(tests: Tests) -> None:
+    """Several statuses in one file: it is said that they are there, and what to do where they are both ends of links."""
+    names = "bonding.txt", "bonding.other.txt", "ip.json", "ip-text.txt", "teamd.json", "lagd.txt"
+    whole = {name: read(os.path.join(STATUS, f"healthy-{name}")) for name in names}
+    plain = read(os.path.join(STATUS, "healthy-bonding-user.txt"))
+    tests.same("two statuses without LACPDUs are not said to be both ends", "remark: 2 bundles are in one text" in told_of(f"{plain}\n{plain}")[1], True)
+    both = "both ends of links are in one text"
+    for one, other, word in ("bonding.txt", "bonding.other.txt", both), *((it, it, "2 bundles are in one text") for it in names[2:]):
+        said = told_of(f"{whole[one]}\n{whole[other]}")[1]
+        tests.same(f"two statuses in one file: {one}", [said.partition(".")[0], f"remark: {word}" in said], ["4 of 4 links carry, in 2 bundles", True])
+
+
 def of_hashes(tests: Tests) -> None:
     """The policy of the hash that a text names, and what it means."""
     def head(name: str) -> str:
@@ -180,7 +242,7 @@ def of_texts(tests: Tests, browser: Browser) -> None:
     of_ways(tests, browser)
     of_cuts(tests, browser)
     of_explain(tests, browser)
-    for it in of_words, of_endings, of_programs, of_away, of_waiting, of_speeds, of_partners, of_hashes:
+    for it in of_words, of_endings, of_programs, of_away, of_waiting, of_speeds, of_partners, of_partner_states, of_one_file, of_hashes:
         it(tests)
     passive = read(os.path.join(STATUS, "healthy-bonding.txt")).replace("port state: 63", "port state: 62")
     tests.same("two passive ends do not carry, as in a capture", pasted(browser, passive)[0], "0 of 2 links carry. Both ends are passive: p1, p2.")
