@@ -249,7 +249,7 @@ static _Noreturn void run_copier(struct state *own, int told) {
 /* Has the copy written or removed; answers 0, or -errno. */
 static int start_copier(struct state *own) {
     int ends[2], fault;
-    if (pipe2(ends, O_CLOEXEC | O_NONBLOCK) < 0) return last_fault();
+    if (socketpair(AF_UNIX, SOCK_STREAM | SOCK_NONBLOCK | SOCK_CLOEXEC, 0, ends) < 0) return last_fault(); /* the unit has no pipes */
     own->copier = fork();
     fault = own->copier < 0 ? last_fault() : 0;
     if (own->copier == 0) run_copier(own, ends[1]);

@@ -21,7 +21,7 @@ BOOTS, ANSWERS = 30, 20
 # More often than systemd starts a unit within 10 s, if nothing else is said.
 OFTEN = 6
 TARGET = "[Unit]\nDescription=A bundle of links\nWants=systemd-journald.service dbus.service lagd@uplink.service\nAllowIsolate=yes\n"
-BUNDLE = FILE.replace("partner=first\n", "partner=first\nkey-by-speed=yes\nhook=/etc/lagd/hook\n")
+BUNDLE = FILE.replace("partner=first\n", "partner=first\nkey-by-speed=yes\nhook=/etc/lagd/hook\ntimeout=long\nstate-dir=/var/lib/lagd/uplink\n")
 # A hook that outlives the daemon.
 HOOK = '#!/bin/sh\nsleep 1\necho "$LAGD_STATE" >> /run/lagd/uplink/told\n'
 # The watchdog of the unit waits for 30 s.
@@ -210,6 +210,8 @@ def boot(part: Part) -> None:
         check("---- uplink ----" in text and SYSTEM in text, "lagd --status asks it in the folder of the unit", text)
         check(text.count("  speed: 10000 Mb/s, full duplex\n") == 2, "it may ask for the speed of its links", text)
         rights(machine)
+        copied = lambda: machine.tells("tail", "-n", "1", "/var/lib/lagd/uplink/uplink.state") == "end"
+        check(within(ANSWERS, copied), "the process that writes the copy of state-dir may do so", machine.told())
         lines = journal_lines(machine, BUNDLE_LINE)
         check(("5", "uplink", "bundle uplink: up, 2 of 2 links carry, aggregator 1") in lines, "the journal finds lines by their message id", lines, machine.told())
         changed(machine)
@@ -227,6 +229,7 @@ def boot(part: Part) -> None:
         told = lambda: machine.tells("cat", "/run/lagd/uplink/told").split()[-1:] == ["down"]
         check(within(ANSWERS, told), "the hook of the end runs to its end", machine.told())
         check(machine.tells("find", "/run/lagd/uplink", "-name", "*.sock") == "", "and its socket is gone")
+        check(machine.tells("find", "/var/lib/lagd/uplink", "-name", "*.state") == "", "and so is the copy of its state")
         machine.process.send_signal(signal.SIGKILL)
     finally:
         machine.drop()

@@ -314,7 +314,7 @@ static bool answer(struct tap_plane *tap, struct link *link, const uint8_t *resp
     send_frame(tap->protocol, link, response);
     return true;
 }
-static void accept(struct tap_plane *tap, struct link *link, const struct arrival *arrival, uint32_t id) {
+static void accept_any(struct tap_plane *tap, struct link *link, const struct arrival *arrival, uint32_t id) {
     (void)id;
     accept_response(tap->protocol, link, arrival);
 }
@@ -370,7 +370,7 @@ static const struct carrying FRAMES = {.settle = settle_frames, .tick = pass_tic
     .frames_heard = frames_handed_up, .tell_host = tell_speed_and_carrier, .go_on = settle_carry,
     .note_response = note_response};
 static const struct passing BY_DAEMON = {0};
-static const struct queueing ONE_QUEUE = {.accept_response = accept, .answer = answer, .markers_at_once = 1};
+static const struct queueing ONE_QUEUE = {.accept_response = accept_any, .answer = answer, .markers_at_once = 1};
 
 /* The link of a port is up or down for an end. */
 static void set_link_of(struct end *end, uint16_t port, bool up) {

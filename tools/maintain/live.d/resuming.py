@@ -318,5 +318,6 @@ def short_of_time(part: Part, kept: str) -> None:
     check(not os.path.exists(f"{kept}/a0.state"), "a stop leaves none", os.listdir(kept))
 
 
-PARTS = {"the next daemon goes on": goes_on, "a state beyond a reboot": outlives_boot, "a state beyond a crash": outlives_crash, "restarts in a row": in_a_row, "a limit of links through a restart": keeps_limit,
+PARTS = {"the next daemon goes on": goes_on, "a state beyond a reboot": outlives_boot, "a state beyond a crash": outlives_crash,
+         "restarts in a row": in_a_row, "a limit of links through a restart": keeps_limit,
          "a state of no use": begins_anew, "what changes between two daemons": things_change}

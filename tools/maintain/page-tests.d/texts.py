@@ -110,9 +110,11 @@ def of_waiting(tests: Tests) -> None:
     text, line = (read(os.path.join(STATUS, f"waiting-lagd{end}")) for end in (".txt", "-json.json"))
     for form, it in ("text", text), ("JSON", line):
         ended, said = told_of(it)
-        tests.same(f"a link that waits, as {form}", [ended, said.partition("\n")[0], "\n1. remark: the link of p2 is back" in said, "down" in said], [1, word, True, False])
+        found = [ended, said.partition("\n")[0], "\n1. remark: the link of p2 is back" in said, "down" in said]
+        tests.same(f"a link that waits, as {form}", found, [1, word, True, False])
     both = told_of(text.replace("link: up", "link: down").replace("may_enable: true", "may_enable: false"))[1]
-    tests.same("beside one that is down", [both.partition("\n")[0], "remark: the link of p2 is back" in both], ["0 of 2 links carry. The link of p1 is down.", True])
+    found = [both.partition("\n")[0], "remark: the link of p2 is back" in both]
+    tests.same("beside one that is down", found, ["0 of 2 links carry. The link of p1 is down.", True])
 
 
 def of_away(tests: Tests) -> None:
