@@ -174,7 +174,7 @@ count_change(struct member *member, const struct niw_view *now)
 
 /* Takes over what the system shows now. */
 static void
-look(struct lacp *lacp)
+refresh(struct lacp *lacp)
 {
     struct niw_view views[NIW_MOST_PORTS];
     struct member *member;
@@ -200,7 +200,42 @@ look(struct lacp *lacp)
     }
 }
 
-/* Puts the members into `ports`, as many as a system has; returns how many. */
+/* Puts a member into `ports`, if there is room, and no other one has its port identifier. */
+static bool
+list_port(struct member *member, struct lag_port *ports, size_t *count)
+{
+    struct lacp *lacp = member->lacp;
+
+    if (*count == NIW_MOST_PORTS) {
+        return false;
+    }
+    for (size_t i = 0; i < *count; i++) {
+        if (ports[i].port.number == member->port_id) {
+            return false;
+        }
+    }
+    ports[*count] = (struct lag_port) {
+        .port = {
+            .number = member->port_id, .priority = member->port_priority, .key = lacp->key,
+            .aggregatable = hmap_count(&lacp->members) > 1, .active = lacp->set.active, .short_timeout = lacp->set.fast,
+        },
+        .up = member->carrier_up, .carried = distributes(member), .aggregator = member->view.aggregator,
+        .heard = &member->heard, .owner = member,
+    };
+    memcpy(ports[*count].port.mac, lacp->set.id.ea, sizeof ports->port.mac);
+    ++*count;
+    return true;
+}
+
+/* Has the system no port of a member: it is in no use, and shows nothing. */
+static void
+leave_out(struct member *member)
+{
+    member->in = false;
+    memset(&member->view, 0, sizeof member->view);
+}
+
+/* Puts the members into `ports`, as many as a system has; returns how many. Those that are in it come first. */
 static size_t
 list_ports(struct lacp *lacp, struct lag_port *ports)
 {
@@ -208,27 +243,17 @@ list_ports(struct lacp *lacp, struct lag_port *ports)
     size_t count = 0;
 
     HMAP_FOR_EACH (member, node, &lacp->members) {
-        bool free_number = count < NIW_MOST_PORTS;
-
-        for (size_t i = 0; i < count; i++) {
-            free_number = free_number && ports[i].port.number != member->port_id;
+        member->in = member->in && list_port(member, ports, &count);
+    }
+    HMAP_FOR_EACH (member, node, &lacp->members) {
+        if (!member->in) {
+            member->in = list_port(member, ports, &count);
+            if (!member->in) {
+                leave_out(member);
+                VLOG_ERR_RL(&rl, "%s: %s is left out: %s", lacp->name, member->name, count < NIW_MOST_PORTS
+                            ? "another member has its port identifier" : "a bond has 64 members at most with LACP");
+            }
         }
-        member->in = free_number;
-        if (!free_number) {
-            memset(&member->view, 0, sizeof member->view);
-            VLOG_ERR_RL(&rl, "%s: %s is left out: %s", lacp->name, member->name, count < NIW_MOST_PORTS
-                        ? "another member has its port identifier" : "a bond has 64 members at most with LACP");
-            continue;
-        }
-        ports[count++] = (struct lag_port) {
-            .port = {
-                .number = member->port_id, .priority = member->port_priority, .key = lacp->key,
-                .aggregatable = hmap_count(&lacp->members) > 1, .active = lacp->set.active, .short_timeout = lacp->set.fast,
-            },
-            .up = member->carrier_up, .carried = distributes(member), .aggregator = member->view.aggregator,
-            .heard = &member->heard, .owner = member,
-        };
-        memcpy(ports[count - 1].port.mac, lacp->set.id.ea, sizeof ports->port.mac);
     }
     return count;
 }
@@ -252,7 +277,7 @@ remake(struct lacp *lacp)
 
         VLOG_ERR_RL(&rl, "%s: no LACP: %s", lacp->name, niw_status_text(made.status));
         HMAP_FOR_EACH (member, node, &lacp->members) {
-            member->in = false;
+            leave_out(member);
         }
         lacp->to_remake = true;
         lacp->try_at = time_msec() + RETRY_MSEC;
@@ -268,7 +293,7 @@ remake(struct lacp *lacp)
             lacp->carries = (uint16_t) niw_choice(&lacp->end.system, member->port_id).number;
         }
     }
-    look(lacp);
+    refresh(lacp);
 }
 
 /* Makes up what has passed since the last call. */
@@ -293,7 +318,7 @@ set_carrier(struct member *member, bool up)
         if (member->in && !member->lacp->to_remake) {
             lag_end_advance(&member->lacp->end, time_msec());
             niw_set_link(&member->lacp->end.system, member->port_id, up);
-            look(member->lacp);
+            refresh(member->lacp);
         }
     }
 }
@@ -402,7 +427,7 @@ lacp_configure(struct lacp *lacp, const struct lacp_settings *s)
                 niw_set_mode(&lacp->end.system, member->port_id, s->active, s->fast);
             }
         }
-        look(lacp);
+        refresh(lacp);
     }
     unlock();
 }
@@ -428,7 +453,7 @@ process(struct member *member, const uint8_t *frame, size_t length)
     switch (got.what) {
     case NIW_RECEIVED_TOOK_LACPDU:
         lag_hear(&member->heard, frame, time_msec());
-        look(lacp);
+        refresh(lacp);
         break;
     case NIW_RECEIVED_RESPOND:
         if (member->n_responses < LAG_RESPONSES && lag_may_respond(&member->limit, time_msec())) {
@@ -586,7 +611,7 @@ lacp_run(struct lacp *lacp, lacp_send_pdu *send_pdu)
 
     lock();
     advance(lacp);
-    look(lacp);
+    refresh(lacp);
     HMAP_FOR_EACH (member, node, &lacp->members) {
         for (unsigned int i = 0; i < member->n_responses; i++) {
             niw_count_sent(&member->counts, member->responses[i], NIW_FRAME);
@@ -669,7 +694,7 @@ put_stats(struct ds *ds, const struct member *member)
 }
 
 static void
-put_members(struct ds *ds, const struct lacp *lacp, void (*put)(struct ds *, const struct member *))
+put_each(struct ds *ds, const struct lacp *lacp, void (*put)(struct ds *, const struct member *))
 {
     struct shash names = SHASH_INITIALIZER(&names);
     struct member *member;
@@ -698,14 +723,14 @@ put_lacp(struct ds *ds, const struct lacp *lacp)
         ds_put_cstr(ds, "none");
     }
     ds_put_format(ds, "\n  lacp_time: %s\n", lacp->set.fast ? "fast" : "slow");
-    put_members(ds, lacp, put_member);
+    put_each(ds, lacp, put_member);
 }
 
 static void
 put_lacp_stats(struct ds *ds, const struct lacp *lacp)
 {
     ds_put_format(ds, "---- %s statistics ----\n", lacp->name);
-    put_members(ds, lacp, put_stats);
+    put_each(ds, lacp, put_stats);
 }
 
 static void
@@ -721,7 +746,7 @@ show(struct unixctl_conn *conn, int argc, const char *argv[], void *put_)
         if (argc < 2 || !strcmp(lacp->name, argv[1])) {
             found = true;
             advance(lacp);
-            look(lacp);
+            refresh(lacp);
             put(&ds, lacp);
         }
     }

@@ -133,19 +133,15 @@ lag_state_print(FILE *file, const struct lag_state *state)
     fputs("end\n", file);
 }
 
-/* Writes the file beside, and renames it. Returns 0, or a negative number of errno. A link in the place of the file beside is not followed. */
+/* Writes a state into a new file. Returns 0, or a negative number of errno. A link in the place of the file is not followed. */
 static inline int
-lag_state_write(const char *path, const struct lag_state *state)
+lag_state_write_new(const char *path, const struct lag_state *state)
 {
-    char fresh[256];
     FILE *file;
     int fd, err = 0;
 
-    if (snprintf(fresh, sizeof fresh, "%s.new", path) >= (int) sizeof fresh) {
-        return -ENAMETOOLONG;
-    }
-    unlink(fresh);
-    fd = open(fresh, O_WRONLY | O_CREAT | O_EXCL | O_NOFOLLOW | O_CLOEXEC, 0600);
+    unlink(path);
+    fd = open(path, O_WRONLY | O_CREAT | O_EXCL | O_NOFOLLOW | O_CLOEXEC, 0600);
     if (fd < 0) {
         return -errno;
     }
@@ -153,22 +149,37 @@ lag_state_write(const char *path, const struct lag_state *state)
     if (!file) {
         err = -errno;
         close(fd);
-        unlink(fresh);
         return err;
     }
+    errno = 0;
     lag_state_print(file, state);
-    if (ferror(file)) {
-        err = -EIO;
+    if (fflush(file) || ferror(file)) {
+        err = errno ? -errno : -EIO;
     }
     if (fclose(file) && !err) {
         err = -errno;
     }
-    if (!err && rename(fresh, path)) {
-        err = -errno;
+    return err;
+}
+
+/* Writes the file beside, and renames it. Returns 0, or a negative number of errno: then there is no file, since an older state would tell of ports
+ * what is so no more. */
+static inline int
+lag_state_write(const char *path, const struct lag_state *state)
+{
+    char fresh[256];
+    int err = -ENAMETOOLONG;
+
+    if (snprintf(fresh, sizeof fresh, "%s.new", path) < (int) sizeof fresh) {
+        err = lag_state_write_new(fresh, state);
+        if (!err && rename(fresh, path)) {
+            err = -errno;
+        }
+        if (err) {
+            unlink(fresh);
+        }
     }
     if (err) {
-        /* An older state would tell of ports what is so no more. */
-        unlink(fresh);
         unlink(path);
     }
     return err;
@@ -240,11 +251,12 @@ lag_state_scan(FILE *file, struct lag_state *state)
     return false;
 }
 
-/* Reads the file. Where it tells nothing, false is the answer and `state` is empty. */
+/* Reads the file. Where it tells nothing, false is the answer and `state` is empty. One on a file system that became read-only tells nothing: who
+ * wrote it could not take it away when it grew too old. */
 static inline bool
 lag_state_read(const char *path, struct lag_state *state)
 {
-    FILE *file = fopen(path, "re");
+    FILE *file = access(path, W_OK) ? NULL : fopen(path, "re");
     bool good = file && lag_state_scan(file, state);
 
     if (!good) {

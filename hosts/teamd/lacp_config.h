@@ -97,8 +97,8 @@ static int load_config(struct teamd_context *ctx, struct lacp *lacp)
 		lacp->cfg.active = true;
 	if (teamd_config_bool_get(ctx, &lacp->cfg.fast_rate, "$.runner.fast_rate"))
 		lacp->cfg.fast_rate = false;
-	if (teamd_config_bool_get(ctx, &lacp->cfg.hold, "$.runner.hold_unselected"))
-		lacp->cfg.hold = false;
+	if (teamd_config_bool_get(ctx, &lacp->cfg.hold_unselected, "$.runner.hold_unselected"))
+		lacp->cfg.hold_unselected = false;
 	if ((err = number_of(ctx, &lacp->cfg.sys_prio, USHRT_MAX, 0, USHRT_MAX, "$.runner.sys_prio", NULL)) ||
 	    (err = number_of(ctx, &lacp->cfg.min_ports, 1, 1, UCHAR_MAX, "$.runner.min_ports", NULL)))
 		return err;

@@ -25,27 +25,21 @@ static uint64_t carrier_changes_of(const struct lacp_port *port)
 	return changes;
 }
 
-/* Writes the file, if it is older than what it tells. */
-static void save(struct lacp *lacp)
+/* What there is to tell of the ports. */
+static void fill_state(struct lacp *lacp, struct lag_state *state)
 {
-	struct lag_state state = { .ifindex = lacp->ctx->ifindex };
-	char path[PATH_MAX];
-	int err;
-
-	if (!lacp->dirty)
-		return;
-	lacp->dirty = false;
-	snprintf(state.device, sizeof(state.device), "%s", lacp->ctx->team_devname);
-	memcpy(state.mac, lacp->ctx->hwaddr, ETH_ALEN);
+	*state = (struct lag_state) { .ifindex = lacp->ctx->ifindex };
+	snprintf(state->device, sizeof(state->device), "%s", lacp->ctx->team_devname);
+	memcpy(state->mac, lacp->ctx->hwaddr, ETH_ALEN);
 	if (lacp->end.system.live) {
 		struct niw_marker next = niw_next_marker(&lacp->end.system);
 
-		state.next_marker = next.left ? next.id : 1;
+		state->next_marker = next.left ? next.id : 1;
 	}
 	for_each_port(port, lacp) {
-		struct lag_state_port *it = &state.ports[state.count];
+		struct lag_state_port *it = &state->ports[state->count];
 
-		if (!port->number || state.count == NIW_MOST_PORTS)
+		if (!port->number || state->count == NIW_MOST_PORTS)
 			continue;
 		*it = (struct lag_state_port) {
 			.ifindex = port->tdport->ifindex, .number = port->number, .priority = port->cfg.prio, .key = port->cfg.key,
@@ -54,17 +48,31 @@ static void save(struct lacp *lacp)
 		};
 		snprintf(it->name, sizeof(it->name), "%s", port->tdport->ifname);
 		memcpy(it->mac, port->mac, ETH_ALEN);
-		state.count++;
+		state->count++;
 	}
+}
+
+/* Writes the file, if it is older than what it tells. What is refused is tried again each second, and told once. */
+static void write_state(struct lacp *lacp)
+{
+	struct lag_state state;
+	char path[PATH_MAX];
+	int err;
+
+	if (!lacp->dirty)
+		return;
+	fill_state(lacp, &state);
 	state_path(lacp, path, sizeof(path));
 	err = lag_state_write(path, &state);
 	if (err && !lacp->unsaved)
 		teamd_log_warn("No state saved, so nothing is taken over from here: %s", strerror(-err));
-	lacp->unsaved = err != 0;
+	if (!err && lacp->unsaved)
+		teamd_log_info("State saved again.");
+	lacp->dirty = lacp->unsaved = err != 0;
 }
 
 /* Reads the file. One of another device tells nothing. */
-static void load(struct lacp *lacp)
+static void read_state(struct lacp *lacp)
 {
 	char path[PATH_MAX];
 

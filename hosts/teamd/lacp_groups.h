@@ -78,7 +78,7 @@ static struct worth worth(struct lacp *lacp, struct lacp_port *lead)
 		if (port->lead != lead)
 			continue;
 		/* A held port does not distribute. */
-		it.carries |= lacp->cfg.hold || distributes(port);
+		it.carries |= lacp->cfg.hold_unselected || distributes(port);
 		it.sticky |= port->cfg.sticky;
 		it.most += lacp->cfg.policy == BANDWIDTH ? team_get_port_speed(port->tdport->team_port) : 1;
 	}

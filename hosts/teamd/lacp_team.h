@@ -46,7 +46,7 @@ struct lacp {
 		bool fast_rate;
 		uint16_t sys_prio;
 		uint16_t min_ports;
-		bool hold;	/* ports outside of the group that carries are held */
+		bool hold_unselected;	/* ports outside of the group that carries are held */
 		enum policy policy;
 	} cfg;
 };
@@ -67,6 +67,7 @@ struct lacp_port {
 	bool resumes;		/* it distributed before teamd started */
 	bool held;
 	bool watched;		/* its link watch is obeyed */
+	int64_t refused_until;	/* the kernel did not take it into use: the peer is told until then that it does not carry */
 	struct lag_heard heard;
 	struct lag_limit limit;
 	struct {
@@ -119,19 +120,19 @@ static bool may_carry(const struct lacp_port *port)
 	return port->chosen && !port->lacp->silent_at && distributes(port);
 }
 
-static const char *const state_names[] = { "disabled", "current", "expired", "defaulted" };
+static const char *const state_words[] = { "disabled", "current", "expired", "defaulted" };
 
 static const char *state_name(const struct niw_view *view)
 {
 	switch (view->port ? view->receive_state : NIW_RECEIVE_PORT_DISABLED) {
 	case NIW_RECEIVE_CURRENT:
-		return state_names[1];
+		return state_words[1];
 	case NIW_RECEIVE_EXPIRED:
-		return state_names[2];
+		return state_words[2];
 	case NIW_RECEIVE_DEFAULTED:
-		return state_names[3];
+		return state_words[3];
 	default:
-		return state_names[0];
+		return state_words[0];
 	}
 }
 

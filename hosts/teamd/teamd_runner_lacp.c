@@ -22,7 +22,7 @@
 #define TICK_NAME "lacp_tick"
 #define SOCKET_NAME "lacp_socket"
 #define TELLING_MS 1200	/* while the device goes down: how long the peers are told, before the links fall silent */
-#define RETRY_MS 1000	/* until a system that was refused is tried again */
+#define RETRY_MS 1000	/* until what was refused is tried again: a system, or a port by the kernel */
 
 static const uint8_t slow_address[ETH_ALEN] = { 0x01, 0x80, 0xC2, 0x00, 0x00, 0x02 };
 
@@ -43,11 +43,12 @@ static int set_carrier(struct lacp *lacp, bool up)
 
 	if (lacp->carrier_up == up)
 		return 0;
-	lacp->carrier_up = up;
 	err = team_carrier_set(lacp->ctx->th, up);
-	if (err)
-		return err == -EOPNOTSUPP ? 0 : err;
-	teamd_log_info("carrier changed to %s", up ? "UP" : "DOWN");
+	if (err && err != -EOPNOTSUPP)
+		return err; /* the next tick tries again */
+	lacp->carrier_up = up;
+	if (!err)
+		teamd_log_info("carrier changed to %s", up ? "UP" : "DOWN");
 	return 0;
 }
 
@@ -85,7 +86,7 @@ static bool is_port_missing(struct lacp *lacp, bool *ready)
 }
 
 /* Sleeps until something is due: of LACP, of the device that falls silent, of the file, or of the configuration of the ports. */
-static void wait(struct lacp *lacp)
+static void sleep_until_due(struct lacp *lacp)
 {
 	int64_t now = lag_now(), at = lacp->config_at + CONFIG_MS, due = INT64_MAX;
 	bool ready;
@@ -100,12 +101,12 @@ static void wait(struct lacp *lacp)
 		due = now + NIW_TICK_MILLISECONDS;
 	if (due < at)
 		at = due;
-	if ((lacp->dirty || is_port_missing(lacp, &ready)) && at > now + NIW_TICK_MILLISECONDS)
+	if (((lacp->dirty && !lacp->unsaved) || is_port_missing(lacp, &ready)) && at > now + NIW_TICK_MILLISECONDS)
 		at = now + NIW_TICK_MILLISECONDS;
 	wake_at(lacp, at);
 }
 
-static void take_view(struct lacp_port *port, const struct niw_view *view)
+static void note_view(struct lacp_port *port, const struct niw_view *view)
 {
 	struct niw_view was = port->view;
 	bool had = port->selected, began;
@@ -122,63 +123,83 @@ static void take_view(struct lacp_port *port, const struct niw_view *view)
 	if (port->selected != had || view->receive_state != was.receive_state || view->partner_key != was.partner_key ||
 	    view->partner_priority != was.partner_priority || memcmp(view->partner_mac, was.partner_mac, ETH_ALEN) ||
 	    view->partner_port != was.partner_port || view->partner_port_priority != was.partner_port_priority ||
-	    ((view->partner_state ^ was.partner_state) & NIW_STATE_AGGREGATION) || (began && !port->lacp->cfg.hold))
+	    ((view->partner_state ^ was.partner_state) & NIW_STATE_AGGREGATION) || (began && !port->lacp->cfg.hold_unselected))
 		port->lacp->changed = true; /* with hold the ports begin and stop as they are chosen */
 	port->lacp->dirty |= port->lacp->changed || began;
 }
 
 /* Holds the ports that are to leave their aggregators, and lets the others go. */
-static void hold(struct lacp *lacp)
+static void hold_ports(struct lacp *lacp)
 {
 	for_each_port(port, lacp) {
-		bool it = lacp->silent_at || (lacp->cfg.hold && port->selected && !port->chosen);
+		bool it = lacp->silent_at || port->refused_until > lag_now() ||
+			  (lacp->cfg.hold_unselected && port->selected && !port->chosen);
 
 		if (it != port->held && niw_hold(&lacp->end.system, port->number, it) == NIW_OK)
 			port->held = it;
 	}
 }
 
-static void take_views(struct lacp *lacp)
+/* What each port is now; where memory for a system was refused it is disabled. One that goes on stays as it is until the system has it. */
+static void read_views(struct lacp *lacp)
 {
+	static const struct niw_view none;
 	struct niw_view views[NIW_MOST_PORTS];
 
-	lag_end_views(&lacp->end, views);
+	if (lacp->end.system.live)
+		lag_end_views(&lacp->end, views);
 	for_each_port(port, lacp) {
-		const struct niw_view *view = lag_view_of(views, port->number);
+		const struct niw_view *view = lacp->end.system.live ? lag_view_of(views, port->number) : &none;
 
-		if (view)
-			take_view(port, view);
+		if (view && !port->resumes)
+			note_view(port, view);
 	}
 }
 
-/* Takes over what the system shows now: which ports may carry, and the carrier of the team. */
-static int look(struct lacp *lacp)
+static int set_address(struct teamd_context *ctx, struct teamd_port *tdport)
+{
+	int err = team_hwaddr_set(ctx->th, tdport->ifindex, ctx->hwaddr, ctx->hwaddr_len);
+
+	if (err)
+		teamd_log_err("%s: Failed to set hardware address. ", tdport->ifname);
+	return err;
+}
+
+/* Has the driver pass frames on a port, or stops them there. */
+static int set_enabled(struct lacp_port *port)
+{
+	struct teamd_context *ctx = port->ctx;
+	bool it = port->resumes || may_carry(port), is;
+	int err = 0;
+
+	if (it && memcmp(team_get_ifinfo_hwaddr(port->tdport->team_ifinfo), ctx->hwaddr, ETH_ALEN))
+		err = set_address(ctx, port->tdport);
+	if (!err && (teamd_port_enabled_check(ctx, port->tdport, &is) || is != it))
+		err = teamd_port_check_enable(ctx, port->tdport, it, !it);
+	if (err && it) /* the peer is told that the port does not carry */
+		port->refused_until = lag_now() + RETRY_MS;
+	return err;
+}
+
+/* Takes over what the system shows now: which ports may carry, and the carrier of the team. What the kernel refuses is tried again. */
+static int refresh(struct lacp *lacp)
 {
 	int carry = 0, failed = 0, err;
 
-	if (!lacp->end.system.live) {
-		save(lacp);
-		wait(lacp);
-		return set_carrier(lacp, false);
-	}
-	take_views(lacp);
+	read_views(lacp);
 	choose(lacp);
-	hold(lacp);
 	for_each_port(port, lacp) {
-		/* One that goes on stays as it is until the system has it. */
-		bool it = port->resumes || may_carry(port), is;
-
-		carry += it;
-		if (!teamd_port_enabled_check(lacp->ctx, port->tdport, &is) && is == it)
-			continue;
-		err = teamd_port_check_enable(lacp->ctx, port->tdport, it, !it);
-		if (err && !TEAMD_ENOENT(err))
+		err = set_enabled(port);
+		if (!err)
+			carry += port->resumes || may_carry(port);
+		else if (!TEAMD_ENOENT(err))
 			failed = err; /* the other ports, and the peers, do not wait for this one */
 	}
-	save(lacp);
+	hold_ports(lacp);
+	write_state(lacp);
 	err = set_carrier(lacp, carry >= lacp->cfg.min_ports);
 	send_due(lacp);
-	wait(lacp);
+	sleep_until_due(lacp);
 	return err ? err : failed;
 }
 
@@ -262,7 +283,7 @@ static int remake(struct lacp *lacp, const struct lacp_port *but)
 		lacp->to_remake = true;
 		lacp->try_at = lag_now() + RETRY_MS;
 	}
-	return look(lacp);
+	return refresh(lacp);
 }
 
 /* The next tick makes the system anew, with what else comes until then. */
@@ -272,7 +293,7 @@ static void remake_soon(struct lacp *lacp)
 		return;
 	lacp->to_remake = true;
 	lacp->try_at = lag_now() + NIW_TICK_MILLISECONDS;
-	wait(lacp);
+	sleep_until_due(lacp);
 }
 
 static void advance(struct lacp *lacp)
@@ -311,7 +332,7 @@ static int tick(struct teamd_context *ctx, int events, void *priv)
 		return remake(lacp, NULL);
 	if (lacp->silent_at)
 		set_links(lacp);
-	return look(lacp);
+	return refresh(lacp);
 }
 
 static int receive(struct teamd_context *ctx, int events, void *priv)
@@ -326,8 +347,9 @@ static int receive(struct teamd_context *ctx, int events, void *priv)
 	length = teamd_recvfrom(port->sock, frame, sizeof(frame), 0, (struct sockaddr *) &from, sizeof(from));
 	if (length <= 0)
 		return length;
+	/* One that has the tag of a VLAN is of another host (PACKET_OTHERHOST). */
 	if (!teamd_port_present(ctx, port->tdport) || !lacp->end.system.live || !port->number || length < ETH_HLEN ||
-	    memcmp(frame, slow_address, ETH_ALEN))
+	    from.sll_pkttype != PACKET_MULTICAST || memcmp(frame, slow_address, ETH_ALEN))
 		return 0;
 	advance(lacp);
 	got = niw_receive(&lacp->end.system, port->number, frame, (size_t) length, response, sizeof(response));
@@ -338,34 +360,24 @@ static int receive(struct teamd_context *ctx, int events, void *priv)
 	if (got.what == NIW_RECEIVED_TOOK_LACPDU) {
 		lacp->dirty = true;
 		if (lag_hear(&port->heard, frame, lag_now()))
-			return look(lacp);
+			return refresh(lacp);
 		send_due(lacp); /* without news the next tick sees to the rest */
-		wait(lacp);
+		sleep_until_due(lacp);
 	}
 	return 0;
 }
 
-static int slow_membership(struct lacp_port *port, unsigned long request)
+/* Has the interface take what is sent to the slow protocols, while the socket is open. */
+static int join_slow(const struct lacp_port *port)
 {
-	struct ifreq ifr;
+	struct packet_mreq group = { .mr_ifindex = (int) port->tdport->ifindex, .mr_type = PACKET_MR_MULTICAST, .mr_alen = ETH_ALEN };
+	int err;
 
-	memset(&ifr, 0, sizeof(ifr));
-	ifr.ifr_addr.sa_family = AF_UNSPEC;
-	memcpy(ifr.ifr_addr.sa_data, slow_address, ETH_ALEN);
-	strncpy(ifr.ifr_name, port->tdport->ifname, sizeof(ifr.ifr_name) - 1);
-	if (ioctl(port->sock, request, &ifr) == -1) {
-		teamd_log_err("%s: no membership of the slow protocols: %s", port->tdport->ifname, strerror(errno));
-		return -errno;
-	}
-	return 0;
-}
-
-static int set_address(struct teamd_context *ctx, struct teamd_port *tdport)
-{
-	int err = team_hwaddr_set(ctx->th, tdport->ifindex, ctx->hwaddr, ctx->hwaddr_len);
-
-	if (err)
-		teamd_log_err("%s: Failed to set hardware address. ", tdport->ifname);
+	memcpy(group.mr_address, slow_address, ETH_ALEN);
+	if (!setsockopt(port->sock, SOL_PACKET, PACKET_ADD_MEMBERSHIP, &group, sizeof(group)))
+		return 0;
+	err = -errno;
+	teamd_log_err("%s: no membership of the slow protocols: %s", port->tdport->ifname, strerror(-err));
 	return err;
 }
 
@@ -427,7 +439,7 @@ static int port_init(struct teamd_context *ctx, struct teamd_port *tdport, void 
 	if ((err = load_port_config(ctx, port)) ||
 	    (err = teamd_packet_sock_open_type(SOCK_RAW, &port->sock, tdport->ifindex, htons(ETH_P_SLOW), NULL, NULL)))
 		goto none;
-	if ((err = slow_membership(port, SIOCADDMULTI)) ||
+	if ((err = join_slow(port)) ||
 	    (err = teamd_loop_callback_fd_add(ctx, SOCKET_NAME, port, receive, port->sock, TEAMD_LOOP_FD_EVENT_READ)))
 		goto close_sock;
 	find_mac(port);
@@ -491,7 +503,6 @@ static void port_fini(struct teamd_context *ctx, struct teamd_port *tdport, void
 	if (!lacp->stays)
 		remake(lacp, port);
 	teamd_loop_callback_del(ctx, SOCKET_NAME, port);
-	slow_membership(port, SIOCDELMULTI);
 	close(port->sock);
 	port->tdport = NULL;
 }
@@ -502,37 +513,32 @@ static const struct teamd_port_priv port_priv = {
 	.priv_size = sizeof(struct lacp_port),
 };
 
-static int link_changed(struct lacp *lacp, struct lacp_port *port)
+/* Where one of these answers an error, teamd forgets what else the kernel told with it, and a port that left stays in its list. What was refused here the
+ * next tick tries again. */
+static void links_changed(struct lacp *lacp)
 {
-	if (!port)
-		return 0;
-	port->carrier_changes = carrier_changes_of(port);
-	lacp->changed = lacp->dirty = true;
 	if (lacp->to_remake || !lacp->end.system.live)
-		return 0;
+		return;
 	advance(lacp);
 	set_links(lacp);
-	return look(lacp);
+	refresh(lacp);
 }
 
 static int watch_hwaddr(struct teamd_context *ctx, void *priv)
 {
 	struct teamd_port *tdport;
-	int err;
 
 	teamd_for_each_tdport(tdport, ctx)
-		if ((err = set_address(ctx, tdport)))
-			return err;
+		set_address(ctx, tdport);
 	remake_soon(priv);
 	return 0;
 }
 
 static int watch_port_hwaddr(struct teamd_context *ctx, struct teamd_port *tdport, void *priv)
 {
-	if (!teamd_port_present(ctx, tdport) ||
-	    !memcmp(team_get_ifinfo_hwaddr(tdport->team_ifinfo), ctx->hwaddr, ctx->hwaddr_len))
-		return 0;
-	return set_address(ctx, tdport);
+	if (teamd_port_present(ctx, tdport) && memcmp(team_get_ifinfo_hwaddr(tdport->team_ifinfo), ctx->hwaddr, ctx->hwaddr_len))
+		set_address(ctx, tdport);
+	return 0;
 }
 
 /* A device that goes down tells its peers first, and falls silent then. */
@@ -544,11 +550,8 @@ static int watch_admin_state(struct teamd_context *ctx, void *priv)
 		lacp->silent_at = 0;
 	else if (!lacp->silent_at)
 		lacp->silent_at = lag_now() + TELLING_MS;
-	advance(lacp);
-	if (lacp->to_remake || !lacp->end.system.live)
-		return 0;
-	set_links(lacp);
-	return look(lacp);
+	links_changed(lacp);
+	return 0;
 }
 
 static int watch_port_added(struct teamd_context *ctx, struct teamd_port *tdport, void *priv)
@@ -568,7 +571,15 @@ static void watch_port_removed(struct teamd_context *ctx, struct teamd_port *tdp
 
 static int watch_port_changed(struct teamd_context *ctx, struct teamd_port *tdport, void *priv)
 {
-	return link_changed(priv, port_of(priv, tdport));
+	struct lacp_port *port = port_of(priv, tdport);
+	struct lacp *lacp = priv;
+
+	if (!port)
+		return 0;
+	port->carrier_changes = carrier_changes_of(port);
+	lacp->changed = lacp->dirty = true;
+	links_changed(lacp);
+	return 0;
 }
 
 static const struct teamd_event_watch_ops watch = {
@@ -584,12 +595,14 @@ static const struct teamd_event_watch_ops watch = {
 /* Takes over what the teamd before left, and lets the carrier of a device that goes on be: the first tick tells whether it does. */
 static int take_over(struct lacp *lacp)
 {
+	bool goes_on = false, up;
 	int err;
 
 	if (lacp->ctx->take_over)
-		load(lacp);
+		read_state(lacp);
 	for (size_t i = 0; i < lacp->kept.count; i++)
-		lacp->carrier_up |= lacp->kept.ports[i].carried && lacp->kept.ports[i].chosen;
+		goes_on |= lacp->kept.ports[i].carried && lacp->kept.ports[i].chosen;
+	lacp->carrier_up = goes_on && !team_carrier_get(lacp->ctx->th, &up) && up;
 	if (!team_get_ifinfo_admin_state(lacp->ctx->ifinfo))
 		lacp->silent_at = lag_now();
 	err = lacp->carrier_up ? 0 : team_carrier_set(lacp->ctx->th, false);
@@ -610,7 +623,7 @@ static int start_clock(struct lacp *lacp)
 	}
 	teamd_loop_callback_enable(lacp->ctx, TICK_NAME, lacp);
 	lacp->config_at = lag_now(); /* the first tick takes the ports over, and does not only look */
-	wait(lacp);
+	sleep_until_due(lacp);
 	return 0;
 }
 

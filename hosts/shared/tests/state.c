@@ -1,7 +1,9 @@
-/* Tests of lag_state.h: what is written is read again, and octets that are no state tell nothing. With -DFUZZ it is a fuzzer of libFuzzer. */
+/* Tests of lag_state.h: what is written is read again, octets that are no state tell nothing, and a file system that refuses leaves none. With -DFUZZ it is a fuzzer of libFuzzer. */
 #define _GNU_SOURCE
 #include "lag_state.h"
 
+#include <sched.h>
+#include <sys/mount.h>
 #include <sys/stat.h>
 
 /* What was read is a state as one that is written, whatever the octets were. */
@@ -130,6 +132,37 @@ spoil(const char *path)
     return taken;
 }
 
+/* A file system of these options takes one state, and refuses the next one. */
+static void
+refuse(const char *options, bool read_only, int error, const char *what)
+{
+    static struct lag_state state, again;
+    char folder[] = "/tmp/lag-state.XXXXXX", path[64];
+    bool begun;
+
+    fill(&state);
+    snprintf(path, sizeof path, "%s/state", mkdtemp(folder));
+    begun = !mount("state", folder, "tmpfs", 0, options) && !lag_state_write(path, &state) && lag_state_read(path, &again)
+            && (!read_only || !mount("state", folder, "tmpfs", MS_REMOUNT | MS_RDONLY, options));
+    check(begun && lag_state_write(path, &state) == error, what);
+    check(!lag_state_read(path, &again), "  and no state is read, which would be older than the ports");
+    umount(folder);
+    rmdir(folder);
+}
+
+/* The file system refuses what is written. */
+static void
+try_refusals(void)
+{
+    if (unshare(CLONE_NEWNS) || mount("none", "/", NULL, MS_REC | MS_PRIVATE, NULL)) {
+        printf("skipped: file systems that refuse: no root\n");
+        return;
+    }
+    refuse("size=4096", false, -ENOSPC, "a full file system refuses a state, and tells it");
+    refuse("nr_inodes=2", false, -ENOSPC, "so does one that has no further file");
+    refuse("size=1m", true, -EROFS, "and one that becomes read-only");
+}
+
 /* With the name of a file it writes a state there, for a fuzzer to begin with. */
 int
 main(int count, char **words)
@@ -159,6 +192,7 @@ main(int count, char **words)
     unlink(fresh);
     check(!symlink("/nowhere/at-all", fresh) && !lag_state_write(path, &state), "a link in the place of the new file is taken away");
     check(lag_state_write("/nowhere/file", &state) == -ENOENT, "a folder that is not there is told");
+    try_refusals();
     close(fd);
     unlink(path);
     check(!lag_state_read(path, &again), "no file is no state");

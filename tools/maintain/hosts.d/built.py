@@ -11,11 +11,21 @@ import time
 from building import archives
 from checking import Failed
 from fetched import Sources
-from repository import COMPILER, MAINTAIN, TOOLS, TOP
+from repository import COMPILER, MAINTAIN, TOOLS, TOP, WARNINGS
 
 DAY = 24 * 3600
 HOSTS = os.path.join(TOP, "hosts")
+# What refuses a host what it asks for.
+REFUSE = os.path.join(HOSTS, "shared", "tests", "refuse.c")
+# No function of the library is longer, in octets.
+LAST_FUNCTION = 0x1000
 UNDEFINED = "-O1 -g -fno-omit-frame-pointer -fsanitize=undefined -fno-sanitize-recover=undefined"
+
+
+def functions(path: str) -> list[tuple[int, str]]:
+    """The functions of a program or an archive, with their places."""
+    rows = [line.split() for line in subprocess.run(["nm", path], capture_output=True, text=True).stdout.splitlines()]
+    return [(int(at, 16), name) for at, kind, name in (row for row in rows if len(row) == 3) if kind in "tT" and "." not in name]
 
 
 class Built:
@@ -26,7 +36,7 @@ class Built:
         self.trees: dict[str, str] = {}
 
     def cache(self) -> list[str]:
-        return ["--cache", self.sources.cache, *([] if self.sources.may_fetch else ["--no-fetch"])]
+        return ["--cache", self.sources.cache, "--jobs", str(os.cpu_count() or 2), *([] if self.sources.may_fetch else ["--no-fetch"])]
 
     def tool(self, *words: str, **environment: str) -> str:
         """What tools/host prints."""
@@ -57,6 +67,21 @@ class Built:
         if not os.path.exists(made):
             self.compile("-O2", "-o", made, os.path.join(MAINTAIN, "carry.d", "flows.c"))
         return made
+
+    def loaded(self, name: str, source: str) -> str:
+        """A library that is loaded before a program."""
+        made = f"{self.folder}/{name}.so"
+        if not os.path.exists(made):
+            self.compile("-O1", *WARNINGS, "-Wno-pedantic", "-shared", "-fPIC", "-o", made, source)
+        return made
+
+    def library_at(self, program: str) -> str:
+        """Where the library stands in a program, as refuse.c reads it."""
+        names = {name for _, name in functions(self.archives()[0])}
+        places = sorted(at for at, name in functions(program) if name in names)
+        if not places:
+            raise Failed(f"nm finds the library in {program}")
+        return f"{os.path.basename(program)}:{places[0]:x}:{places[-1] + LAST_FUNCTION:x}"
 
     def compile(self, *words: str) -> None:
         ended = subprocess.run([*COMPILER, *words], capture_output=True, text=True)

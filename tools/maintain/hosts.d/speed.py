@@ -1,4 +1,4 @@
-"""teamd as it is, teamd with the library, and lagd with plane=team, measured in turns in one guest; and what many idle teamds cost."""
+"""teamd as it is, teamd with the library, and lagd with plane=team, measured in turns in one guest; and what many teamds cost."""
 
 from __future__ import annotations
 
@@ -12,7 +12,7 @@ from checking import Skipped, check
 from repository import TOP
 from teams import ended, guest, place, program
 
-ROUNDS = 3
+ROUNDS, ROUNDS_OF_MANY = 3, 2
 WAYS = {"own": "teamd as it is", "library": "teamd with the library", "lagd": "lagd, plane=team"}
 
 
@@ -41,13 +41,13 @@ def printed(rows: dict[str, dict[str, list[str]]], ways: dict[str, str]) -> None
 
 
 def many(built: Built) -> None:
-    """1, 8 and 32 idle teamds beside each other."""
+    """1, 8, 32 and 128 idle teamds beside each other, and 32 that start at once."""
     shutil.copy(program(built, True), f"{place(built)}/own")
-    told = guest(built, "many", program(built), "teamd", "ROUNDS=2")
+    told = guest(built, "many", program(built), "teamd", f"ROUNDS={ROUNDS_OF_MANY}")
     rows = table(told)
     printed(rows, {way: WAYS[way] for way in ("own", "library")})
-    carry = [it for row, cells in rows.items() if row.endswith("all carry") for it in cells.get("library", [])]
-    check(len(carry) == 6 and set(carry) == {"yes"}, "1, 8 and 32 teamds with the library carry, in two rounds", told[-1500:])
+    carry = [it for row, cells in rows.items() if row.endswith(": all carry") for it in cells.get("library", [])]
+    check(carry == ["yes"] * 5 * ROUNDS_OF_MANY, f"1, 8, 32 and 128 teamds with the library carry, and 32 that start at once, in {ROUNDS_OF_MANY} rounds", told[-1500:])
     check(ended(told), "many: the guest comes to its end", told[-800:])
 
 

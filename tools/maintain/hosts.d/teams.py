@@ -11,12 +11,13 @@ import signal
 import subprocess
 from typing import Callable
 
-from built import HOSTS, UNDEFINED, Built
+from built import HOSTS, REFUSE, UNDEFINED, Built
 from checking import Failed, Skipped, check
-from repository import TOP
+from repository import MAINTAIN, TOP
 from switches import words_of
 
 TESTS = os.path.join(HOSTS, "teamd", "tests")
+REGISTERS = os.path.join(MAINTAIN, "hosts.d", "registers.c")
 # How long a guest may take, in seconds.
 LONGEST = {"conform": 2400, "speed": 5400, "many": 3600}
 USUAL, UNDER_VALGRIND = 1200, 3600
@@ -74,7 +75,7 @@ def guest(built: Built, script: str, program: str, name: str, *more: str) -> str
     linux = f"{built.sources.cache}/unpacked/user-mode-linux/usr/bin/linux.uml"
     said = ["mem=1024M", "root=/dev/root", "rootfstype=hostfs", "rootflags=/", "ro", f"init={TESTS}/init", f"uml_dir={own}", "con=null", "con0=null,fd:1", "ssl=null", "panic=-1", "quiet"]
     said += [f"SCRIPT={script}", f"TEAMD={name}", f"PLACE={folder}", f"TESTS={TESTS}", f"PROJECT={TOP}", *more]
-    run = subprocess.Popen([linux, *said], stdin=subprocess.DEVNULL, stdout=subprocess.PIPE, stderr=subprocess.DEVNULL, start_new_session=True)
+    run = subprocess.Popen([linux, *said], stdin=subprocess.DEVNULL, stdout=subprocess.PIPE, stderr=subprocess.DEVNULL, start_new_session=True, env={**os.environ, "LD_PRELOAD": built.loaded("registers", REGISTERS)})
     try:
         told, _ = run.communicate(timeout=UNDER_VALGRIND if SLOW in more else LONGEST.get(script, USUAL))
     except subprocess.TimeoutExpired as why:
@@ -129,6 +130,19 @@ def sanitized(built: Built) -> None:
     made = program(built, CFLAGS=UNDEFINED)
     for script in NAMES:
         judge(f"{script}, sanitized", guest(built, script, made, "sanitized"))
+
+
+def faults(built: Built) -> None:
+    """teamd with what it asks for refused."""
+    folder = place(built)
+    made = f"{folder}/teamd-to-refuse"
+    shutil.copy(program(built), made)
+    shutil.copy(built.loaded("refuse", REFUSE), folder)
+    wrapper = f"{built.folder}/refused-teamd"
+    with open(wrapper, "w", encoding="utf-8") as it:
+        it.write(f'#!/bin/sh\nexec env LD_PRELOAD=/mnt/refuse.so REFUSE=/run/refuse LIBRARY_AT={built.library_at(made)} /mnt/teamd-to-refuse "$@"\n')
+    os.chmod(wrapper, 0o755)
+    judge("faults", guest(built, "faults", wrapper, "refused-teamd"))
 
 
 def findings(told: str) -> list[str]:
