@@ -24,7 +24,8 @@ def told(octets: bytes) -> "tuple[int, bool] | None":
     return (struct.unpack("<I", found[PORT])[0], DATA in found) if PORT in found else None
 
 
-enabled, frames = {}, 0
+enabled: "dict[int, bool]" = {}
+frames = 0
 with open(sys.argv[1], encoding="utf-8") as lines:
     for line in lines:
         octets = bytes.fromhex("".join(re.findall(r"\\x([0-9a-f]{2})", line)))
