@@ -189,9 +189,7 @@ lag_end_save(struct lag_port *ports, size_t count, struct niw_saved *saved, int6
 
             memset(&saved[kept], 0, sizeof saved[kept]);
             saved[kept].port = it->port.number;
-#if NIW_VERSION >= 12
             saved[kept].aggregator = lag_aggregator_of(ports, i);
-#endif
             saved[kept].age = age < UINT32_MAX ? (uint32_t) age : UINT32_MAX;
             memcpy(saved[kept++].frame, it->heard->frame, NIW_FRAME);
         }
