@@ -14,7 +14,7 @@ from typing import Iterable, Iterator, Type
 
 import pytest
 from conform_device import Device, World, put
-from conform_faults import CutOff, KeyUnchecked, PartnerLength, RestartsOnChange, WrongEcho
+from conform_faults import CutOff, KeyUnchecked, PartnerLength, RestartsOnChange, SecondPartnerKey, WrongEcho
 from conform_frames import OtherId, VersionChecked
 from conform_machines import NoNtt
 
@@ -270,13 +270,21 @@ def test_a_device_that_does_not_stay_up_has_one_cause(bench) -> None:  # type: i
     assert [it.name for it in found] == ["RX-04"] and len(found[0].explains) > 10, [it.text for it in found]
 
 
-@pytest.mark.parametrize("kind, root, others", [(OtherId, "MK-02", ["EN-03"]), (VersionChecked, "VN-02", ["VN-03"])])
+@pytest.mark.parametrize("kind, root, others", [(OtherId, "MK-02", ["MK-01", "MK-05", "MK-06", "MK-10", "EN-03", "MK-11"]), (VersionChecked, "VN-02", ["VN-03"])])
 def test_the_cause_is_the_fault(bench, kind: Type[Device], root: str, others: list[str]) -> None:  # type: ignore[no-untyped-def]
     b, results = bench(kind), list[Result]()
     meet(b)
     run_all(b, ordered(BY_NAME[it] for it in [root, *others]), results.append)
     found = causes.grouped(results)
     assert [it.name for it in found] == [root] and [it.test.id for it in found[0].explains] == others
+
+
+def test_what_a_device_tells_wrong_on_one_link_is_told_with_the_link(bench) -> None:  # type: ignore[no-untyped-def]
+    b = bench(SecondPartnerKey)
+    meet(b)
+    fields, engine = (run_times(b, BY_NAME[it], None, 1) for it in ("FM-06", "EN-02"))
+    assert fields.why.startswith("link 2: the partner told is 258/02-cf") and "key 65279 port 165/61454" in fields.why and "key 65534 port 165/61454" in fields.why
+    assert "link 1 DISTRIBUTING, link 2 PARTNER_NOT_SYNCHRONIZED" in engine.why and ", where the device tells of our port 2 key 4352, and has to tell 17" in engine.why
 
 
 def test_a_list_is_written_as_json(tmp_path: Path, monkeypatch: pytest.MonkeyPatch) -> None:
