@@ -470,7 +470,7 @@ def test_a_library_that_crashes_on_a_runt_fails_the_tests_that_send_one(tmp_path
     words = ["--memory", made, "--only", "VN-*", "--only", "RB-*", "--only", "IV-*", "--only", "EN-*", "--junit", "r.xml"]
     assert command.main(words) == 1
     found = {it.get("name", ""): it for it in xml.parse(tmp_path / "r.xml").getroot().iter("testcase")}
-    fails = [name.split()[0] for name, it in found.items() if it.find("failure") is not None]
+    fails = [name for name, it in found.items() if it.find("failure") is not None]
     assert fails == ["VN-22", "RB-01", "RB-04"] and not [*xml.parse(tmp_path / "r.xml").getroot().iter("error")]
     assert all("crashed by SIGSEGV in device_take; has to go on" in str(it.get("message")) for it in xml.parse(tmp_path / "r.xml").getroot().iter("failure"))
     (tmp_path / "known").write_text("".join(f"{it} crashes\n" for it in fails))
