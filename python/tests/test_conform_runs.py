@@ -186,6 +186,8 @@ def test_status_junit_and_tap_agree_on_what_has_no_answer(tmp_path: Path, monkey
 def test_junit_and_tap_have_what_the_device_said(run, tmp_path: Path) -> None:  # type: ignore[no-untyped-def]
     assert run(KeyUnchecked, "--only", "RX-07c", "--only", "FM-01", "--junit", "r.xml", "--tap", "r.tap", "--device", "a switch") == 1
     suite = xml.parse(tmp_path / "r.xml").getroot()[0]
+    assert [(it.get("classname"), it.get("name")) for it in suite.iter("testcase")] == [("FM", "FM-01")]
+    assert [it.get("value") for it in suite.iter("property") if it.get("name") == "title"] == ["Destination, source and type"]
     assert suite.get("timestamp") and {it.get("name"): it.get("value") for it in suite.iter("property")}["device"] == "a switch"
     text = next(xml.parse(tmp_path / "r.xml").getroot().iter("failure")).text or ""
     assert "FAILS: with another key of the device it stops carrying: never; has to be at most 0.65 s" in text and "bench: LACPDU 3f" in text
