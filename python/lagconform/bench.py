@@ -64,6 +64,8 @@ class Bench:
         self.flood = ""
         # Which of our six parameters the device tells wrong, by the tests before: the others go by the rest.
         self.mistold: set[str] = set()
+        # The tests in which a stack in memory broke, and was started again.
+        self.broke: list[str] = []
         # What the device claims of itself (--pics).
         self.claimed: Mapping[str, bool] = {}
 

@@ -73,6 +73,7 @@ def about(given: argparse.Namespace, b: Bench, results: Sequence[Result]) -> dic
     late = max((it.late for it in results), default=0.0)
     told = {"device": given.device, **report.about_device(b), "begun": begun, "slack": f"{given.slack:g} s, beside the 0.25 s of a timer (6.4.4)"}
     told.update({"the bench was late": f"{late:.3f} s at most", "seed": str(given.seed), "rules": CAVEAT})
+    told.update({"the stack broke": f"and was started again {number_of(len(b.broke), 'time')}, in {', '.join(b.broke)}"} if b.broke else {})
     told.update({"times": "seconds of the clock of the stack: nobody waited for them"} if given.memory else {})
     return {**told, "capture": os.path.basename(given.pcap)} if given.pcap else told
 

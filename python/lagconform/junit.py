@@ -32,7 +32,7 @@ def tag(run: Run, it: Result) -> str:
 
 def words(run: Run, it: Result) -> list[str]:
     """What was looked at in a test, with what the packets say that show it."""
-    said = [f"{it.test.clause}; rule by {it.test.basis}: {it.test.rule}", *it.notes]
+    said = [f"{it.test.title}: {it.test.clause}; rule by {it.test.basis}: {it.test.rule}", *it.notes]
     for claim in it.claims:
         said.append(f"{'holds' if claim.holds else 'FAILS'}: {claim.text}")
         if not claim.holds:
@@ -43,9 +43,9 @@ def words(run: Run, it: Result) -> list[str]:
 
 
 def case(run: Run, it: Result) -> str:
-    """A result as a case of JUnit."""
-    name = quoteattr(f"{it.test.id} {it.test.title}")
-    out = f'<testcase classname={quoteattr(it.test.group)} name={name} time="{it.end - it.begin:.3f}">'
+    """A result as a case of JUnit. Its name is the number of its test, which stays where a title gets other words."""
+    out = f'<testcase classname={quoteattr(it.test.group)} name={quoteattr(it.test.id)} time="{it.end - it.begin:.3f}">'
+    out += f'<properties><property name="title" value={quoteattr(it.test.title)}/></properties>'
     kind, text = tag(run, it), f"known: {it.known}: {it.why}" if it.known else f"{it.verdict}: {it.why}" if it.verdict != FAIL else it.why
     body = escape("\n".join(words(run, it)))
     if kind == "skipped":

@@ -19,12 +19,14 @@ from .child import NEEDED, Child
 from .hanging import limited
 from .pdus import COUNT_AT, DATA, SENDERS
 from .refusals import Refused
-from .wires import Answer, Arrival, Gone
+from .wires import Answer, Arrival, Broke, Gone
 
 # A frame takes so long from one end of a link to the other.
 WIRE_SECONDS = 0.0005
 # Flows of the device's client, each of which is sent once between two ticks.
 FLOWS = 64
+# A stack that broke is started again so many times in a run, and not before what it sent is so old that no limit of 6.4.16 counts it.
+MOST_STARTS, DOWN_SECONDS = 20, 1.5
 # The status of a hook that does not know what it is asked for (EX_USAGE of sysexits.h).
 UNKNOWN = 64
 
@@ -95,6 +97,10 @@ class Stack:
     def leave(self) -> None:
         """The run is over, and nothing is called any more."""
 
+    def again(self) -> Stack:
+        """Another stack of this kind, for one that broke."""
+        return type(self)()
+
     def pass_time(self) -> None:
         """A tick is due."""
         self.due += self.tick_seconds
@@ -125,10 +131,11 @@ def calling(device: Stack, name: str) -> Iterator[None]:
     try:
         with limited(f"in {name}") if device.is_inside else nullcontext():
             yield
-    except Gone:
-        raise
+    except Gone as why:
+        raise Broke(str(why), device.world.again) from why
     except Exception as why:
-        raise Gone(f"the stack broke by {type(why).__name__}\n{traceback.format_exc(limit=-3)}") from why
+        text = " ".join(str(why).split())
+        raise Broke(f"the stack broke by {type(why).__name__} in {name}: {text}\n{traceback.format_exc(limit=-3)}", device.world.again) from why
 
 
 class World:
@@ -140,14 +147,30 @@ class World:
         self.clock = 0.0
         self.came: Deque[Arrival] = deque()
         self.counts = dict.fromkeys(range(1, links + 1), 0)
-        self.device = device
-        device.world = self
+        self.device, self.starts = device, 0
+        self._start()
+
+    def _start(self) -> None:
+        self.device.world = self
+        self.device.due += self.clock
         try:
-            with calling(device, "start"):
-                device.start()
+            with calling(self.device, "start"):
+                self.device.start()
         except BaseException:
-            device.leave()
+            self.device.leave()
             raise
+
+    def again(self) -> None:
+        """Starts another stack in the place of one that broke, some time later."""
+        if self.starts == MOST_STARTS:
+            raise Gone(f"the stack broke {MOST_STARTS + 1} times, and is not started again")
+        self.starts += 1
+        self.device.leave()
+        self.clock += DOWN_SECONDS
+        self.came.clear()
+        with calling(self.device, "its place"):
+            self.device = self.device.again()
+        self._start()
 
     @property
     def silence(self) -> str:
@@ -232,6 +255,7 @@ class Library(Stack):
 
     def __init__(self, path: str) -> None:
         super().__init__()
+        self._path = path
         self._child = Child(path)
         self._on = False
         for name in NEEDED:
@@ -279,6 +303,10 @@ class Library(Stack):
     def leave(self) -> None:
         """Ends the process."""
         self._child.close()
+
+    def again(self) -> Stack:
+        """The library in another process."""
+        return Library(self._path)
 
 
 def loaded(path: str) -> Stack:

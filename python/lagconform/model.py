@@ -98,7 +98,7 @@ class Test:
 @dataclass
 class Result:
     """What came of a test: packets `first` to `last`, seconds `begin` to `end`, and how late the bench was at most. `gone` says which
-    interface is no longer there, `known` why a fail is known, and `stuck` that no test can go on like this. `times` counts the verdicts of a test
+    interface is no longer there, or why a stack is not started again, `known` why a fail is known, and `stuck` that no test can go on like this. `times` counts the verdicts of a test
     that ran several times."""
 
     test: Test

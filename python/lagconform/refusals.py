@@ -4,12 +4,18 @@ from __future__ import annotations
 
 import os
 import socket
-from typing import Iterator, Optional
+import struct
+import sys
+from contextlib import suppress
+from typing import Iterator, NamedTuple, Optional
 
 from .pdus import SLOW
 
-NET = "/sys/class/net"
 MOST_LINKS = 4
+# Of rtnetlink(7) and if_link.h: messages, their heads, and attributes of an interface.
+NEW_LINK, GET_LINK, REQUEST, HEAD, OF_LINK, ATTRIBUTE = 16, 18, 1, struct.Struct("=IHHII"), struct.Struct("=BxHiII"), struct.Struct("=HH")
+MASTER, LINK_INFO, SLAVE_KIND, CARRIER = 10, 18, 4, 33
+ETHERNET, IS_UP = 1, 1
 
 
 class Refused(Exception):
@@ -36,19 +42,63 @@ def check_interfaces(names: list[str]) -> None:
         check_interface(name)
 
 
+class Interface(NamedTuple):
+    """An interface of this network namespace; `master` names what it is in, and `kind` what that is, as bond."""
+
+    is_ethernet: bool
+    is_up: bool
+    has_carrier: bool
+    master: str
+    kind: str
+
+
+def attributes(octets: bytes) -> dict[int, bytes]:
+    """The attributes of a message of rtnetlink, by their numbers."""
+    found, at = {}, 0
+    while at + ATTRIBUTE.size <= len(octets):
+        size, number = ATTRIBUTE.unpack_from(octets, at)
+        found[number & 0x3FFF] = octets[at + ATTRIBUTE.size : at + size]
+        at += max(ATTRIBUTE.size, size + 3 & ~3)
+    return found
+
+
+def asked(name: str) -> Optional[Interface]:
+    """What the kernel says of an interface; nothing where there is none. /sys may be that of another network namespace."""
+    try:
+        index = socket.if_nametoindex(name)
+    except OSError:
+        return None
+    try:
+        with socket.socket(socket.AF_NETLINK, socket.SOCK_RAW, 0) as it:
+            it.settimeout(5)
+            it.send(HEAD.pack(HEAD.size + OF_LINK.size, GET_LINK, REQUEST, 1, 0) + OF_LINK.pack(0, 0, index, 0, 0))
+            answer = it.recv(1 << 16)
+    except OSError as why:
+        raise Refused(f"{name}: the kernel does not answer over rtnetlink: {why}") from why
+    if HEAD.unpack_from(answer)[1] != NEW_LINK:
+        return None
+    _, kind, _, flags, _ = OF_LINK.unpack_from(answer, HEAD.size)
+    told, master = attributes(answer[HEAD.size + OF_LINK.size :]), ""
+    if MASTER in told:
+        master = "another interface"
+        with suppress(OSError):
+            master = socket.if_indextoname(int.from_bytes(told[MASTER], sys.byteorder))
+    inside = attributes(told.get(LINK_INFO, b"")).get(SLAVE_KIND, b"master").rstrip(b"\0").decode(errors="replace")
+    return Interface(kind == ETHERNET, bool(flags & IS_UP), told.get(CARRIER, b"\1") != b"\0", master, inside)
+
+
 def check_interface(name: str) -> None:
     """Refuses an interface that is not there, is down or without carrier, or that something else holds."""
-    folder = os.path.join(NET, name)
-    if not os.path.isdir(folder):
+    it = asked(name)
+    if not it:
         raise Refused(f"there is no interface {name}: `ip link` lists them")
-    if read_file(folder, "type") != "1":
+    if not it.is_ethernet:
         raise Refused(f"{name} is no Ethernet interface")
-    if master := os.path.realpath(os.path.join(folder, "master")) if os.path.exists(os.path.join(folder, "master")) else "":
-        kind = "bridge" if os.path.isdir(os.path.join(master, "bridge")) else "bond" if os.path.isdir(os.path.join(master, "bonding")) else "master"
-        raise Refused(f"{name} is in the {kind} {os.path.basename(master)}: `ip link set {name} nomaster` takes it out")
-    if not int(read_file(folder, "flags") or "0", 16) & 1:
+    if it.master:
+        raise Refused(f"{name} is in the {it.kind} {it.master}: `ip link set {name} nomaster` takes it out")
+    if not it.is_up:
         raise Refused(f"{name} is down: `ip link set {name} up`")
-    if read_file(folder, "carrier") != "1":
+    if not it.has_carrier:
         raise Refused(f"{name} has no carrier: is the cable in, and the port of the device enabled?")
     if speaker := lacp_speaker(name):
         raise Refused(f"{name} is held by {speaker}, which speaks LACP there: end it first")

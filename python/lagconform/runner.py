@@ -10,9 +10,9 @@ from niwhopera import State
 from .bench import QUIET, Bench
 from .floods import FLOOD
 from .matrix import WORST
-from .model import FAIL, INCONCLUSIVE, PASS, Claim, DoesNotApply, NotHere, Result, Stop, Stuck, Test
+from .model import FAIL, INCONCLUSIVE, PASS, SURE, Claim, DoesNotApply, NotHere, Result, Stop, Stuck, Test
 from .pics import ITEMS, lacking
-from .wires import Gone
+from .wires import Broke, Gone
 
 # So long a device is waited for at the start.
 MEETS = 35.0
@@ -98,12 +98,19 @@ def run_one(b: Bench, test: Test, claimed: Optional[Mapping[str, bool]] = None) 
     b.result, b.late, b.refused, b.claimed = result, 0.0, 0, claimed or {}
     b.wire.drops()  # what was lost before is of no test
     traffic = Traffic(b)
+    broke: Optional[Broke] = None
     try:
         prepare(b, test)
         result.first, result.begin = len(b.frames) + 1, b.now()
         test.run(b)
     except Stop as why:
         result.verdict, result.why, result.stuck = why.verdict, str(why), isinstance(why, Stuck)
+    except Broke as why:
+        broke = why
+        text, _, trace = str(why).partition("\n")
+        last = [it.number for it in b.frames[result.first - 1 :] if it.out][-1:]
+        result.claims.insert(0, Claim(False, f"{text}; has to go on", tuple(last), SURE))
+        result.notes += [trace] if trace else []
     except Gone as why:
         result.verdict, result.why, result.gone = INCONCLUSIVE, str(why), str(why)
     except Exception:  # a fault of the bench
@@ -115,8 +122,23 @@ def run_one(b: Bench, test: Test, claimed: Optional[Mapping[str, bool]] = None) 
     for link in b.links.values():
         if test.group != "TX":
             link.partner.right()
+    if broke:
+        result.gone = revive(b, test, broke)
     b.result = None
     return result
+
+
+def revive(b: Bench, test: Test, broke: Broke) -> str:
+    """Starts a stack that broke in a test again, for the tests behind it; why that can't be, if so."""
+    b.silence()
+    b.events.append((b.now(), ("stop",)))
+    try:
+        broke.again()
+    except Gone as why:
+        return f"{str(why).partition(chr(10))[0]}; the last time in {test.id}: {str(broke).partition(chr(10))[0]}"
+    b.events.append((b.now(), ("start",)))
+    b.broke.append(test.id)
+    return ""
 
 
 def judge(b: Bench, result: Result, flood: Flood = Flood()) -> None:
@@ -199,6 +221,7 @@ def run_times(b: Bench, test: Test, claimed: Optional[Mapping[str, bool]], repea
     while len(found) < repeat and not (found and found[-1].gone):
         found.append(run_one(b, test, claimed))
     result = min(found, key=lambda it: WORST.index(it.verdict))
+    result.gone = found[-1].gone
     if len(found) > 1:
         result.times = {verdict: count for verdict in WORST if (count := sum(it.verdict == verdict for it in found))}
         result.notes.append(f"of {len(found)} runs: {', '.join(f'{count} {verdict}' for verdict, count in result.times.items())}")

@@ -20,7 +20,7 @@ from niwhopera import Mac
 
 from .model import NotHere
 from .pdus import BROADCAST_TYPE, DATA, GROUP, SENDERS, SLOW
-from .refusals import NET, read_file
+from .refusals import read_file
 from .wires import Answer, Arrival, Gone
 
 # Numbers of Linux that the socket module does not name.
@@ -200,8 +200,12 @@ class PacketWire:
         return sum(drops for _, drops in (struct.unpack("=II", it) for it in told))
 
     def received(self, link: int) -> int:
-        """How many frames the interface has received, those too that the filter drops; 0 where /sys does not tell."""
-        return int(read_file(NET, self.names[link - 1], "statistics", "rx_packets") or 0)
+        """How many frames the interface has received, those too that the filter drops; 0 where /proc does not tell."""
+        for line in read_file("/proc/net/dev").splitlines():
+            name, _, counts = line.partition(":")
+            if name.strip() == self.names[link - 1]:
+                return int(counts.split()[1])
+        return 0
 
 
 class Command:

@@ -2,7 +2,7 @@
 
 from __future__ import annotations
 
-from typing import NamedTuple, Optional, Protocol, Sequence
+from typing import Callable, NamedTuple, Optional, Protocol, Sequence
 
 from niwhopera import Mac
 
@@ -30,6 +30,14 @@ class Answer(NamedTuple):
 
 class Gone(Exception):
     """An interface is no longer there, and no run goes on; the text says which."""
+
+
+class Broke(Gone):
+    """A stack in memory crashed, raised or hangs; `again` starts another one of its kind, or raises Gone."""
+
+    def __init__(self, text: str, again: Callable[[], None]) -> None:
+        super().__init__(text)
+        self.again = again
 
 
 class Wire(Protocol):

@@ -82,6 +82,55 @@ class WrongEcho(Says):
     finds, at, octets = "FM-06", 34, b"\0\0"
 
 
+class SecondPort(Device):
+    """Is wrong on port 2 alone."""
+
+    def wrong(self, frame: bytes) -> bytes:
+        """An LACPDU, as it goes out there."""
+        return frame
+
+    def says(self, port: int, frame: bytes) -> Iterable[bytes]:
+        yield self.wrong(frame) if port == 2 else frame
+
+
+class SecondPartnerKey(SecondPort):
+    """Tells the key of the partner with its octets swapped."""
+
+    finds = "FM-06 EN-02 EN-04"
+
+    def wrong(self, frame: bytes) -> bytes:
+        return put(frame, 32, part(frame, 32, 2)[::-1])
+
+
+class SecondShape(SecondPort):
+    """Sends to an individual address, with another type of the Partner TLV, a reserved octet that is not 0, and four octets too many."""
+
+    finds = "FM-01 FM-02 FM-03 FM-04"
+
+    def wrong(self, frame: bytes) -> bytes:
+        return b"\2" + put(put(frame, 22, b"\x07"), 39, b"\1")[1:] + bytes(4)
+
+
+class SecondNumber(SecondPort):
+    """Has port number 0."""
+
+    finds = "FM-05"
+
+    def wrong(self, frame: bytes) -> bytes:
+        return put(frame, 16, bytes(2))
+
+
+class SecondTimeout(SecondPort):
+    """Tells Timeout now and then."""
+
+    finds = "FM-08"
+    count = 0
+
+    def wrong(self, frame: bytes) -> bytes:
+        self.count += 1
+        return set_bits(frame, 18, 0x02, bool(self.count % 2))
+
+
 class EchoMasked(Device):
     """Tells Expired and Defaulted of the partner as 0."""
 

@@ -258,7 +258,7 @@ class NoMarkers(Responds):
 class OtherId(Responds):
     """Answers with another identifier."""
 
-    finds = "MK-02 EN-03"
+    finds = "MK-01 MK-02 MK-05 MK-06 MK-09 MK-10 MK-11 EN-03"
 
     def says_back(self, marker: bytes, response: bytes) -> Optional[bytes]:
         return put(response, 15, bytes([response[29] ^ 1]))
@@ -267,10 +267,21 @@ class OtherId(Responds):
 class OtherSystem(Responds):
     """Answers with another system."""
 
-    finds = "MK-02"
+    finds = "MK-01 MK-02"
 
     def says_back(self, marker: bytes, response: bytes) -> Optional[bytes]:
         return put(response, 6, OWN.mac)
+
+
+class ThirdId(Responds):
+    """Each third response has another identifier."""
+
+    finds = "MK-01 MK-05 MK-06"
+    count = 0
+
+    def says_back(self, marker: bytes, response: bytes) -> Optional[bytes]:
+        self.count += 1
+        return response if self.count % 3 else put(response, 15, bytes([response[29] ^ 1]))
 
 
 class OtherSource(Responds):

@@ -12,7 +12,7 @@ import sys
 import time
 import xml.etree.ElementTree as xml
 from pathlib import Path
-from typing import Iterator, Sequence, Type
+from typing import Any, Iterator, Sequence, Type
 
 import pytest
 from conform_device import Device, World
@@ -358,30 +358,19 @@ def test_a_hook_that_can_not_be_run_is_refused_by_name(line: str, why: str, tmp_
     b.close()
 
 
-def interface(folder: Path, name: str, **files: str) -> None:
-    """An interface as /sys has it."""
-    (folder / name).mkdir(parents=True)
-    for file, text in {"type": "1", "flags": "0x1003", "carrier": "1", **files}.items():
-        (folder / name / file).write_text(text + "\n")
+FREE = refusals.Interface(True, True, True, "", "master")
 
 
-@pytest.mark.parametrize("files, why", [({"flags": "0x1002"}, "is down"), ({"carrier": "0"}, "no carrier"), ({}, "held by lagd")])
-def test_an_interface_that_is_not_free(files: dict[str, str], why: str, tmp_path: Path, monkeypatch: pytest.MonkeyPatch) -> None:
-    monkeypatch.setattr(refusals, "NET", str(tmp_path))
+@pytest.mark.parametrize(
+    "changes, why",
+    [
+        ({"is_ethernet": False}, "is no Ethernet interface"), ({"is_up": False}, "is down"), ({"has_carrier": False}, "no carrier"), ({}, "held by lagd"),
+        ({"master": "m0", "kind": "bond"}, "in the bond m0"), ({"master": "m0", "kind": "bridge"}, "in the bridge m0"), ({"master": "m0"}, "in the master m0"),
+    ],
+)  # fmt: skip
+def test_an_interface_that_is_not_free(changes: dict[str, Any], why: str, monkeypatch: pytest.MonkeyPatch) -> None:
+    monkeypatch.setattr(refusals, "asked", lambda _: FREE._replace(**changes))
     monkeypatch.setattr(refusals, "lacp_speaker", lambda _: "lagd (process 7)")
-    interface(tmp_path, "eth9", **files)
-    with pytest.raises(refusals.Refused, match=why):
-        refusals.check_interface("eth9")
-
-
-@pytest.mark.parametrize("kind, why", [("bonding", "in the bond m0"), ("bridge", "in the bridge m0"), ("", "in the master m0")])
-def test_an_interface_with_a_master(kind: str, why: str, tmp_path: Path, monkeypatch: pytest.MonkeyPatch) -> None:
-    monkeypatch.setattr(refusals, "NET", str(tmp_path))
-    interface(tmp_path, "eth9")
-    interface(tmp_path, "m0")
-    if kind:
-        (tmp_path / "m0" / kind).mkdir()
-    (tmp_path / "eth9" / "master").symlink_to(tmp_path / "m0")
     with pytest.raises(refusals.Refused, match=why):
         refusals.check_interface("eth9")
 

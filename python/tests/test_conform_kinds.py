@@ -7,6 +7,7 @@ from typing import Iterable, Sequence, Type
 import pytest
 from conform_device import Device, World, is_lacpdu, put
 from conform_faults import set_bits
+from niwhopera import State
 
 from lagconform.bench import Bench
 from lagconform.groups import TESTS
@@ -71,7 +72,7 @@ class Independent(Device):
             yield frame
             return
         before, self.collecting[port] = self.collecting.get(port, 0), frame[32] & 0x10
-        changed = before != self.collecting[port] and self.is_on(port, 0x10)
+        changed = before != self.collecting[port] and self.is_on(port, State.COLLECTING)
         yield put(frame, 38, bytes([frame[52] ^ 2])) if changed else frame  # asks for an LACPDU
 
     def says(self, port: int, frame: bytes) -> Iterable[bytes]:

@@ -14,11 +14,11 @@ from typing import Iterable, Iterator, Type
 
 import pytest
 from conform_device import Device, World, put
-from conform_faults import CutOff, KeyUnchecked, PartnerLength, RestartsOnChange, WrongEcho
+from conform_faults import CutOff, KeyUnchecked, PartnerLength, RestartsOnChange, SecondPartnerKey, WrongEcho
 from conform_frames import OtherId, VersionChecked
 from conform_machines import NoNtt
 
-from lagconform import causes, child, command, floods, matrix
+from lagconform import causes, child, command, floods, matrix, memory
 from lagconform.bench import Bench
 from lagconform.groups import TESTS
 from lagconform.model import CAVEAT, FAIL, INCONCLUSIVE, NOT_APPLICABLE, PASS, SKIPPED, SURE, Claim, Result
@@ -186,6 +186,8 @@ def test_status_junit_and_tap_agree_on_what_has_no_answer(tmp_path: Path, monkey
 def test_junit_and_tap_have_what_the_device_said(run, tmp_path: Path) -> None:  # type: ignore[no-untyped-def]
     assert run(KeyUnchecked, "--only", "RX-07c", "--only", "FM-01", "--junit", "r.xml", "--tap", "r.tap", "--device", "a switch") == 1
     suite = xml.parse(tmp_path / "r.xml").getroot()[0]
+    assert [(it.get("classname"), it.get("name")) for it in suite.iter("testcase")] == [("FM", "FM-01")]
+    assert [it.get("value") for it in suite.iter("property") if it.get("name") == "title"] == ["Destination, source and type"]
     assert suite.get("timestamp") and {it.get("name"): it.get("value") for it in suite.iter("property")}["device"] == "a switch"
     text = next(xml.parse(tmp_path / "r.xml").getroot().iter("failure")).text or ""
     assert "FAILS: with another key of the device it stops carrying: never; has to be at most 0.65 s" in text and "bench: LACPDU 3f" in text
@@ -270,13 +272,21 @@ def test_a_device_that_does_not_stay_up_has_one_cause(bench) -> None:  # type: i
     assert [it.name for it in found] == ["RX-04"] and len(found[0].explains) > 10, [it.text for it in found]
 
 
-@pytest.mark.parametrize("kind, root, others", [(OtherId, "MK-02", ["EN-03"]), (VersionChecked, "VN-02", ["VN-03"])])
+@pytest.mark.parametrize("kind, root, others", [(OtherId, "MK-02", ["MK-01", "MK-05", "MK-06", "MK-10", "EN-03", "MK-11"]), (VersionChecked, "VN-02", ["VN-03"])])
 def test_the_cause_is_the_fault(bench, kind: Type[Device], root: str, others: list[str]) -> None:  # type: ignore[no-untyped-def]
     b, results = bench(kind), list[Result]()
     meet(b)
     run_all(b, ordered(BY_NAME[it] for it in [root, *others]), results.append)
     found = causes.grouped(results)
     assert [it.name for it in found] == [root] and [it.test.id for it in found[0].explains] == others
+
+
+def test_what_a_device_tells_wrong_on_one_link_is_told_with_the_link(bench) -> None:  # type: ignore[no-untyped-def]
+    b = bench(SecondPartnerKey)
+    meet(b)
+    fields, engine = (run_times(b, BY_NAME[it], None, 1) for it in ("FM-06", "EN-02"))
+    assert fields.why.startswith("link 2: the partner told is 258/02-cf") and "key 65279 port 165/61454" in fields.why and "key 65534 port 165/61454" in fields.why
+    assert "link 1 DISTRIBUTING, link 2 PARTNER_NOT_SYNCHRONIZED" in engine.why and ", where the device tells of our port 2 key 4352, and has to tell 17" in engine.why
 
 
 def test_a_list_is_written_as_json(tmp_path: Path, monkeypatch: pytest.MonkeyPatch) -> None:
@@ -293,15 +303,32 @@ def test_a_stack_that_is_none_is_refused(words: list[str], why: str, capsys: pyt
     assert command.main(["--memory", "empty.py"]) == 2 and "no class Device below lagconform.memory.Stack" in capsys.readouterr().err
 
 
-def test_a_stack_that_raises_ends_the_run_with_its_trace(tmp_path: Path, monkeypatch: pytest.MonkeyPatch, capsys: pytest.CaptureFixture[str]) -> None:
+def test_a_stack_that_raises_fails_the_test_and_begins_again(tmp_path: Path, monkeypatch: pytest.MonkeyPatch, capsys: pytest.CaptureFixture[str]) -> None:
     monkeypatch.chdir(tmp_path)
-    text = "from conform_device import Device as Right\n\nclass Device(Right):\n    def ticked(self):\n        if self.now > SECONDS:\n            raise ValueError('no partner')\n"
-    for seconds in 0, 8:
-        (tmp_path / "device.py").write_text(text.replace("SECONDS", str(seconds)))
-        assert command.main(["--memory", "device.py", "--only", "FM-*", "--json", "r.json"]) == 2
-        told = capsys.readouterr().err
-        assert "the stack broke by ValueError" in told and "no partner" in told and "in ticked" in told
-    assert json.loads((tmp_path / "r.json").read_text())["counts"]["pass"] >= 1
+    text = "from conform_device import Device as Right\n\nclass Device(Right):\n    def ticked(self):\n        if WHEN:\n            raise ValueError('no partner')\n"
+    (tmp_path / "device.py").write_text(text.replace("WHEN", "self.now > 0") + "\n    def take(self, port, frame):\n        pass\n")
+    assert command.main(["--memory", "device.py", "--only", "FM-*", "--json", "r.json"]) == 2
+    said = capsys.readouterr().err
+    assert "the stack broke by ValueError in tick: no partner" in said and "in ticked" in said
+    (tmp_path / "device.py").write_text(text.replace("WHEN", "8 < self.now < 8.2"))
+    assert command.main(["--memory", "device.py", "--only", "FM-*", "--json", "r.json", "--shadow", "--captures", "each"]) == 1
+    told = json.loads((tmp_path / "r.json").read_text())
+    (failed,) = [it for it in told["tests"] if it["verdict"] == "fail"]
+    assert told["counts"]["pass"] == 8 and failed["why"] == "the stack broke by ValueError in tick: no partner; has to go on"
+    assert "in ticked" in failed["notes"][-1] and told["about"]["the stack broke"] == f"and was started again 1 time, in {failed['id']}"
+
+
+def test_a_stack_that_breaks_too_often_ends_its_run(tmp_path: Path, monkeypatch: pytest.MonkeyPatch, capsys: pytest.CaptureFixture[str]) -> None:
+    monkeypatch.chdir(tmp_path)
+    monkeypatch.setattr(memory, "MOST_STARTS", 2)
+    lines = "class Device(Right):\n    def hears(self, port, frame):\n        assert frame[17] == 20\n        return super().hears(port, frame)\n"
+    (tmp_path / "device.py").write_text(f"from conform_device import Device as Right\n\n{lines}")
+    words = ["--memory", "device.py", *(f"--only={it}" for it in ("FM-01", "VN-11", "VN-12", "VN-14", "MK-*")), "--junit", "r.xml", "--repeat", "2"]
+    assert command.main(words) == 2
+    said = capsys.readouterr()
+    assert "the stack broke 3 times, and is not started again; the last time in" in said.err and "the reports have what was run" in said.err
+    suites = xml.parse(tmp_path / "r.xml").getroot()
+    assert [it.get("type") for it in suites.iter("error")] == ["the run ended early"] and suites.get("failures") == "2"
 
 
 @pytest.mark.skipif(not EXAMPLES.exists(), reason="no examples")
@@ -385,16 +412,18 @@ class Device(Right):
 
 
 @pytest.mark.parametrize("name, when, why", [("tick", "self.now > 40", "in tick"), ("take", "self.now > 40", "in take"), ("start", "True", "in start")])
-def test_a_stack_in_python_that_hangs_ends_its_run(name: str, when: str, why: str, tmp_path: Path, capsys: pytest.CaptureFixture[str], monkeypatch: pytest.MonkeyPatch) -> None:
+def test_a_stack_in_python_that_goes_on_to_hang_ends_its_run(name: str, when: str, why: str, tmp_path: Path, capsys: pytest.CaptureFixture[str], monkeypatch: pytest.MonkeyPatch) -> None:
     monkeypatch.setattr(child, "CALL_SECONDS", 0.5)
+    monkeypatch.setattr(memory, "MOST_STARTS", 1)
     monkeypatch.chdir(tmp_path)
     (tmp_path / "device.py").write_text(HANGS.format(name=name, when=when))
     assert command.main(["--memory", "device.py", "--only", "FM-*", "--only", "RX-*", "--junit", "r.xml", "--tap", "r.tap"]) == 2
     said = capsys.readouterr()
     assert f"the stack hangs {why}: no return in 0.5 s" in said.err
-    assert name == "start" or f"inconclusive   RX-" in said.out
+    assert name == "start" or f"the stack hangs {why}: no return in 0.5 s; has to go on" in said.out
     assert [it.get("type") for it in xml.parse(tmp_path / "r.xml").getroot().iter("error")] == ["the run ended early"]
-    assert (tmp_path / "r.tap").read_text().splitlines()[-1].startswith(f"Bail out! the stack hangs {why}")
+    last = (tmp_path / "r.tap").read_text().splitlines()[-1]
+    assert last.startswith(f"Bail out! the stack hangs {why}" if name == "start" else "Bail out! the stack broke 2 times, and is not started again")
 
 
 def test_a_stack_that_breaks_where_it_is_loaded_is_refused(tmp_path: Path, capsys: pytest.CaptureFixture[str]) -> None:
@@ -414,16 +443,40 @@ def test_a_stack_that_breaks_where_it_is_loaded_is_refused(tmp_path: Path, capsy
         ("_exit(3)", "ended its process with status 3 in device_tick"),
     ],
 )
-def test_a_library_that_breaks_ends_its_run_with_a_report(fault: str, why: str, tmp_path: Path, capfd: pytest.CaptureFixture[str], monkeypatch: pytest.MonkeyPatch) -> None:
+def test_a_library_that_breaks_fails_the_test_and_begins_again(fault: str, why: str, tmp_path: Path, capfd: pytest.CaptureFixture[str], monkeypatch: pytest.MonkeyPatch) -> None:
     monkeypatch.setattr(child, "CALL_SECONDS", 0.5)
-    text = (EXAMPLES / "device.c").read_text().replace("    ticks++;\n", f"    if (ticks++ == 150)\n        {fault};\n")
-    (tmp_path / "broken.c").write_text(f"#include <unistd.h>\n{text}")
-    made = str(tmp_path / "broken.so")
-    subprocess.run(["cc", "-shared", "-fPIC", f"-I{HEADER}", f"-I{EXAMPLES}", "-o", made, str(tmp_path / "broken.c"), os.environ["NIWHOPERA_LIBRARY"]], check=True)
-    assert command.main(["--memory", made, "--only", "FM-*", "--json", str(tmp_path / "r.json")]) == 2
-    assert f"the stack {why}" in capfd.readouterr().err
+    made = broken(tmp_path, "    ticks++;\n", f"    if (ticks++ == 150)\n        {fault};\n")
+    assert command.main(["--memory", made, "--only", "FM-*", "--json", str(tmp_path / "r.json"), "--tap", str(tmp_path / "r.tap")]) == 1
+    assert f"the stack {why}; has to go on" in capfd.readouterr().out
     told = json.loads((tmp_path / "r.json").read_text())
-    assert told["counts"]["pass"] >= 2 and why in told["about"]["incomplete"]
+    (failed,) = [it for it in told["tests"] if it["verdict"] == "fail"]
+    assert told["counts"]["pass"] == 8 and told["about"]["the stack broke"].endswith(failed["id"]) and "incomplete" not in told["about"]
+    assert "Bail out!" not in (tmp_path / "r.tap").read_text()
+
+
+def broken(folder: Path, line: str, other: str) -> str:
+    """The example in C with another line, as a shared library."""
+    text = (EXAMPLES / "device.c").read_text()
+    assert line in text
+    (folder / "broken.c").write_text(f"#include <unistd.h>\n{text.replace(line, other)}")
+    made = str(folder / "broken.so")
+    subprocess.run(["cc", "-shared", "-fPIC", f"-I{HEADER}", f"-I{EXAMPLES}", "-o", made, str(folder / "broken.c"), os.environ["NIWHOPERA_LIBRARY"]], check=True)
+    return made
+
+
+@pytest.mark.skipif(not HEADER.exists() or not shutil.which("cc") or "NIWHOPERA_LIBRARY" not in os.environ, reason="no C compiler, or no library")
+def test_a_library_that_crashes_on_a_runt_fails_the_tests_that_send_one(tmp_path: Path, monkeypatch: pytest.MonkeyPatch) -> None:
+    monkeypatch.chdir(tmp_path)
+    begin = "    uint8_t response[NIW_FRAME];\n"
+    made = broken(tmp_path, begin, f"{begin}    if (size < 50)\n        *(volatile int *)0 = 1;\n")
+    words = ["--memory", made, "--only", "VN-*", "--only", "RB-*", "--only", "IV-*", "--only", "EN-*", "--junit", "r.xml"]
+    assert command.main(words) == 1
+    found = {it.get("name", ""): it for it in xml.parse(tmp_path / "r.xml").getroot().iter("testcase")}
+    fails = [name for name, it in found.items() if it.find("failure") is not None]
+    assert fails == ["VN-22", "RB-01", "RB-04"] and not [*xml.parse(tmp_path / "r.xml").getroot().iter("error")]
+    assert all("crashed by SIGSEGV in device_take; has to go on" in str(it.get("message")) for it in xml.parse(tmp_path / "r.xml").getroot().iter("failure"))
+    (tmp_path / "known").write_text("".join(f"{it} crashes\n" for it in fails))
+    assert command.main([*words, "--known", "known"]) == 0
 
 
 @pytest.mark.skipif(not HEADER.exists() or not shutil.which("cc"), reason="no C compiler")

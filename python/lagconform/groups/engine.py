@@ -2,6 +2,7 @@
 
 from __future__ import annotations
 
+from dataclasses import replace
 from typing import Callable, Optional
 
 from niwhopera import Answers, Config, PortConfig, System, SystemId
@@ -9,7 +10,7 @@ from niwhopera import Answers, Config, PortConfig, System, SystemId
 from ..bench import Bench
 from ..model import Group
 from ..partner import TICK
-from ..pdus import SLOW
+from ..pdus import SIX, SLOW, value
 
 group = Group("EN", "Beside the proved engine")
 KEY = 0x11
@@ -52,6 +53,14 @@ class Engine:
         return False
 
 
+def mistold(b: Bench, system: System, link: int) -> str:
+    """Which parameters of our port the device tells wrong on a link, with both values; nothing where all are right."""
+    own, info = system.party(link), b.device(link).partner
+    right = replace(info, system=own.system, key=own.key, port=own.port, state=system.state(link))
+    wrong = [f"{it} {value(info, it)}, and has to tell {value(right, it)}" for it in SIX if value(info, it) != value(right, it)]
+    return f", where the device tells of our port {own.port.number} {'; '.join(wrong)}" if wrong else ""
+
+
 def comes_up(b: Bench, links: tuple[int, ...]) -> None:
     """Both ends carry on these links, and go on."""
     engine, begin = Engine(b, links), b.now()
@@ -61,7 +70,7 @@ def comes_up(b: Bench, links: tuple[int, ...]) -> None:
             return all(system.distributes(it) and b.carries(it) for it in links)
 
         engine.run(12, both)
-        states = ", ".join(system.port_status(it).name for it in links)
+        states = ", ".join(f"link {it} {system.port_status(it).name}{mistold(b, system, it)}" for it in links)
         told = f"both ends carry after {b.now() - begin:.1f} s" if both() else f"not both ends carry after {b.now() - begin:.1f} s, and have to after 12 s"
         b.claim(both(), f"{told}: {states}", *[b.frame(it) for it in links])
         broken: list[bool] = []

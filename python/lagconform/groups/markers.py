@@ -2,7 +2,7 @@
 
 from __future__ import annotations
 
-from typing import Optional
+from typing import Optional, Sequence, Tuple
 
 from niwhopera import MarkerKind, State, encode
 from niwhopera import Marker as MarkerPdu
@@ -17,8 +17,10 @@ from .silence import on_defaults
 group = Group("MK", "Marker Responder (6.5.4)", needs=("marker-responder",))
 # Between markers of tests that want no more than an answer: one device in the field answers one in 2 s.
 GAP = 2.6
-# Octets of a frame: where the identifier of a marker stands.
-ID = slice(PAYLOAD + 12, PAYLOAD + 16)
+# Octets of a frame: where the identifier of a marker stands, and what a response echoes: port, system and identifier.
+ID, ECHOED = slice(PAYLOAD + 12, PAYLOAD + 16), slice(PAYLOAD + 4, PAYLOAD + 16)
+# A marker, and its response, if one came.
+Pair = Tuple[Frame, Optional[Frame]]
 
 
 def marker(b: Bench, link: int = 1, kind: MarkerKind = MarkerKind.INFORMATION) -> bytes:
@@ -44,7 +46,19 @@ def shown(frame: Optional[Frame]) -> str:
     return f"port {octets[18:20].hex()}, system {mac(octets[20:26])}, identifier {octets[ID].hex()}"
 
 
-def ask(b: Bench, payload: bytes, link: int = 1, to: bytes = GROUP, tries: int = 1) -> tuple[Frame, Optional[Frame]]:
+def echo(b: Bench, pairs: Sequence[Pair]) -> None:
+    """Claims that each response which came has the port, system and identifier of its marker (6.5.3.3, 6.5.4.2)."""
+    came = [(sent, seen) for sent, seen in pairs if seen]
+    if not came:
+        return
+    wrong = [(sent, seen) for sent, seen in came if seen.octets[ECHOED] != sent.octets[ECHOED]]
+    sent, seen = (wrong or came)[0]
+    count = f"{len(wrong)} of {len(came)} responses echo another marker: the first" if wrong else f"{number_of(len(came), 'response')}: the first"
+    text = f"{count} has {shown(seen)}; has to be what was sent, {shown(sent)}"
+    b.claim(not wrong, text, *[it for pair in (wrong[:3] or came[:1]) for it in pair], bears=SURE)
+
+
+def ask(b: Bench, payload: bytes, link: int = 1, to: bytes = GROUP, tries: int = 1) -> Pair:
     """Sends a marker, and waits a second for its response; up to `tries` times, where another test claims that each is answered."""
     mark = b.mark()
     sent = b.send_raw(link, to + slow(payload, b.wire.source(link))[6:])
@@ -56,6 +70,13 @@ def ask(b: Bench, payload: bytes, link: int = 1, to: bytes = GROUP, tries: int =
         b.wait(GAP)
         return ask(b, payload, link, to, tries - 1)
     return sent, seen
+
+
+def is_answered(b: Bench, statement: str) -> None:
+    """Claims that a marker is answered now, by a response that echoes it."""
+    sent, seen = ask(b, marker(b), tries=3)
+    b.holds(seen, statement, sent, seen)
+    echo(b, [(sent, seen)])
 
 
 def pdus(b: Bench, mark: int) -> list[Frame]:
@@ -78,7 +99,8 @@ def pause(b: Bench) -> None:
 
 
 @group.test("01", "6.5.4, 6.2.6", "A marker is answered", "carry", "send a marker, three times, 2.6 s apart",
-            rule="each gets a Marker Response within 1 s", tolerance="1 s: the standard has no number", takes=7.5, causes=("MK-11",))  # fmt: skip
+            rule="each gets a Marker Response within 1 s, which echoes its port, system and identifier", tolerance="1 s: the standard has no number",
+            takes=7.5, causes=("MK-02", "MK-11"))  # fmt: skip
 def responds(b: Bench) -> None:
     """The Marker Responder is required of every system: a Marker PDU is answered by a Marker Response PDU."""
     b.still_up()
@@ -89,15 +111,13 @@ def responds(b: Bench) -> None:
     times = [seen.time - sent.time for sent, seen in got if seen]
     told = f", after {max(times) * 1000:.1f} ms at most" if times else ""
     b.claim(len(times) == 3, f"{len(times)} of 3 markers were answered within 1 s{told}; has to be 3", *[it for pair in got for it in pair])
+    echo(b, got)
     if b.claimed.get("marker-responder") is False:
         b.claim(False, "it claims to have no Marker Responder, which 6.2.6 wants of every system", bears=SURE)
-    if other := [seen for sent, seen in got if seen and seen.octets[ID] != sent.octets[ID]]:
-        b.note(f"{len(other)} of the responses have another identifier than the marker: MK-02 looks at that")
 
 
 @group.test("02", "6.5.3.3, 6.5.4.2", "The response echoes port, system and transaction", "send a marker",
-            rule="the octets of port, system and identifier are those of the marker; TLV 2 of length 16; subtype 2; 110 octets", takes=3,
-            causes=("MK-01",))  # fmt: skip
+            rule="the octets of port, system and identifier are those of the marker; TLV 2 of length 16; subtype 2; 110 octets", takes=3)  # fmt: skip
 def echoes(b: Bench) -> None:
     """A response differs from its marker in the TLV type alone, as far as the fields go."""
     b.still_up()
@@ -109,7 +129,7 @@ def echoes(b: Bench) -> None:
     seen = next(iter(b.markers(1, mark)), None)
     if not seen:
         raise NotHere("no response came (MK-01)")
-    b.claim(seen.octets[18:30] == sent.octets[18:30], f"the response has {shown(seen)}; has to be what was sent, {shown(sent)}", sent, seen, bears=SURE)
+    echo(b, [(sent, seen)])
     head = seen.octets[14:15] + seen.octets[16:18]
     b.claim(head == b"\2\2\x10", f"subtype, TLV type and length are {head.hex(' ')}; has to be 02 02 10", seen, bears=SURE)
     told = f"Terminator {seen.octets[32:34].hex(' ')}, frame of {len(seen.octets)} octets"
@@ -151,27 +171,29 @@ def pads(b: Bench) -> None:
         b.note(f"{what} {stands[:4].hex()}: {kind}")
 
 
-@group.test("05", "6.5.4.2", "Markers each second are all answered", "send ten markers, 1 s apart", rule="ten responses", takes=13)
+@group.test("05", "6.5.4.2", "Markers each second are all answered", "send ten markers, 1 s apart",
+            rule="ten responses, each of which echoes its marker", takes=13, causes=("MK-02",))  # fmt: skip
 def each_second(b: Bench) -> None:
     """Each marker is answered; one a second is well under the limit of Slow Protocols."""
     wants_answers(b)
-    missed = []
+    got = []
     for _ in range(10):
-        sent, seen = ask(b, marker(b))
-        missed += [] if seen else [sent]
-        b.until(max(0.0, sent.time + 1 - b.now()))
+        got.append(ask(b, marker(b)))
+        b.until(max(0.0, got[-1][0].time + 1 - b.now()))
+    missed = [sent for sent, seen in got if not seen]
     b.claim(not missed, f"{10 - len(missed)} of 10 were answered; has to be 10", *missed[:4])
+    echo(b, got)
 
 
 @group.test("06", "6.5.4.1, 802.3 57A.2", "A burst of markers", "send 40 markers in 1 s", "then one more after 2.6 s",
-            rule="at most 10 Marker PDUs in a second (802.3 Annex 57A, 10 of each Slow Protocol); afterwards it still answers",
-            tolerance="window 0.98 s", takes=5.5, basis=MEMORY)  # fmt: skip
+            rule="at most 10 Marker PDUs in a second (802.3 Annex 57A, 10 of each Slow Protocol); each response echoes its marker; afterwards it still answers",
+            tolerance="window 0.98 s", takes=5.5, basis=MEMORY, causes=("MK-02",))  # fmt: skip
 def burst(b: Bench) -> None:
     """Markers that come faster than responses may be sent are dropped, without harm."""
     wants_answers(b)
-    mark = b.mark()
+    mark, sent = b.mark(), list[Frame]()
     for _ in range(40):
-        b.send(1, marker(b))
+        sent.append(b.send(1, marker(b)))
         b.wait(0.025)
     b.wait(GAP)
     found = pdus(b, mark)
@@ -180,7 +202,9 @@ def burst(b: Bench) -> None:
     first = next((at for at, time in enumerate(times) if sum(time <= other < time + 0.98 for other in times) == most), 0)
     text = f"{most} Marker PDUs within one second, {len(b.markers(1, mark))} of 40 markers were answered; has to be at most 10 in a second"
     b.claim(most <= 10, text, *found[first : first + 1], *found[first + 10 : first + 11], bears=SURE)  # the eleventh is one too many
-    b.holds(ask(b, marker(b), tries=3)[1], "afterwards a marker is answered")
+    asked = {it.octets[ID]: it for it in sent}
+    echo(b, [(asked.get(it.octets[ID], sent[-1]), it) for it in b.markers(1, mark)])
+    is_answered(b, "afterwards a marker is answered")
 
 
 @group.test("07", "6.5.4.2", "A response is not answered", "send a Marker Response that nobody asked for", rule="no Marker PDU comes back",
@@ -210,7 +234,7 @@ def unknown_tlv(b: Bench) -> None:
 
 @group.test("09", "6.5.3.3", "Malformed markers", "send markers of 14, 20 and 45 octets of payload and one with a wrong TLV length",
             "then a right one", rule="a marker cut off in its identifier is not answered; the right one is, and the link carries; what happened to the others is told",
-            takes=12)  # fmt: skip
+            takes=12, causes=("MK-02",))  # fmt: skip
 def malformed(b: Bench) -> None:
     """Markers that are cut off, or whose TLV has a wrong length, do no harm. A response to one that lacks its identifier would be made
     up."""
@@ -225,14 +249,14 @@ def malformed(b: Bench) -> None:
         if len(payload) == 14:
             b.holds(not back, "a marker that lacks half of its identifier is not answered", sent, *back[:1])
     b.note("; ".join(told))
-    sent, seen = ask(b, marker(b), tries=3)
-    b.holds(seen, "afterwards a right marker is answered", sent, seen)
+    is_answered(b, "afterwards a right marker is answered")
     b.holds(b.carries(), "and the link carries", b.frame())
 
 
 @group.test("10", "6.2.7, 6.5.4", "A port that does not collect answers, too", "be a partner out of sync: the device is ATTACHED",
             "send a marker", "say nothing until it is on defaults, and send a marker",
-            rule="both are answered: the Aggregator Parser passes markers on whatever the state of the port", takes=11)  # fmt: skip
+            rule="both are answered: the Aggregator Parser passes markers on whatever the state of the port", takes=11,
+            causes=("MK-02",))  # fmt: skip
 def not_collecting(b: Bench) -> None:
     """The Aggregator Parser passes Marker PDUs to the responder without regard to Collecting, and its responses out without regard to
     Distributing."""
@@ -244,18 +268,16 @@ def not_collecting(b: Bench) -> None:
     attached = b.first(1, mark, lambda pdu: b.partner().is_named_by(pdu) and pdu.actor.state & State.SYNCHRONIZATION, 6)
     if not attached or b.bits() & State.COLLECTING:
         raise Stop("it is not ATTACHED")
-    sent, seen = ask(b, marker(b), tries=3)
-    b.holds(seen, "in ATTACHED a marker is answered", sent, seen)
+    is_answered(b, "in ATTACHED a marker is answered")
     b.silence()
     if not b.first(1, b.mark(), on_defaults, 9):
         b.note("it is not on defaults after 9 s")
         return
-    sent, seen = ask(b, marker(b), tries=3)
-    b.holds(seen, "on defaults a marker is answered", sent, seen)
+    is_answered(b, "on defaults a marker is answered")
 
 
 @group.test("11", "6.5.4", "The response leaves on the link of the marker", "carry on both links", "send markers on link 1, then on link 2",
-            rule="each response comes on its own link alone", links=2, takes=5.5, needs=("two-ports",))  # fmt: skip
+            rule="each response comes on its own link alone", links=2, takes=5.5, needs=("two-ports",), causes=("MK-02",))  # fmt: skip
 def own_link(b: Bench) -> None:
     """A response goes out on the port that got the marker: else order is not what it stands for."""
     b.up(1, 2)
@@ -269,6 +291,7 @@ def own_link(b: Bench) -> None:
             raise NotHere(f"no marker is answered on link {link} (MK-01)")
         came = "answered" if seen else "not answered"
         b.claim(seen and not stray, f"link {link}: {came} there, and {number_of(len(stray), 'time')} on the other link; has to be answered there alone", sent, seen, *stray[:1])
+        echo(b, [(sent, seen)])
 
 
 @group.test("13", "6.5.3.3, 6.5.4.2", "A long marker gets an ordinary response", "send a marker of 1500 octets of payload",
