@@ -122,6 +122,7 @@ def test_held_frames_are_neither_copied_nor_called_by_another_thread() -> None:
 
 
 def test_held_frames_that_are_not_closed_are_told() -> None:
+    gc.collect()  # what other tests left is told before
     with warnings.catch_warnings(record=True) as told:
         warnings.simplefilter("always")
         HeldFrames[int](1, 1, 1)
