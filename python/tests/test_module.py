@@ -139,6 +139,7 @@ def test_a_system_is_neither_copied_nor_called_by_another_thread() -> None:
 
 
 def test_a_system_that_is_not_closed_is_told() -> None:
+    gc.collect()  # what other tests left is told before
     with warnings.catch_warnings(record=True) as told:
         warnings.simplefilter("always")
         System(CONFIG)
