@@ -165,7 +165,7 @@ class World:
         if self.starts == MOST_STARTS:
             raise Gone(f"the stack broke {MOST_STARTS + 1} times, and is not started again")
         self.starts += 1
-        self.device.leave()
+        self.close()
         self.clock += DOWN_SECONDS
         self.came.clear()
         with calling(self.device, "its place"):
