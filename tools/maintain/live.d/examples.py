@@ -1,5 +1,5 @@
 """The example in C that README.md names, and the same in Rust: each builds without a warning and prints what README says. The C of
-docs/USING.md stands in programs that run."""
+docs/USING.md and docs/FIRMWARE.md stands in programs that run."""
 
 from __future__ import annotations
 
@@ -46,14 +46,16 @@ def check_no_libc(folder: str, libraries: list[str]) -> None:
 
 
 def check_quotes() -> None:
-    """Each block of C in docs/USING.md stands in a program that is compiled and run; `...` leaves lines out."""
+    """Each block of C in docs/USING.md and docs/FIRMWARE.md stands in a program that is compiled and run; `...` leaves lines out."""
     sources = [*sorted(glob.glob(f"{EXAMPLES}/*.c")), os.path.join(MAINTAIN, "live.d", "planes.c")]
     texts = [open(it, encoding="utf-8").read() for it in sources]
-    with open(f"{TOP}/docs/USING.md", encoding="utf-8") as page:
-        blocks = re.findall(r"^```c\n(.*?)^```$", page.read(), re.M | re.S)
+    blocks = []
+    for name in "USING", "FIRMWARE":
+        with open(f"{TOP}/docs/{name}.md", encoding="utf-8") as page:
+            blocks += re.findall(r"^```c\n(.*?)^```$", page.read(), re.M | re.S)
     parts = [part for block in blocks for part in block.split("...\n")]
     strange = [part for part in parts if not any(part in text for text in texts)]
-    check(bool(parts) and not strange, f"the {len(parts)} pieces of C in docs/USING.md stand in programs that run", *strange)
+    check(bool(parts) and not strange, f"the {len(parts)} pieces of C in docs/USING.md and docs/FIRMWARE.md stand in programs that run", *strange)
 
 
 def check_rust_example(folder: str, libraries: list[str]) -> None:

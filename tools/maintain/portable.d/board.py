@@ -23,6 +23,12 @@ class Board(NamedTuple):
     octets: int
 
     @property
+    def title(self) -> str:
+        """What a row says of it."""
+        size = f"{self.octets >> 20} MB" if self.octets >> 20 else f"{self.octets >> 10} kB"
+        return f"{self.name} with {size} of memory"
+
+    @property
     def linked(self) -> list[str]:
         """What its programs are linked with."""
         places = f"--section-start=.vectors=0,-Tdata={self.data:#x},--defsym=stack_end={self.data + self.octets:#x},--undefined=vectors"

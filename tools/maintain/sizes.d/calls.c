@@ -41,11 +41,10 @@ static void exchange(void) {
     }
 }
 
-/* What the loop of examples/c/pool.c asks after each call, where no frame is due. */
+/* What the loop of examples/c/pool.c asks after each call, where no frame is due, and no port is to be held or let go. */
 static void settle(void) {
-    niw_active_aggregator(&here, 1);
-    niw_distributing(&here, 1, numbers, NIW_MOST_PORTS);
     for (uint16_t port = 1; port <= PORTS; port++) niw_defaulted(&here, port);
+    niw_distributing(&here, 1, numbers, NIW_MOST_PORTS);
     niw_due(&here);
 }
 
