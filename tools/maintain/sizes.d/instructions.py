@@ -24,6 +24,7 @@ CALLS = [
     "`niw_receive` of one that flips Sync: the port leaves the trunk",
     "`niw_tick` at which all ports lose their partner",
 ]
+NOTHING: dict[str, str] = {}
 # What the functions of C libraries begin with that copy and fill memory: glibc's memmove calls others.
 MEMORY = (b"mem", b"_wordcopy")
 
@@ -84,7 +85,7 @@ def counts(it: Counted, words: list[str]) -> list[list[tuple[int, int]]]:
         for ports in PORTS:
             printed(*it.compiler, *words, f"-DPORTS={ports}", *it.linked, "-o", made, PROGRAM, library)
             called = board.command([emulator, "-singlestep", "-d", "exec,nochain", *it.runs[1:]], os.path.basename(made))
-            with subprocess.Popen(called, cwd=folder, env={}, stdin=subprocess.DEVNULL, stdout=subprocess.DEVNULL, stderr=subprocess.PIPE) as ran:
+            with subprocess.Popen(called, cwd=folder, env=NOTHING, stdin=subprocess.DEVNULL, stdout=subprocess.DEVNULL, stderr=subprocess.PIPE) as ran:
                 found.append(list(between(ran.stderr or ())))
             if ran.returncode or len(found[-1]) != len(CALLS):
                 raise Missing(f"{it.name}: sizes.d/calls.c of {ports} ports ended with {ran.returncode} after {len(found[-1])} of {len(CALLS)} calls")
