@@ -24,6 +24,7 @@ CALLS = [
     "`niw_receive` of one that flips Sync: the port leaves the trunk",
     "`niw_tick` at which all ports lose their partner",
 ]
+NOTHING: dict[str, str] = {}
 # What the functions of C libraries begin with that copy and fill memory: glibc's memmove calls others.
 MEMORY = (b"mem", b"_wordcopy")
 
@@ -75,15 +76,16 @@ def between(told: Iterable[bytes]) -> Iterator[tuple[int, int]]:
     
 
 def counts(it: Counted, words: list[str]) -> list[list[tuple[int, int]]]:
-    """Of a LAG of each number of ports the counts of the calls, on a processor."""
-    found = []
+    """Of a LAG of each number of ports the counts of the calls, on a processor. The environment and the path of a program move its stack, and memcpy takes
+    other ways where a struct is aligned otherwise: so each run has none, and one path."""
+    found, emulator = [], shutil.which(it.runs[0]) or it.runs[0]
     with tempfile.TemporaryDirectory() as folder:
         library, made = os.path.join(folder, "lag.o"), os.path.join(folder, "calls")
         printed(*it.compiler, *words, "-c", "-o", library, PORTABLE)
         for ports in PORTS:
             printed(*it.compiler, *words, f"-DPORTS={ports}", *it.linked, "-o", made, PROGRAM, library)
-            called = board.command([it.runs[0], "-singlestep", "-d", "exec,nochain", *it.runs[1:]], made)
-            with subprocess.Popen(called, stdin=subprocess.DEVNULL, stdout=subprocess.DEVNULL, stderr=subprocess.PIPE) as ran:
+            called = board.command([emulator, "-singlestep", "-d", "exec,nochain", *it.runs[1:]], os.path.basename(made))
+            with subprocess.Popen(called, cwd=folder, env=NOTHING, stdin=subprocess.DEVNULL, stdout=subprocess.DEVNULL, stderr=subprocess.PIPE) as ran:
                 found.append(list(between(ran.stderr or ())))
             if ran.returncode or len(found[-1]) != len(CALLS):
                 raise Missing(f"{it.name}: sizes.d/calls.c of {ports} ports ended with {ran.returncode} after {len(found[-1])} of {len(CALLS)} calls")
