@@ -53,9 +53,9 @@ static void settle(struct box *here, struct box *peer) {
     uint64_t count = niw_distributing(&here->system, 1, ports, NIW_MOST_PORTS).number;
     for (uint64_t i = 0; i < count; i++) members |= UINT32_C(1) << (ports[i] - 1);
     here->trunk = members;
-    for (uint64_t due; (due = niw_due(&here->system).number) != 0;)
-        for (uint16_t port = 1; port <= PORTS; port++)
-            if (due >> (port - 1) & 1 && niw_transmit(&here->system, port, frame, sizeof frame).is) send(peer, port, frame, sizeof frame);
+    uint64_t due = niw_due(&here->system).number;
+    for (uint16_t port = 1; port <= PORTS; port++)
+        if (due >> (port - 1) & 1 && niw_transmit(&here->system, port, frame, sizeof frame).is) send(peer, port, frame, sizeof frame);
 }
 
 /* Whether the port has answered fewer than ten markers within a second; it notes this one, then. */

@@ -40,13 +40,13 @@ def test_no_two_checks_that_prove_nor_two_that_measure_run_at_a_time() -> None:
     assert not any(word in check.CHECKS[it].wants for it in others for word in ("toolchain", "root"))
 
 
-def test_the_end_has_the_longest_first_and_tells_what_was_skipped() -> None:
-    ended = [check.Ended("pages", "passed", 6.0, "1 passed, 0 failed"), check.Ended("live", "FAILED", 600.0, ""), check.Ended("carry", "skipped", 0.1, "")]
-    assert check.summary(ended) == ["  10.0 min  FAILED   live", "   0.1 min  passed   pages", "   0.0 min  skipped  carry", "1 passed, 1 failed, 1 skipped"]
+def test_the_end_has_the_longest_first_and_tells_what_did_not_run() -> None:
+    ended = [check.Ended("pages", "passed", 6.0, "1 passed, 0 failed"), check.Ended("live", "FAILED", 600.0, ""), check.Ended("carry", "not run", 0.1, "")]
+    assert check.summary(ended) == ["  10.0 min  FAILED   live", "   0.1 min  passed   pages", "   0.0 min  not run  carry", "1 passed, 1 failed, 1 not run"]
     assert check.summary(ended[:1]) == ["1 passed, 0 failed"]
 
 
-@pytest.mark.parametrize("status, how", [(0, "passed"), (1, "FAILED"), (2, "skipped")])
+@pytest.mark.parametrize("status, how", [(0, "passed"), (1, "FAILED"), (2, "not run")])
 def test_a_status_says_how_a_check_ended(status: int, how: str, tmp_path: Path, monkeypatch: pytest.MonkeyPatch) -> None:
     tool = tmp_path / "tool"
     tool.write_text(f"#!/bin/sh\necho last line\nexit {status}\n")
