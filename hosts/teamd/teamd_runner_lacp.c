@@ -359,10 +359,10 @@ static int receive(struct teamd_context *ctx, int events, void *priv)
 		teamd_send(port->sock, response, got.number, 0);
 	if (got.what == NIW_RECEIVED_TOOK_LACPDU) {
 		lacp->dirty = true;
-		if (lag_hear(&port->heard, frame, lag_now()))
+		/* Nothing is sent before the driver has what it says. */
+		if (lag_hear(&port->heard, frame, lag_now()) || niw_due(&lacp->end.system).number)
 			return refresh(lacp);
-		send_due(lacp); /* without news the next tick sees to the rest */
-		sleep_until_due(lacp);
+		sleep_until_due(lacp); /* without news the next tick sees to the rest */
 	}
 	return 0;
 }
