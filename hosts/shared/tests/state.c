@@ -1,4 +1,5 @@
-/* Tests of lag_state.h: what is written is read again, octets that are no state tell nothing, and a file system that refuses leaves none. With -DFUZZ it is a fuzzer of libFuzzer. */
+/* Tests of lag_state.h: what is written is read again, octets that are no state tell nothing, and a file system that refuses leaves none. With
+ * -DFUZZ it is a fuzzer of libFuzzer. */
 #define _GNU_SOURCE
 #include "lag_state.h"
 

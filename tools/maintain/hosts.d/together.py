@@ -19,7 +19,8 @@ class Call:
     def __init__(self, part: str, words: list[str]) -> None:
         self.part, self.words = part, words
         self.said: IO[str] = tempfile.TemporaryFile("w+", encoding="utf-8")
-        self.process = subprocess.Popen([sys.executable, f"{MAINTAIN}/hosts", part, *words], stdin=subprocess.DEVNULL, stdout=self.said, stderr=subprocess.STDOUT)
+        command = [sys.executable, f"{MAINTAIN}/hosts", part, *words]
+        self.process = subprocess.Popen(command, stdin=subprocess.DEVNULL, stdout=self.said, stderr=subprocess.STDOUT)
 
     def end(self) -> None:
         """Prints what it said, but its last line, which is counted here."""
