@@ -172,6 +172,10 @@ lag_state_write(const char *path, const struct lag_state *state)
 
     if (snprintf(fresh, sizeof fresh, "%s.new", path) < (int) sizeof fresh) {
         err = lag_state_write_new(fresh, state);
+        if (err == -ENOSPC) {
+            unlink(path); /* The room of the older state may do. */
+            err = lag_state_write_new(fresh, state);
+        }
         if (!err && rename(fresh, path)) {
             err = -errno;
         }

@@ -133,20 +133,32 @@ spoil(const char *path)
     return taken;
 }
 
-/* A file system of these options takes one state, and refuses the next one. */
-static void
-refuse(const char *options, bool read_only, int error, const char *what)
+/* Begins a file system of these options, with a state; `path` is where that stands. */
+static bool
+begin(const char *options, char *folder, char *path, size_t room)
 {
     static struct lag_state state, again;
-    char folder[] = "/tmp/lag-state.XXXXXX", path[64];
-    bool begun;
 
     fill(&state);
-    snprintf(path, sizeof path, "%s/state", mkdtemp(folder));
-    begun = !mount("state", folder, "tmpfs", 0, options) && !lag_state_write(path, &state) && lag_state_read(path, &again)
-            && (!read_only || !mount("state", folder, "tmpfs", MS_REMOUNT | MS_RDONLY, options));
-    check(begun && lag_state_write(path, &state) == error, what);
-    check(!lag_state_read(path, &again), "  and no state is read, which would be older than the ports");
+    snprintf(path, room, "%s/state", mkdtemp(folder));
+    return !mount("state", folder, "tmpfs", 0, options) && !lag_state_write(path, &state) && lag_state_read(path, &again);
+}
+
+/* A file system of these options has room for one state: the next one takes its place; and where that is taken, too, none is read. */
+static void
+fill_up(const char *options, const char *what)
+{
+    static struct lag_state state, again;
+    char folder[] = "/tmp/lag-state.XXXXXX", path[64], other[64];
+    FILE *file;
+
+    fill(&state);
+    check(begin(options, folder, path, sizeof path) && !lag_state_write(path, &state) && lag_state_read(path, &again), what);
+    snprintf(other, sizeof other, "%s/other", folder);
+    unlink(path);
+    file = fopen(other, "w");
+    check(file && fputs("full", file) >= 0 && !fclose(file) && lag_state_write(path, &state) == -ENOSPC && !lag_state_read(path, &again),
+          "  and where there is no room at all, it is told, and no state is read");
     umount(folder);
     rmdir(folder);
 }
@@ -155,13 +167,21 @@ refuse(const char *options, bool read_only, int error, const char *what)
 static void
 try_refusals(void)
 {
+    static struct lag_state state, again;
+    char folder[] = "/tmp/lag-state.XXXXXX", path[64];
+
     if (unshare(CLONE_NEWNS) || mount("none", "/", NULL, MS_REC | MS_PRIVATE, NULL)) {
         printf("skipped: file systems that refuse: no root\n");
         return;
     }
-    refuse("size=4096", false, -ENOSPC, "a full file system refuses a state, and tells it");
-    refuse("nr_inodes=2", false, -ENOSPC, "so does one that has no further file");
-    refuse("size=1m", true, -EROFS, "and one that becomes read-only");
+    fill_up("size=4096", "a file system that is full keeps the newest state");
+    fill_up("nr_inodes=2", "so does one that has no further file");
+    fill(&state);
+    check(begin("size=1m", folder, path, sizeof path) && !mount("state", folder, "tmpfs", MS_REMOUNT | MS_RDONLY, "size=1m")
+          && lag_state_write(path, &state) == -EROFS, "one that becomes read-only refuses a state, and tells it");
+    check(!lag_state_read(path, &again), "  and no state is read, which would be older than the ports");
+    umount(folder);
+    rmdir(folder);
 }
 
 /* With the name of a file it writes a state there, for a fuzzer to begin with. */

@@ -31,7 +31,10 @@ grant; until_state "$BOTH" 3; is "it can: it is, within a second" "$BOTH" "$(sta
 # The file, on a file system that becomes full, and has room again.
 end; mount -t tmpfs -o size=256k runs /run/teamd; take_aloud; ip link set team0 up; until_state "$BOTH" 12; sleep 1
 is "a state is written" yes "$([ -s $F ] && echo yes)"
-for _ in 1 2 3; do cat /dev/zero >>/run/teamd/full 2>/dev/null; sleep 0.7; done; sleep 1; is "the file system is full: no state is left, the log says why, and both carry" "no 1 $BOTH" "$([ -e $F ] && echo yes || echo no) $(grep -c 'No state saved.*No space' /run/log) $(state)"
+fill_up() { cat /dev/zero >>/run/teamd/full 2>/dev/null; }
+fill_up; sleep 0.7; fill_up; sleep 2; is "the file system is full: the state takes the place of the older one" "yes 0 $BOTH" "$([ -s $F ] && echo yes) $(grep -c 'No state saved' /run/log) $(state)"
+pid=$(cat /run/teamd/team0.pid); kill -STOP $pid; rm -f $F $F.new; fill_up; kill -CONT $pid; sleep 2.5
+is "there is no room at all: no state is left, the log says so once, and both carry" "no 1 $BOTH" "$([ -e $F ] && echo yes || echo no) $(grep -c 'No state saved.*No space' /run/log) $(state)"
 kill_it; take_aloud; is "a teamd that follows takes none over" "" "$(grep ': taken over' /run/log)"
 until_state "$BOTH" 12; rm /run/teamd/full; sleep 2; is "there is room: the state is written again" "yes $BOTH" "$([ -s $F ] && echo yes) $(state)"
 end; umount /run/teamd
