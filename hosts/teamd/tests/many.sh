@@ -13,7 +13,7 @@ start() { for _ in $(seq 50); do once "$1" && return; echo "$1" >>/run/again; sl
 once() { $T -d -r -t team$1 -c "{\"runner\":{\"name\":\"lacp\",\"fast_rate\":true},\"ports\":{\"a$1\":{},\"b$1\":{}}}" 2>>/run/log && ip link set team$1 up; }
 # After how many ms both ends of all links distribute, as the peers have it; and then what the drivers have.
 carried() { ip netns exec far python3 /run/tests/carried.py $COUNT 300; }
-enabled() { for k in $(seq $COUNT); do teamnl team$k -p a$k getoption enabled; teamnl team$k -p b$k getoption enabled; done 2>&1 | sort | uniq -c | awk '{printf "%s%s %s", (NR > 1 ? ", " : ""), $1, $2}'; }
+enabled() { for k in $(seq $COUNT); do teamnl team$k -p a$k getoption enabled; teamnl team$k -p b$k getoption enabled; done 2>/dev/null | sort | uniq -c | awk '{printf "%s%s %s", (NR > 1 ? ", " : ""), $1, $2}'; }
 all_carry() { if [ "$(enabled)" = "$((2 * COUNT)) true" ]; then cell "$1: all carry" yes; else cell "$1: all carry" "$(enabled)"; fi; }
 stop() { for k in $(seq $COUNT); do $T -k -t team$k; done; sleep 1; }
 for k in $(seq $MOST); do
