@@ -1,8 +1,8 @@
 /* What a rule says of a text: its title where a status is one moment, what is seen, and what to do, in the words of the program whose text it is. */
 
-import { capitalized, TWO_BOXES } from "./keys.js";
+import { capitalized, joinedBy, OWN_SYSTEM, TWO_BOXES } from "./keys.js";
 
-/* For each form of a text how its program counts LACPDUs, what gives its ports one key, and how it uses one link, with a spare, without LACP. */
+/* For each form of a text what to look at where it does not say whether a link is up, how its program counts LACPDUs, what gives its ports one key, and how it uses one link, with a spare, without LACP. */
 const BONDING = {
     counts: "it counts no LACPDUs, so capture at both ends (tcpdump -i PORT 'ether proto 0x8809')",
     key: "one speed, and full duplex", backup: "mode=active-backup",
@@ -12,7 +12,8 @@ const PROGRAMS = new Map([
     ["ip", BONDING],
     ["teamd", { ...BONDING, key: "one lacp_key, one speed, and full duplex", backup: "the runner activebackup" }],
     ["openvswitch", {
-        counts: "compare the counts of ovs-appctl lacp/show-stats with those of the other end, or capture; ovs-appctl lacp/show does not say whether the link is up, ip link does",
+        link: "look at ip link first, for ovs-appctl lacp/show does not say whether the link is up; if it is, ",
+        counts: "compare the counts of ovs-appctl lacp/show-stats with those of the other end, or capture",
         key: "one bond (other_config:lacp-aggregation-key)", backup: "bond_mode=active-backup and lacp=off",
     }],
     ["lagd", { counts: "compare its counts with those of the other end, or capture", key: "one key" }],
@@ -62,9 +63,17 @@ function adviceOnUnheard(it) {
     if (deaf) return `${asLong(it)}both texts have LACP, and ${deaf}. ${path} to it.`;
     if (before) return `${before}: look what changed at that port, or on the path from there. `
         + "It is so for 3 s: if it comes again and again, LACPDUs are lost, or come too seldom.";
-    return `${asLong(it)}look whether the port at the other end is in a bundle with LACP `
+    const { link = "", counts } = PROGRAMS.get(it.form);
+    return `${asLong(it)}${link}look whether the port at the other end is in a bundle with LACP `
         + "(switch: channel-group, mode active, not on; Linux bonding: mode=802.3ad). "
-        + `If it is, no status says who is deaf: ${PROGRAMS.get(it.form).counts}.`;
+        + `If it is, no status says who is deaf: ${counts}.`;
+}
+
+/* The title where no member of a bundle ever heard a partner; null where one did. */
+function wholeUnheard({ silent, meant, isOfSeveral }) {
+    if (!silent.length || meant.some(({ far }) => far)) return null;
+    const ports = silent.flatMap((it) => it.ports), where = ports.length > 1 ? "any link" : ports[0].name;
+    return `no LACPDU comes on ${where}${isOfSeveral ? ` of ${joinedBy(silent.map((it) => it.told))}` : ""}: is LACP on at the far end?`;
 }
 
 /* Ports whose partners name one port of one system. */
@@ -102,12 +111,14 @@ const withoutMlag = (advice, backup) =>
     backup ? `${advice} Or, without MLAG: ${backup}, which needs no LACP, has one link in use and the other as a spare.` : advice;
 
 /* What rules say of texts; what stands not here is said as of a capture. `ports` are those of the text, `isLasting` is whether one of those that
- * are meant churns, `isImplied` whether all are the other ends; for these `implied` has the title. `meant` are the ports that are meant, and `advice` is
+ * are meant churns, `isImplied` whether all are the other ends; for these `implied` has the title, and `whole` where `silent`, bundles that never
+ * heard a partner, have all that is meant. `meant` are the ports that are meant, and `advice` is
  * the module's. `case` has another title where one is due. */
 export const RULES = new Map([
     [5, { title: "both ends are passive" }],
     [12, {
-        title: "a port hears nobody", advice: adviceOnUnheard,
+        title: "a port hears nobody", advice: adviceOnUnheard, whole: wholeUnheard,
+        implied: (names) => names.includes(",") ? `the far ends of ${names} do not hear this end` : `the far end of ${names} does not hear this end`,
         said: ({ ports, form, meant, isImplied }) => isImplied || heardIn(meant).length ? [] : aloneSaid(ports, form),
     }],
     [14, {
@@ -134,5 +145,9 @@ export const RULES = new Map([
             ? "These are priorities of one address: give the far end one LACP system priority; of an MLAG pair both switches the same."
             : withoutMlag(advice, PROGRAMS.get(form).backup),
     }],
-    [30, { title: "the partner is this system itself" }],
+    [30, {
+        title: "the partner is this system itself",
+        advice: () => "Look for a loop (a cable between two ports of this system, or a port that hears itself); if there are two machines, one has a copied identifier, "
+            + `and no LACPDU tells which: give each its own (${OWN_SYSTEM}).`,
+    }],
 ]);

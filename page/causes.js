@@ -2,7 +2,7 @@
  * holds no more stands behind. The findings are the module's; the order is this page's. */
 
 import { isKnown, isRemark, roundedSeconds } from "./records.js";
-import { capitalized, joinedBy, keyGroups, whereOf } from "./keys.js";
+import { capitalized, joinedBy, keyGroups, OWN_SYSTEM, whereOf } from "./keys.js";
 import { systemsIn, toldOf } from "./cases.js";
 import { untilOf } from "./past.js";
 
@@ -120,7 +120,7 @@ function twinsIn(bundles) {
 function twinItem(bundles) {
     const it = new Item(REMARK, null, {}, { name: "two devices act as one system", clause: "", advice: "" });
     it.lines = twinsIn(bundles).map((list) => `${list[0].short}: sent by ${joinedBy(list.map(({ label, source }) => `${source}${label ? ` on ${label}` : ""}`))}`);
-    it.advice = "Right if they are an MLAG pair; else one has a copied identifier, and data goes astray: give each its own (bonding: ad_actor_system).";
+    it.advice = "Right if they are an MLAG pair; else one has a copied identifier, and data goes astray: give each its own (" + OWN_SYSTEM + ").";
     return it.lines.length ? [it] : [];
 }
 

@@ -122,6 +122,9 @@ function ofCables(group) {
     };
 }
 
+/* What gives a system its identifier, in each program. */
+export const OWN_SYSTEM = "bonding: ad_actor_system; Open vSwitch: other_config:lacp-system-id; teamd: hwaddr, the address of the team device";
+
 /* What is said where two boxes have one system, and two keys. */
 export const TWO_BOXES = "two boxes have one system: an MLAG pair (give both the same MLAG number; bonding: the same ad_user_port_key), "
     + "or two machines with one system address (give each its own).";

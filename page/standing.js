@@ -2,12 +2,12 @@
  * LACPDUs that the texts imply; facts that no LACPDU has get their own words. A text is a moment: what is starting looks as what stays so. */
 
 import { bitsOf, muxSaid } from "./records.js";
-import { capitalized, counted } from "./keys.js";
+import { capitalized, counted, distinct, OWN_SYSTEM } from "./keys.js";
 import { EFFECT, FAULT, REMARK } from "./causes.js";
 import { ALONE, CARRIES, howManyCarry, IDLE, UNKNOWN } from "./summary.js";
 import { flowSaid, hashesSaid } from "./hashes.js";
 import { ACTIVITY_BIT, COLLECTING_BIT, DEFAULTED_BIT, DISTRIBUTING_BIT, EXPIRED_BIT } from "./status.js";
-import { linksOfTexts } from "./implied.js";
+import { isDenied, linksOfTexts } from "./implied.js";
 import { areTwinsApart, dashed, isLinked, isSeveral, keysFollowSpeed, namesIn, RULES, portsNamedAlike } from "./advice.js";
 
 const isHalf = (it) => it.speed.endsWith("half");
@@ -76,28 +76,60 @@ function systemFacts(texts) {
     return facts;
 }
 
+/* Whether two values are one, as far as both are said. */
+const mayBeOne = (one, other) => (one ?? null) === null || (other ?? null) === null || one === other;
+const areOneSystem = (one, other) => Boolean(one?.system) && one.system === other?.system && mayBeOne(one.priority, other.priority);
+/* Whether two ports call themselves one port of one system; ip has no numbers of ports. */
+const areNamedAlike = ({ actor: one, source }, { actor: other, source: there }) => areOneSystem(one, other) && mayBeOne(one.portPriority, other.portPriority)
+    && (one.port === null && other.port === null ? source !== there : one.port === other.port);
+const arePartnersApart = ({ partner: one }, { partner: other }) => one !== null && other !== null && !["system", "key"].every((it) => mayBeOne(one[it], other[it]));
+
+/* Whether two bundles have one system and its ports, and lead to two groups, as no MLAG pair does. Ends of one link are not meant, which name that
+ * system. */
+function areCopies(one, other) {
+    const pairs = one.ports.flatMap((port) => other.ports.filter((it) => areNamedAlike(port, it)).map((it) => [port, it]));
+    const isNamed = pairs.length > 0 && [...one.ports, ...other.ports].some(({ partner }) => areOneSystem(pairs[0][0].actor, partner));
+    return !isNamed && pairs.some(([port, it]) => arePartnersApart(port, it));
+}
+
+/* The first two bundles with one system that is copied, as a fact: with it nothing is said of how one's links differ from the other's. */
+function copiedFacts(texts) {
+    const all = texts.flatMap((text) => text.bundles.map((bundle) => ({ text, bundle })));
+    const pairs = all.flatMap((one, at) => all.slice(at + 1).map((other) => [one, other])), found = pairs.find(([one, other]) => areCopies(one.bundle, other.bundle));
+    if (!found) return [];
+    const [one, other] = found, ports = [...one.bundle.ports, ...other.bundle.ports], { system } = ports.find((it) => it.actor?.system).actor;
+    const who = one.text === other.text ? "two bundles of this text" : texts.length > 2 ? "two texts" : "both texts";
+    return [{
+        name: "copied", ports, title: `${who} are of system ${dashed(system)}: if these are two hosts, give one of them another identifier`,
+        advice: `Their partners differ in system or key, so they are no MLAG pair. What gives an identifier: ${OWN_SYSTEM}.`,
+    }];
+}
+
 /* Several bundles in one text: those of one system, or both ends of links, which are counted as more links then. */
 function severalFacts({ bundles }) {
     const systemOf = ({ ports }) => ports.find((it) => it.actor)?.actor.system;
+    const isOne = bundles.length > 1 && systemOf(bundles[0]) && bundles.every((it) => systemOf(it) === systemOf(bundles[0]));
     const said = bundles.map((it) => `${it.told}${systemOf(it) ? ` is of the system ${dashed(systemOf(it))}` : ""}`);
     const named = (one, other) => other !== one && one.ports.some(({ partner }) => partner?.system && partner.system === systemOf(other));
     const ends = bundles.filter((one) => bundles.some((other) => named(one, other)));
     if (bundles.length < 2) return [];
     const title = ends.length ? "both ends of links are in one text, which is read as of one end" : `${bundles.length} bundles are in one text`;
     const what = ends.length ? "Give the far end's apart" : "If one is the far end's, give it apart";
-    return [{ name: "several", ports: [], title, advice: `${capitalized(said.join(", "))}. ${what}, as the second text.` }];
+    const advice = isOne && !ends.length ? `All are of the system ${dashed(systemOf(bundles[0]))}.` : `${capitalized(said.join(", "))}. ${what}, as the second text.`;
+    return [{ name: "several", ports: [], title, advice }];
 }
 
 export function factsIn(texts) {
     const bundles = texts.flatMap((text) => text.bundles.map((it) => ({ ...it, form: text.form })));
     const facts = bundles.flatMap((it) => [...linkFacts(it), ...silentFacts(it, it.form), ...partnerFacts(it)]);
-    return [...facts.filter((it) => it.ports.length), ...systemFacts(texts), ...texts.flatMap(severalFacts)];
+    const copied = copiedFacts(texts);
+    return [...facts.filter((it) => it.ports.length), ...copied.length ? copied : [...systemFacts(texts), ...texts.flatMap(severalFacts)]];
 }
 
 /* ---- Causes ---- */
 
 /* What explains the rest comes first: facts by name, rules by number. */
-const RANKS = ["no-lacp", "no-state", "no-root", "set-down", 30, "own-address", "never-heard", 29, 15, "apart", "link-down", "speeds", "stands-by", 5, "passive-unheard", 14, "deaf-there", 12, 22, 17, 2, 3, 4, "too-few"];
+const RANKS = ["no-lacp", "no-state", "no-root", "set-down", 30, "own-address", "never-heard", "copied", 29, 15, "apart", "link-down", "speeds", "stands-by", 5, "passive-unheard", 14, "deaf-there", 12, 22, 17, 2, 3, 4, "too-few"];
 const isUnheard = ({ rank }) => rank === 12;
 /* What calls for nothing by itself. */
 const ASIDE = ["away", "waiting", "aggregators", "same-partner-port", "one-system", "several", "note", "said"];
@@ -110,29 +142,41 @@ function cutSaid(texts) {
 }
 const causeOf = (given) => ({ kind: FAULT, lines: [], effects: [], ports: [], ...given });
 
-/* What is told as one: a rule; of who hears nobody (12), the other ends, those whose link has two texts, those that heard somebody before, and the rest
- * are told apart. */
-const toldAs = ({ rule, isImplied, port }) => rule === 12 ? `${rule} ${isImplied} ${Boolean(port.far)} ${port.said.partner !== null}` : `${rule}`;
+/* What bundles are compared by: of these rules a finding may be of several. */
+const COMPARING = [15, 29];
+/* Whether a bundle never heard a partner, on any link. */
+const hasNoPartner = ({ ports }) => ports.some((it) => it.actor) && ports.every((it) => it.actor ? !it.partner : it.link === false);
+const bundleOf = (port, bundles) => bundles.findIndex(({ ports }) => ports.includes(port.said ?? port));
+
+/* What is told as one: a rule, in a bundle; of who hears nobody (12), the other ends, those whose link has two texts, those that heard somebody before,
+ * and the rest are told apart. */
+function toldAs({ rule, isImplied, port }, bundles) {
+    const at = COMPARING.includes(rule) || bundles.every(hasNoPartner) ? "" : bundleOf(port, bundles);
+    return rule === 12 ? `${rule} ${at} ${isImplied} ${Boolean(port.far)} ${port.said.partner !== null}` : `${rule} ${at}`;
+}
 
 function causesOfRules(found, { bundles, form }) {
-    const rules = [...new Set(found.map(toldAs))].map((told) => found.filter((it) => toldAs(it) === told)), ports = bundles.flatMap((it) => it.ports);
+    const rules = distinct(found.map((it) => toldAs(it, bundles))).map((told) => found.filter((it) => toldAs(it, bundles) === told));
     return rules.map((list) => {
         const [{ rule, clause, name, advice }] = list, own = RULES.get(rule) ?? {}, here = list.filter((it) => !it.isImplied), meant = list.map((it) => it.port);
+        const near = bundles.filter((it) => meant.some((port) => it.ports.includes(port.said))), ports = (near.length ? near : bundles).flatMap((it) => it.ports);
         const who = here.length ? namesIn(here.map((it) => it.port)) : `the other end of ${namesIn(meant)}`;
         const seen = { ports, form, advice, meant: meant.map(({ said, far }) => ({ ...said, far })), isLasting: meant.some((it) => it.isLasting), isImplied: !here.length };
-        const title = (!here.length && own.implied?.(namesIn(meant))) || `${own.case?.(seen) ?? own.title ?? name}: ${who}`;
-        return causeOf({ rank: rule, rule, clause, title, advice: own.advice?.(seen) ?? advice, lines: own.said?.(seen) ?? [], ports: meant });
+        const silent = near.filter(hasNoPartner), isOfSeveral = silent.length < bundles.length;
+        const plain = (!here.length && own.implied?.(namesIn(meant))) || `${own.case?.(seen) ?? own.title ?? name}: ${who}`, title = own.whole?.({ ...seen, silent, isOfSeveral }) ?? plain;
+        return causeOf({ rank: rule, rule, clause, title, plain, advice: own.advice?.(seen) ?? advice, lines: own.said?.(seen) ?? [], ports: meant });
     });
 }
 
-/* Causes by what explains others: the first one has what follows from it. Where keys differ as speeds do, the speeds explain them. */
-function inOrder(all, ports) {
-    const isOfSpeed = all.some((it) => it.rank === "speeds") && keysFollowSpeed(ports), rankOf = ({ rank }) => isOfSpeed && rank === "speeds" ? RANKS.indexOf(15) - 0.5 : RANKS.indexOf(rank);
+/* Causes by what explains others: the first one has what follows from it, in its bundles. Where keys differ as speeds do, the speeds explain them. */
+function inOrder(all, bundles) {
+    const isOfSpeed = all.some((it) => it.rank === "speeds") && keysFollowSpeed(bundles.flatMap((it) => it.ports)), rankOf = ({ rank }) => isOfSpeed && rank === "speeds" ? RANKS.indexOf(15) - 0.5 : RANKS.indexOf(rank);
     const [first, ...others] = all.sort((one, other) => rankOf(one) - rankOf(other));
     if (!first) return [];
     const isOfFirst = { speeds: (it) => (it.rank === 15 && isOfSpeed) || (it.rank === 12 && it.ports.every(isHalf)), "never-heard": isUnheard, "passive-unheard": isUnheard, "deaf-there": isUnheard }[first.rank];
-    const isEffect = (it) => [17, 22].includes(it.rank) || isOfFirst?.(it);
-    first.effects = others.filter(isEffect).map((it) => ({ ...it, kind: EFFECT }));
+    const own = first.ports.map((it) => bundleOf(it, bundles)), isNear = (it) => !own.length || !it.ports.length || it.ports.some((port) => own.includes(bundleOf(port, bundles)));
+    const isEffect = (it) => isNear(it) && ([17, 22].includes(it.rank) || isOfFirst?.(it));
+    first.effects = others.filter(isEffect).map((it) => ({ ...it, kind: EFFECT, title: it.plain ?? it.title }));
     return [first, ...others.filter((it) => !isEffect(it))];
 }
 
@@ -144,7 +188,8 @@ export function causesOfTexts(texts, { found, left }) {
     const more = left ? [causeOf({ rank: "note", kind: REMARK, title: `${counted(left, "link")} beyond the first 32 are not looked at`, advice: "Give the others alone." })] : [];
     if (texts.some(isCutIn)) return [...notes, ...said];
     const facts = factsIn(texts).map((it) => causeOf({ rank: it.name, title: it.title, advice: it.advice, ports: it.ports, kind: aside(it.name) }));
-    const causes = inOrder([...notes, ...facts, ...causesOfRules(found, texts[0])].filter((it) => it.kind === FAULT), texts[0].bundles.flatMap((it) => it.ports));
+    const isCopied = facts.some(({ rank }) => rank === "copied"), rules = causesOfRules(found.filter((it) => !(it.rule === 17 && isDenied(it.port.said)) && !(isCopied && COMPARING.includes(it.rule))), texts[0]);
+    const causes = inOrder([...notes, ...facts, ...rules].filter((it) => it.kind === FAULT), texts[0].bundles);
     const whole = causes.length ? [] : texts[0].bundles.filter(({ ports }) => ports.length > 1 && ports.every(saysCarry));
     const hashes = hashesSaid(whole).map((it) => causeOf({ rank: "hash", kind: REMARK, ...it }));
     const meant = new Set(causes.flatMap((it) => it.ports).map((it) => it.name));
@@ -165,6 +210,14 @@ function howApart(port, used) {
     return isOtherKey ? `its partner has key ${port.partner.key}, and ${used.partner.key} on ${used.name}` : "";
 }
 
+/* Why Open vSwitch does not use a port: it has no aggregators, and waits for nothing. */
+function whyDetached(port, { ports }) {
+    const isAttached = ({ actor }) => actor !== null && bitsOf(actor.state).includes("synchronized"), used = ports.find((it) => it.isUsed) ?? ports.find((it) => it !== port && it.partner && isAttached(it));
+    if (isAttached(port)) return "this end has attached it, and says may_enable: false";
+    const differs = used ? howApart(port, used) : "";
+    return `this end has not attached it${differs ? `: ${differs}` : ""}`;
+}
+
 /* Why a port of a text does not carry. */
 function whyIdle(port, bundle) {
     if (port.isWaiting) return "its link is back, and waits for wait-to-restore";
@@ -181,6 +234,7 @@ function whyIdle(port, bundle) {
     if (hearsNobody(port.partner)) return "the other end said that it hears nobody";
     if (hearsNobody(port.actor)) return "it hears nobody now";
     if (!state.includes("synchronized")) return "the other end has not attached it";
+    if (bundle.isOfLagd === false) return whyDetached(port, bundle);
     return `this end ${muxSaid(port.actor.state)}`;
 }
 
@@ -224,12 +278,26 @@ function howManySaid(lines, bundles) {
 const ONE_OF_TEXT = "The one link of this text carries. If the bundle has more, the text is cut: give all of it. If it is to have more, they are not in it "
     + "(bonding: ip link set PORT master BOND).";
 
+/* A title as a sentence. */
+const sentenceOf = ({ title }) => `${capitalized(title)}${title.endsWith("?") ? "" : "."}`;
+/* Of more bundles a headline has no causes. */
+const MOST_NAMED = 3;
+
+/* The causes that a headline has: the first one; of several bundles the first one of each, of the bundle where the fewest links carry first. */
+function causesNamed(bundles, causes) {
+    const faults = causes.filter(({ kind }) => kind === FAULT), shareOf = ({ ports }) => ports.filter(saysCarry).length / ports.length;
+    if (bundles.length < 2 || !faults[0]?.ports.length) return faults.slice(0, 1);
+    const worst = [...bundles].filter(({ ports }) => ports.length).sort((one, other) => shareOf(one) - shareOf(other));
+    const named = worst.map((bundle) => faults.find(({ ports }) => ports.some((it) => bundleOf(it, [bundle]) === 0))).filter(Boolean);
+    return named.length ? distinct([...named, ...faults.filter(({ ports }) => !ports.length)]).slice(0, MOST_NAMED) : faults.slice(0, 1);
+}
+
 /* The headline, and how it looks. */
 export function headlineOfTexts(texts, lines, causes) {
-    const carry = lines.filter(({ how }) => how === CARRIES).length, all = lines.length, [cause] = causes.filter(({ kind }) => kind === FAULT);
+    const carry = lines.filter(({ how }) => how === CARRIES).length, all = lines.length, named = causesNamed(texts[0].bundles, causes);
     const head = howManySaid(lines, texts[0].bundles);
     if (texts.some(isCutIn)) return [cutSaid(texts), "bad"];
-    if (cause) return [`${head}${capitalized(cause.title)}.`, "bad"];
+    if (named.length) return [`${head}${named.map(sentenceOf).join(" ")}`, "bad"];
     if (!all) return ["No port of an LACP bundle is in this text.", "bad"];
     const passing = causes.find(({ rank }) => rank === "away" || rank === "waiting");
     if (passing) return [`${head}${capitalized(passing.title)}.`, ""];

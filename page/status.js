@@ -223,10 +223,12 @@ function memberOfTeam([name, it]) {
     });
 }
 
+const noRunner = (runner) => ({ name: "no-lacp", text: `this team does not speak LACP: its runner is "${runner}"`, advice: "LACP is the runner lacp." });
+
 /* `hash` is tx_hash of a configuration that stands beside the state, which does not have it. */
 function team(json, hash) {
     const runner = json.setup?.runner_name, name = json.team_device?.ifinfo?.ifname ?? "", notes = [];
-    if (runner !== "lacp") notes.push({ name: "no-lacp", text: `this team does not speak LACP: its runner is "${runner}"`, advice: "LACP is the runner lacp." });
+    if (runner !== "lacp") notes.push(noRunner(runner));
     const bundle = bundleOfText(name, `the team ${name}`.trim(), Object.entries(json.ports ?? {}).map(memberOfTeam), { hash: hash ? ["tx_hash", hash.join(", ")] : null });
     return { form: "teamd", bundles: notes.length ? [] : [bundle], notes };
 }
@@ -237,6 +239,13 @@ function teamOf(values) {
     if (states.length) return joinedTexts("teamd", states.map((it) => team(it, config?.runner.tx_hash)));
     const note = { name: "no-state", text: "this is the configuration of a team, and its state is wanted", advice: "teamdctl team0 state dump has the state." };
     return config ? { form: "teamd", bundles: [], notes: [note] } : null;
+}
+
+/* The text of teamdctl TEAM state, which has nothing of the LACPDUs. */
+function teamText(text) {
+    const [, runner] = /^setup:\s*\n\s+runner: (\S+)/m.exec(text), isLacp = runner === "lacp";
+    const note = isLacp ? { name: "no-state", text: "this text of teamdctl lacks the LACPDUs: give teamdctl team0 state dump", advice: "The dump has what each end says, in JSON." } : noRunner(runner);
+    return { form: "teamd", bundles: [], notes: [note] };
 }
 
 /* ---- ovs-appctl lacp/show, lagd --status: one grammar ---- */
@@ -345,6 +354,7 @@ const lagdJson = (lines) => ({
 const FORMS = [
     [/^Ethernet Channel Bonding Driver: /m, bonding],
     [/^---- .* ----\s*$/m, showOf],
+    [/^setup:\s*\n\s+runner: \S/m, teamText],
     [/^\s*bond(_slave)? .*\b(lacp_rate|ad_aggregator_id|mode) /m, ipLinkOfText],
 ];
 

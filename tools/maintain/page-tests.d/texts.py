@@ -170,7 +170,7 @@ def second_port(own: int, there: int, key: int = 15, port: int = 2) -> str:
 def of_partner_states(tests: Tests) -> None:
     """What the states of both ends tell: who hears nobody, whether LACP is on there, and what the other end does with the link."""
     cases = {
-        "the other end is deaf": (13, 69, "A port hears nobody: the other end of p2.", "the other end said that it hears nobody",
+        "the other end is deaf": (13, 69, "The far end of p2 does not hear this end.", "the other end said that it hears nobody",
                                   "so LACP is on there, and it does not hear those of this end."),
         "the other end stopped": (135, 63, "A port hears nobody: p2.", "it hears nobody now",
                                   "p2 heard 02-00-00-01-0b-01 port 2 before: look what changed at that port, or on the path from there."),
