@@ -79,10 +79,10 @@ function systemFacts(texts) {
 /* Whether two values are one, as far as both are said. */
 const mayBeOne = (one, other) => (one ?? null) === null || (other ?? null) === null || one === other;
 const areOneSystem = (one, other) => Boolean(one?.system) && one.system === other?.system && mayBeOne(one.priority, other.priority);
-/* Whether two ports call themselves one port of one system; ip has no numbers of ports. */
-const areNamedAlike = ({ actor: one, source }, { actor: other, source: there }) => areOneSystem(one, other) && mayBeOne(one.portPriority, other.portPriority)
-    && (one.port === null && other.port === null ? source !== there : one.port === other.port);
-const arePartnersApart = ({ partner: one }, { partner: other }) => one !== null && other !== null && !["system", "key"].every((it) => mayBeOne(one[it], other[it]));
+/* Whether two ports call themselves one port of one system; ip has no numbers of ports, and one partner. */
+const areNamedAlike = ({ actor: one }, { actor: other }) => areOneSystem(one, other) && mayBeOne(one.portPriority, other.portPriority) && one.port === other.port;
+const arePartnersApart = ({ partner: one }, { partner: other }) =>
+    one !== null && other !== null && !["system", "key"].every((it) => mayBeOne(one[it], other[it]));
 
 /* Whether two bundles have one system and its ports, and lead to two groups, as no MLAG pair does. Ends of one link are not meant, which name that
  * system. */
@@ -95,7 +95,8 @@ function areCopies(one, other) {
 /* The first two bundles with one system that is copied, as a fact: with it nothing is said of how one's links differ from the other's. */
 function copiedFacts(texts) {
     const all = texts.flatMap((text) => text.bundles.map((bundle) => ({ text, bundle })));
-    const pairs = all.flatMap((one, at) => all.slice(at + 1).map((other) => [one, other])), found = pairs.find(([one, other]) => areCopies(one.bundle, other.bundle));
+    const pairs = all.flatMap((one, at) => all.slice(at + 1).map((other) => [one, other]));
+    const found = pairs.find(([one, other]) => areCopies(one.bundle, other.bundle));
     if (!found) return [];
     const [one, other] = found, ports = [...one.bundle.ports, ...other.bundle.ports], { system } = ports.find((it) => it.actor?.system).actor;
     const who = one.text === other.text ? "two bundles of this text" : texts.length > 2 ? "two texts" : "both texts";
@@ -159,11 +160,13 @@ function causesOfRules(found, { bundles, form }) {
     const rules = distinct(found.map((it) => toldAs(it, bundles))).map((told) => found.filter((it) => toldAs(it, bundles) === told));
     return rules.map((list) => {
         const [{ rule, clause, name, advice }] = list, own = RULES.get(rule) ?? {}, here = list.filter((it) => !it.isImplied), meant = list.map((it) => it.port);
-        const near = bundles.filter((it) => meant.some((port) => it.ports.includes(port.said))), ports = (near.length ? near : bundles).flatMap((it) => it.ports);
+        const near = bundles.filter((it) => meant.some((port) => it.ports.includes(port.said)));
+        const ports = (near.length ? near : bundles).flatMap((it) => it.ports);
         const who = here.length ? namesIn(here.map((it) => it.port)) : `the other end of ${namesIn(meant)}`;
         const seen = { ports, form, advice, meant: meant.map(({ said, far }) => ({ ...said, far })), isLasting: meant.some((it) => it.isLasting), isImplied: !here.length };
         const silent = near.filter(hasNoPartner), isOfSeveral = silent.length < bundles.length;
-        const plain = (!here.length && own.implied?.(namesIn(meant))) || `${own.case?.(seen) ?? own.title ?? name}: ${who}`, title = own.whole?.({ ...seen, silent, isOfSeveral }) ?? plain;
+        const plain = (!here.length && own.implied?.(namesIn(meant))) || `${own.case?.(seen) ?? own.title ?? name}: ${who}`;
+        const title = own.whole?.({ ...seen, silent, isOfSeveral }) ?? plain;
         return causeOf({ rank: rule, rule, clause, title, plain, advice: own.advice?.(seen) ?? advice, lines: own.said?.(seen) ?? [], ports: meant });
     });
 }
@@ -174,7 +177,8 @@ function inOrder(all, bundles) {
     const [first, ...others] = all.sort((one, other) => rankOf(one) - rankOf(other));
     if (!first) return [];
     const isOfFirst = { speeds: (it) => (it.rank === 15 && isOfSpeed) || (it.rank === 12 && it.ports.every(isHalf)), "never-heard": isUnheard, "passive-unheard": isUnheard, "deaf-there": isUnheard }[first.rank];
-    const own = first.ports.map((it) => bundleOf(it, bundles)), isNear = (it) => !own.length || !it.ports.length || it.ports.some((port) => own.includes(bundleOf(port, bundles)));
+    const own = first.ports.map((it) => bundleOf(it, bundles));
+    const isNear = (it) => !own.length || !it.ports.length || it.ports.some((port) => own.includes(bundleOf(port, bundles)));
     const isEffect = (it) => isNear(it) && ([17, 22].includes(it.rank) || isOfFirst?.(it));
     first.effects = others.filter(isEffect).map((it) => ({ ...it, kind: EFFECT, title: it.plain ?? it.title }));
     return [first, ...others.filter((it) => !isEffect(it))];
@@ -188,7 +192,8 @@ export function causesOfTexts(texts, { found, left }) {
     const more = left ? [causeOf({ rank: "note", kind: REMARK, title: `${counted(left, "link")} beyond the first 32 are not looked at`, advice: "Give the others alone." })] : [];
     if (texts.some(isCutIn)) return [...notes, ...said];
     const facts = factsIn(texts).map((it) => causeOf({ rank: it.name, title: it.title, advice: it.advice, ports: it.ports, kind: aside(it.name) }));
-    const isCopied = facts.some(({ rank }) => rank === "copied"), rules = causesOfRules(found.filter((it) => !(it.rule === 17 && isDenied(it.port.said)) && !(isCopied && COMPARING.includes(it.rule))), texts[0]);
+    const isCopied = facts.some(({ rank }) => rank === "copied");
+    const rules = causesOfRules(found.filter((it) => !(it.rule === 17 && isDenied(it.port.said)) && !(isCopied && COMPARING.includes(it.rule))), texts[0]);
     const causes = inOrder([...notes, ...facts, ...rules].filter((it) => it.kind === FAULT), texts[0].bundles);
     const whole = causes.length ? [] : texts[0].bundles.filter(({ ports }) => ports.length > 1 && ports.every(saysCarry));
     const hashes = hashesSaid(whole).map((it) => causeOf({ rank: "hash", kind: REMARK, ...it }));
@@ -212,7 +217,8 @@ function howApart(port, used) {
 
 /* Why Open vSwitch does not use a port: it has no aggregators, and waits for nothing. */
 function whyDetached(port, { ports }) {
-    const isAttached = ({ actor }) => actor !== null && bitsOf(actor.state).includes("synchronized"), used = ports.find((it) => it.isUsed) ?? ports.find((it) => it !== port && it.partner && isAttached(it));
+    const isAttached = ({ actor }) => actor !== null && bitsOf(actor.state).includes("synchronized");
+    const used = ports.find((it) => it.isUsed) ?? ports.find((it) => it !== port && it.partner && isAttached(it));
     if (isAttached(port)) return "this end has attached it, and says may_enable: false";
     const differs = used ? howApart(port, used) : "";
     return `this end has not attached it${differs ? `: ${differs}` : ""}`;

@@ -45,8 +45,11 @@ def of_copies(tests: Tests) -> None:
     for name, (here, there) in {"one text twice": (bond, bond), "both ends": (bond, status("healthy-bonding.other.txt")), "one text of teamd twice": (team, team)}.items():
         said = told_of_two(here, there)
         tests.same(f"no copied identifier: {name}", ["another identifier" in said, said.startswith("2 of 2 links carry. LACP is not")], [False, True])
-    pair = told_of_two(bond, bond.replace("HW addr: 02:00:00:01:0a", "HW addr: 02:00:00:01:0c").replace("port number: 1\n", "port number: 7\n", 2))
-    tests.same("no copied identifier: partners of one group", ["another identifier" in pair, "remark: two texts have one system" in pair], [False, True])
+    for end, word in (".json", '"partner_key":'), ("-text.txt", "ad_partner_key "):
+        said = told_of_two(*(status(f"healthy-ip{end}").replace(f"{word}15", f"{word}{key}") for key in (110, 120)))
+        tests.same(f"a copied identifier, healthy-ip{end}", said.partition("\n")[0], f"2 of 2 links carry. Both texts {COPIED.format(1)}.")
+    said = told_of_two(bond, bond.replace("HW addr: 02:00:00:01:0a", "HW addr: 02:00:00:01:0c").replace("port number: 1\n", "port number: 7\n", 2))
+    tests.same("no copied identifier: partners of one group", ["another identifier" in said, "remark: two texts have one system" in said], [False, True])
     one = told_of(f"{show}\n{show}")[1]
     tests.same("the system of two bundles is printed once", [one.count("02-00-00-03-0a-01"), "All are of the system 02-00-00-03-0a-01." in one, "far end's" in one], [1, True, False])
     tests.same("keys of one text are judged", told_of(status("keys-bonding.txt"))[1].partition("\n")[0], "1 of 2 links carries. Keys differ within one pair of systems: p1, p2.")
