@@ -4,10 +4,14 @@
  * takes long, so a process of its own writes it while the daemon runs. */
 #include "team/team.h"
 
+#include <dirent.h>
+#include <limits.h>
 #include <net/if.h>
 #include <poll.h>
 #include <signal.h>
 #include <sys/file.h>
+#include <sys/prctl.h>
+#include <sys/syscall.h>
 
 /* It rises with each change of the file, and of what programs of the kernel share with the daemon. */
 #define FORM_VERSION 3
@@ -26,8 +30,13 @@
 #define COPIED_EVERY 10000
 /* How long a daemon that ends waits for who writes a copy, and then for the end of that one, in milliseconds. */
 #define MOST_COPYING 500
-/* The daemon has fewer files open. */
+/* Of Linux 5.9, and not in older headers. */
+#ifndef SYS_close_range
+#define SYS_close_range 436
+#endif
+/* On older kernels the daemon has fewer files open. */
 #define MOST_OPENED 4096
+#define NEW_ROOM (NAME_ROOM + 64)
 
 struct state {
     struct carry *carry; /* what is saved, as far as it concerns data */
@@ -50,7 +59,7 @@ struct state *make_state(struct carry *carry, struct team_plane *team) {
     struct state *made = make_room(sizeof *made);
     made->carry = carry;
     made->team = team;
-    made->file = made->kept_folder = made->copied = -1;
+    made->file = made->kept_folder = made->lock = made->copied = -1;
     return made;
 }
 
@@ -144,12 +153,31 @@ static void keep_file(struct state *own, int file) {
     own->file = file;
 }
 
+/* A copy that is being written: each process has a file of its own. */
+static void name_new(const char *name, pid_t writer, char room[static NEW_ROOM]) {
+    snprintf(room, NEW_ROOM, "%s.%d.new", name, (int)writer);
+}
+
+/* Removes what processes that were killed wrote of a copy: one that still hangs on the disk finds nothing then to put in the place of another. */
+static void remove_new(struct state *own) {
+    size_t length = strlen(own->kept_name);
+    int fd = openat(own->kept_folder, ".", O_RDONLY | O_DIRECTORY | O_CLOEXEC), writer, end = 0;
+    DIR *listed = fd < 0 ? NULL : fdopendir(fd);
+    for (struct dirent *entry; listed && (entry = readdir(listed)); end = 0)
+        if (strncmp(entry->d_name, own->kept_name, length) == 0 && sscanf(entry->d_name + length, ".%d.new%n", &writer, &end) == 1
+            && end > 0 && !entry->d_name[length + (size_t)end])
+            (void)unlinkat(own->kept_folder, entry->d_name, 0);
+    if (listed) closedir(listed);
+    else if (fd >= 0) close(fd);
+}
+
 /* Puts a whole file in the place of the last one, which is on the disk before if it `lasts`; answers it, or -errno. */
 static int replace_file(struct state *own, int folder, const char *name, bool lasts) {
-    char new_name[NAME_ROOM + 40];
+    char new_name[NEW_ROOM];
     int kept;
     FILE *file;
     snprintf(new_name, sizeof new_name, "%s.new", name);
+    if (lasts) name_new(name, getpid(), new_name);
     int fd = openat(folder, new_name, O_WRONLY | O_CREAT | O_TRUNC | O_APPEND | O_NOFOLLOW | O_CLOEXEC, 0600);
     file = fd < 0 ? NULL : fdopen(fd, "a");
     if (!file) {
@@ -234,11 +262,21 @@ static uint64_t lasting_ports(const struct ports *ports) {
     return found;
 }
 
-/* A process that writes the copy, or removes it. It has nothing else of the daemon, which may end meanwhile, and prints nothing. */
-static _Noreturn void run_copier(struct state *own, int told) {
+/* Closes the files between two. */
+static void close_between(int first, int second) {
+    if (second - first < 2 || syscall(SYS_close_range, first + 1, second - 1, 0) == 0) return;
+    for (int fd = first + 1; fd < second && fd < MOST_OPENED; fd++) close(fd);
+}
+
+/* A process that writes the copy, or removes it. It has nothing else of the daemon, and prints nothing. It ends with the daemon: in a call that
+ * hangs on the disk, once that call is over. */
+static _Noreturn void run_copier(struct state *own, int told, pid_t daemon) {
+    int first = own->kept_folder < told ? own->kept_folder : told, second = own->kept_folder < told ? told : own->kept_folder;
     sigset_t none;
-    for (int fd = STDERR_FILENO + 1; fd < MOST_OPENED; fd++)
-        if (fd != own->kept_folder && fd != told) close(fd);
+    if (prctl(PR_SET_PDEATHSIG, SIGKILL) < 0 || getppid() != daemon) _exit(REFUSED);
+    close_between(STDERR_FILENO, first);
+    close_between(first, second);
+    close_between(second, INT_MAX);
     sigemptyset(&none);
     sigprocmask(SIG_SETMASK, &none, NULL);
     struct copied copied = write_copy(own, own->copied_ports != 0);
@@ -248,11 +286,12 @@ static _Noreturn void run_copier(struct state *own, int told) {
 
 /* Has the copy written or removed; answers 0, or -errno. */
 static int start_copier(struct state *own) {
+    pid_t daemon = getpid();
     int ends[2], fault;
     if (socketpair(AF_UNIX, SOCK_STREAM | SOCK_NONBLOCK | SOCK_CLOEXEC, 0, ends) < 0) return last_fault(); /* the unit has no pipes */
     own->copier = fork();
     fault = own->copier < 0 ? last_fault() : 0;
-    if (own->copier == 0) run_copier(own, ends[1]);
+    if (own->copier == 0) run_copier(own, ends[1], daemon);
     close(ends[1]);
     if (fault == 0) own->copied = ends[0];
     else close(ends[0]);
@@ -317,6 +356,7 @@ void end_state(struct state *own) {
     keep_file(own, -1);
     end_copier(own);
     note_removal(process, own->name, remove_file(process->folder, own->name));
+    if (own->kept_folder >= 0) remove_new(own);
     if (own->kept_folder >= 0) note_removal(process, own->kept_name, remove_file(own->kept_folder, own->kept_name));
 }
 
@@ -490,6 +530,7 @@ static bool lock_copy(struct state *own) {
     if (own->lock >= 0 && flock(own->lock, LOCK_EX | LOCK_NB) == 0) return true;
     int fault = errno;
     if (own->lock >= 0) close(own->lock);
+    own->lock = -1;
     errno = fault;
     return false;
 }
@@ -504,6 +545,7 @@ static void open_kept_folder(struct state *own) {
         close(own->kept_folder);
         own->kept_folder = -1;
     }
+    if (own->kept_folder >= 0) remove_new(own);
     own->has_copy = own->kept_folder >= 0;
     own->copied_ports = UINT64_MAX;
     if (own->kept_folder < 0)

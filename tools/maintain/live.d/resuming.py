@@ -287,16 +287,22 @@ def outlives_crash(part: Part) -> None:
     short_of_time(part, kept)
 
 
+def space_of(copy: str) -> str | None:
+    """The network namespace that a copy names."""
+    found = re.search(r"^space (\d+)$", open(copy, encoding="utf-8").read(), re.M)
+    return found[1] if found else None
+
+
 def other_name(part: Part, kept: str) -> None:
     """A bundle of that name in another network namespace does without the copy, and the one that has it is not disturbed."""
     make_pair(2)
     ip(THEIRS, "link", "property", "add", "dev", "b2", "altname", "a0")
-    before = os.stat(f"{kept}/a0.state").st_mtime
+    space = space_of(f"{kept}/a0.state")
     second = part.theirs("a0", options=["--timeout", "long", "--state-dir", kept])
     text = f"no state is kept in {kept}, so a start after a reboot begins anew: another lagd has a bundle of this name there"
     check(within(ENDS, lambda: text in second.printed()), "a bundle of one name in another network namespace says that it does without", second.printed())
     second.ends("the second one")
-    check(os.stat(f"{kept}/a0.state").st_mtime >= before, "the copy of the first one stays")
+    check(space is not None and space_of(f"{kept}/a0.state") == space, "the copy of the first one stays", space)
 
 
 def short_of_time(part: Part, kept: str) -> None:
@@ -306,12 +312,23 @@ def short_of_time(part: Part, kept: str) -> None:
     time.sleep(2)
     check(not os.path.exists(f"{kept}/a0.state"), "with a short timeout no copy is kept", os.listdir(kept))
     ours.ends("the daemon")
-    os.makedirs(f"{kept}/a0.state.new", exist_ok=True)
+    small = os.path.join(part.folder, "small")
+    os.makedirs(small)
+    if command("mount", "-t", "tmpfs", "-o", "mode=755,nr_inodes=2", "none", small).returncode:
+        raise Skipped("no mount")
+    try:
+        full_disk(part, theirs, small)
+    finally:
+        command("umount", "-l", small)
+
+
+def full_disk(part: Part, theirs: Daemon, kept: str) -> None:
+    """A disk that has room for the lock, and for no copy."""
     ours = part.ours(options=["--timeout", "long", "--state-dir", kept])
     both_up(ours, theirs, "both links come to distribute")
-    line = f"its state cannot be kept in {kept}, so a start after a reboot begins anew: Is a directory"
+    line = f"its state cannot be kept in {kept}, so a start after a reboot begins anew: No space left on device"
     check(within(COPIED, lambda: line in ours.printed()), "a copy that cannot be written has a line", ours.printed())
-    os.rmdir(f"{kept}/a0.state.new")
+    command("mount", "-o", "remount,nr_inodes=100", kept)
     check(within(RENEWED, lambda: carried_in(f"{kept}/a0.state") == ["1", "1"]), "it is tried again", ours.printed())
     check(ours.printed().count(line) == 1, "of several faults in a row one has a line", ours.printed())
     ours.ends("the daemon")
